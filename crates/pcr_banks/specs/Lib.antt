@@ -1,0 +1,4 @@
+pub mod Hashing
+pub mod Digests
+pub mod Sets
+pub mod Registers

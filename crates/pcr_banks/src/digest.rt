@@ -1,0 +1,108 @@
+ghost use Rattle.std.specs.Prelude.{◌≡◌, ◌*◌, ◌↔◌, ◌++◌, drop, length, replicate, IsSome, IfSome, Ok};
+ghost use Rattle.std.specs.List.{AllPass};
+ghost use Rattle.hex.specs.Hex.{decode_of, encode_lower, is_hex_digit};
+ghost use Rattle.pcr_banks.specs.Hashing.{size_of};
+ghost use Rattle.pcr_banks.specs.Digests.{alg_of, bytes_of, digest_of};
+
+use crate::Alg;
+use hex::FromHex;
+
+/// The digest of a message: an algorithm, and as many bytes as its hash has.
+#[derive(Clone, Copy, Debug, PartialEq, Eq)]
+pub enum Digest {
+    Sha1([u8; 20]),
+    Sha256([u8; 32]),
+    Sha384([u8; 48]),
+}
+
+impl Digest {
+    /// The algorithm.
+    pub fn alg(&self) -> Alg
+        ensures { result ≡ alg_of self.now }
+    {
+        match self {
+            Digest::Sha1(_) => Alg::Sha1,
+            Digest::Sha256(_) => Alg::Sha256,
+            Digest::Sha384(_) => Alg::Sha384,
+        }
+    }
+
+    /// The bytes, as many as the algorithm's size.
+    pub fn bytes(&self) -> &[u8]
+        ensures value { result.now ≡ bytes_of self.now }
+        ensures size { length result.now ≡ size_of (alg_of self.now) }
+    {
+        match self {
+            Digest::Sha1(bytes) => bytes,
+            Digest::Sha256(bytes) => bytes,
+            Digest::Sha384(bytes) => bytes,
+        }
+    }
+
+    /// All bytes 0x00: the value of most registers at reset.
+    pub fn zero(alg: Alg) -> Self
+        ensures { result ≡ digest_of alg (replicate (size_of alg) 0) }
+    {
+        match alg {
+            Alg::Sha1 => Digest::Sha1([0x00; 20]),
+            Alg::Sha256 => Digest::Sha256([0x00; 32]),
+            Alg::Sha384 => Digest::Sha384([0x00; 48]),
+        }
+    }
+
+    /// All bytes 0xFF.
+    pub fn ones(alg: Alg) -> Self
+        ensures { result ≡ digest_of alg (replicate (size_of alg) 255) }
+    {
+        match alg {
+            Alg::Sha1 => Digest::Sha1([0xFF; 20]),
+            Alg::Sha256 => Digest::Sha256([0xFF; 32]),
+            Alg::Sha384 => Digest::Sha384([0xFF; 48]),
+        }
+    }
+
+    /// The digest with these bytes, or `None` where they are not as many as the algorithm's size.
+    pub fn from_bytes(alg: Alg, bytes: &[u8]) -> Option<Self>
+        ensures found { IsSome result ↔ (length bytes.now ≡ size_of alg) }
+        ensures value { IfSome result (λ digest. digest ≡ digest_of alg bytes.now) }
+    {
+        match alg {
+            Alg::Sha1 => Some(Digest::Sha1(bytes.try_into().ok()?)),
+            Alg::Sha256 => Some(Digest::Sha256(bytes.try_into().ok()?)),
+            Alg::Sha384 => Some(Digest::Sha384(bytes.try_into().ok()?)),
+        }
+    }
+
+    /// The digest that the text spells, or `None` where the text is not twice the algorithm's size in hexadecimal
+    /// digits of either case.
+    pub fn from_hex(alg: Alg, text: &[u8]) -> Option<Self>
+        ensures found { IsSome result ↔ ((length text.now ≡ 2 * size_of alg) × AllPass is_hex_digit text.now) }
+        ensures value { IfSome result (λ digest.
+            (alg_of digest ≡ alg) × (decode_of text.now ≡ Ok (bytes_of digest))) }
+    {
+        match alg {
+            Alg::Sha1 => Some(Digest::Sha1(decode_array(text)?)),
+            Alg::Sha256 => Some(Digest::Sha256(decode_array(text)?)),
+            Alg::Sha384 => Some(Digest::Sha384(decode_array(text)?)),
+        }
+    }
+
+    /// Writes the lower case digits at the front, leaves the rest, and answers how many digits there are.
+    pub fn hex_into(&self, out: &mut [u8; 128]) -> usize
+        ensures count { result ≡ 2 * size_of (alg_of self.now) }
+        ensures written { out.new ≡ encode_lower (bytes_of self.now) ++ drop result out.old }
+    {
+        let bytes = self.bytes();
+        let count = 2 * bytes.len();
+        let _ = hex::encode_to_slice(bytes, &mut out[..count]);
+        count
+    }
+}
+
+// The bytes of 2 N hexadecimal digits.
+fn decode_array<const N: usize>(text: &[u8]) -> Option<[u8; N]>
+    ensures found { IsSome result ↔ ((length text.now ≡ 2 * N) × AllPass is_hex_digit text.now) }
+    ensures value { IfSome result (λ bytes. decode_of text.now ≡ Ok bytes) }
+{
+    <[u8; N]>::from_hex(text).ok()
+}

@@ -1,0 +1,19 @@
+//! Platform configuration registers in software: hash algorithms, digests, and the register banks of a TPM 2.0.
+//!
+//! No call of this crate takes memory.
+#![tactic(auto)]
+
+mod alg;
+mod banks;
+mod digest;
+mod hashing;
+mod sets;
+
+pub use alg::Alg;
+pub use banks::Banks;
+pub use digest::Digest;
+pub use hashing::hash;
+pub use sets::{AlgSet, PerBank};
+
+#[cfg(test)]
+mod tests;
