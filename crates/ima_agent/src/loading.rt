@@ -1,0 +1,70 @@
+ghost use Rattle.std.specs.Prelude.{◌≡◌, ◌<◌, ◌≤◌, length, vec_len, is_some, IfOk, IfSome, IsErrOf, OnOk};
+ghost use Rattle.std.specs.Io.KnownBytes.{IsAtEnd};
+ghost use Rattle.ima_agent.specs.declared.loading.LoadFault.TheVariants.{Memory, Source};
+ghost use Rattle.ima_agent.specs.Loading.{failures_after_load, LosesFront, LosesMoreThan};
+
+use ima_list::{Failed, Source};
+use std::alloc::{AllocError, Global};
+use thiserror::Error;
+
+/// How many bytes are read at once.
+const PIECE: usize = 4096;
+
+/// Why a source was not loaded.
+#[derive(Clone, Copy, Debug, PartialEq, Eq, Error)]
+pub enum LoadFault {
+    /// More bytes came than are allowed.
+    #[error("too many bytes")]
+    TooLong,
+    /// The source failed.
+    #[error("the source failed")]
+    Source,
+    /// Memory was short.
+    #[error("out of memory")]
+    Memory,
+}
+
+impl From<Failed> for LoadFault {
+    ghost from_gives = { λ _ fault. fault ≡ Source };
+
+    fn from(_fault: Failed) -> Self {
+        LoadFault::Source
+    }
+}
+
+impl From<AllocError> for LoadFault {
+    ghost from_gives = { λ _ fault. fault ≡ Memory };
+
+    fn from(_fault: AllocError) -> Self {
+        LoadFault::Memory
+    }
+}
+
+/// Loads all bytes that a source has left, which are at most `limit`.
+///
+/// `TooLong` says that more than `limit` bytes came, `Source` that the source failed during this call. After a fault the
+/// source has lost the bytes that it gave.
+pub fn load<R: Source>(alloc: Global, source: &mut R, limit: u64) -> Result<Vec<u8>, LoadFault>
+    ensures all { IfOk result (λ bytes. IfSome (R.remaining source.old) (λ left. bytes.items ≡ left)) }
+    ensures end { OnOk result (IsAtEnd (R.remaining source.new)) }
+    ensures within { IfOk result (λ bytes. vec_len bytes ≤ limit) }
+    ensures too_long { IsErrOf result LoadFault.TooLong →
+        LosesMoreThan limit (R.remaining source.old) (R.remaining source.new) }
+    ensures more { IsErrOf result LoadFault.TooLong → IfSome (R.remaining source.old) (λ left. limit < length left) }
+    ensures front { LosesFront (R.remaining source.old) (R.remaining source.new) }
+    ensures telling { is_some (R.remaining source.new) ≡ is_some (R.remaining source.old) }
+    ensures counts { R.failures source.new ≡ failures_after_load result (R.failures source.old) }
+{
+    let mut bytes = Vec::new(alloc);
+    let mut piece = [0; PIECE];
+    loop {
+        let count = source.read(&mut piece)?;
+        if count == 0 {
+            return Ok(bytes);
+        }
+        if (count as u64) > limit - bytes.len() as u64 {
+            return Err(LoadFault::TooLong);
+        }
+        bytes.extend_from_slice(&piece[..count])?;
+    }
+}

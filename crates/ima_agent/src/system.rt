@@ -1,0 +1,160 @@
+//! The system's files and streams, as sources and sinks.
+
+ghost use Rattle.std.specs.Prelude.{◌≡◌, ◌<◌, ◌≤◌, length, None, is_some, IfOk, IsNone, IsOk};
+ghost use Rattle.std.specs.Io.KnownBytes.{ReadConsumes, WriteAppends};
+ghost use Rattle.ima_list.specs.Outside.{failures_after};
+ghost use Rattle.ima_agent.specs.System.{reader_of, writer_of, runtime_of, is_file, bytes_to_come};
+
+#[cfg(test)]
+mod tests;
+
+use crate::files::Files;
+use ima_list::{Failed, Sink, Source};
+use std::fs::File;
+use std::io::{Read, Write};
+use std::{io, rt};
+
+/// A source over a reader of std.
+///
+/// It tells no bytes. Each error of the reader, an interrupted call included, is a failure.
+#[derive(Debug, Drop)]
+pub struct ReadSource<R> {
+    reader: R,
+    failures: u64,
+}
+
+impl<R: Read> ReadSource<R> {
+    /// A source that gives the reader's bytes and has not failed.
+    pub fn new(reader: R) -> Self
+        ensures reader { reader_of result ≡ reader }
+        ensures failures { ⟦<ReadSource<R> as Source>⟧.failures result ≡ 0 }
+    {
+        ReadSource {
+            reader,
+            failures: 0,
+        }
+    }
+}
+
+impl<R: Read> Source for ReadSource<R> {
+    ghost remaining = { λ _. None };
+
+    ghost failures = { λ source. source.failures };
+
+    /// Gives what one read of the reader gives.
+    fn read(&mut self, buffer: &mut [u8]) -> Result<usize, Failed>
+        ensures within { IfOk result (λ n. n ≤ length buffer.old) }
+        ensures reads { ReadConsumes (R.remaining (reader_of self.old)) (R.remaining (reader_of self.new)) result buffer.new }
+        ensures counts { self.new.failures ≡ failures_after result self.old.failures }
+    {
+        match self.reader.read(buffer) {
+            Ok(count) => Ok(count),
+            Err(_) => {
+                self.failures = self.failures.saturating_add(1);
+                Err(Failed)
+            }
+        }
+    }
+}
+
+/// A sink over a writer of std.
+///
+/// It tells no bytes. Each error of the writer, an interrupted call included, is a failure, and so is a write that takes
+/// none of the bytes that it is offered.
+#[derive(Debug, Drop)]
+pub struct WriteSink<W> {
+    writer: W,
+    failures: u64,
+}
+
+impl<W: Write> WriteSink<W> {
+    /// A sink that hands bytes to the writer and has not failed.
+    pub fn new(writer: W) -> Self
+        ensures writer { writer_of result ≡ writer }
+        ensures failures { ⟦<WriteSink<W> as Sink>⟧.failures result ≡ 0 }
+    {
+        WriteSink {
+            writer,
+            failures: 0,
+        }
+    }
+}
+
+impl<W: Write> Sink for WriteSink<W> {
+    ghost taken = { λ _. None };
+
+    ghost failures = { λ sink. sink.failures };
+
+    /// Takes what one write of the writer takes.
+    fn write(&mut self, bytes: &[u8]) -> Result<usize, Failed>
+        ensures within { IfOk result (λ n. n ≤ length bytes.now) }
+        ensures advances { IfOk result (λ n. 0 < length bytes.now → 0 < n) }
+        ensures writes { WriteAppends (W.contents (writer_of self.old)) (W.contents (writer_of self.new)) result bytes.now }
+        ensures counts { self.new.failures ≡ failures_after result self.old.failures }
+    {
+        match self.writer.write(bytes) {
+            Ok(count) if count > 0 || bytes.is_empty() => Ok(count),
+            _ => {
+                self.failures = self.failures.saturating_add(1);
+                Err(Failed)
+            }
+        }
+    }
+}
+
+/// Where the bytes of an input come from.
+#[derive(Debug, Drop)]
+pub enum Origin<F, I> {
+    /// A file.
+    File(F),
+    /// Standard input.
+    StandardInput(I),
+}
+
+impl<F: Read, I: Read> Read for Origin<F, I> {
+    ghost remaining = { λ origin. bytes_to_come F.remaining I.remaining origin };
+
+    fn read(&mut self, buffer: &mut [u8]) -> io::Result<usize> {
+        match self {
+            Origin::File(file) => file.read(buffer),
+            Origin::StandardInput(input) => input.read(buffer),
+        }
+    }
+}
+
+/// The files and the standard input of a runtime.
+///
+/// A name is a path of the system, relative to the folder that the program runs in. The name `-` is that of a file.
+#[derive(Debug, Drop)]
+pub struct SystemFiles<'a, R> {
+    runtime: &'a R,
+}
+
+impl<'a, R: rt::Files + io::Input> SystemFiles<'a, R> {
+    /// The files and the standard input of this runtime.
+    pub fn new(runtime: &'a R) -> Self
+        ensures { runtime_of result ≡ runtime.now }
+    {
+        SystemFiles { runtime }
+    }
+}
+
+impl<R: rt::Files + io::Input> Files for SystemFiles<'_, R> {
+    type Src = ReadSource<Origin<R::File, R::Reader>>;
+
+    /// Opens the file of this name, or standard input.
+    fn source(&mut self, name: Option<&str>) -> Result<Self::Src, Failed>
+        ensures origin { IfOk result (λ source. is_file (reader_of source) ≡ is_some name.entry) }
+        ensures standard_input { IsNone name.entry → IsOk result }
+        ensures failures { IfOk result (λ source. source.failures ≡ 0) }
+    {
+        let origin = match name {
+            None => Origin::StandardInput(self.runtime.reader()),
+            Some(name) => match File::open(self.runtime, name) {
+                Ok(file) => Origin::File(file),
+                Err(_) => return Err(Failed),
+            },
+        };
+        Ok(ReadSource::new(origin))
+    }
+}

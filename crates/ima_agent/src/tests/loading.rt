@@ -1,0 +1,98 @@
+ghost use Rattle.std.specs.Prelude.{None};
+
+use crate::hexadecimal::{HexFault, decode_hexadecimal};
+use crate::{LoadFault, load};
+use ima_list::{Failed, SliceSource, Source};
+use std::alloc::Global;
+use std::test::Fail;
+
+/// Gives four bytes at a time, fails after some reads, and tells no bytes.
+#[derive(Drop)]
+struct FailingSource {
+    reads: usize,
+    failures: u64,
+}
+
+impl Source for FailingSource {
+    ghost remaining = { λ _. None };
+
+    ghost failures = { λ source. source.failures };
+
+    fn read(&mut self, buffer: &mut [u8]) -> Result<usize, Failed> {
+        if self.reads == 0 {
+            self.failures = self.failures.saturating_add(1);
+            return Err(Failed);
+        }
+        self.reads -= 1;
+        Ok(buffer.len().min(4))
+    }
+}
+
+/// Loads bytes, and once more where an allocation was refused.
+fn loaded(alloc: Global, bytes: &[u8], limit: u64) -> Result<Vec<u8>, LoadFault> {
+    match load(alloc, &mut SliceSource::new(bytes), limit) {
+        Err(LoadFault::Memory) => load(alloc, &mut SliceSource::new(bytes), limit),
+        answer => answer,
+    }
+}
+
+#[test]
+fn expected_lines_and_load_limit(rt: HostRuntime) -> Result<(), Fail> {
+    let alloc = rt.alloc();
+    assert_eq!(rt; loaded(alloc, b"abcde", 4).err(), Some(LoadFault::TooLong));
+    assert_eq!(rt; loaded(alloc, b"abcd", 4)?.as_slice(), b"abcd".as_slice());
+    assert_eq!(rt; loaded(alloc, b"", 0)?.len(), 0);
+    Ok(())
+}
+
+#[test]
+fn load_joins_pieces(rt: HostRuntime) -> Result<(), Fail> {
+    let bytes = [7; 5000];
+    assert_eq!(rt;
+        loaded(rt.alloc(), &bytes, 5000)?.as_slice(),
+        bytes.as_slice()
+    );
+    assert_eq!(rt;
+        loaded(rt.alloc(), &bytes, 4999).err(),
+        Some(LoadFault::TooLong)
+    );
+    Ok(())
+}
+
+#[test]
+fn load_says_that_the_source_failed(rt: HostRuntime) {
+    for reads in [0, 2] {
+        let mut source = FailingSource { reads, failures: 0 };
+        let fault = load(rt.alloc(), &mut source, 100).err();
+        if fault != Some(LoadFault::Memory) {
+            assert_eq!(rt; fault, Some(LoadFault::Source));
+            assert_eq!(rt; source.failures, 1);
+        }
+    }
+}
+
+/// Decodes a text, and once more where an allocation was refused.
+fn decoded(alloc: Global, text: &[u8]) -> Result<Vec<u8>, HexFault> {
+    match decode_hexadecimal(alloc, text) {
+        Err(HexFault::Memory) => decode_hexadecimal(alloc, text),
+        answer => answer,
+    }
+}
+
+#[test]
+fn hexadecimal_text_with_white_space(rt: HostRuntime) -> Result<(), Fail> {
+    let alloc = rt.alloc();
+    for (text, bytes) in [
+        (b"".as_slice(), b"".as_slice()),
+        (b" \t\r\n", b""),
+        (b"6a", b"j"),
+        (b"6A 6b\r\n6\tC\n", b"jkl"),
+        (b"fFFf", b"\xff\xff"),
+    ] {
+        assert_eq!(rt; decoded(alloc, text)?.as_slice(), bytes);
+    }
+    for text in [b"0".as_slice(), b"Z", b"0Z", b"000", b"6a\x0b", b"6a\0"] {
+        assert_eq!(rt; decoded(alloc, text).err(), Some(HexFault::NotHex));
+    }
+    Ok(())
+}

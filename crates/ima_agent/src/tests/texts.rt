@@ -1,0 +1,115 @@
+//! The lines of registers and faults.
+
+use crate::{RunFault, status_of, write_fault, write_registers};
+use boot_log::LogFault;
+use ima_list::{Failed, VecSink};
+use pcr_banks::{Alg, AlgSet, Banks, Digest, PerBank};
+use std::alloc::Global;
+use std::test::Fail;
+
+/// The line of a fault, again where an allocation was refused.
+fn line_of(alloc: Global, fault: &RunFault) -> Vec<u8> {
+    let mut sink = VecSink::new(Vec::new(alloc));
+    if write_fault(fault, &mut sink) == Err(Failed) {
+        sink = VecSink::new(Vec::new(alloc));
+        let _ = write_fault(fault, &mut sink);
+    }
+    sink.into_bytes()
+}
+
+#[test]
+fn fault_lines_and_statuses(rt: HostRuntime) -> Result<(), Fail> {
+    let alloc = rt.alloc();
+    let event = 18_446_744_073_709_551_615;
+    for (fault, line, status) in [
+        (RunFault::Usage, b"refused: command line\n".as_slice(), 2),
+        (RunFault::NotHex, b"refused: not hexadecimal\n", 2),
+        (
+            RunFault::Log(LogFault::Truncated { event: 0 }),
+            b"refused: log fault 1 at event 0\n",
+            2,
+        ),
+        (
+            RunFault::Log(LogFault::NotCryptoAgile),
+            b"refused: log fault 2\n",
+            2,
+        ),
+        (
+            RunFault::Log(LogFault::BadHeader),
+            b"refused: log fault 3\n",
+            2,
+        ),
+        (
+            RunFault::Log(LogFault::DigestSize),
+            b"refused: log fault 4\n",
+            2,
+        ),
+        (
+            RunFault::Log(LogFault::NoBank),
+            b"refused: log fault 5\n",
+            2,
+        ),
+        (
+            RunFault::Log(LogFault::UnknownAlg { event: 7 }),
+            b"refused: log fault 6 at event 7\n",
+            2,
+        ),
+        (
+            RunFault::Log(LogFault::DoubleDigest { event: 10 }),
+            b"refused: log fault 7 at event 10\n",
+            2,
+        ),
+        (
+            RunFault::Log(LogFault::MissingDigest { event: 100 }),
+            b"refused: log fault 8 at event 100\n",
+            2,
+        ),
+        (
+            RunFault::Log(LogFault::BadRegister { event }),
+            b"refused: log fault 9 at event 18446744073709551615\n",
+            2,
+        ),
+        (RunFault::Log(LogFault::Memory), b"failed: memory\n", 3),
+        (
+            RunFault::TooLong(String::from_str(alloc, "a b")?),
+            b"refused: too long a b\n",
+            2,
+        ),
+        (
+            RunFault::Read(String::from_str(alloc, "x")?),
+            b"failed: read x\n",
+            3,
+        ),
+        (RunFault::Memory, b"failed: memory\n", 3),
+    ] {
+        assert_eq!(rt; line_of(alloc, &fault).as_slice(), line);
+        assert_eq!(rt; status_of(&fault), status);
+    }
+    Ok(())
+}
+
+#[test]
+fn registers_that_differ(rt: HostRuntime) -> Result<(), Fail> {
+    let alloc = rt.alloc();
+    let sha1_alone = AlgSet::empty().with(Alg::Sha1);
+    let start = Banks::new(sha1_alone, 0);
+    let mut now = start;
+    now.extend(23, &PerBank::empty().with(Digest::zero(Alg::Sha1)));
+    let mut sink = VecSink::new(Vec::new(alloc));
+    if write_registers(&now, &start, &mut sink).is_ok() {
+        // The SHA-1 of 40 zero bytes, as sha1sum gives it.
+        assert_eq!(rt;
+            sink.into_bytes().as_slice(),
+            b"sha1 23 b80de5d138758541c5f05265ad144ab9fa86d1db\n".as_slice()
+        );
+    }
+    let mut sink = VecSink::new(Vec::new(alloc));
+    let empty = Banks::new(AlgSet::empty(), 0);
+    if write_registers(&start, &empty, &mut sink).is_ok() {
+        let text = sink.into_bytes();
+        let lines = text.iter().filter(|byte| **byte == b'\n').count();
+        assert_eq!(rt; lines, 24);
+        assert!(rt; text.starts_with(b"sha1 0 0000000000000000000000000000000000000000\nsha1 1 "));
+    }
+    Ok(())
+}
