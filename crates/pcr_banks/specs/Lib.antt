@@ -2,3 +2,4 @@ pub mod Hashing
 pub mod Digests
 pub mod Sets
 pub mod Registers
+pub mod Hashers

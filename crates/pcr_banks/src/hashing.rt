@@ -1,6 +1,8 @@
-ghost use Rattle.std.specs.Prelude.{◌≡◌};
+ghost use Rattle.std.specs.Prelude.{◌≡◌, ℕ, List, [], ◌++◌};
+ghost use Rattle.pcr_banks.specs.declared.alg.Alg.{Alg};
 ghost use Rattle.pcr_banks.specs.Hashing.{hash_of};
 ghost use Rattle.pcr_banks.specs.Digests.{digest_of};
+ghost use Rattle.pcr_banks.specs.Hashers.{HasTaken};
 
 use crate::{Alg, Digest};
 use sha1::Sha1;
@@ -14,5 +16,54 @@ pub fn hash(alg: Alg, bytes: &[u8]) -> Digest
         Alg::Sha1 => Digest::Sha1(Sha1::digest(bytes)),
         Alg::Sha256 => Digest::Sha256(Sha256::digest(bytes)),
         Alg::Sha384 => Digest::Sha384(Sha384::digest(bytes)),
+    }
+}
+
+/// A hash of bytes that come in pieces: the hash of all pieces joined (FIPS 180-4).
+#[derive(Drop)]
+pub struct Hasher {
+    state: State,
+}
+
+#[derive(Drop)]
+enum State {
+    Sha1(Sha1),
+    Sha256(Sha256),
+    Sha384(Sha384),
+}
+
+impl Hasher {
+    /// A hasher that has taken no bytes.
+    pub fn new(alg: Alg) -> Self
+        ensures { HasTaken result alg [] }
+    {
+        let state = match alg {
+            Alg::Sha1 => State::Sha1(Sha1::new()),
+            Alg::Sha256 => State::Sha256(Sha256::new()),
+            Alg::Sha384 => State::Sha384(Sha384::new()),
+        };
+        Hasher { state }
+    }
+
+    /// Takes the next piece.
+    pub fn update(&mut self, bytes: &[u8])
+        ensures { (alg : Alg) (taken : List ℕ) → HasTaken self.old alg taken → HasTaken self.new alg (taken ++ bytes.now) }
+    {
+        match &mut self.state {
+            State::Sha1(hasher) => hasher.update(bytes),
+            State::Sha256(hasher) => hasher.update(bytes),
+            State::Sha384(hasher) => hasher.update(bytes),
+        }
+    }
+
+    /// The hash of all pieces joined.
+    pub fn finish(self) -> Digest
+        ensures { (alg : Alg) (taken : List ℕ) → HasTaken self alg taken → result ≡ digest_of alg (hash_of alg taken) }
+    {
+        match self.state {
+            State::Sha1(hasher) => Digest::Sha1(hasher.finalize()),
+            State::Sha256(hasher) => Digest::Sha256(hasher.finalize()),
+            State::Sha384(hasher) => Digest::Sha384(hasher.finalize()),
+        }
     }
 }

@@ -12,7 +12,7 @@ mod sets;
 pub use alg::Alg;
 pub use banks::Banks;
 pub use digest::Digest;
-pub use hashing::hash;
+pub use hashing::{Hasher, hash};
 pub use sets::{AlgSet, PerBank};
 
 #[cfg(test)]

@@ -1,6 +1,9 @@
 use super::*;
 use std::test::Fail;
 
+const SHA256_OF_NOTHING: &[u8] =
+    b"e3b0c44298fc1c149afbf4c8996fb92427ae41e4649b934ca495991b7852b855";
+
 const SHA256_OF_64_ZEROS: &[u8] =
     b"f5a5fd42d16a20302798ef6ed309979b43003d2320d9f0e8ea9831a92759fb4b";
 
@@ -23,16 +26,32 @@ fn published_hash_values(rt: HostRuntime) {
             b"cb00753f45a35e8bb5a03d699ac65007272c32ab0eded1631a8b605a43ff5bed\
               8086072ba1e7cc2358baeca134c825a7",
         ),
-        (
-            Alg::Sha256,
-            b"",
-            b"e3b0c44298fc1c149afbf4c8996fb92427ae41e4649b934ca495991b7852b855",
-        ),
+        (Alg::Sha256, b"", SHA256_OF_NOTHING),
         (Alg::Sha256, &[0; 64], SHA256_OF_64_ZEROS),
     ];
     for (alg, bytes, text) in published {
         assert_eq!(rt; Some(hash(alg, bytes)), Digest::from_hex(alg, text));
     }
+}
+
+/// The hash of the pieces joined.
+fn hash_of_pieces(alg: Alg, pieces: &[&[u8]]) -> Digest {
+    let mut hasher = Hasher::new(alg);
+    for piece in pieces {
+        hasher.update(piece);
+    }
+    hasher.finish()
+}
+
+#[test]
+fn hash_of_bytes_in_pieces(rt: HostRuntime) {
+    for alg in [Alg::Sha1, Alg::Sha256, Alg::Sha384] {
+        assert_eq!(rt; hash_of_pieces(alg, &[b"a", b"", b"bc"]), hash(alg, b"abc"));
+    }
+    assert_eq!(rt;
+        Some(hash_of_pieces(Alg::Sha256, &[])),
+        Digest::from_hex(Alg::Sha256, SHA256_OF_NOTHING)
+    );
 }
 
 #[test]
