@@ -1,0 +1,29 @@
+-- Reading fields from left to right, with the first fault that is met.
+use Rattle.std.specs.Prelude.{◌≡◌, ℕ, nat_lt, if◌then◌else◌, List, [], ◌∷◌, length, take, drop, Result, Ok, Err}
+use Rattle.std.specs.Int.{Width, byte_len, from_le_bytes}
+
+-- ---- steps that may fail
+
+infixl 10 ◌>>=◌
+abbrev pub ◌>>=◌ : {A B E : Type 0} → Result A E → (A → Result B E) → Result B E
+(Ok x) >>= f = f x
+(Err e) >>= f = Err e
+
+-- What a function returned, seen by view, is what reading gives.
+abbrev pub Reads : {X Y E : Type 0} → (X → Y) → Result X E → Result Y E → Type 0
+Reads view (Ok x) reading = reading ≡ Ok (view x)
+Reads view (Err fault) reading = reading ≡ Err fault
+
+-- ---- fields: a value and the bytes after it, or the fault to give where bytes are missing
+
+abbrev pub number_at : {E : Type 0} → E → Width → List ℕ → Result (ℕ × List ℕ) E
+number_at fault width bytes =
+    if nat_lt (length bytes) (byte_len width) then Err fault
+    else Ok (from_le_bytes width (take (byte_len width) bytes), drop (byte_len width) bytes)
+
+abbrev pub part_at : {E : Type 0} → E → ℕ → List ℕ → Result (List ℕ × List ℕ) E
+part_at fault count bytes = if nat_lt (length bytes) count then Err fault else Ok (take count bytes, drop count bytes)
+
+abbrev pub byte_at : {E : Type 0} → E → List ℕ → Result (ℕ × List ℕ) E
+byte_at fault [] = Err fault
+byte_at fault (byte ∷ bytes) = Ok (byte, bytes)

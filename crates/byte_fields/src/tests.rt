@@ -1,0 +1,38 @@
+use super::*;
+
+#[test]
+fn numbers_are_little_endian(rt: HostRuntime) -> Result<(), u8> {
+    let bytes = [0x01, 0x02, 0x03, 0x84, 0x05];
+    let (number, rest) = u32_at(7, &bytes)?;
+    assert_eq!(rt; number, 0x8403_0201);
+    assert_eq!(rt; rest, [0x05].as_slice());
+    let (number, rest) = u16_at(7, &bytes)?;
+    assert_eq!(rt; number, 0x0201);
+    assert_eq!(rt; rest, [0x03, 0x84, 0x05].as_slice());
+    let (number, rest) = u8_at(7, &bytes)?;
+    assert_eq!(rt; number, 0x01);
+    assert_eq!(rt; rest, [0x02, 0x03, 0x84, 0x05].as_slice());
+    Ok(())
+}
+
+#[test]
+fn parts_are_as_long_as_asked(rt: HostRuntime) -> Result<(), u8> {
+    for (count, front, after) in [
+        (0, b"".as_slice(), b"abc".as_slice()),
+        (2, b"ab", b"c"),
+        (3, b"abc", b""),
+    ] {
+        let (part, rest) = part_of(7, count, b"abc")?;
+        assert_eq!(rt; part, front);
+        assert_eq!(rt; rest, after);
+    }
+    Ok(())
+}
+
+#[test]
+fn missing_bytes_are_the_fault_handed_in(rt: HostRuntime) {
+    assert_eq!(rt; u32_at(7, b"abc").err(), Some(7));
+    assert_eq!(rt; u16_at(8, b"a").err(), Some(8));
+    assert_eq!(rt; u8_at(9, b"").err(), Some(9));
+    assert_eq!(rt; part_of(10, 4, b"abc").err(), Some(10));
+}
