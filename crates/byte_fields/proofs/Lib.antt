@@ -1,2 +1,3 @@
 pub mod Steps
 pub mod FieldLaws
+pub mod SequenceLaws

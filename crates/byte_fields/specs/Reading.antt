@@ -1,5 +1,5 @@
 -- Reading fields from left to right, with the first fault that is met.
-use Rattle.std.specs.Prelude.{◌≡◌, ℕ, nat_lt, if◌then◌else◌, List, [], ◌∷◌, length, take, drop, Result, Ok, Err}
+use Rattle.std.specs.Prelude.{◌≡◌, ℕ, zero, suc, ◌+◌, nat_lt, if◌then◌else◌, List, [], ◌∷◌, length, take, drop, Result, Ok, Err}
 use Rattle.std.specs.Int.{Width, byte_len, from_le_bytes}
 
 -- ---- steps that may fail
@@ -27,3 +27,18 @@ part_at fault count bytes = if nat_lt (length bytes) count then Err fault else O
 abbrev pub byte_at : {E : Type 0} → E → List ℕ → Result (ℕ × List ℕ) E
 byte_at fault [] = Err fault
 byte_at fault (byte ∷ bytes) = Ok (byte, bytes)
+
+-- ---- items one after another, to the end of the bytes
+
+-- The items from the k-th on. Each takes bytes, so as many steps as there are bytes are enough; `lost` is for a reading
+-- that ran out of them.
+unfoldable pub items_within : {X E : Type 0} → (ℕ → List ℕ → Result (X × List ℕ) E) → (ℕ → E) → ℕ → ℕ → List ℕ → Result (List X) E
+items_within item_at lost steps k [] = Ok []
+items_within item_at lost zero k (byte ∷ bytes) = Err (lost k)
+items_within item_at lost (suc steps) k (byte ∷ bytes) = do
+  first ← item_at k (byte ∷ bytes)
+  others ← items_within item_at lost steps (k + 1) first.1
+  Ok (first.0 ∷ others)
+
+abbrev pub items_from : {X E : Type 0} → (ℕ → List ℕ → Result (X × List ℕ) E) → (ℕ → E) → ℕ → List ℕ → Result (List X) E
+items_from item_at lost k bytes = items_within item_at lost (length bytes) k bytes
