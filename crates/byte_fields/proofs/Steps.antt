@@ -1,5 +1,5 @@
 -- Steps that may fail, and what a reader took from the front of its bytes.
-use Rattle.std.proofs.Common.{◌≡◌, ℕ, ◌+◌, ◌<◌, suc, Bool, true, false, cond, List, ◌∷◌, ◌++◌, get_or, take, drop, Option, Some, None, Result, Ok, Err, refl, sym, ap, ◌∙◌, append_assoc, arith, inl, inr}
+use Rattle.std.proofs.Common.{◌≡◌, ℕ, ◌+◌, ◌<◌, ◌⊎◌, suc, Bool, true, false, cond, List, ◌∷◌, ◌++◌, get_or, take, drop, Option, Some, None, Result, Ok, Err, refl, sym, ap, ◌∙◌, append_assoc, arith, inl, inr}
 use Rattle.std.specs.Prelude.{ok_or}
 use Rattle.std.proofs.lemmas.Bool.{cases_lt}
 use Rattle.std.proofs.lemmas.List.{get_or-drop, get_or-take, get_or_past, length-take}
@@ -21,10 +21,25 @@ IsBytes-take n bytes h i =
 pub IsBytes-rest : (byte : ℕ) (bytes : List ℕ) → IsBytes (byte ∷ bytes) → IsBytes bytes
 IsBytes-rest byte bytes h i = h (suc i)
 
+abbrev failed : {E : Type 0} (A : Type 0) → E → Result A E
+failed A d = Err d
+
+-- One fault.
+pub same_fault : {A E : Type 0} (c d : E) → failed A c ≡ failed A d → c ≡ d
+same_fault c d e = cc
+
+err_is : {A B E : Type 0} (c d : E) → failed B c ≡ failed B d → failed A c ≡ failed A d
+err_is {A} {B} c d e = ap (failed A) (same_fault {A = B} c d e)
+
 -- The value of a step that did not fail.
 pub bind_ok : {A B E : Type 0} (r : Result A E) (f : A → Result B E) (y : B) → (r >>= f) ≡ Ok y → (x : A) × (r ≡ Ok x) × (f x ≡ Ok y)
 bind_ok (Ok x) f y e = (x, refl, e)
 bind_ok (Err d) f y e = absurd cc
+
+-- A step that failed, or the one after it.
+pub bind_err : {A B E : Type 0} (r : Result A E) (f : A → Result B E) (d : E) → (r >>= f) ≡ Err d → (r ≡ Err d) ⊎ ((x : A) × (r ≡ Ok x) × (f x ≡ Err d))
+bind_err (Ok x) f d e = inr (x, refl, e)
+bind_err (Err c) f d e = inl (err_is c d e)
 
 -- A test that did not fail, where failing is its first branch.
 pub guard_ok : {A E : Type 0} (b : Bool) (d : E) (r : Result A E) (y : A) → cond b (Err d) r ≡ Ok y → (b ≡ false) × (r ≡ Ok y)

@@ -1,6 +1,6 @@
 -- Reading fields from left to right, with the first fault that is met.
 use Rattle.std.specs.Prelude.{◌≡◌, ℕ, zero, suc, ◌+◌, nat_lt, if◌then◌else◌, List, [], ◌∷◌, length, take, drop, Result, Ok, Err}
-use Rattle.std.specs.Int.{Width, byte_len, from_le_bytes}
+use Rattle.std.specs.Int.{Width, w32, byte_len, from_le_bytes}
 
 -- ---- steps that may fail
 
@@ -27,6 +27,12 @@ part_at fault count bytes = if nat_lt (length bytes) count then Err fault else O
 abbrev pub byte_at : {E : Type 0} → E → List ℕ → Result (ℕ × List ℕ) E
 byte_at fault [] = Err fault
 byte_at fault (byte ∷ bytes) = Ok (byte, bytes)
+
+-- Bytes behind their number, which takes four bytes.
+unfoldable pub sized_at : {E : Type 0} → E → List ℕ → Result (List ℕ × List ℕ) E
+sized_at fault bytes = do
+  size ← number_at fault w32 bytes
+  part_at fault size.0 size.1
 
 -- ---- items one after another, to the end of the bytes
 

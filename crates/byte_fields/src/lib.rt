@@ -7,4 +7,4 @@ mod fields;
 #[cfg(test)]
 mod tests;
 
-pub use fields::{part_of, u8_at, u16_at, u32_at};
+pub use fields::{part_of, sized_part, u8_at, u16_at, u32_at};

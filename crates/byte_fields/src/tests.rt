@@ -30,9 +30,19 @@ fn parts_are_as_long_as_asked(rt: HostRuntime) -> Result<(), u8> {
 }
 
 #[test]
+fn sized_parts_stand_behind_their_number(rt: HostRuntime) -> Result<(), u8> {
+    let (part, rest) = sized_part(7, b"\x02\0\0\0abc")?;
+    assert_eq!(rt; part, b"ab".as_slice());
+    assert_eq!(rt; rest, b"c".as_slice());
+    Ok(())
+}
+
+#[test]
 fn missing_bytes_are_the_fault_handed_in(rt: HostRuntime) {
     assert_eq!(rt; u32_at(7, b"abc").err(), Some(7));
     assert_eq!(rt; u16_at(8, b"a").err(), Some(8));
     assert_eq!(rt; u8_at(9, b"").err(), Some(9));
     assert_eq!(rt; part_of(10, 4, b"abc").err(), Some(10));
+    assert_eq!(rt; sized_part(11, b"\x01\0\0").err(), Some(11));
+    assert_eq!(rt; sized_part(12, b"\x02\0\0\0a").err(), Some(12));
 }

@@ -1,5 +1,5 @@
 -- The registers: their values at reset, and what an extend makes of them.
-use Rattle.std.specs.Prelude.{◌≡◌, ℕ, ◌-◌, ◌&&◌, Bool, if◌then◌else◌, ◌==◌, nat_lt, nat_le, List, [], ◌∷◌, ◌++◌, replicate, slice_get, Option, Some, None, is_some, option_map, option_and_then}
+use Rattle.std.specs.Prelude.{◌≡◌, ℕ, ◌-◌, ◌&&◌, Bool, if◌then◌else◌, ◌==◌, nat_lt, nat_le, List, [], ◌∷◌, ◌++◌, replicate, slice_get, fold, Option, Some, None, is_some, option_map, option_and_then}
 use Rattle.pcr_banks.specs.declared.alg.Alg.{Alg}
 use Rattle.pcr_banks.specs.declared.alg.Alg.TheVariants.{Sha1, Sha256, Sha384}
 use Rattle.pcr_banks.specs.declared.banks.Banks.{Banks}
@@ -64,3 +64,13 @@ pub record ExtendsBank (alg : Alg) (old new : Option (List (List ℕ))) (registe
 -- All banks before and after an extend of a register by these digests.
 pub record Extends (old new : Banks) (register : ℕ) (digests : PerBank) : Type 0 where
   pub banks : (a : Alg) → ExtendsBank a (bank_of old a) (bank_of new a) register (digest_in digests a)
+
+-- A value after extends by digests, in order.
+abbrev pub extended_by_all : Alg → List ℕ → List (List ℕ) → List ℕ
+extended_by_all alg value digests = fold (extended_value alg) value digests
+
+-- The banks are those at the start, after each register of each bank was extended by these digests, in order.
+pub record AreExtended (start : Banks) (digests : Alg → ℕ → List (List ℕ)) (banks : Banks) : Type 0 where
+  pub active : (a : Alg) → is_active banks a ≡ is_active start a
+  pub values : (a : Alg) (r : ℕ) → value_at banks a r
+      ≡ option_map (λ value. extended_by_all a value (digests a r)) (value_at start a r)
