@@ -1,1 +1,5 @@
 pub mod Sending
+pub mod PieceLaws
+pub mod EntryLaws
+pub mod ListLaws
+pub mod TemplateLaws

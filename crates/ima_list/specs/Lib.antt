@@ -1,1 +1,9 @@
+pub mod Listed
+pub mod Spelling
+pub mod Reading
+pub mod Templates
+pub mod Digesting
+pub mod Replaying
+pub mod Entries
+pub mod Writing
 pub mod Outside
