@@ -1,7 +1,8 @@
 use Rattle.std.proofs.Common.{◌<◌, length, arith, rules}
 use Rattle.ima_list.proofs.Sending.{TakesPart-whole}
 use Rattle.ima_agent.specs.Texts.{all_registers, register_change}
-use Rattle.ima_agent.proofs.Parts.{part_within, more_within, register_count, register_at, all_within}
+use Rattle.ima_list.proofs.PieceLaws.{part_within, more_within, all_within}
+use Rattle.ima_agent.proofs.TextLaws.{register_count, register_at}
 use Rattle.ima_agent.proofs.texts.write_bank.Goals as goal
 
 pub returns-in_err-write_register-clause-part : goal.returns-in_err-write_register-clause-part

@@ -1,7 +1,7 @@
 use Rattle.std.proofs.Common.{take}
 use Rattle.std.specs.Prelude.{flat_map}
 use Rattle.ima_agent.specs.Texts.{all_registers, register_change}
-use Rattle.ima_agent.proofs.Parts.{SentSoFar}
+use Rattle.ima_list.proofs.PieceLaws.{SentSoFar}
 use Rattle.ima_agent.proofs.texts.write_bank.Given as goal
 
 abbrev pub invariant-loop-register : goal.invariant-loop-register
