@@ -1,87 +1,92 @@
-ghost use Rattle.std.specs.Prelude.{None};
+//! Worked examples, and devices to run them on.
 
-use super::*;
+mod devices;
+mod entries;
+mod lists;
+mod real_boot;
+mod templates;
+
+use crate::{Entry, ListFault, read_list, write_entry};
+use pcr_banks::Alg;
+use std::alloc::{AllocError, Global};
 use std::test::Fail;
 
-/// Takes one byte at a time, fails once it has a number of them, and tells no bytes.
-#[derive(Drop)]
-struct OneByteSink {
-    taken: [u8; 4],
-    count: usize,
-    room: usize,
-    failures: u64,
+/// The entry of `/bin/sh`, measured into PCR 10 with the SHA-256 of `abc`, in the template `ima-ng`.
+const MEASUREMENT: &[u8] = b"\x0a\x00\x00\x00\
+    \x83\xfd\xff\x31\x51\x75\x58\x71\x57\xed\x3a\xa6\x04\xe7\xf9\xec\x63\xca\x0b\x42\
+    \x06\x00\x00\x00ima-ng\
+    \x38\x00\x00\x00\
+    \x28\x00\x00\x00sha256:\x00\
+    \xba\x78\x16\xbf\x8f\x01\xcf\xea\x41\x41\x40\xde\x5d\xae\x22\x23\
+    \xb0\x03\x61\xa3\x96\x17\x7a\x9c\xb4\x10\xff\x61\xf2\x00\x15\xad\
+    \x08\x00\x00\x00/bin/sh\x00";
+
+/// Where it has the low byte of its register.
+const REGISTER_PLACE: usize = 0;
+
+/// Where it has the first byte of its template digest.
+const DIGEST_PLACE: usize = 4;
+
+/// Where it has the last letters of its template's name.
+const NAME_END: usize = 32;
+
+/// Where it has the length of its payload.
+const PAYLOAD_LENGTH: usize = 34;
+
+/// Where it has its payload.
+const PAYLOAD_PLACE: usize = 38;
+
+/// The entry of a violation of `/etc/x` in PCR 10, in the template `ima-ng` with SHA-256.
+const VIOLATION: &[u8] = b"\x0a\x00\x00\x00\
+    \x00\x00\x00\x00\x00\x00\x00\x00\x00\x00\x00\x00\x00\x00\x00\x00\x00\x00\x00\x00\
+    \x06\x00\x00\x00ima-ng\
+    \x37\x00\x00\x00\
+    \x28\x00\x00\x00sha256:\x00\
+    \x00\x00\x00\x00\x00\x00\x00\x00\x00\x00\x00\x00\x00\x00\x00\x00\
+    \x00\x00\x00\x00\x00\x00\x00\x00\x00\x00\x00\x00\x00\x00\x00\x00\
+    \x07\x00\x00\x00/etc/x\x00";
+
+/// The algorithms, each of which has a bank.
+const ALGS: [Alg; 3] = [Alg::Sha1, Alg::Sha256, Alg::Sha384];
+
+/// The parts joined, and once more where an allocation was refused.
+fn joined(alloc: Global, parts: &[&[u8]]) -> Result<Vec<u8>, AllocError> {
+    parts.concat(alloc).or_else(|_| parts.concat(alloc))
 }
 
-impl Sink for OneByteSink {
-    ghost taken = { λ _. None };
+/// The entry of `/bin/sh` with this byte at a place.
+fn measurement_with(alloc: Global, place: usize, byte: u8) -> Result<Vec<u8>, AllocError> {
+    let mut bytes = joined(alloc, &[MEASUREMENT])?;
+    if let Some(old) = bytes.get_mut(place) {
+        *old = byte;
+    }
+    Ok(bytes)
+}
 
-    ghost failures = { λ sink. sink.failures };
-
-    fn write(&mut self, bytes: &[u8]) -> Result<usize, Failed> {
-        let Some(first) = bytes.first() else {
-            return Ok(0);
-        };
-        if self.count >= self.room || self.count >= self.taken.len() {
-            self.failures = self.failures.saturating_add(1);
-            return Err(Failed);
-        }
-        self.taken[self.count] = *first;
-        self.count += 1;
-        Ok(1)
+/// Reads a list, and once more where an allocation was refused.
+fn list_of(alloc: Global, bytes: &[u8]) -> Result<Vec<Entry>, ListFault> {
+    match read_list(alloc, bytes) {
+        Err(ListFault::Memory) => read_list(alloc, bytes),
+        answer => answer,
     }
 }
 
-#[test]
-fn send_stops_where_the_sink_fails(rt: HostRuntime) {
-    for (room, taken, failures) in [(2, b"ab\0\0".as_slice(), 1), (3, b"abc\0".as_slice(), 0)] {
-        let mut sink = OneByteSink {
-            taken: [0; 4],
-            count: 0,
-            room,
-            failures: 0,
-        };
-        assert_eq!(rt; send(b"abc", &mut sink).is_ok(), failures == 0);
-        assert_eq!(rt; sink.taken.as_slice(), taken);
-        assert_eq!(rt; sink.failures, failures);
+/// The last entry of a list; once more where an allocation was refused.
+fn entry_of(alloc: Global, bytes: &[u8]) -> Result<Entry, Fail> {
+    Ok(list_of(alloc, bytes)?.pop().ok_or("no entry")?)
+}
+
+/// Appends an entry's spelling, and once more where an allocation was refused.
+fn append_entry(entry: &Entry, out: &mut Vec<u8>) -> Result<(), AllocError> {
+    if write_entry(entry, out).is_ok() {
+        return Ok(());
     }
+    write_entry(entry, out)
 }
 
-/// Holds with any one allocation refused too: the write then took nothing, and is made again.
-#[test]
-fn vec_sink_keeps_all_bytes(rt: HostRuntime) -> Result<(), Fail> {
-    let mut sink = VecSink::new(Vec::new(rt.alloc()));
-    for part in [b"a".as_slice(), b"bc", b"", b"de"] {
-        if send(part, &mut sink).is_err() {
-            send(part, &mut sink)?;
-        }
-    }
-    assert_eq!(rt; sink.into_bytes().as_slice(), b"abcde".as_slice());
-    Ok(())
-}
-
-fn read_from<R: Source>(source: &mut R, buffer: &mut [u8]) -> Result<usize, Failed> {
-    source.read(buffer)
-}
-
-#[test]
-fn slice_source_gives_what_fits(rt: HostRuntime) -> Result<(), Fail> {
-    let mut source = SliceSource::new(b"abc");
-    let mut buffer = [0; 2];
-    assert_eq!(rt; read_from(&mut source, &mut [])?, 0);
-    assert_eq!(rt; read_from(&mut source, &mut buffer)?, 2);
-    assert_eq!(rt; buffer.as_slice(), b"ab".as_slice());
-    assert_eq!(rt; read_from(&mut source, &mut buffer)?, 1);
-    assert_eq!(rt; buffer.as_slice(), b"cb".as_slice());
-    assert_eq!(rt; read_from(&mut source, &mut buffer)?, 0);
-    Ok(())
-}
-
-#[test]
-fn failed_says_so(rt: HostRuntime) -> Result<(), Fail> {
-    let text = match format!(in rt.alloc(); "{Failed}") {
-        Ok(text) => text,
-        Err(_) => format!(in rt.alloc(); "{Failed}")?,
-    };
-    assert_eq!(rt; text.as_str(), "the device failed");
-    Ok(())
+/// An entry's spelling; once more where an allocation was refused.
+fn spelling_of(alloc: Global, entry: &Entry) -> Result<Vec<u8>, AllocError> {
+    let mut bytes = Vec::new(alloc);
+    append_entry(entry, &mut bytes)?;
+    Ok(bytes)
 }

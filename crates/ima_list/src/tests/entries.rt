@@ -1,0 +1,310 @@
+//! Entries that are made, and what they tell.
+
+use super::{
+    ALGS, DIGEST_PLACE, MEASUREMENT, NAME_END, PAYLOAD_LENGTH, PAYLOAD_PLACE, REGISTER_PLACE,
+    VIOLATION, entry_of, joined, measurement_with, spelling_of,
+};
+use crate::{Entry, Template, ima_hashes_276_bytes, read_list, write_entry};
+use pcr_banks::{Alg, AlgSet, Banks, Digest, Hasher, hash};
+use std::alloc::{AllocError, Global};
+use std::test::Fail;
+
+/// The entry of a file in PCR 10; once more where an allocation was refused.
+fn measured(alloc: Global, template: Template, file: &Digest, path: &[u8]) -> Result<Entry, Fail> {
+    template.check(file.alg(), path)?;
+    if let Ok(entry) = Entry::measurement(alloc, 10, template, file, path) {
+        return Ok(entry);
+    }
+    Ok(Entry::measurement(alloc, 10, template, file, path)?)
+}
+
+/// The entry of a violation in PCR 10, likewise.
+fn violated(alloc: Global, template: Template, alg: Alg, path: &[u8]) -> Result<Entry, Fail> {
+    template.check(alg, path)?;
+    if let Ok(entry) = Entry::violation(alloc, 10, template, alg, path) {
+        return Ok(entry);
+    }
+    Ok(Entry::violation(alloc, 10, template, alg, path)?)
+}
+
+/// Wants all its memory: no call under test is made twice.
+#[test]
+fn ima_entry_layout(rt: HostRuntime) -> Result<(), Fail> {
+    let alloc = rt.alloc();
+    let file = hash(Alg::Sha1, b"abc");
+    let path = [b'a'; 255];
+    Template::Ima.check(file.alg(), &path)?;
+    let entry = Entry::measurement(alloc, 10, Template::Ima, &file, &path)?;
+    let expected = joined(alloc, &[file.bytes(), &path, b"\0"])?;
+    assert_eq!(rt; expected.len(), 276);
+    let mut hashed = Vec::new(alloc);
+    entry.hashed_bytes(&mut hashed)?;
+    assert_eq!(rt; hashed.as_slice(), expected.as_slice());
+    let digest = hash(Alg::Sha1, &expected);
+    assert_eq!(rt; Digest::Sha1(entry.digest()), digest);
+    let fields: [&[u8]; 4] = [
+        b"\x0a\0\0\0",
+        digest.bytes(),
+        b"\x03\0\0\0ima",
+        file.bytes(),
+    ];
+    let head = joined(alloc, &fields)?;
+    let expected = joined(alloc, &[&head, b"\xff\0\0\0", &path])?;
+    assert_eq!(rt; expected.len(), 310);
+    let mut written = Vec::new(alloc);
+    write_entry(&entry, &mut written)?;
+    assert_eq!(rt; written.as_slice(), expected.as_slice());
+    let entries = read_list(alloc, &expected)?;
+    assert_eq!(rt; entries.as_slice(), [entry].as_slice());
+    Ok(())
+}
+
+/// The hash of a file's digest, a path, and so many zero bytes that fill it.
+fn filled_hash(alg: Alg, file: &Digest, path: &[u8], fill: &[u8]) -> Digest {
+    let mut hasher = Hasher::new(alg);
+    for part in [file.bytes(), path, fill] {
+        hasher.update(part);
+    }
+    hasher.finish()
+}
+
+/// The path is filled to 256 bytes behind the file's digest, an empty path too.
+#[test]
+fn ima_path_is_filled(rt: HostRuntime) -> Result<(), Fail> {
+    let file = hash(Alg::Sha1, b"abc");
+    let zeros = [0; 256];
+    for (path, fill) in [(b"".as_slice(), 256), (b"/", 255), (b"/bin/sh", 249)] {
+        let entry = measured(rt.alloc(), Template::Ima, &file, path)?;
+        for alg in ALGS {
+            let expected = filled_hash(alg, &file, path, &zeros[..fill]);
+            assert_eq!(rt; entry.template_digest(alg), expected);
+        }
+        let expected = filled_hash(Alg::Sha1, &file, path, &zeros[..fill]);
+        assert_eq!(rt; Digest::Sha1(entry.digest()), expected);
+        assert!(rt; entry.is_genuine());
+    }
+    Ok(())
+}
+
+/// Wants all its memory.
+#[test]
+fn ima_ng_entry_layout(rt: HostRuntime) -> Result<(), Fail> {
+    let alloc = rt.alloc();
+    let file = hash(Alg::Sha256, b"abc");
+    Template::ImaNg.check(file.alg(), b"/bin/sh")?;
+    let entry = Entry::measurement(alloc, 10, Template::ImaNg, &file, b"/bin/sh")?;
+    let mut written = Vec::new(alloc);
+    write_entry(&entry, &mut written)?;
+    assert_eq!(rt; MEASUREMENT.len(), 94);
+    assert_eq!(rt; written.as_slice(), MEASUREMENT);
+    let payload = &MEASUREMENT[PAYLOAD_PLACE..];
+    assert_eq!(rt; payload.len(), 56);
+    assert_eq!(rt; Digest::Sha1(entry.digest()), hash(Alg::Sha1, payload));
+    let mut hashed = Vec::new(alloc);
+    entry.hashed_bytes(&mut hashed)?;
+    assert_eq!(rt; hashed.as_slice(), payload);
+    let entries = read_list(alloc, MEASUREMENT)?;
+    assert_eq!(rt; entries.as_slice(), [entry].as_slice());
+    Ok(())
+}
+
+/// A payload of the template `ima-ng`: what stands before the digest, and the path behind its length with the NUL.
+fn ima_ng_payload(
+    alloc: Global,
+    front: &[u8],
+    digest: &[u8],
+    length: &[u8],
+    path: &[u8],
+) -> Result<Vec<u8>, AllocError> {
+    joined(alloc, &[front, digest, length, path, b"\0"])
+}
+
+/// The template `ima-ng` takes digests of any algorithm, and paths that are empty or of 4,095 bytes.
+#[test]
+fn ima_ng_digest_fields(rt: HostRuntime) -> Result<(), Fail> {
+    let alloc = rt.alloc();
+    let path = [b'a'; 4_095];
+    for (alg, front, count, length) in [
+        (Alg::Sha1, b"\x1a\0\0\0sha1:\0".as_slice(), 0, 1_u32),
+        (Alg::Sha256, b"\x28\0\0\0sha256:\0", 4_095, 4_096),
+        (Alg::Sha384, b"\x38\0\0\0sha384:\0", 1, 2),
+    ] {
+        let file = hash(alg, b"abc");
+        let entry = measured(alloc, Template::ImaNg, &file, &path[..count])?;
+        let length = length.to_le_bytes();
+        let payload = ima_ng_payload(alloc, front, file.bytes(), &length, &path[..count])?;
+        assert_eq!(rt; entry.payload(), payload.as_slice());
+        assert_eq!(rt; Digest::Sha1(entry.digest()), hash(Alg::Sha1, &payload));
+    }
+    Ok(())
+}
+
+/// Wants all its memory.
+#[test]
+fn violation_entry_layout(rt: HostRuntime) -> Result<(), Fail> {
+    let alloc = rt.alloc();
+    Template::ImaNg.check(Alg::Sha256, b"/etc/x")?;
+    let entry = Entry::violation(alloc, 10, Template::ImaNg, Alg::Sha256, b"/etc/x")?;
+    let mut written = Vec::new(alloc);
+    write_entry(&entry, &mut written)?;
+    assert_eq!(rt; VIOLATION.len(), 93);
+    assert_eq!(rt; written.as_slice(), VIOLATION);
+    assert!(rt; entry.is_violation());
+    assert!(rt; entry.is_genuine());
+    for alg in ALGS {
+        assert_eq!(rt; entry.parts().get(alg), Some(Digest::ones(alg)));
+        assert_eq!(rt;
+            entry.template_digest(alg),
+            hash(alg, &VIOLATION[PAYLOAD_PLACE..])
+        );
+    }
+    Ok(())
+}
+
+#[test]
+fn ima_violation_fields(rt: HostRuntime) -> Result<(), Fail> {
+    let entry = violated(rt.alloc(), Template::Ima, Alg::Sha1, b"/etc/x")?;
+    assert_eq!(rt; entry.register(), 10);
+    assert_eq!(rt; entry.digest(), [0; 20]);
+    assert_eq!(rt; entry.name(), b"ima".as_slice());
+    let mut payload = [0; 30];
+    payload[20] = 6;
+    payload[24..].copy_from_slice(b"/etc/x");
+    assert_eq!(rt; entry.payload(), payload.as_slice());
+    Ok(())
+}
+
+#[test]
+fn fields_of_an_entry(rt: HostRuntime) -> Result<(), Fail> {
+    let alloc = rt.alloc();
+    let entry = entry_of(alloc, MEASUREMENT)?;
+    let payload = &MEASUREMENT[PAYLOAD_PLACE..];
+    assert_eq!(rt; entry.register(), 10);
+    assert_eq!(rt; Digest::Sha1(entry.digest()), hash(Alg::Sha1, payload));
+    assert_eq!(rt; entry.name(), b"ima-ng".as_slice());
+    assert_eq!(rt; entry.payload(), payload);
+    assert!(rt; !entry.is_violation());
+    assert!(rt; entry.is_genuine());
+    for alg in ALGS {
+        assert_eq!(rt; entry.template_digest(alg), hash(alg, payload));
+        assert_eq!(rt; entry.parts().get(alg), Some(hash(alg, payload)));
+    }
+    Ok(())
+}
+
+#[test]
+fn other_template_as_bytes(rt: HostRuntime) -> Result<(), Fail> {
+    let alloc = rt.alloc();
+    let front = &MEASUREMENT[..NAME_END];
+    let bytes = joined(alloc, &[front, b"xx", &MEASUREMENT[PAYLOAD_LENGTH..]])?;
+    let entry = entry_of(alloc, &bytes)?;
+    let payload = &MEASUREMENT[PAYLOAD_PLACE..];
+    assert_eq!(rt; entry.name(), b"ima-xx".as_slice());
+    assert_eq!(rt; entry.payload(), payload);
+    let mut hashed = Vec::new(alloc);
+    if entry.hashed_bytes(&mut hashed).is_err() {
+        entry.hashed_bytes(&mut hashed)?;
+    }
+    assert_eq!(rt; hashed.as_slice(), payload);
+    for alg in ALGS {
+        assert_eq!(rt; entry.template_digest(alg), hash(alg, payload));
+    }
+    assert_eq!(rt; spelling_of(alloc, &entry)?.as_slice(), bytes.as_slice());
+    Ok(())
+}
+
+/// Entries are the same where all four fields are.
+#[test]
+fn entries_that_differ_in_a_field(rt: HostRuntime) -> Result<(), Fail> {
+    let alloc = rt.alloc();
+    let entry = entry_of(alloc, MEASUREMENT)?;
+    assert!(rt; entry == entry_of(alloc, MEASUREMENT)?);
+    for (place, byte) in [
+        (REGISTER_PLACE, 11),
+        (DIGEST_PLACE, 0),
+        (DIGEST_PLACE + 19, 0),
+        (NAME_END, b'x'),
+        (PAYLOAD_PLACE, 0),
+        (MEASUREMENT.len() - 1, b'x'),
+    ] {
+        let other = entry_of(alloc, &measurement_with(alloc, place, byte)?)?;
+        assert!(rt; entry != other, "byte {place}");
+    }
+    Ok(())
+}
+
+/// An entry with a wrong template digest is not genuine, and extends the registers by its own payload.
+#[test]
+fn wrong_digest_is_not_genuine(rt: HostRuntime) -> Result<(), Fail> {
+    let alloc = rt.alloc();
+    let entry = entry_of(alloc, &measurement_with(alloc, DIGEST_PLACE, 0)?)?;
+    assert!(rt; !entry.is_genuine());
+    assert!(rt; !entry.is_violation());
+    let payload = &MEASUREMENT[PAYLOAD_PLACE..];
+    for alg in ALGS {
+        assert_eq!(rt; entry.parts().get(alg), Some(hash(alg, payload)));
+    }
+    Ok(())
+}
+
+#[test]
+fn replay_extends_the_register(rt: HostRuntime) -> Result<(), Fail> {
+    let alloc = rt.alloc();
+    let entry = entry_of(alloc, MEASUREMENT)?;
+    let violation = entry_of(alloc, VIOLATION)?;
+    let algs = AlgSet::empty().with(Alg::Sha1).with(Alg::Sha256);
+    let mut banks = Banks::new(algs, 0);
+    entry.replay_into(&mut banks);
+    for alg in [Alg::Sha1, Alg::Sha256] {
+        let part = hash(alg, &MEASUREMENT[PAYLOAD_PLACE..]);
+        let once = joined(alloc, &[Digest::zero(alg).bytes(), part.bytes()])?;
+        assert_eq!(rt; banks.read(alg, 10), Some(hash(alg, &once)));
+        assert_eq!(rt; banks.read(alg, 9), Some(Digest::zero(alg)));
+        let mut after = banks;
+        violation.replay_into(&mut after);
+        let part = Digest::ones(alg);
+        let twice = joined(alloc, &[hash(alg, &once).bytes(), part.bytes()])?;
+        assert_eq!(rt; after.read(alg, 10), Some(hash(alg, &twice)));
+    }
+    assert_eq!(rt; banks.read(Alg::Sha384, 10), None);
+    Ok(())
+}
+
+/// Holds with any one allocation refused too: the same call again makes the entry.
+#[test]
+fn entries_made_after_a_refused_allocation(rt: HostRuntime) -> Result<(), Fail> {
+    let alloc = rt.alloc();
+    let file = hash(Alg::Sha256, b"abc");
+    let entry = measured(alloc, Template::ImaNg, &file, b"/bin/sh")?;
+    assert_eq!(rt; spelling_of(alloc, &entry)?.as_slice(), MEASUREMENT);
+    let entry = violated(alloc, Template::ImaNg, Alg::Sha256, b"/etc/x")?;
+    assert_eq!(rt; spelling_of(alloc, &entry)?.as_slice(), VIOLATION);
+    Ok(())
+}
+
+/// Holds with any one allocation refused too: the vector is then as before, and the same call again appends all bytes.
+#[test]
+fn bytes_appended_after_a_refused_allocation(rt: HostRuntime) -> Result<(), Fail> {
+    let alloc = rt.alloc();
+    let entry = entry_of(alloc, MEASUREMENT)?;
+    let mut out = joined(alloc, &[b"front"])?;
+    if entry.hashed_bytes(&mut out).is_err() {
+        assert_eq!(rt; out.as_slice(), b"front".as_slice());
+        entry.hashed_bytes(&mut out)?;
+    }
+    let hashed = joined(alloc, &[b"front", &MEASUREMENT[PAYLOAD_PLACE..]])?;
+    assert_eq!(rt; out.as_slice(), hashed.as_slice());
+    if write_entry(&entry, &mut out).is_err() {
+        assert_eq!(rt; out.as_slice(), hashed.as_slice());
+        write_entry(&entry, &mut out)?;
+    }
+    let both = joined(alloc, &[&hashed, MEASUREMENT])?;
+    assert_eq!(rt; out.as_slice(), both.as_slice());
+    Ok(())
+}
+
+/// The law takes nothing and does nothing.
+#[test]
+fn law_of_hashed_bytes() {
+    ima_hashes_276_bytes();
+}

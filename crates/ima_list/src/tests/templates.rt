@@ -1,0 +1,108 @@
+//! Templates, and why they have no entry.
+
+use super::ALGS;
+use crate::{EntryFault, Template};
+use pcr_banks::Alg;
+use std::test::Fail;
+
+#[test]
+fn template_names(rt: HostRuntime) {
+    assert_eq!(rt; Template::Ima.name(), "ima");
+    assert_eq!(rt; Template::ImaNg.name(), "ima-ng");
+}
+
+/// A path of 255 or 4,095 bytes is the longest that is taken, and an empty one is taken.
+#[test]
+fn paths_up_to_a_length(rt: HostRuntime) {
+    let path = [b'a'; 4_096];
+    for (template, alg, length, answer) in [
+        (Template::Ima, Alg::Sha1, 0, Ok(())),
+        (Template::Ima, Alg::Sha1, 255, Ok(())),
+        (Template::Ima, Alg::Sha1, 256, Err(EntryFault::PathTooLong)),
+        (Template::ImaNg, Alg::Sha1, 0, Ok(())),
+        (Template::ImaNg, Alg::Sha256, 256, Ok(())),
+        (Template::ImaNg, Alg::Sha384, 4_095, Ok(())),
+        (
+            Template::ImaNg,
+            Alg::Sha256,
+            4_096,
+            Err(EntryFault::PathTooLong),
+        ),
+    ] {
+        assert_eq!(rt;
+            template.check(alg, &path[..length]),
+            answer,
+            "{length} bytes"
+        );
+    }
+}
+
+/// A wrong algorithm counts before a NUL, and a NUL before a path that is too long.
+#[test]
+fn template_faults_in_order(rt: HostRuntime) {
+    let long = [b'a'; 4_096];
+    let mut long_with_nul = long;
+    long_with_nul[4_095] = 0;
+    for (template, alg, path, fault) in [
+        (
+            Template::Ima,
+            Alg::Sha256,
+            b"/".as_slice(),
+            EntryFault::WrongHash,
+        ),
+        (
+            Template::Ima,
+            Alg::Sha384,
+            &long_with_nul,
+            EntryFault::WrongHash,
+        ),
+        (Template::Ima, Alg::Sha256, b"\0", EntryFault::WrongHash),
+        (Template::Ima, Alg::Sha384, &long, EntryFault::WrongHash),
+        (Template::Ima, Alg::Sha1, b"\0", EntryFault::NulInPath),
+        (Template::Ima, Alg::Sha1, b"a\0", EntryFault::NulInPath),
+        (
+            Template::Ima,
+            Alg::Sha1,
+            &long_with_nul,
+            EntryFault::NulInPath,
+        ),
+        (Template::Ima, Alg::Sha1, &long, EntryFault::PathTooLong),
+        (Template::ImaNg, Alg::Sha256, b"\0/", EntryFault::NulInPath),
+        (
+            Template::ImaNg,
+            Alg::Sha256,
+            &long_with_nul,
+            EntryFault::NulInPath,
+        ),
+        (Template::ImaNg, Alg::Sha1, &long, EntryFault::PathTooLong),
+    ] {
+        assert_eq!(rt; template.check(alg, path), Err(fault));
+    }
+}
+
+#[test]
+fn ima_takes_sha1_alone(rt: HostRuntime) {
+    for alg in ALGS {
+        assert_eq!(rt; Template::Ima.check(alg, b"/").is_ok(), alg == Alg::Sha1);
+        assert_eq!(rt; Template::ImaNg.check(alg, b"/"), Ok(()));
+    }
+}
+
+#[test]
+fn template_faults_in_words(rt: HostRuntime) -> Result<(), Fail> {
+    for (fault, words) in [
+        (
+            EntryFault::WrongHash,
+            "the template takes no digest of this algorithm",
+        ),
+        (EntryFault::NulInPath, "the path has a NUL"),
+        (EntryFault::PathTooLong, "the path is too long"),
+    ] {
+        let text = match format!(in rt.alloc(); "{fault}") {
+            Ok(text) => text,
+            Err(_) => format!(in rt.alloc(); "{fault}")?,
+        };
+        assert_eq!(rt; text.as_str(), words);
+    }
+    Ok(())
+}
