@@ -59,4 +59,17 @@ impl Alg {
             _ => None,
         }
     }
+
+    /// The algorithm with this name, or `None` for a name that this project does not know. Names are in lower case.
+    pub fn from_name(name: &[u8]) -> Option<Self>
+        ensures found { IfSome result (λ alg. name_of alg ≡ name.now) }
+        ensures unknown { IfNone result ((alg : Alg) → name_of alg ≢ name.now) }
+    {
+        match name {
+            b"sha1" => Some(Alg::Sha1),
+            b"sha256" => Some(Alg::Sha256),
+            b"sha384" => Some(Alg::Sha384),
+            _ => None,
+        }
+    }
 }

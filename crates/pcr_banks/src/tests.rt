@@ -66,9 +66,20 @@ fn algorithms_in_numbers_and_texts(rt: HostRuntime) {
         assert_eq!(rt; Alg::from_id(id), Some(alg));
         assert_eq!(rt; alg.size(), size);
         assert_eq!(rt; alg.name(), name);
+        assert_eq!(rt; Alg::from_name(name.as_bytes()), Some(alg));
     }
     // SHA-512, which no bank uses.
     assert_eq!(rt; Alg::from_id(0x000D), None);
+    for name in [
+        b"sha512".as_slice(),
+        b"SHA1",
+        b"sha1 ",
+        b"sha25",
+        b"sha2560",
+        b"",
+    ] {
+        assert_eq!(rt; Alg::from_name(name), None);
+    }
 }
 
 #[test]
