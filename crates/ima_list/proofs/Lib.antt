@@ -3,3 +3,5 @@ pub mod PieceLaws
 pub mod EntryLaws
 pub mod ListLaws
 pub mod TemplateLaws
+pub mod ReplayLaws
+pub mod FieldsLaws

@@ -4,6 +4,9 @@ pub mod Reading
 pub mod Templates
 pub mod Digesting
 pub mod Replaying
+pub mod Fields
+pub mod Lines
+pub mod Aggregates
 pub mod Entries
 pub mod Writing
 pub mod Outside

@@ -1,20 +1,28 @@
-//! The measurement list of Linux IMA: templates, entries, the binary list read and written, and the devices that bytes
-//! come from and go to (Linux kernel documentation, 'IMA Template Management Mechanism').
+//! The measurement list of Linux IMA: templates, entries, their fields and lines, the binary list read and written, its
+//! replay into registers, the boot aggregate, and the devices that bytes come from and go to
+//! (Linux kernel documentation, 'IMA Template Management Mechanism').
 #![tactic(auto)]
 
+mod aggregate;
 mod entry;
 mod fault;
+mod fields;
+mod line;
 mod outside;
 mod pieces;
 mod reading;
+mod replaying;
 mod template;
 mod writing;
 
+pub use aggregate::boot_aggregate;
 pub use entry::{Entry, ima_hashes_276_bytes};
 pub use fault::ListFault;
+pub use fields::Fields;
 pub use outside::{Failed, Sink, SliceSource, Source, VecSink, send};
 pub use pieces::send_pieces;
 pub use reading::{list_has_one_reading, no_spelling_begins_another, read_list};
+pub use replaying::{ReplayFault, replay, replay_goes_on};
 pub use template::{EntryFault, Template};
 pub use writing::{send_entry, write_entry};
 

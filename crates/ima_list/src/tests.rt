@@ -1,9 +1,12 @@
 //! Worked examples, and devices to run them on.
 
+mod aggregates;
 mod devices;
 mod entries;
+mod fields;
+mod lines;
 mod lists;
-mod real_boot;
+mod replaying;
 mod templates;
 
 use crate::{Entry, ListFault, read_list, write_entry};
@@ -20,6 +23,10 @@ const MEASUREMENT: &[u8] = b"\x0a\x00\x00\x00\
     \xba\x78\x16\xbf\x8f\x01\xcf\xea\x41\x41\x40\xde\x5d\xae\x22\x23\
     \xb0\x03\x61\xa3\x96\x17\x7a\x9c\xb4\x10\xff\x61\xf2\x00\x15\xad\
     \x08\x00\x00\x00/bin/sh\x00";
+
+/// The line of this entry.
+const MEASUREMENT_LINE: &[u8] = b"10 83fdff315175587157ed3aa604e7f9ec63ca0b42 ima-ng \
+    sha256:ba7816bf8f01cfea414140de5dae2223b00361a396177a9cb410ff61f20015ad /bin/sh\n";
 
 /// Where it has the low byte of its register.
 const REGISTER_PLACE: usize = 0;
@@ -46,6 +53,11 @@ const VIOLATION: &[u8] = b"\x0a\x00\x00\x00\
     \x00\x00\x00\x00\x00\x00\x00\x00\x00\x00\x00\x00\x00\x00\x00\x00\
     \x07\x00\x00\x00/etc/x\x00";
 
+/// An entry with no name and no payload: register 10, twenty zero bytes, and two lengths of nothing.
+const EMPTY_ENTRY: &[u8] = b"\x0a\x00\x00\x00\
+    \x00\x00\x00\x00\x00\x00\x00\x00\x00\x00\x00\x00\x00\x00\x00\x00\x00\x00\x00\x00\
+    \x00\x00\x00\x00\x00\x00\x00\x00";
+
 /// The algorithms, each of which has a bank.
 const ALGS: [Alg; 3] = [Alg::Sha1, Alg::Sha256, Alg::Sha384];
 
@@ -61,6 +73,12 @@ fn measurement_with(alloc: Global, place: usize, byte: u8) -> Result<Vec<u8>, Al
         *old = byte;
     }
     Ok(bytes)
+}
+
+/// An entry of the template `ima` with this path, behind this length. It has the digest of a violation.
+fn ima_entry(alloc: Global, length: &[u8], path: &[u8]) -> Result<Vec<u8>, AllocError> {
+    let front = &EMPTY_ENTRY[..24];
+    joined(alloc, &[front, b"\x03\0\0\0ima", &[1; 20], length, path])
 }
 
 /// Reads a list, and once more where an allocation was refused.
@@ -89,4 +107,13 @@ fn spelling_of(alloc: Global, entry: &Entry) -> Result<Vec<u8>, AllocError> {
     let mut bytes = Vec::new(alloc);
     append_entry(entry, &mut bytes)?;
     Ok(bytes)
+}
+
+/// An entry's line; once more where an allocation was refused.
+fn line_of(alloc: Global, entry: &Entry) -> Result<Vec<u8>, AllocError> {
+    let mut text = Vec::new(alloc);
+    if entry.line(&mut text).is_err() {
+        entry.line(&mut text)?;
+    }
+    Ok(text)
 }

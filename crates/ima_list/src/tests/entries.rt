@@ -1,10 +1,10 @@
 //! Entries that are made, and what they tell.
 
 use super::{
-    ALGS, DIGEST_PLACE, MEASUREMENT, NAME_END, PAYLOAD_LENGTH, PAYLOAD_PLACE, REGISTER_PLACE,
-    VIOLATION, entry_of, joined, measurement_with, spelling_of,
+    ALGS, DIGEST_PLACE, MEASUREMENT, MEASUREMENT_LINE, NAME_END, PAYLOAD_LENGTH, PAYLOAD_PLACE,
+    REGISTER_PLACE, VIOLATION, entry_of, joined, line_of, measurement_with, spelling_of,
 };
-use crate::{Entry, Template, ima_hashes_276_bytes, read_list, write_entry};
+use crate::{Entry, Fields, Template, ima_hashes_276_bytes, read_list, replay, write_entry};
 use pcr_banks::{Alg, AlgSet, Banks, Digest, Hasher, hash};
 use std::alloc::{AllocError, Global};
 use std::test::Fail;
@@ -103,6 +103,12 @@ fn ima_ng_entry_layout(rt: HostRuntime) -> Result<(), Fail> {
     let mut hashed = Vec::new(alloc);
     entry.hashed_bytes(&mut hashed)?;
     assert_eq!(rt; hashed.as_slice(), payload);
+    let path = b"/bin/sh";
+    assert_eq!(rt; entry.fields(), Some(Fields { file, path }));
+    let mut text = joined(alloc, &[b"front"])?;
+    entry.line(&mut text)?;
+    let expected = joined(alloc, &[b"front", MEASUREMENT_LINE])?;
+    assert_eq!(rt; text.as_slice(), expected.as_slice());
     let entries = read_list(alloc, MEASUREMENT)?;
     assert_eq!(rt; entries.as_slice(), [entry].as_slice());
     Ok(())
@@ -192,6 +198,12 @@ fn fields_of_an_entry(rt: HostRuntime) -> Result<(), Fail> {
     Ok(())
 }
 
+/// The line of the entry of `/bin/sh` where its template has the name `ima-xx`: its payload has no fields that are known.
+const OTHER_TEMPLATE_LINE: &[u8] = b"10 83fdff315175587157ed3aa604e7f9ec63ca0b42 ima-xx \
+    28000000736861323536\
+    3a00ba7816bf8f01cfea414140de5dae2223b00361a396177a9cb410ff61f20015ad\
+    080000002f62696e2f736800\n";
+
 #[test]
 fn other_template_as_bytes(rt: HostRuntime) -> Result<(), Fail> {
     let alloc = rt.alloc();
@@ -210,6 +222,11 @@ fn other_template_as_bytes(rt: HostRuntime) -> Result<(), Fail> {
         assert_eq!(rt; entry.template_digest(alg), hash(alg, payload));
     }
     assert_eq!(rt; spelling_of(alloc, &entry)?.as_slice(), bytes.as_slice());
+    assert_eq!(rt; entry.fields(), None);
+    assert_eq!(rt; line_of(alloc, &entry)?.as_slice(), OTHER_TEMPLATE_LINE);
+    let banks = replay(Banks::new(AlgSet::empty().with(Alg::Sha256), 0), &[entry])?;
+    let once = joined(alloc, &[&[0; 32], hash(Alg::Sha256, payload).bytes()])?;
+    assert_eq!(rt; banks.read(Alg::Sha256, 10), Some(hash(Alg::Sha256, &once)));
     Ok(())
 }
 

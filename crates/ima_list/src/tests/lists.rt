@@ -1,17 +1,11 @@
 //! Lists that are read, their faults, and what is written back.
 
 use super::{
-    MEASUREMENT, NAME_END, PAYLOAD_LENGTH, REGISTER_PLACE, VIOLATION, append_entry, entry_of,
-    joined, list_of, measurement_with, spelling_of,
+    EMPTY_ENTRY, MEASUREMENT, NAME_END, PAYLOAD_LENGTH, REGISTER_PLACE, VIOLATION, append_entry,
+    entry_of, ima_entry, joined, list_of, measurement_with, spelling_of,
 };
 use crate::{ListFault, list_has_one_reading, no_spelling_begins_another, read_list};
-use std::alloc::{AllocError, Global};
 use std::test::Fail;
-
-/// An entry with no name and no payload: register 10, twenty zero bytes, and two lengths of nothing.
-const EMPTY_ENTRY: &[u8] = b"\x0a\x00\x00\x00\
-    \x00\x00\x00\x00\x00\x00\x00\x00\x00\x00\x00\x00\x00\x00\x00\x00\x00\x00\x00\x00\
-    \x00\x00\x00\x00\x00\x00\x00\x00";
 
 /// A list of no entries needs no memory.
 #[test]
@@ -103,12 +97,6 @@ fn faults_of_the_first_entry(rt: HostRuntime) -> Result<(), Fail> {
         assert_eq!(rt; read_list(alloc, &bytes).err(), Some(fault), "byte {place}");
     }
     Ok(())
-}
-
-/// An entry of the template `ima` with this path, behind this length.
-fn ima_entry(alloc: Global, length: &[u8], path: &[u8]) -> Result<Vec<u8>, AllocError> {
-    let front = &EMPTY_ENTRY[..24];
-    joined(alloc, &[front, b"\x03\0\0\0ima", &[1; 20], length, path])
 }
 
 /// A path of the template `ima` is at most 255 bytes long, whether or not its bytes are there.

@@ -1,0 +1,119 @@
+//! Lists replayed into registers.
+
+use super::{
+    DIGEST_PLACE, EMPTY_ENTRY, MEASUREMENT, PAYLOAD_PLACE, REGISTER_PLACE, VIOLATION, entry_of,
+    joined, list_of, measurement_with,
+};
+use crate::{Fields, ReplayFault, replay, replay_goes_on};
+use pcr_banks::{Alg, AlgSet, Banks, Digest, hash};
+use std::test::Fail;
+
+/// The banks of these examples at their start, of SHA-256 alone.
+fn start() -> Banks {
+    Banks::new(AlgSet::empty().with(Alg::Sha256), 0)
+}
+
+#[test]
+fn replay_and_fields(rt: HostRuntime) -> Result<(), Fail> {
+    let alloc = rt.alloc();
+    let file = hash(Alg::Sha256, b"abc");
+    let path = b"/bin/sh";
+    let entry = entry_of(alloc, MEASUREMENT)?;
+    assert_eq!(rt; entry.fields(), Some(Fields { file, path }));
+    let part = hash(Alg::Sha256, &MEASUREMENT[PAYLOAD_PLACE..]);
+    for (bytes, part) in [(MEASUREMENT, part.bytes()), (VIOLATION, &[0xFF; 32])] {
+        let entries = list_of(alloc, bytes)?;
+        let banks = replay(start(), &entries)?;
+        let once = hash(Alg::Sha256, &joined(alloc, &[&[0; 32], part])?);
+        for register in 0..24 {
+            let expected = match register {
+                10 => Some(once),
+                _ => start().read(Alg::Sha256, register),
+            };
+            assert_eq!(rt; banks.read(Alg::Sha256, register), expected);
+        }
+        for alg in [Alg::Sha1, Alg::Sha384] {
+            assert!(rt; !banks.active(alg));
+        }
+    }
+    Ok(())
+}
+
+/// An entry with the digest of a violation extends its register by all bits set, whatever its payload is.
+#[test]
+fn digest_of_zeros_is_a_violation(rt: HostRuntime) -> Result<(), Fail> {
+    let alloc = rt.alloc();
+    let front = &MEASUREMENT[..DIGEST_PLACE];
+    let bytes = joined(alloc, &[front, &[0; 20], &MEASUREMENT[DIGEST_PLACE + 20..]])?;
+    let entries = list_of(alloc, &bytes)?;
+    let banks = replay(start(), &entries)?;
+    let once = hash(Alg::Sha256, &joined(alloc, &[&[0; 32], &[0xFF; 32]])?);
+    assert_eq!(rt; banks.read(Alg::Sha256, 10), Some(once));
+    Ok(())
+}
+
+/// An empty list changes nothing.
+#[test]
+fn replay_of_no_entries(rt: HostRuntime) {
+    assert_eq!(rt; replay(start(), &[]), Ok(start()));
+}
+
+/// The first entry is named whose digest is neither its own nor that of a violation.
+#[test]
+fn first_forged_entry_is_named(rt: HostRuntime) -> Result<(), Fail> {
+    let alloc = rt.alloc();
+    let bad = measurement_with(alloc, DIGEST_PLACE, 0x84)?;
+    let other = measurement_with(alloc, PAYLOAD_PLACE, 0)?;
+    for (parts, entry) in [
+        ([bad.as_slice(), b"", b""], 0),
+        ([MEASUREMENT, &bad, b""], 1),
+        ([&bad, &bad, MEASUREMENT], 0),
+        ([&other, &bad, b""], 0),
+        ([MEASUREMENT, VIOLATION, &other], 2),
+    ] {
+        let bytes = joined(alloc, &parts)?;
+        let entries = list_of(alloc, &bytes)?;
+        let fault = ReplayFault::BadTemplateDigest { entry };
+        assert_eq!(rt; replay(start(), &entries), Err(fault));
+    }
+    Ok(())
+}
+
+/// The replay of two lists joined is that of the second from the registers of the first.
+#[test]
+fn replay_of_lists_joined(rt: HostRuntime) -> Result<(), Fail> {
+    let alloc = rt.alloc();
+    let other = measurement_with(alloc, REGISTER_PLACE, 23)?;
+    let first = joined(alloc, &[MEASUREMENT, &other, VIOLATION])?;
+    let second = joined(alloc, &[EMPTY_ENTRY, &other, MEASUREMENT])?;
+    let both = list_of(alloc, &joined(alloc, &[&first, &second])?)?;
+    let start = Banks::new(AlgSet::empty().with(Alg::Sha1).with(Alg::Sha384), 3);
+    let middle = replay(start, &list_of(alloc, &first)?)?;
+    let after = replay(middle, &list_of(alloc, &second)?)?;
+    assert_eq!(rt; replay(start, &both), Ok(after));
+    assert!(rt; start != middle);
+    assert!(rt; middle != after);
+    let part = hash(Alg::Sha384, &MEASUREMENT[PAYLOAD_PLACE..]);
+    let once = hash(Alg::Sha384, &joined(alloc, &[&[0; 48], part.bytes()])?);
+    let twice = hash(Alg::Sha384, &joined(alloc, &[once.bytes(), part.bytes()])?);
+    assert_eq!(rt; after.read(Alg::Sha384, 23), Some(twice));
+    Ok(())
+}
+
+#[test]
+fn replay_fault_in_words(rt: HostRuntime) -> Result<(), Fail> {
+    let fault = ReplayFault::BadTemplateDigest { entry: 12 };
+    let text = match format!(in rt.alloc(); "{fault}") {
+        Ok(text) => text,
+        Err(_) => format!(in rt.alloc(); "{fault}")?,
+    };
+    let words = "entry 12 has a template digest that is not its own";
+    assert_eq!(rt; text.as_str(), words);
+    Ok(())
+}
+
+/// The law takes nothing and does nothing.
+#[test]
+fn law_of_replay() {
+    replay_goes_on();
+}
