@@ -9,8 +9,10 @@ use Rattle.pcr_banks.specs.Hashing.{name_of}
 use Rattle.pcr_banks.specs.Registers.{value_at}
 use Rattle.boot_log.specs.declared.fault.LogFault.{LogFault}
 use Rattle.boot_log.specs.declared.fault.LogFault.TheVariants as logs
+use Rattle.ima_list.specs.declared.fault.ListFault.{ListFault}
+use Rattle.ima_list.specs.declared.fault.ListFault.TheVariants as lists
 use Rattle.ima_agent.specs.declared.texts.RunFault.{RunFault}
-use Rattle.ima_agent.specs.declared.texts.RunFault.TheVariants.{Usage, NotHex, Log, TooLong, Read, Memory}
+use Rattle.ima_agent.specs.declared.texts.RunFault.TheVariants as runs
 
 -- ---- registers
 
@@ -82,35 +84,62 @@ abbrev pub log_fault_line : LogFault → List ℕ
 log_fault_line fault =
     codes "refused: log fault " ++ (decimal (log_fault_number fault) ++ (event_place (log_fault_event fault) ++ codes "\n"))
 
--- A fault whose cause is want of memory, also one inside, is that.
+-- A list fault's number.
+abbrev pub list_fault_number : ListFault → ℕ
+list_fault_number (lists.Truncated entry) = 1
+list_fault_number (lists.BadRegister entry) = 2
+list_fault_number (lists.NameTooLong entry) = 3
+list_fault_number lists.Memory = 4
+
+-- The entry that a list fault names.
+abbrev pub list_fault_entry : ListFault → Option ℕ
+list_fault_entry (lists.Truncated entry) = Some entry
+list_fault_entry (lists.BadRegister entry) = Some entry
+list_fault_entry (lists.NameTooLong entry) = Some entry
+list_fault_entry lists.Memory = None
+
+-- Where a fault is.
+abbrev pub entry_place : Option ℕ → List ℕ
+entry_place None = []
+entry_place (Some entry) = codes " at entry " ++ decimal entry
+
+abbrev pub list_fault_line : ListFault → List ℕ
+list_fault_line fault =
+    codes "refused: list fault " ++ (decimal (list_fault_number fault) ++ (entry_place (list_fault_entry fault) ++ codes "\n"))
+
+-- The fault itself; where its cause is want of memory, also inside, want of memory.
 abbrev pub plain_fault : RunFault → RunFault
-plain_fault Usage = Usage
-plain_fault NotHex = NotHex
-plain_fault (Log logs.Memory) = Memory
-plain_fault (Log fault) = Log fault
-plain_fault (TooLong name) = TooLong name
-plain_fault (Read name) = Read name
-plain_fault Memory = Memory
+plain_fault runs.Usage = runs.Usage
+plain_fault runs.NotHex = runs.NotHex
+plain_fault (runs.Log logs.Memory) = runs.Memory
+plain_fault (runs.Log fault) = runs.Log fault
+plain_fault (runs.List lists.Memory) = runs.Memory
+plain_fault (runs.List fault) = runs.List fault
+plain_fault (runs.TooLong name) = runs.TooLong name
+plain_fault (runs.Read name) = runs.Read name
+plain_fault runs.Memory = runs.Memory
 
 abbrev plain_fault_line : RunFault → List ℕ
-plain_fault_line Usage = codes "refused: command line\n"
-plain_fault_line NotHex = codes "refused: not hexadecimal\n"
-plain_fault_line (Log fault) = log_fault_line fault
-plain_fault_line (TooLong name) = codes "refused: too long " ++ (string_bytes name ++ codes "\n")
-plain_fault_line (Read name) = codes "failed: read " ++ (string_bytes name ++ codes "\n")
-plain_fault_line Memory = codes "failed: memory\n"
+plain_fault_line runs.Usage = codes "refused: command line\n"
+plain_fault_line runs.NotHex = codes "refused: not hexadecimal\n"
+plain_fault_line (runs.Log fault) = log_fault_line fault
+plain_fault_line (runs.List fault) = list_fault_line fault
+plain_fault_line (runs.TooLong name) = codes "refused: too long " ++ (string_bytes name ++ codes "\n")
+plain_fault_line (runs.Read name) = codes "failed: read " ++ (string_bytes name ++ codes "\n")
+plain_fault_line runs.Memory = codes "failed: memory\n"
 
 -- The line that says why the program failed.
 abbrev pub fault_line : RunFault → List ℕ
 fault_line fault = plain_fault_line (plain_fault fault)
 
 abbrev plain_fault_status : RunFault → ℕ
-plain_fault_status Usage = 2
-plain_fault_status NotHex = 2
-plain_fault_status (Log fault) = 2
-plain_fault_status (TooLong name) = 2
-plain_fault_status (Read name) = 3
-plain_fault_status Memory = 3
+plain_fault_status runs.Usage = 2
+plain_fault_status runs.NotHex = 2
+plain_fault_status (runs.Log fault) = 2
+plain_fault_status (runs.List fault) = 2
+plain_fault_status (runs.TooLong name) = 2
+plain_fault_status (runs.Read name) = 3
+plain_fault_status runs.Memory = 3
 
 -- The exit status after a fault: 2 for input that is refused, 3 for want of memory and a device's fault.
 abbrev pub fault_status : RunFault → ℕ

@@ -4,4 +4,7 @@ mod devices;
 mod loading;
 mod program;
 mod real_boot;
+mod real_boot_lines;
+mod real_boot_list;
+mod show;
 mod texts;

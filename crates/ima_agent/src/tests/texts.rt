@@ -2,9 +2,9 @@
 
 use crate::{RunFault, status_of, write_fault, write_registers};
 use boot_log::LogFault;
-use ima_list::{Failed, VecSink};
+use ima_list::{Failed, ListFault, VecSink};
 use pcr_banks::{Alg, AlgSet, Banks, Digest, PerBank};
-use std::alloc::Global;
+use std::alloc::{AllocError, Global};
 use std::test::Fail;
 
 /// The line of a fault, again where an allocation was refused.
@@ -17,10 +17,78 @@ fn line_of(alloc: Global, fault: &RunFault) -> Vec<u8> {
     sink.into_bytes()
 }
 
+/// A string, again where an allocation was refused.
+fn text_of(alloc: Global, text: &str) -> Result<String, AllocError> {
+    String::from_str(alloc, text).or_else(|_| String::from_str(alloc, text))
+}
+
+/// The faults of logs, their numbers and places.
+#[test]
+fn log_fault_lines(rt: HostRuntime) {
+    let event = 18_446_744_073_709_551_615;
+    for (fault, line) in [
+        (
+            LogFault::Truncated { event: 0 },
+            b"refused: log fault 1 at event 0\n".as_slice(),
+        ),
+        (LogFault::NotCryptoAgile, b"refused: log fault 2\n"),
+        (LogFault::BadHeader, b"refused: log fault 3\n"),
+        (LogFault::DigestSize, b"refused: log fault 4\n"),
+        (LogFault::NoBank, b"refused: log fault 5\n"),
+        (
+            LogFault::UnknownAlg { event: 7 },
+            b"refused: log fault 6 at event 7\n",
+        ),
+        (
+            LogFault::DoubleDigest { event: 10 },
+            b"refused: log fault 7 at event 10\n",
+        ),
+        (
+            LogFault::MissingDigest { event: 100 },
+            b"refused: log fault 8 at event 100\n",
+        ),
+        (
+            LogFault::BadRegister { event },
+            b"refused: log fault 9 at event 18446744073709551615\n",
+        ),
+    ] {
+        let fault = RunFault::Log(fault);
+        assert_eq!(rt; line_of(rt.alloc(), &fault).as_slice(), line);
+        assert_eq!(rt; status_of(&fault), 2);
+    }
+}
+
+/// The faults of lists, likewise.
+#[test]
+fn list_fault_lines(rt: HostRuntime) {
+    let entry = 18_446_744_073_709_551_615;
+    for (fault, line) in [
+        (
+            ListFault::Truncated { entry: 0 },
+            b"refused: list fault 1 at entry 0\n".as_slice(),
+        ),
+        (
+            ListFault::BadRegister { entry: 7 },
+            b"refused: list fault 2 at entry 7\n",
+        ),
+        (
+            ListFault::NameTooLong { entry: 10 },
+            b"refused: list fault 3 at entry 10\n",
+        ),
+        (
+            ListFault::BadRegister { entry },
+            b"refused: list fault 2 at entry 18446744073709551615\n",
+        ),
+    ] {
+        let fault = RunFault::List(fault);
+        assert_eq!(rt; line_of(rt.alloc(), &fault).as_slice(), line);
+        assert_eq!(rt; status_of(&fault), 2);
+    }
+}
+
 #[test]
 fn fault_lines_and_statuses(rt: HostRuntime) -> Result<(), Fail> {
     let alloc = rt.alloc();
-    let event = 18_446_744_073_709_551_615;
     for (fault, line, status) in [
         (RunFault::Usage, b"refused: command line\n".as_slice(), 2),
         (RunFault::NotHex, b"refused: not hexadecimal\n", 2),
@@ -30,56 +98,18 @@ fn fault_lines_and_statuses(rt: HostRuntime) -> Result<(), Fail> {
             2,
         ),
         (
-            RunFault::Log(LogFault::NotCryptoAgile),
-            b"refused: log fault 2\n",
-            2,
-        ),
-        (
-            RunFault::Log(LogFault::BadHeader),
-            b"refused: log fault 3\n",
-            2,
-        ),
-        (
-            RunFault::Log(LogFault::DigestSize),
-            b"refused: log fault 4\n",
-            2,
-        ),
-        (
-            RunFault::Log(LogFault::NoBank),
-            b"refused: log fault 5\n",
-            2,
-        ),
-        (
-            RunFault::Log(LogFault::UnknownAlg { event: 7 }),
-            b"refused: log fault 6 at event 7\n",
-            2,
-        ),
-        (
-            RunFault::Log(LogFault::DoubleDigest { event: 10 }),
-            b"refused: log fault 7 at event 10\n",
-            2,
-        ),
-        (
-            RunFault::Log(LogFault::MissingDigest { event: 100 }),
-            b"refused: log fault 8 at event 100\n",
-            2,
-        ),
-        (
-            RunFault::Log(LogFault::BadRegister { event }),
-            b"refused: log fault 9 at event 18446744073709551615\n",
+            RunFault::List(ListFault::Truncated { entry: 3 }),
+            b"refused: list fault 1 at entry 3\n",
             2,
         ),
         (RunFault::Log(LogFault::Memory), b"failed: memory\n", 3),
+        (RunFault::List(ListFault::Memory), b"failed: memory\n", 3),
         (
-            RunFault::TooLong(String::from_str(alloc, "a b")?),
+            RunFault::TooLong(text_of(alloc, "a b")?),
             b"refused: too long a b\n",
             2,
         ),
-        (
-            RunFault::Read(String::from_str(alloc, "x")?),
-            b"failed: read x\n",
-            3,
-        ),
+        (RunFault::Read(text_of(alloc, "x")?), b"failed: read x\n", 3),
         (RunFault::Memory, b"failed: memory\n", 3),
     ] {
         assert_eq!(rt; line_of(alloc, &fault).as_slice(), line);

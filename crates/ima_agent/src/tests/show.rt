@@ -1,0 +1,148 @@
+//! The program's words `show LIST` over files in memory.
+
+use super::devices::{OneFile, ShortSink, StandardInput, ran_over, words_of};
+use crate::run;
+use std::alloc::{AllocError, Global};
+use std::test::Fail;
+
+/// The entry of `/bin/sh`, measured into PCR 10 with the SHA-256 of `abc`, in the template `ima-ng`.
+const MEASUREMENT: &[u8] = b"\x0a\x00\x00\x00\
+    \x83\xfd\xff\x31\x51\x75\x58\x71\x57\xed\x3a\xa6\x04\xe7\xf9\xec\x63\xca\x0b\x42\
+    \x06\x00\x00\x00ima-ng\
+    \x38\x00\x00\x00\
+    \x28\x00\x00\x00sha256:\x00\
+    \xba\x78\x16\xbf\x8f\x01\xcf\xea\x41\x41\x40\xde\x5d\xae\x22\x23\
+    \xb0\x03\x61\xa3\x96\x17\x7a\x9c\xb4\x10\xff\x61\xf2\x00\x15\xad\
+    \x08\x00\x00\x00/bin/sh\x00";
+
+/// Its line.
+const MEASUREMENT_LINE: &[u8] = b"10 83fdff315175587157ed3aa604e7f9ec63ca0b42 ima-ng \
+    sha256:ba7816bf8f01cfea414140de5dae2223b00361a396177a9cb410ff61f20015ad /bin/sh\n";
+
+/// What stands behind the digest in an entry of the template `ima` whose path is said to have 256 bytes.
+const IMA_PART: &[u8] = b"\x03\0\0\0ima\
+    \x01\x01\x01\x01\x01\x01\x01\x01\x01\x01\x01\x01\x01\x01\x01\x01\x01\x01\x01\x01\
+    \0\x01\0\0";
+
+/// The parts joined, and once more where an allocation was refused.
+fn joined(alloc: Global, parts: &[&[u8]]) -> Result<Vec<u8>, AllocError> {
+    parts.concat(alloc).or_else(|_| parts.concat(alloc))
+}
+
+/// What the program answers and writes for these words, where the file `x` holds these bytes.
+fn answered(alloc: Global, words: &[&str], bytes: &[u8]) -> Result<(u8, Vec<u8>), AllocError> {
+    let words = words_of(alloc, words)?;
+    Ok(ran_over(alloc, &words, &mut OneFile { name: "x", bytes }))
+}
+
+#[test]
+fn measure_prints_registers(rt: HostRuntime) -> Result<(), Fail> {
+    let alloc = rt.alloc();
+    let (status, output) = answered(alloc, &["show", "x"], MEASUREMENT)?;
+    assert_eq!(rt; status, 0);
+    assert_eq!(rt; output.as_slice(), MEASUREMENT_LINE);
+    let twice = joined(alloc, &[MEASUREMENT, MEASUREMENT])?;
+    let (status, output) = answered(alloc, &["show", "x"], &twice)?;
+    assert_eq!(rt; status, 0);
+    let lines = joined(alloc, &[MEASUREMENT_LINE, MEASUREMENT_LINE])?;
+    assert_eq!(rt; output.as_slice(), lines.as_slice());
+    for (name, line) in [
+        ("y", b"failed: read y\n".as_slice()),
+        ("X", b"failed: read X\n"),
+        ("", b"failed: read \n"),
+        ("-", b"failed: read -\n"),
+    ] {
+        let (status, output) = answered(alloc, &["show", name], MEASUREMENT)?;
+        assert_eq!(rt; status, 3);
+        assert_eq!(rt; output.as_slice(), line);
+    }
+    Ok(())
+}
+
+/// A fault is one line: no entry before it is shown.
+#[test]
+fn replay_and_fields(rt: HostRuntime) -> Result<(), Fail> {
+    let alloc = rt.alloc();
+    let (status, output) = answered(alloc, &["show", "x"], b"")?;
+    assert_eq!(rt; status, 0);
+    assert!(rt; output.is_empty());
+    let cut = joined(alloc, &[&MEASUREMENT[..93]])?;
+    let register = joined(alloc, &[b"\x18", &MEASUREMENT[1..]])?;
+    let long = joined(alloc, &[&MEASUREMENT[..24], IMA_PART])?;
+    for (parts, line) in [
+        (
+            [cut.as_slice(), b""],
+            b"refused: list fault 1 at entry 0\n".as_slice(),
+        ),
+        ([&register, b""], b"refused: list fault 2 at entry 0\n"),
+        ([&long, b""], b"refused: list fault 3 at entry 0\n"),
+        ([MEASUREMENT, &cut], b"refused: list fault 1 at entry 1\n"),
+        (
+            [MEASUREMENT, &register],
+            b"refused: list fault 2 at entry 1\n",
+        ),
+    ] {
+        let bytes = joined(alloc, &parts)?;
+        let (status, output) = answered(alloc, &["show", "x"], &bytes)?;
+        assert_eq!(rt; status, 2);
+        assert_eq!(rt; output.as_slice(), line);
+    }
+    Ok(())
+}
+
+#[test]
+fn other_words_are_refused(rt: HostRuntime) -> Result<(), Fail> {
+    let alloc = rt.alloc();
+    for words in [
+        ["show"].as_slice(),
+        &["show", "x", "x"],
+        &["list", "x"],
+        &["Show", "x"],
+        &["show ", "x"],
+        &["", "x"],
+        &["x", "show"],
+        &["x"],
+        &[""],
+        &["-"],
+    ] {
+        let (status, output) = answered(alloc, words, MEASUREMENT)?;
+        assert_eq!(rt; status, 2);
+        assert_eq!(rt; output.as_slice(), b"refused: command line\n".as_slice());
+    }
+    Ok(())
+}
+
+/// The name `-` is that of a file, never standard input.
+#[test]
+fn dash_is_a_file(rt: HostRuntime) -> Result<(), Fail> {
+    let alloc = rt.alloc();
+    let words = words_of(alloc, &["show", "-"])?;
+    let mut file = OneFile {
+        name: "-",
+        bytes: MEASUREMENT,
+    };
+    let (status, output) = ran_over(alloc, &words, &mut file);
+    assert_eq!(rt; status, 0);
+    assert_eq!(rt; output.as_slice(), MEASUREMENT_LINE);
+    let (status, output) = ran_over(alloc, &words, &mut StandardInput(MEASUREMENT));
+    assert_eq!(rt; status, 3);
+    assert_eq!(rt; output.as_slice(), b"failed: read -\n".as_slice());
+    Ok(())
+}
+
+/// Wants all its memory: the program runs once, and the sink fails within the line.
+#[test]
+fn a_failing_sink_ends_the_lines(rt: HostRuntime) -> Result<(), Fail> {
+    let alloc = rt.alloc();
+    let words = words_of(alloc, &["show", "x"])?;
+    let mut file = OneFile {
+        name: "x",
+        bytes: MEASUREMENT,
+    };
+    let mut sink = ShortSink::new(alloc, 9);
+    let status = run(alloc, &words, &mut file, &mut sink);
+    assert_eq!(rt; status, 3);
+    assert_eq!(rt; sink.bytes(), &MEASUREMENT_LINE[..9]);
+    assert_eq!(rt; sink.failures(), 1);
+    Ok(())
+}
