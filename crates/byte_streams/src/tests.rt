@@ -1,26 +1,25 @@
-//! Devices, and what is sent to them.
+//! Sinks and sources that fail, and what is sent to them.
 
 ghost use Rattle.std.specs.Prelude.{None};
 
-use super::{MEASUREMENT, entry_of};
-use crate::{Failed, Sink, SliceSource, Source, VecSink, send, send_entry, send_pieces};
+use crate::{Failed, Sink, SliceSource, Source, VecSink, send, send_pieces};
 use std::test::Fail;
 
 /// How many bytes a short sink takes at most.
-const MOST: usize = 96;
+const MOST: usize = 16;
 
 /// Takes one byte at a time, fails once it has a number of them, and tells no bytes.
 #[derive(Drop)]
-struct OneByteSink {
+struct ShortSink {
     taken: [u8; MOST],
     count: usize,
     room: usize,
     failures: u64,
 }
 
-impl OneByteSink {
+impl ShortSink {
     fn new(room: usize) -> Self {
-        OneByteSink {
+        ShortSink {
             taken: [0; MOST],
             count: 0,
             room,
@@ -33,10 +32,8 @@ impl OneByteSink {
     }
 }
 
-impl Sink for OneByteSink {
-    ghost taken = { λ _. None };
-
-    ghost failures = { λ sink. sink.failures };
+impl Sink for ShortSink {
+    ghost state = { λ sink. record { taken = None; failures = sink.failures } };
 
     fn write(&mut self, bytes: &[u8]) -> Result<usize, Failed> {
         let Some(first) = bytes.first() else {
@@ -58,7 +55,7 @@ const ROOMS: [(usize, usize, u64); 4] = [(0, 0, 1), (2, 2, 1), (5, 5, 1), (6, 6,
 #[test]
 fn send_stops_where_the_sink_fails(rt: HostRuntime) {
     for (room, taken, failures) in ROOMS {
-        let mut sink = OneByteSink::new(room);
+        let mut sink = ShortSink::new(room);
         assert_eq!(rt; send(b"abcdef", &mut sink).is_ok(), failures == 0);
         assert_eq!(rt; sink.bytes(), &b"abcdef"[..taken], "room {room}");
         assert_eq!(rt; sink.failures, failures);
@@ -68,29 +65,12 @@ fn send_stops_where_the_sink_fails(rt: HostRuntime) {
 #[test]
 fn send_pieces_stops_where_the_sink_fails(rt: HostRuntime) {
     for (room, taken, failures) in ROOMS {
-        let mut sink = OneByteSink::new(room);
+        let mut sink = ShortSink::new(room);
         let pieces = [b"".as_slice(), b"a", b"bcde", b"", b"f"];
         assert_eq!(rt; send_pieces(&pieces, &mut sink).is_ok(), failures == 0);
         assert_eq!(rt; sink.bytes(), &b"abcdef"[..taken], "room {room}");
         assert_eq!(rt; sink.failures, failures);
     }
-}
-
-/// Sending takes no memory: the sink has none to refuse.
-#[test]
-fn entry_sent_byte_by_byte(rt: HostRuntime) -> Result<(), Fail> {
-    let entry = entry_of(rt.alloc(), MEASUREMENT)?;
-    let mut sink = OneByteSink::new(MOST);
-    assert_eq!(rt; send_entry(&entry, &mut sink), Ok(()));
-    assert_eq!(rt; sink.bytes(), MEASUREMENT);
-    assert_eq!(rt; sink.failures, 0);
-    for room in [0, 3, 4, 24, 34, 38, 93] {
-        let mut sink = OneByteSink::new(room);
-        assert_eq!(rt; send_entry(&entry, &mut sink), Err(Failed));
-        assert_eq!(rt; Some(sink.bytes()), MEASUREMENT.get(..room), "room {room}");
-        assert_eq!(rt; sink.failures, 1);
-    }
-    Ok(())
 }
 
 /// Holds with any one allocation refused too: the write then took nothing, and is made again.
@@ -103,6 +83,24 @@ fn vec_sink_keeps_all_bytes(rt: HostRuntime) -> Result<(), Fail> {
         }
     }
     assert_eq!(rt; sink.into_bytes().as_slice(), b"abcde".as_slice());
+    Ok(())
+}
+
+/// Two million bytes, offered at once; once more where an allocation was refused.
+#[test]
+fn vec_sink_takes_many_bytes_at_once(rt: HostRuntime) -> Result<(), Fail> {
+    const COUNT: usize = 2 * 1024 * 1024;
+    let bytes = match vec![in rt.alloc(); 7u8; COUNT] {
+        Ok(bytes) => bytes,
+        Err(_) => vec![in rt.alloc(); 7u8; COUNT]?,
+    };
+    let mut sink = VecSink::new(Vec::new(rt.alloc()));
+    let taken = match sink.write(&bytes) {
+        Ok(taken) => taken,
+        Err(Failed) => sink.write(&bytes)?,
+    };
+    assert_eq!(rt; taken, COUNT);
+    assert!(rt; sink.into_bytes().as_slice() == bytes.as_slice());
     Ok(())
 }
 
