@@ -1,1 +1,2 @@
+pub mod AlgLaws
 pub mod ExtendLaws
