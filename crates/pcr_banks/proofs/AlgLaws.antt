@@ -1,8 +1,8 @@
 -- All algorithms: what holds of each of the list holds of every one.
-use Rattle.std.proofs.Common.{◌≡◌, ℕ, ◌==◌, Bool, true, List, [], ◌∷◌, Option, Some, refl, sym, ap, ◌∙◌, inl, inr}
+use Rattle.std.proofs.Common.{◌≡◌, ℕ, ◌==◌, ◌&&◌, Bool, true, false, List, [], ◌∷◌, Option, Some, refl, sym, ap, ◌∙◌, inl, inr}
 use Rattle.std.specs.Prelude.{find}
 use Rattle.std.specs.List.{list_all, list_any, AllByRecursion}
-use Rattle.std.proofs.lemmas.Bool.{and_parts, and_from, or_cases, or_left, or_right, eqb-true, eq-eqb}
+use Rattle.std.proofs.lemmas.Bool.{and_parts, and_from, or_cases, or_left, or_right, eqb-true, eq-eqb, both_ways, false_from_ne_true, cases_Bool}
 use Rattle.pcr_banks.specs.declared.alg.Alg.{Alg}
 use Rattle.pcr_banks.specs.declared.alg.Alg.TheVariants.{Sha1, Sha256, Sha384}
 use Rattle.pcr_banks.specs.Hashing.{tpm_id_of, all_algs, same_alg}
@@ -73,8 +73,27 @@ any_has test alg (first ∷ algs) passes e =
       | inr others ↦ or_right (test first) (list_any test algs) (any_has test alg algs passes others)
     ]
 
-stands : (alg : Alg) → list_any (same_alg alg) all_algs ≡ true
+pub stands : (alg : Alg) → list_any (same_alg alg) all_algs ≡ true
 stands = every_alg _ (refl, (refl, (refl, tt)))
 
 pub list_has : (test : Alg → Bool) (alg : Alg) → test alg ≡ true → list_any test all_algs ≡ true
 list_has test alg passes = any_has test alg all_algs passes (stands alg)
+
+-- A test passes for no algorithm where it passes for none of the list.
+pub none_passes : (test : Alg → Bool) → list_any test all_algs ≡ false → (alg : Alg) → test alg ≡ false
+none_passes test e alg = false_from_ne_true (test alg) (λ passes. both_ways (list_any test all_algs) e (list_has test alg passes))
+
+pub list_lacks : (test : Alg → Bool) → ((alg : Alg) → test alg ≡ false) → list_any test all_algs ≡ false
+list_lacks test none = false_from_ne_true (list_any test all_algs) (λ e. let found = some_passes test e in both_ways (test found.0) (none found.0) found.1)
+
+-- One of the list is this algorithm and passes a test exactly where this algorithm passes it.
+pub one_of_all : (test : Alg → Bool) (a : Alg) → list_any (λ alg. same_alg a alg && test alg) all_algs ≡ test a
+one_of_all test a =
+    let one = λ (alg : Alg). same_alg a alg && test alg in
+    elim (cases_Bool (test a)) [
+      | inl passes ↦ list_has one a (and_from (same_alg a a) (test a) (same_alg_here a) passes) ∙ sym passes
+      | inr fails ↦ list_lacks one (λ alg. false_from_ne_true (one alg) (λ both.
+        let parts = and_parts (same_alg a alg) (test alg) both in
+        let passes : test a ≡ true = rw (same_alg_is a alg parts.0) parts.1 in
+        both_ways (test a) fails passes)) ∙ sym fails
+    ]
