@@ -1,1 +1,3 @@
+pub mod AlgLaws
+pub mod SetLaws
 pub mod ExtendLaws
