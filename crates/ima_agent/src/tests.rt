@@ -1,7 +1,9 @@
 //! Worked examples, and devices to run them on.
 
 mod devices;
+mod inputs;
 mod loading;
+mod logs;
 mod program;
 mod real_boot;
 mod real_boot_lines;
