@@ -8,5 +8,6 @@ mod program;
 mod real_boot;
 mod real_boot_lines;
 mod real_boot_list;
+mod replaying;
 mod show;
 mod texts;

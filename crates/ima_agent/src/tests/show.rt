@@ -19,7 +19,17 @@ pub const MEASUREMENT: &[u8] = b"\x0a\x00\x00\x00\
 pub const MEASUREMENT_LINE: &[u8] = b"10 83fdff315175587157ed3aa604e7f9ec63ca0b42 ima-ng \
     sha256:ba7816bf8f01cfea414140de5dae2223b00361a396177a9cb410ff61f20015ad /bin/sh\n";
 
-/// What stands behind the digest in an entry of the template `ima` whose path is said to have 256 bytes.
+/// The entry of a violation of `/etc/x` in PCR 10, in the template `ima-ng` with SHA-256.
+pub const VIOLATION: &[u8] = b"\x0a\x00\x00\x00\
+    \x00\x00\x00\x00\x00\x00\x00\x00\x00\x00\x00\x00\x00\x00\x00\x00\x00\x00\x00\x00\
+    \x06\x00\x00\x00ima-ng\
+    \x37\x00\x00\x00\
+    \x28\x00\x00\x00sha256:\x00\
+    \x00\x00\x00\x00\x00\x00\x00\x00\x00\x00\x00\x00\x00\x00\x00\x00\
+    \x00\x00\x00\x00\x00\x00\x00\x00\x00\x00\x00\x00\x00\x00\x00\x00\
+    \x07\x00\x00\x00/etc/x\x00";
+
+/// What comes after the digest in an entry of the template `ima` whose path is said to have 256 bytes.
 const IMA_PART: &[u8] = b"\x03\0\0\0ima\
     \x01\x01\x01\x01\x01\x01\x01\x01\x01\x01\x01\x01\x01\x01\x01\x01\x01\x01\x01\x01\
     \0\x01\0\0";
@@ -56,11 +66,8 @@ fn measure_prints_registers_shown_list(rt: HostRuntime) -> Result<(), Fail> {
 
 /// A fault is one line: no entry before it is shown.
 #[test]
-fn replay_and_fields_shown_lists(rt: HostRuntime) -> Result<(), Fail> {
+fn lists_that_are_refused(rt: HostRuntime) -> Result<(), Fail> {
     let alloc = rt.alloc();
-    let (status, output) = answered(alloc, &["show", "x"], b"")?;
-    assert_eq!(rt; status, 0);
-    assert!(rt; output.is_empty());
     let cut = joined(alloc, &[&MEASUREMENT[..93]])?;
     let register = joined(alloc, &[b"\x18", &MEASUREMENT[1..]])?;
     let long = joined(alloc, &[&MEASUREMENT[..24], IMA_PART])?;
@@ -76,6 +83,7 @@ fn replay_and_fields_shown_lists(rt: HostRuntime) -> Result<(), Fail> {
             [MEASUREMENT, &register],
             b"refused: list fault 2 at entry 1\n",
         ),
+        ([MEASUREMENT, &long], b"refused: list fault 3 at entry 1\n"),
     ] {
         let bytes = joined(alloc, &parts)?;
         let (status, output) = answered(alloc, &["show", "x"], &bytes)?;
@@ -125,7 +133,7 @@ fn dash_is_a_file(rt: HostRuntime) -> Result<(), Fail> {
     Ok(())
 }
 
-/// Wants all its memory: the program runs once, and the sink fails within the line.
+/// The program runs once more where an allocation was refused: then what it wrote begins as the line of that fault.
 #[test]
 fn a_failing_sink_ends_the_lines(rt: HostRuntime) -> Result<(), Fail> {
     let alloc = rt.alloc();
@@ -135,7 +143,11 @@ fn a_failing_sink_ends_the_lines(rt: HostRuntime) -> Result<(), Fail> {
         bytes: MEASUREMENT,
     };
     let mut sink = ShortSink::new(9);
-    let status = run(alloc, &words, &mut file, &mut sink);
+    let mut status = run(alloc, &words, &mut file, &mut sink);
+    if sink.bytes().starts_with(b"failed: m") {
+        sink = ShortSink::new(9);
+        status = run(alloc, &words, &mut file, &mut sink);
+    }
     assert_eq!(rt; status, 3);
     assert_eq!(rt; sink.bytes(), &MEASUREMENT_LINE[..9]);
     assert_eq!(rt; sink.failures(), 1);
