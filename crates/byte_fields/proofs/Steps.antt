@@ -1,12 +1,10 @@
 -- Steps that may fail, and what a reader took from the front of its bytes.
-use Rattle.std.proofs.Common.{◌≡◌, ℕ, ◌+◌, ◌<◌, ◌⊎◌, suc, Bool, true, false, cond, List, ◌∷◌, ◌++◌, get_or, take, drop, Option, Some, None, Result, Ok, Err, refl, sym, ap, ◌∙◌, append_assoc, arith, inl, inr}
+use Rattle.std.proofs.Common.{◌≡◌, ℕ, ◌+◌, ◌⊎◌, suc, Bool, true, false, cond, List, ◌∷◌, ◌++◌, take, drop, Option, Some, None, Result, Ok, Err, refl, sym, ap, ◌∙◌, append_assoc, arith, inl, inr}
 use Rattle.std.specs.Prelude.{ok_or}
 use Rattle.std.proofs.lemmas.Bool.{cases_lt}
 use Rattle.std.proofs.lemmas.List.{get_or-drop, get_or-take, get_or_past, length-take}
 use Rattle.byte_fields.specs.Reading.{◌>>=◌}
-
-abbrev pub IsBytes : List ℕ → Type 0
-IsBytes bytes = (i : ℕ) → get_or bytes i 0 < 256
+pub use Rattle.byte_fields.specs.Spelling.{IsBytes}
 
 pub IsBytes-drop : (n : ℕ) (bytes : List ℕ) → IsBytes bytes → IsBytes (drop n bytes)
 IsBytes-drop n bytes h i = rw get_or-drop (h (n + i))
@@ -28,7 +26,7 @@ failed A d = Err d
 pub same_fault : {A E : Type 0} (c d : E) → failed A c ≡ failed A d → c ≡ d
 same_fault c d e = cc
 
-err_is : {A B E : Type 0} (c d : E) → failed B c ≡ failed B d → failed A c ≡ failed A d
+pub err_is : {A B E : Type 0} (c d : E) → failed B c ≡ failed B d → failed A c ≡ failed A d
 err_is {A} {B} c d e = ap (failed A) (same_fault {A = B} c d e)
 
 -- The value of a step that did not fail.

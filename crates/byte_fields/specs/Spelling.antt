@@ -1,6 +1,10 @@
 -- How numbers, and bytes behind their number, are spelled in little endian records.
-use Rattle.std.specs.Prelude.{ℕ, List, ◌++◌, length}
+use Rattle.std.specs.Prelude.{ℕ, ◌^◌, ◌<◌, List, ◌++◌, length, slice_index}
 use Rattle.std.specs.Int.{w16, w32, to_le_bytes}
+
+-- Each number of the list is a byte.
+abbrev pub IsBytes : List ℕ → Type 0
+IsBytes bytes = (i : ℕ) → slice_index bytes i < 2 ^ 8
 
 -- A number of four bytes, and one of two.
 abbrev pub number32 : ℕ → List ℕ
