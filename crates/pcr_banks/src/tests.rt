@@ -123,7 +123,7 @@ fn digest_from_digits_of_either_case(rt: HostRuntime) {
 
 #[test]
 fn digits_at_the_front_of_the_room(rt: HostRuntime) {
-    let mut room = [b'-'; 128];
+    let mut room = [b'-'; MOST_DIGITS];
     let count = hash(Alg::Sha256, &[0; 64]).hex_into(&mut room);
     assert_eq!(rt; count, 64);
     let (digits, rest) = room.split_at(64);
@@ -183,7 +183,7 @@ fn extend_changes_one_register(rt: HostRuntime) {
     banks.extend(10, &PerBank::empty().with(Digest::zero(Alg::Sha256)));
     let extended = Digest::from_hex(Alg::Sha256, SHA256_OF_64_ZEROS);
     assert_eq!(rt; banks.read(Alg::Sha256, 10), extended);
-    for register in 0..24 {
+    for register in 0..REGISTERS {
         assert_eq!(rt;
             banks.read(Alg::Sha1, register),
             start.read(Alg::Sha1, register)
