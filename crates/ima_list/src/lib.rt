@@ -7,6 +7,7 @@ mod aggregate;
 mod entry;
 mod fault;
 mod fields;
+pub mod laws;
 mod line;
 mod outside;
 mod pieces;

@@ -1,1 +1,2 @@
 pub mod ExtendLaws
+pub mod HashLaws

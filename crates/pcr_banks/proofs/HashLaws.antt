@@ -1,0 +1,14 @@
+-- What hashes are: as many bytes as their algorithm has.
+use Rattle.std.proofs.Common.{◌≡◌, ℕ, List, length, refl}
+use Rattle.sha1.specs.Sha1 as sha1
+use Rattle.sha2.specs.Sha256 as sha256
+use Rattle.sha2.specs.Sha512 as sha512
+use Rattle.pcr_banks.specs.declared.alg.Alg.{Alg}
+use Rattle.pcr_banks.specs.declared.alg.Alg.TheVariants.{Sha1, Sha256, Sha384}
+use Rattle.pcr_banks.specs.Hashing.{hash_of, size_of}
+
+pub hash_size : (alg : Alg) (bytes : List ℕ) → length (hash_of alg bytes) ≡ size_of alg
+unfolding sha1.sha1 sha1.digest_bytes sha256.sha256 sha256.digest_bytes sha512.sha384 sha512.digest_bytes
+hash_size Sha1 bytes = refl
+hash_size Sha256 bytes = refl
+hash_size Sha384 bytes = refl
