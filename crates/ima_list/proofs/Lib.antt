@@ -5,3 +5,4 @@ pub mod ListLaws
 pub mod TemplateLaws
 pub mod ReplayLaws
 pub mod FieldsLaws
+pub mod AggregateLaws
