@@ -10,6 +10,7 @@ mod fields;
 pub mod laws;
 mod line;
 mod outside;
+mod payload;
 mod pieces;
 mod reading;
 mod replaying;

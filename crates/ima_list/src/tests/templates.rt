@@ -1,8 +1,8 @@
 //! Templates, and why they have no entry.
 
-use super::ALGS;
+use super::{ALGS, MEASUREMENT, PAYLOAD_PLACE};
 use crate::{EntryFault, Template};
-use pcr_banks::Alg;
+use pcr_banks::{Alg, Hasher, hash};
 use std::test::Fail;
 
 #[test]
@@ -86,6 +86,27 @@ fn ima_takes_sha1_alone(rt: HostRuntime) {
         assert_eq!(rt; Template::Ima.check(alg, b"/").is_ok(), alg == Alg::Sha1);
         assert_eq!(rt; Template::ImaNg.check(alg, b"/"), Ok(()));
     }
+}
+
+/// Digests of measurements, by each algorithm, with no memory: for the template `ima` of the file's digest and the path
+/// that is filled to 256 bytes, for `ima-ng` of the payload.
+#[test]
+fn digests_of_measurements(rt: HostRuntime) -> Result<(), Fail> {
+    let path = b"/bin/sh";
+    let sha1 = hash(Alg::Sha1, b"abc");
+    let sha256 = hash(Alg::Sha256, b"abc");
+    Template::Ima.check(sha1.alg(), path)?;
+    Template::ImaNg.check(sha256.alg(), path)?;
+    for by in ALGS {
+        let mut filled = Hasher::new(by);
+        for part in [sha1.bytes(), path, &[0; 249]] {
+            filled.update(part);
+        }
+        assert_eq!(rt; Template::Ima.digest_of(by, &sha1, path), filled.finish());
+        let expected = hash(by, &MEASUREMENT[PAYLOAD_PLACE..]);
+        assert_eq!(rt; Template::ImaNg.digest_of(by, &sha256, path), expected);
+    }
+    Ok(())
 }
 
 #[test]
