@@ -1,8 +1,8 @@
 //! Templates, and why they have no entry.
 
-use super::{ALGS, MEASUREMENT, PAYLOAD_PLACE};
+use super::{ALGS, MEASUREMENT, PAYLOAD_PLACE, filled_hash};
 use crate::{EntryFault, Template};
-use pcr_banks::{Alg, Hasher, hash};
+use pcr_banks::{Alg, hash};
 use std::test::Fail;
 
 #[test]
@@ -88,23 +88,19 @@ fn ima_takes_sha1_alone(rt: HostRuntime) {
     }
 }
 
-/// Digests of measurements, by each algorithm, with no memory: for the template `ima` of the file's digest and the path
-/// that is filled to 256 bytes, for `ima-ng` of the payload.
+/// Digests of measurements, by each algorithm: for the template `ima` of the file's digest and the path that is filled to
+/// 256 bytes, for `ima-ng` of the payload. They take no memory.
 #[test]
 fn digests_of_measurements(rt: HostRuntime) -> Result<(), Fail> {
-    let path = b"/bin/sh";
     let sha1 = hash(Alg::Sha1, b"abc");
     let sha256 = hash(Alg::Sha256, b"abc");
-    Template::Ima.check(sha1.alg(), path)?;
-    Template::ImaNg.check(sha256.alg(), path)?;
+    Template::Ima.check(sha1.alg(), b"/bin/sh")?;
+    Template::ImaNg.check(sha256.alg(), b"/bin/sh")?;
     for by in ALGS {
-        let mut filled = Hasher::new(by);
-        for part in [sha1.bytes(), path, &[0; 249]] {
-            filled.update(part);
-        }
-        assert_eq!(rt; Template::Ima.digest_of(by, &sha1, path), filled.finish());
-        let expected = hash(by, &MEASUREMENT[PAYLOAD_PLACE..]);
-        assert_eq!(rt; Template::ImaNg.digest_of(by, &sha256, path), expected);
+        let answer = Template::Ima.digest_of(by, &sha1, b"/bin/sh");
+        assert_eq!(rt; answer, filled_hash(by, &sha1, b"/bin/sh", &[0; 249]));
+        let answer = Template::ImaNg.digest_of(by, &sha256, b"/bin/sh");
+        assert_eq!(rt; answer, hash(by, &MEASUREMENT[PAYLOAD_PLACE..]));
     }
     Ok(())
 }
