@@ -1,5 +1,3 @@
-pub mod Sending
-pub mod PieceLaws
 pub mod EntryLaws
 pub mod ListLaws
 pub mod TemplateLaws

@@ -1,7 +1,7 @@
-//! Worked examples, and devices to run them on.
+//! Worked examples, and a sink to run them on.
 
 mod aggregates;
-mod devices;
+mod sending;
 mod entries;
 mod fields;
 mod lines;
