@@ -5,7 +5,6 @@ use Rattle.std.specs.List.{range_with_len}
 use Rattle.std.proofs.lemmas.List.{append-nil}
 use Rattle.std.proofs.lemmas.List.FromFn.{map-range_with_len_more, length-map-range_with_len, get_or-map-range_with_len}
 use Rattle.pcr_banks.specs.declared.alg.Alg.{Alg}
-use Rattle.pcr_banks.specs.declared.alg.Alg.TheVariants.{Sha1, Sha256, Sha384}
 use Rattle.pcr_banks.specs.declared.banks.Banks.{Banks}
 use Rattle.pcr_banks.specs.declared.digest.Digest.{Digest}
 use Rattle.pcr_banks.specs.declared.hashing.Hasher.{Hasher}
@@ -13,6 +12,7 @@ use Rattle.pcr_banks.specs.Hashing.{hash_of}
 use Rattle.pcr_banks.specs.Digests.{bytes_of, digest_of}
 use Rattle.pcr_banks.specs.Hashers.{HasTaken}
 use Rattle.pcr_banks.specs.Registers.{in_bank, bank_of, is_active, value_at}
+use Rattle.pcr_banks.proofs.AlgLaws.{every_alg}
 use Rattle.ima_list.specs.Aggregates.{aggregated, all_joined, joined_values, boot_aggregate_of}
 
 -- ---- values joined
@@ -56,9 +56,7 @@ joined_lacks value_of count register lt e =
 -- ---- values that are read
 
 same_bytes : (alg : Alg) (bytes : List ℕ) → bytes_of (digest_of alg bytes) ≡ bytes
-same_bytes Sha1 bytes = refl
-same_bytes Sha256 bytes = refl
-same_bytes Sha384 bytes = refl
+same_bytes = every_alg _ (λ bytes. refl, (λ bytes. refl, (λ bytes. refl, tt)))
 
 abbrev pub some_digest : Digest → Option Digest
 some_digest digest = Some digest

@@ -1,12 +1,12 @@
 //! Worked examples, and a sink to run them on.
 
 mod aggregates;
-mod sending;
 mod entries;
 mod fields;
 mod lines;
 mod lists;
 mod replaying;
+mod sending;
 mod templates;
 
 use crate::{Entry, ListFault, read_list, write_entry};
