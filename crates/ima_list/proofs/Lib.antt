@@ -3,3 +3,5 @@ pub mod ListLaws
 pub mod TemplateLaws
 pub mod ReplayLaws
 pub mod FieldsLaws
+pub mod AggregateLaws
+pub mod LineLaws

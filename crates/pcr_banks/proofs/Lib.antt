@@ -1,3 +1,4 @@
 pub mod AlgLaws
 pub mod SetLaws
 pub mod ExtendLaws
+pub mod HashLaws
