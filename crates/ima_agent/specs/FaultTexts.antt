@@ -2,38 +2,13 @@
 use Rattle.std.specs.Prelude.{ℕ, List, [], ◌++◌, codes, decimal, Option, Some, None, string_bytes}
 use Rattle.boot_log.specs.declared.fault.LogFault.{LogFault}
 use Rattle.boot_log.specs.declared.fault.LogFault.TheVariants as logs
+use Rattle.boot_log.specs.Faults.{log_fault_number, log_fault_event}
 use Rattle.ima_list.specs.declared.fault.ListFault.{ListFault}
 use Rattle.ima_list.specs.declared.fault.ListFault.TheVariants as lists
 use Rattle.ima_agent.specs.declared.fault.RunFault.{RunFault}
 use Rattle.ima_agent.specs.declared.fault.RunFault.TheVariants as runs
 use Rattle.ima_agent.specs.declared.texts.faults.FaultLine.{FaultLine}
 use Rattle.ima_agent.specs.declared.texts.faults.FaultLine.TheVariants.{Words, Number, Numbers, Name}
-
--- A log fault's number.
-abbrev pub log_fault_number : LogFault → ℕ
-log_fault_number (logs.Truncated event) = 1
-log_fault_number logs.NotCryptoAgile = 2
-log_fault_number logs.BadHeader = 3
-log_fault_number logs.DigestSize = 4
-log_fault_number logs.NoBank = 5
-log_fault_number (logs.UnknownAlg event) = 6
-log_fault_number (logs.DoubleDigest event) = 7
-log_fault_number (logs.MissingDigest event) = 8
-log_fault_number (logs.BadRegister event) = 9
-log_fault_number logs.Memory = 10
-
--- The event that a log fault names.
-abbrev pub log_fault_event : LogFault → Option ℕ
-log_fault_event (logs.Truncated event) = Some event
-log_fault_event logs.NotCryptoAgile = None
-log_fault_event logs.BadHeader = None
-log_fault_event logs.DigestSize = None
-log_fault_event logs.NoBank = None
-log_fault_event (logs.UnknownAlg event) = Some event
-log_fault_event (logs.DoubleDigest event) = Some event
-log_fault_event (logs.MissingDigest event) = Some event
-log_fault_event (logs.BadRegister event) = Some event
-log_fault_event logs.Memory = None
 
 -- A list fault's number.
 abbrev pub list_fault_number : ListFault → ℕ

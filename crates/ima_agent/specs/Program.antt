@@ -6,7 +6,7 @@ use Rattle.pcr_banks.specs.declared.banks.Banks.{Banks}
 use Rattle.pcr_banks.specs.Registers.{IsReset}
 use Rattle.boot_log.specs.declared.fault.LogFault.{LogFault}
 use Rattle.boot_log.specs.declared.header.Row.{Row}
-use Rattle.boot_log.specs.Spelling.{Logged, IsLog, algs_in}
+use Rattle.boot_log.specs.Spelling.{LogEvent, IsLog, algs_in}
 use Rattle.boot_log.specs.Reading.{log_fault}
 use Rattle.boot_log.specs.Replaying.{IsFirmware, startup_locality}
 use Rattle.byte_streams.specs.declared.streams.Failed.{Failed}
@@ -27,7 +27,7 @@ use Rattle.ima_agent.specs.FaultTexts.{fault_line, fault_status}
 pub record ShowsRegisters (text shown : List ℕ) : Type 0 where
   pub bytes : List ℕ
   pub table : List Row
-  pub events : List Logged
+  pub events : List LogEvent
   pub start : Banks
   pub now : Banks
   pub decoded : decode_of (without_white_space text) ≡ Ok bytes

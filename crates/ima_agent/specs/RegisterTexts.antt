@@ -5,7 +5,7 @@ use Rattle.hex.specs.Hex.{encode_lower}
 use Rattle.pcr_banks.specs.declared.alg.Alg.{Alg}
 use Rattle.pcr_banks.specs.declared.banks.Banks.{Banks}
 use Rattle.pcr_banks.specs.Hashing.{name_of, all_algs}
-use Rattle.pcr_banks.specs.Registers.{value_at}
+use Rattle.pcr_banks.specs.Registers.{register_count, value_at}
 
 -- A register line: algorithm, register in decimal, value in lower case hexadecimal.
 abbrev pub register_line : Alg → ℕ → List ℕ → List ℕ
@@ -28,7 +28,7 @@ register_change now start alg register = change_line alg register (value_at star
 
 -- The numbers of the registers, rising.
 unfoldable pub all_registers : List ℕ
-all_registers = range_with_len 0 24
+all_registers = range_with_len 0 register_count
 
 -- The lines of a bank, by rising registers.
 abbrev pub bank_text : Banks → Banks → Alg → List ℕ

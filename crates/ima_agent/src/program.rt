@@ -14,7 +14,6 @@ use crate::texts::{status_of, write_fault, write_registers};
 use boot_log::{LogFault, read_log};
 use byte_streams::{Failed, Sink, VecSink, send};
 use ima_list::{Entry, ListFault, read_list};
-use pcr_banks::Banks;
 use std::alloc::{AllocError, Global};
 use std::io;
 use std::process::ExitCode;
@@ -103,7 +102,7 @@ fn shown_registers(alloc: Global, text: &[u8]) -> Result<Vec<u8>, RunFault>
         Err(LogFault::Memory) => return Err(RunFault::Memory),
         Err(fault) => return Err(RunFault::Log(fault)),
     };
-    let start = Banks::new(log.algs(), log.locality());
+    let start = log.reset_registers();
     let mut shown = VecSink::new(Vec::new(alloc));
     match write_registers(&log.registers(), &start, &mut shown) {
         Ok(()) => Ok(shown.into_bytes()),

@@ -6,7 +6,7 @@ ghost use Rattle.ima_agent.specs.RegisterTexts.{register_line, register_change, 
 
 use byte_streams::{Failed, Sink, send_pieces};
 use itoa::Buffer;
-use pcr_banks::{Alg, Banks, Digest};
+use pcr_banks::{Alg, Banks, Digest, REGISTERS};
 
 fn write_register_line<S: Sink>(register: u32, value: &Digest, sink: &mut S) -> Result<(), Failed>
     ensures { Sends (S.state sink.old) (S.state sink.new) result (register_line (alg_of value.now) register (bytes_of value.now)) }
@@ -38,7 +38,7 @@ fn write_register<S: Sink>(
 fn write_bank<S: Sink>(now: &Banks, start: &Banks, alg: Alg, sink: &mut S) -> Result<(), Failed>
     ensures { Sends (S.state sink.old) (S.state sink.new) result (bank_text now.now start.now alg) }
 {
-    for register in 0..24 {
+    for register in 0..REGISTERS {
         write_register(now, start, alg, register, sink)?;
     }
     Ok(())
