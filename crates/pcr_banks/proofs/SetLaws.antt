@@ -20,5 +20,6 @@ pub digest_of_bank : (bytes : Alg → Option (List ℕ)) (alg : Alg) → digest_
 digest_of_bank bytes = every_alg _ (refl, (refl, (refl, tt)))
 
 -- Digests are those that a function of the algorithm gives, where each is.
-pub per_bank_is : (digests : PerBank) (bytes : Alg → Option (List ℕ)) → ((alg : Alg) → digest_in digests alg ≡ bytes alg) → digests ≡ per_bank bytes
+pub per_bank_is : (digests : PerBank) (bytes : Alg → Option (List ℕ)) → ((alg : Alg) → digest_in digests alg ≡ bytes alg)
+    → digests ≡ per_bank bytes
 per_bank_is digests bytes same = rw (← same Sha1, ← same Sha256, ← same Sha384) refl
