@@ -5,8 +5,7 @@ use super::{
     EMPTY_ENTRY, MEASUREMENT, NAME_END, PAYLOAD_LENGTH, REGISTER_PLACE, VIOLATION, append_entry,
     entry_of, ima_entry, joined, list_of, measurement_with, spelling_of, violated, words_of,
 };
-use crate::laws::{checked_entries_are_entries, spellings_read_back};
-use crate::{ListFault, Template, list_has_one_reading, no_spelling_begins_another, read_list};
+use crate::{ListFault, Template, read_list};
 use pcr_banks::Alg;
 use std::alloc::Global;
 use std::process::Abort;
@@ -180,13 +179,4 @@ fn list_faults_in_words(rt: HostRuntime) -> Result<(), Fail> {
         assert_eq!(rt; text.as_str(), words);
     }
     Ok(())
-}
-
-/// The laws take nothing and do nothing.
-#[test]
-fn laws_of_lists() {
-    no_spelling_begins_another();
-    list_has_one_reading(MEASUREMENT);
-    spellings_read_back();
-    checked_entries_are_entries();
 }

@@ -4,7 +4,7 @@ use super::{
     DIGEST_PLACE, EMPTY_ENTRY, MEASUREMENT, PAYLOAD_LENGTH, PAYLOAD_PLACE, REGISTER_PLACE,
     VIOLATION, entry_of, joined, list_of, measurement_with, words_of,
 };
-use crate::{Fields, ReplayFault, boot_aggregate, replay, replay_goes_on};
+use crate::{Fields, ReplayFault, boot_aggregate, replay};
 use pcr_banks::{Alg, AlgSet, Banks, hash};
 use std::alloc::Global;
 use std::process::Abort;
@@ -136,10 +136,4 @@ fn replay_fault_in_words(rt: HostRuntime) -> Result<(), Fail> {
     let words = "entry 12 has a template digest that is not its own";
     assert_eq!(rt; text.as_str(), words);
     Ok(())
-}
-
-/// The law takes nothing and does nothing.
-#[test]
-fn law_of_replay() {
-    replay_goes_on();
 }
