@@ -92,7 +92,7 @@ byte_takes fault (b ∷ bytes) byte rest fits e =
     let rest-is : bytes ≡ rest = ap (λ (p : ℕ × List ℕ). p.1) pair in
     (record { parts = rw (byte-is, rest-is) refl; rest_fits = rw (← rest-is) (IsBytes-rest b bytes fits) }, rw (← byte-is) (fits 0))
 
--- ---- bytes behind their number
+-- ---- length-prefixed bytes
 
 pub sized_takes : {E : Type 0} (fault : E) (bytes part rest : List ℕ)
     → IsBytes bytes → sized_at fault bytes ≡ Ok (part, rest) → Takes bytes (sized32 part) rest × (length part < 2 ^ 32)

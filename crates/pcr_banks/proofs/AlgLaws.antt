@@ -93,7 +93,7 @@ one_of_all test a =
     elim (cases_Bool (test a)) [
       | inl passes ↦ list_has one a (and_from (same_alg a a) (test a) (same_alg_here a) passes) ∙ sym passes
       | inr fails ↦ list_lacks one (λ alg. false_from_ne_true (one alg) (λ both.
-        let parts = and_parts (same_alg a alg) (test alg) both in
-        let passes : test a ≡ true = rw (same_alg_is a alg parts.0) parts.1 in
-        both_ways (test a) fails passes)) ∙ sym fails
+          let parts = and_parts (same_alg a alg) (test alg) both in
+          let passes : test a ≡ true = rw (same_alg_is a alg parts.0) parts.1 in
+          both_ways (test a) fails passes)) ∙ sym fails
     ]
