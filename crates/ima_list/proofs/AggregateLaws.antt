@@ -69,14 +69,12 @@ some_digest digest = Some digest
 abbrev pub no_digest : Option Digest
 no_digest = None
 
-some_inj : (x y : Digest) → some_digest x ≡ some_digest y → x ≡ y
-some_inj x y e = cc
-
 read_value : (alg : Alg) (value : Option (List ℕ)) (digest : Digest) → some_digest digest ≡ option_map (digest_of alg) value
     → value ≡ Some (bytes_of digest)
 read_value alg None digest e = absurd cc
 read_value alg (Some bytes) digest e =
-    ap (λ (b : List ℕ). Some b) (sym (ap bytes_of (some_inj digest (digest_of alg bytes) e) ∙ same_bytes alg bytes))
+    let same : digest ≡ digest_of alg bytes = cc in
+    ap (λ (b : List ℕ). Some b) (sym (ap bytes_of same ∙ same_bytes alg bytes))
 
 read_none : (alg : Alg) (value : Option (List ℕ)) → no_digest ≡ option_map (digest_of alg) value → value ≡ None
 read_none alg None e = refl

@@ -12,7 +12,7 @@ mod sending;
 mod templates;
 
 use crate::{Entry, ListFault, Template, read_list, write_entry};
-use pcr_banks::{Alg, Digest, Hasher};
+use pcr_banks::{Alg, Digest, Hasher, REGISTERS};
 use std::alloc::{AllocError, Global};
 use std::fmt::Display;
 use std::test::Fail;
@@ -118,7 +118,7 @@ fn measured(
     path: &[u8],
 ) -> Result<Entry, Fail> {
     template.check(file.alg(), path)?;
-    if register >= 24 {
+    if register >= REGISTERS {
         return Err(Fail::new("no register"));
     }
     let entry = once_more(AllocError, || {
