@@ -163,18 +163,29 @@ fn list_read_after_a_refused_allocation(rt: HostRuntime) -> Result<(), Fail> {
 
 #[test]
 fn list_faults_in_words(rt: HostRuntime) -> Result<(), Fail> {
-    for (fault, words) in [
-        (ListFault::Truncated { entry: 0 }, "entry 0 is cut short"),
+    for (fault, number, entry, words) in [
+        (
+            ListFault::Truncated { entry: 0 },
+            1,
+            Some(0),
+            "entry 0 is cut short",
+        ),
         (
             ListFault::BadRegister { entry: 12 },
+            2,
+            Some(12),
             "entry 12 names a register of 24 or more",
         ),
         (
             ListFault::NameTooLong { entry: 3 },
+            3,
+            Some(3),
             "entry 3 has a path that is too long",
         ),
-        (ListFault::Memory, "out of memory"),
+        (ListFault::Memory, 4, None, "out of memory"),
     ] {
+        assert_eq!(rt; fault.number(), number);
+        assert_eq!(rt; fault.entry(), entry);
         let text = words_of(rt.alloc(), fault)?;
         assert_eq!(rt; text.as_str(), words);
     }
