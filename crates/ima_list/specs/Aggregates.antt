@@ -18,7 +18,7 @@ abbrev pub all_joined : List (Option (List ℕ)) → Option (List ℕ)
 all_joined [] = Some []
 all_joined (first ∷ others) = option_and_then (λ value. option_map (λ rest. value ++ rest) (all_joined others)) first
 
--- The values of a bank's registers from PCR 0 on, `count` of them, joined, where none is missing.
+-- The values of the first `count` registers of a bank, joined, where none is missing.
 unfoldable pub joined_values : (ℕ → Option (List ℕ)) → ℕ → Option (List ℕ)
 joined_values value_of count = all_joined (map value_of (range_with_len 0 count))
 

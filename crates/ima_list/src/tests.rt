@@ -4,6 +4,7 @@ mod aggregates;
 mod entries;
 mod fields;
 mod large_lists;
+mod laws;
 mod lines;
 mod lists;
 mod replaying;
@@ -11,7 +12,7 @@ mod sending;
 mod templates;
 
 use crate::{Entry, ListFault, Template, read_list, write_entry};
-use pcr_banks::{Alg, Digest, Hasher};
+use pcr_banks::{Alg, Digest, Hasher, REGISTERS};
 use std::alloc::{AllocError, Global};
 use std::fmt::Display;
 use std::test::Fail;
@@ -117,7 +118,7 @@ fn measured(
     path: &[u8],
 ) -> Result<Entry, Fail> {
     template.check(file.alg(), path)?;
-    if register >= 24 {
+    if register >= REGISTERS {
         return Err(Fail::new("no register"));
     }
     let entry = once_more(AllocError, || {
@@ -161,7 +162,7 @@ fn line_of(alloc: Global, entry: &Entry) -> Result<Vec<u8>, AllocError> {
     Ok(text)
 }
 
-/// The hash of a file's digest, a path, and so many zero bytes that fill it.
+/// The hash of a file's digest, a path, and the zero bytes that fill it.
 fn filled_hash(alg: Alg, file: &Digest, path: &[u8], fill: &[u8]) -> Digest {
     let mut hasher = Hasher::new(alg);
     for part in [file.bytes(), path, fill] {

@@ -5,9 +5,7 @@ use super::{
     REGISTER_PLACE, VIOLATION, entry_of, filled_hash, hashed_of, joined, line_of, list_of,
     measured, measurement_with, spelling_of, violated,
 };
-use crate::{
-    Entry, EntryFault, Fields, ListFault, Template, ima_hashes_276_bytes, replay, write_entry,
-};
+use crate::{Entry, EntryFault, Fields, ListFault, Template, replay, write_entry};
 use pcr_banks::{Alg, AlgSet, Banks, Digest, hash};
 use std::alloc::{AllocError, Global};
 use std::test::Fail;
@@ -86,7 +84,7 @@ fn ima_ng_entry_layout(rt: HostRuntime) -> Result<(), Fail> {
     Ok(())
 }
 
-/// A payload of the template `ima-ng`: what stands before the digest, and the path after its length and with the NUL.
+/// A payload of the template `ima-ng`: a front, the digest, and the length-prefixed path with its NUL.
 fn ima_ng_payload(
     alloc: Global,
     front: &[u8],
@@ -270,10 +268,4 @@ fn bytes_appended_after_a_refused_allocation(rt: HostRuntime) -> Result<(), Fail
     let both = joined(alloc, &[&hashed, MEASUREMENT])?;
     assert_eq!(rt; out.as_slice(), both.as_slice());
     Ok(())
-}
-
-/// The law takes nothing and does nothing.
-#[test]
-fn law_of_hashed_bytes() {
-    ima_hashes_276_bytes();
 }

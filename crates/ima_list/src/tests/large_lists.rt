@@ -5,7 +5,7 @@ use super::{
     once_more, spelling_of, violated,
 };
 use crate::{Fields, Template, replay};
-use pcr_banks::{Alg, AlgSet, Banks, Digest, hash};
+use pcr_banks::{Alg, AlgSet, Banks, Digest, REGISTERS, hash};
 use std::alloc::{AllocError, Global};
 use std::process::Abort;
 use std::test::Fail;
@@ -15,7 +15,7 @@ use std::test::Fail;
 fn measurement_into_each_register(rt: HostRuntime) -> Result<(), Fail> {
     let alloc = rt.alloc();
     let file = hash(Alg::Sha256, b"abc");
-    for register in 0..24 {
+    for register in 0..REGISTERS {
         let entry = measured(alloc, register, Template::ImaNg, &file, b"/bin/sh")?;
         assert_eq!(rt; entry.register(), register);
         let spelling = spelling_of(alloc, &entry)?;
@@ -25,7 +25,7 @@ fn measurement_into_each_register(rt: HostRuntime) -> Result<(), Fail> {
         let start = Banks::new(AlgSet::empty().with(Alg::Sha256), 0);
         let mut banks = start;
         entry.replay_into(&mut banks);
-        for other in 0..24 {
+        for other in 0..REGISTERS {
             let changed = banks.read(Alg::Sha256, other) != start.read(Alg::Sha256, other);
             assert_eq!(rt; changed, other == register, "PCR {register} and {other}");
         }

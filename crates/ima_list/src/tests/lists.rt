@@ -5,8 +5,7 @@ use super::{
     EMPTY_ENTRY, MEASUREMENT, NAME_END, PAYLOAD_LENGTH, REGISTER_PLACE, VIOLATION, append_entry,
     entry_of, ima_entry, joined, list_of, measurement_with, spelling_of, violated, words_of,
 };
-use crate::laws::{checked_entries_are_entries, spellings_read_back};
-use crate::{ListFault, Template, list_has_one_reading, no_spelling_begins_another, read_list};
+use crate::{ListFault, Template, read_list};
 use pcr_banks::Alg;
 use std::alloc::Global;
 use std::process::Abort;
@@ -164,29 +163,31 @@ fn list_read_after_a_refused_allocation(rt: HostRuntime) -> Result<(), Fail> {
 
 #[test]
 fn list_faults_in_words(rt: HostRuntime) -> Result<(), Fail> {
-    for (fault, words) in [
-        (ListFault::Truncated { entry: 0 }, "entry 0 is cut short"),
+    for (fault, number, entry, words) in [
+        (
+            ListFault::Truncated { entry: 0 },
+            1,
+            Some(0),
+            "entry 0 is cut short",
+        ),
         (
             ListFault::BadRegister { entry: 12 },
+            2,
+            Some(12),
             "entry 12 names a register of 24 or more",
         ),
         (
             ListFault::NameTooLong { entry: 3 },
+            3,
+            Some(3),
             "entry 3 has a path that is too long",
         ),
-        (ListFault::Memory, "out of memory"),
+        (ListFault::Memory, 4, None, "out of memory"),
     ] {
+        assert_eq!(rt; fault.number(), number);
+        assert_eq!(rt; fault.entry(), entry);
         let text = words_of(rt.alloc(), fault)?;
         assert_eq!(rt; text.as_str(), words);
     }
     Ok(())
-}
-
-/// The laws take nothing and do nothing.
-#[test]
-fn laws_of_lists() {
-    no_spelling_begins_another();
-    list_has_one_reading(MEASUREMENT);
-    spellings_read_back();
-    checked_entries_are_entries();
 }
