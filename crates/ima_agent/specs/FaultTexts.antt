@@ -5,24 +5,11 @@ use Rattle.boot_log.specs.declared.fault.LogFault.TheVariants as logs
 use Rattle.boot_log.specs.Faults.{log_fault_number, log_fault_event}
 use Rattle.ima_list.specs.declared.fault.ListFault.{ListFault}
 use Rattle.ima_list.specs.declared.fault.ListFault.TheVariants as lists
+use Rattle.ima_list.specs.ListFaults.{list_fault_number, list_fault_entry}
 use Rattle.ima_agent.specs.declared.fault.RunFault.{RunFault}
 use Rattle.ima_agent.specs.declared.fault.RunFault.TheVariants as runs
 use Rattle.ima_agent.specs.declared.texts.faults.FaultLine.{FaultLine}
 use Rattle.ima_agent.specs.declared.texts.faults.FaultLine.TheVariants.{Words, Number, Numbers, Name}
-
--- A list fault's number.
-abbrev pub list_fault_number : ListFault → ℕ
-list_fault_number (lists.Truncated entry) = 1
-list_fault_number (lists.BadRegister entry) = 2
-list_fault_number (lists.NameTooLong entry) = 3
-list_fault_number lists.Memory = 4
-
--- The entry that a list fault names.
-abbrev pub list_fault_entry : ListFault → Option ℕ
-list_fault_entry (lists.Truncated entry) = Some entry
-list_fault_entry (lists.BadRegister entry) = Some entry
-list_fault_entry (lists.NameTooLong entry) = Some entry
-list_fault_entry lists.Memory = None
 
 -- ---- lines
 

@@ -12,7 +12,7 @@ use Rattle.boot_log.specs.Replaying.{IsFirmware, startup_locality}
 use Rattle.byte_streams.specs.declared.streams.Failed.{Failed}
 use Rattle.byte_streams.specs.Streams.{SinkState, Sends}
 use Rattle.ima_list.specs.declared.fault.ListFault.{ListFault}
-use Rattle.ima_list.specs.Listed.{Listed}
+use Rattle.ima_list.specs.ListEntry.{ListEntry}
 use Rattle.ima_list.specs.Spelling.{IsReading}
 use Rattle.ima_list.specs.Lines.{line_of}
 use Rattle.ima_agent.specs.declared.fault.RunFault.{RunFault}
@@ -51,7 +51,7 @@ IsRefusedFor text fault =
 
 -- The bytes are a measurement list, and what is shown are the lines of its entries.
 pub record ShowsList (bytes shown : List ℕ) : Type 0 where
-  pub entries : List Listed
+  pub entries : List ListEntry
   pub reading : IsReading bytes (Ok entries)
   pub text_is : shown ≡ flat_map line_of entries
 
