@@ -1,3 +1,4 @@
 pub mod AlgLaws
 pub mod SetLaws
+pub mod OptionLaws
 pub mod ExtendLaws
