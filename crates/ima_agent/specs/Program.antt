@@ -5,7 +5,7 @@ use Rattle.hex.specs.Hex.{decode_of}
 use Rattle.pcr_banks.specs.declared.banks.Banks.{Banks}
 use Rattle.pcr_banks.specs.Registers.{IsReset}
 use Rattle.boot_log.specs.declared.header.Row.{Row}
-use Rattle.boot_log.specs.Spelling.{Logged, IsLog, algs_in}
+use Rattle.boot_log.specs.Spelling.{LogEvent, IsLog, algs_in}
 use Rattle.boot_log.specs.Reading.{log_fault}
 use Rattle.boot_log.specs.Replaying.{IsFirmware, startup_locality}
 use Rattle.ima_list.specs.Outside.{TakesPart}
@@ -22,7 +22,7 @@ use Rattle.ima_agent.specs.Texts.{registers_text, fault_line, fault_status}
 pub record ShowsRegisters (text shown : List ℕ) : Type 0 where
   pub bytes : List ℕ
   pub table : List Row
-  pub events : List Logged
+  pub events : List LogEvent
   pub start : Banks
   pub now : Banks
   pub decoded : decode_of (without_white_space text) ≡ Ok bytes
