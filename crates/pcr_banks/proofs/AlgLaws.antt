@@ -74,11 +74,11 @@ any_has test alg (first ∷ algs) passes e =
       | inr others ↦ or_right (test first) (list_any test algs) (any_has test alg algs passes others)
     ]
 
-pub stands : (alg : Alg) → list_any (same_alg alg) all_algs ≡ true
-stands = every_alg _ (refl, (refl, (refl, tt)))
+pub is_listed : (alg : Alg) → list_any (same_alg alg) all_algs ≡ true
+is_listed = every_alg _ (refl, (refl, (refl, tt)))
 
 pub list_has : (test : Alg → Bool) (alg : Alg) → test alg ≡ true → list_any test all_algs ≡ true
-list_has test alg passes = any_has test alg all_algs passes (stands alg)
+list_has test alg passes = any_has test alg all_algs passes (is_listed alg)
 
 -- A test passes for no algorithm where it passes for none of the list.
 pub none_passes : (test : Alg → Bool) → list_any test all_algs ≡ false → (alg : Alg) → test alg ≡ false
