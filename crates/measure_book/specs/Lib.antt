@@ -1,0 +1,6 @@
+pub mod Operations
+pub mod Faults
+pub mod Histories
+pub mod Runs
+pub mod Books
+pub mod BookParts

@@ -1,0 +1,13 @@
+//! The book of an agent: each measurement, violation and read of a register is one operation on it, which appends one
+//! record and is answered as the register object of one caller alone would answer it.
+#![tactic(auto)]
+
+mod book;
+mod fault;
+mod op;
+mod origin;
+
+pub use book::Book;
+pub use fault::BookFault;
+pub use op::{Answer, Op, Outcome, Receipt, Record};
+pub use origin::Origin;
