@@ -3,4 +3,5 @@ pub mod Faults
 pub mod Histories
 pub mod Runs
 pub mod Books
+pub mod Equality
 pub mod BookParts
