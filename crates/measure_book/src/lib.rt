@@ -6,6 +6,7 @@ mod book;
 mod fault;
 mod op;
 mod origin;
+mod refusing;
 
 pub use book::Book;
 pub use fault::BookFault;
