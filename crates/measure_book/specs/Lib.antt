@@ -4,4 +4,5 @@ pub mod Histories
 pub mod Runs
 pub mod Books
 pub mod Equality
+pub mod Steps
 pub mod BookParts

@@ -2,6 +2,7 @@
 //! record and is answered as the register object of one caller alone would answer it.
 #![tactic(auto)]
 
+mod answering;
 mod book;
 mod fault;
 mod op;
