@@ -1,2 +1,3 @@
 pub mod PlaceLaws
 pub mod HistoryLaws
+pub mod RunLaws
