@@ -1,7 +1,6 @@
-pub mod Sending
-pub mod PieceLaws
 pub mod EntryLaws
 pub mod ListLaws
 pub mod TemplateLaws
 pub mod ReplayLaws
 pub mod FieldsLaws
+pub mod AggregateLaws

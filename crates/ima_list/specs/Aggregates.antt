@@ -1,11 +1,11 @@
 -- The boot aggregate: what the first entry of a list says of the registers that the firmware left.
-use Rattle.std.specs.Prelude.{ℕ, List, [], flat_map, unwrap_or, Option, Some, None, if◌then◌else◌}
+use Rattle.std.specs.Prelude.{ℕ, List, [], ◌∷◌, ◌++◌, map, Option, Some, option_map, option_and_then}
 use Rattle.std.specs.List.{range_with_len}
 use Rattle.pcr_banks.specs.declared.alg.Alg.{Alg}
 use Rattle.pcr_banks.specs.declared.alg.Alg.TheVariants.{Sha1, Sha256, Sha384}
 use Rattle.pcr_banks.specs.declared.banks.Banks.{Banks}
 use Rattle.pcr_banks.specs.Hashing.{hash_of}
-use Rattle.pcr_banks.specs.Registers.{is_active, value_at}
+use Rattle.pcr_banks.specs.Registers.{value_at}
 
 -- How many registers, from PCR 0 on, the aggregate of a bank is taken over: 8 for SHA-1, 10 for every other algorithm
 -- (the kernel's security/integrity/ima/ima_crypto.c, ima_calc_boot_aggregate_tfm, since Linux 5.8). That it is always 10
@@ -15,10 +15,16 @@ aggregated Sha1 = 8
 aggregated Sha256 = 10
 aggregated Sha384 = 10
 
--- The values of so many registers of a bank, joined.
-unfoldable pub joined_values : Banks → Alg → ℕ → List ℕ
-joined_values banks alg count = flat_map (λ register. unwrap_or (value_at banks alg register) []) (range_with_len 0 count)
+-- Values joined, where none is missing.
+abbrev pub all_joined : List (Option (List ℕ)) → Option (List ℕ)
+all_joined [] = Some []
+all_joined (first ∷ others) = option_and_then (λ value. option_map (λ rest. value ++ rest) (all_joined others)) first
 
--- The boot aggregate of a bank, where it is active: the hash of these registers, joined.
+-- The values of a bank's registers from PCR 0 on, `count` of them, joined, where none is missing.
+unfoldable pub joined_values : (ℕ → Option (List ℕ)) → ℕ → Option (List ℕ)
+joined_values value_of count = all_joined (map value_of (range_with_len 0 count))
+
+-- The boot aggregate of a bank: the hash of these registers, joined; none where one of them is missing, as all are where
+-- the bank is not active.
 abbrev pub boot_aggregate_of : Banks → Alg → Option (List ℕ)
-boot_aggregate_of banks alg = if is_active banks alg then Some (hash_of alg (joined_values banks alg (aggregated alg))) else None
+boot_aggregate_of banks alg = option_map (hash_of alg) (joined_values (value_at banks alg) (aggregated alg))

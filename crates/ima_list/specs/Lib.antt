@@ -9,4 +9,5 @@ pub mod Lines
 pub mod Aggregates
 pub mod Entries
 pub mod Writing
-pub mod Outside
+pub use Rattle.byte_streams.specs.Streams
+pub use Rattle.byte_streams.specs.Memory

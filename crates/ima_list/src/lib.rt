@@ -1,14 +1,16 @@
 //! The measurement list of Linux IMA: templates, entries, their fields and lines, the binary list read and written, its
-//! replay into registers, the boot aggregate, and the devices that bytes come from and go to
-//! (Linux kernel documentation, 'IMA Template Management Mechanism').
+//! replay into registers, and the boot aggregate (Linux kernel documentation, 'IMA Template Management Mechanism').
+//!
+//! The sinks and sources of `byte_streams` are handed on.
 #![tactic(auto)]
 
 mod aggregate;
 mod entry;
 mod fault;
 mod fields;
+pub mod laws;
 mod line;
-mod outside;
+mod payload;
 mod pieces;
 mod reading;
 mod replaying;
@@ -16,11 +18,10 @@ mod template;
 mod writing;
 
 pub use aggregate::boot_aggregate;
+pub use byte_streams::{Failed, Sink, SliceSource, Source, VecSink, send, send_pieces};
 pub use entry::{Entry, ima_hashes_276_bytes};
 pub use fault::ListFault;
 pub use fields::Fields;
-pub use outside::{Failed, Sink, SliceSource, Source, VecSink, send};
-pub use pieces::send_pieces;
 pub use reading::{list_has_one_reading, no_spelling_begins_another, read_list};
 pub use replaying::{ReplayFault, replay, replay_goes_on};
 pub use template::{EntryFault, Template};

@@ -1,7 +1,7 @@
-//! Worked examples, and devices to run them on.
+//! Worked examples, and a sink to run them on.
 
 mod aggregates;
-mod devices;
+mod sending;
 mod entries;
 mod fields;
 mod lines;
@@ -10,7 +10,7 @@ mod replaying;
 mod templates;
 
 use crate::{Entry, ListFault, read_list, write_entry};
-use pcr_banks::Alg;
+use pcr_banks::{Alg, Digest, Hasher};
 use std::alloc::{AllocError, Global};
 use std::test::Fail;
 
@@ -116,4 +116,13 @@ fn line_of(alloc: Global, entry: &Entry) -> Result<Vec<u8>, AllocError> {
         entry.line(&mut text)?;
     }
     Ok(text)
+}
+
+/// The hash of a file's digest, a path, and so many zero bytes that fill it.
+fn filled_hash(alg: Alg, file: &Digest, path: &[u8], fill: &[u8]) -> Digest {
+    let mut hasher = Hasher::new(alg);
+    for part in [file.bytes(), path, fill] {
+        hasher.update(part);
+    }
+    hasher.finish()
 }

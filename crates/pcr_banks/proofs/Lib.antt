@@ -1,1 +1,4 @@
+pub mod AlgLaws
+pub mod SetLaws
 pub mod ExtendLaws
+pub mod HashLaws

@@ -1,5 +1,5 @@
 -- The hash algorithms of the banks: their hashes, and what the TPM and the texts call them.
-use Rattle.std.specs.Prelude.{ℕ, Bool, true, false, List, codes}
+use Rattle.std.specs.Prelude.{ℕ, Bool, ◌==◌, List, [], ◌∷◌, codes}
 use Rattle.sha1.specs.Sha1.{sha1}
 use Rattle.sha2.specs.Sha256.{sha256}
 use Rattle.sha2.specs.Sha512.{sha384}
@@ -30,14 +30,10 @@ name_of Sha1 = codes "sha1"
 name_of Sha256 = codes "sha256"
 name_of Sha384 = codes "sha384"
 
--- Whether two algorithms are one.
+-- All algorithms, in order.
+abbrev pub all_algs : List Alg
+all_algs = Sha1 ∷ Sha256 ∷ Sha384 ∷ []
+
+-- Whether two algorithms are one: they have one identifier.
 abbrev pub same_alg : Alg → Alg → Bool
-same_alg Sha1 Sha1 = true
-same_alg Sha1 Sha256 = false
-same_alg Sha1 Sha384 = false
-same_alg Sha256 Sha1 = false
-same_alg Sha256 Sha256 = true
-same_alg Sha256 Sha384 = false
-same_alg Sha384 Sha1 = false
-same_alg Sha384 Sha256 = false
-same_alg Sha384 Sha384 = true
+same_alg a b = tpm_id_of a == tpm_id_of b

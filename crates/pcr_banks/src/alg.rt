@@ -14,6 +14,9 @@ pub enum Alg {
 }
 
 impl Alg {
+    /// All algorithms, each once, in order.
+    pub const ALL: [Alg; 3] = [Alg::Sha1, Alg::Sha256, Alg::Sha384];
+
     /// How many bytes a digest has.
     pub fn size(self) -> usize
         ensures { result ≡ size_of self }

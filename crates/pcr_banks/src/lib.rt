@@ -7,6 +7,7 @@ mod alg;
 mod banks;
 mod digest;
 mod hashing;
+pub mod laws;
 mod sets;
 
 pub use alg::Alg;

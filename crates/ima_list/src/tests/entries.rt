@@ -2,10 +2,11 @@
 
 use super::{
     ALGS, DIGEST_PLACE, MEASUREMENT, MEASUREMENT_LINE, NAME_END, PAYLOAD_LENGTH, PAYLOAD_PLACE,
-    REGISTER_PLACE, VIOLATION, entry_of, joined, line_of, measurement_with, spelling_of,
+    REGISTER_PLACE, VIOLATION, entry_of, filled_hash, joined, line_of, measurement_with,
+    spelling_of,
 };
 use crate::{Entry, Fields, Template, ima_hashes_276_bytes, read_list, replay, write_entry};
-use pcr_banks::{Alg, AlgSet, Banks, Digest, Hasher, hash};
+use pcr_banks::{Alg, AlgSet, Banks, Digest, hash};
 use std::alloc::{AllocError, Global};
 use std::test::Fail;
 
@@ -57,15 +58,6 @@ fn ima_entry_layout(rt: HostRuntime) -> Result<(), Fail> {
     let entries = read_list(alloc, &expected)?;
     assert_eq!(rt; entries.as_slice(), [entry].as_slice());
     Ok(())
-}
-
-/// The hash of a file's digest, a path, and so many zero bytes that fill it.
-fn filled_hash(alg: Alg, file: &Digest, path: &[u8], fill: &[u8]) -> Digest {
-    let mut hasher = Hasher::new(alg);
-    for part in [file.bytes(), path, fill] {
-        hasher.update(part);
-    }
-    hasher.finish()
 }
 
 /// The path is filled to 256 bytes behind the file's digest, an empty path too.

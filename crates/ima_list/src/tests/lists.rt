@@ -4,6 +4,7 @@ use super::{
     EMPTY_ENTRY, MEASUREMENT, NAME_END, PAYLOAD_LENGTH, REGISTER_PLACE, VIOLATION, append_entry,
     entry_of, ima_entry, joined, list_of, measurement_with, spelling_of,
 };
+use crate::laws::{checked_entries_are_entries, spellings_read_back};
 use crate::{ListFault, list_has_one_reading, no_spelling_begins_another, read_list};
 use std::test::Fail;
 
@@ -177,4 +178,6 @@ fn list_faults_in_words(rt: HostRuntime) -> Result<(), Fail> {
 fn laws_of_lists() {
     no_spelling_begins_another();
     list_has_one_reading(MEASUREMENT);
+    spellings_read_back();
+    checked_entries_are_entries();
 }

@@ -1,8 +1,8 @@
 //! Templates, and why they have no entry.
 
-use super::ALGS;
+use super::{ALGS, MEASUREMENT, PAYLOAD_PLACE, filled_hash};
 use crate::{EntryFault, Template};
-use pcr_banks::Alg;
+use pcr_banks::{Alg, hash};
 use std::test::Fail;
 
 #[test]
@@ -86,6 +86,23 @@ fn ima_takes_sha1_alone(rt: HostRuntime) {
         assert_eq!(rt; Template::Ima.check(alg, b"/").is_ok(), alg == Alg::Sha1);
         assert_eq!(rt; Template::ImaNg.check(alg, b"/"), Ok(()));
     }
+}
+
+/// Digests of measurements, by each algorithm: for the template `ima` of the file's digest and the path that is filled to
+/// 256 bytes, for `ima-ng` of the payload. They take no memory.
+#[test]
+fn digests_of_measurements(rt: HostRuntime) -> Result<(), Fail> {
+    let sha1 = hash(Alg::Sha1, b"abc");
+    let sha256 = hash(Alg::Sha256, b"abc");
+    Template::Ima.check(sha1.alg(), b"/bin/sh")?;
+    Template::ImaNg.check(sha256.alg(), b"/bin/sh")?;
+    for by in ALGS {
+        let answer = Template::Ima.digest_of(by, &sha1, b"/bin/sh");
+        assert_eq!(rt; answer, filled_hash(by, &sha1, b"/bin/sh", &[0; 249]));
+        let answer = Template::ImaNg.digest_of(by, &sha256, b"/bin/sh");
+        assert_eq!(rt; answer, hash(by, &MEASUREMENT[PAYLOAD_PLACE..]));
+    }
+    Ok(())
 }
 
 #[test]

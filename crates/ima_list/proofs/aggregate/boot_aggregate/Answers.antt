@@ -1,17 +1,18 @@
-use Rattle.std.proofs.Common.{arith}
-use Rattle.ima_list.proofs.ReplayLaws.{joined_none, joined_more, active_read}
+use Rattle.std.proofs.Common.{ap, sym, ◌∙◌}
+use Rattle.std.specs.Prelude.{option_map}
+use Rattle.pcr_banks.specs.Digests.{digest_of}
+use Rattle.ima_list.proofs.AggregateLaws.{joined_at_first, joined_next, lacks_none}
 use Rattle.ima_list.proofs.aggregate.boot_aggregate.Goals as goal
 
 pub loop-register-init : goal.loop-register-init
-loop-register-init c = record {
-  taken = rw joined_none c.new-hasher.ensures;
-  active = λ lt. absurd (omega arith);
-}
+loop-register-init c = joined_at_first c.new-hasher.result c.args.banks.now c.args.alg c.new-hasher.ensures
+
+pub returns-in_err-read-clause-value : goal.returns-in_err-read-clause-value
+returns-in_err-read-clause-value c =
+    let none = lacks_none c.args.banks.now c.args.alg c.aggregated-register-end.result c.loop-register.register c.aggregated-register-end.ensures c.loop-register-test.true c.in_err-read.ensures.value in
+    c.from_residual.ensures ∙ ap (option_map (digest_of c.args.alg)) (sym none)
 
 pub loop-register-preserved : goal.loop-register-preserved
 loop-register-preserved c =
-    let value = c.in_ok-read.ensures.value in
-    record {
-      taken = rw (joined_more c.args.banks.now c.args.alg c.loop-register.register c.in_ok-read.field-0 value, ← c.bytes.ensures.value) (c.update.ensures _ _ c.loop-register.invariant.taken);
-      active = λ lt. active_read c.args.banks.now c.args.alg c.loop-register.register c.in_ok-read.field-0 value;
-    }
+    joined_next c.loop-register.hasher c.update.new.self c.args.banks.now c.args.alg c.loop-register.register c.in_ok-read.field-0 c.loop-register.invariant c.in_ok-read.ensures.value
+    (rw (← c.bytes.ensures.value) c.update.ensures)

@@ -1,0 +1,2 @@
+pub mod SinkLaws
+pub mod PieceLaws

@@ -1,0 +1,86 @@
+//! A sink over a vector, and a source over a slice.
+
+ghost use Rattle.std.specs.Prelude.{◌≡◌, ◌<◌, ◌≤◌, ◌-◌, ◌++◌, Some, Ok, min, length, take, drop, vec_len, vec_capacity, IfOk, OnOk, OnErr};
+ghost use Rattle.byte_streams.specs.Streams.{Takes, Gives, failures_after};
+ghost use Rattle.byte_streams.specs.Memory.{vec_sink_bytes, vec_sink_failures, vec_sink_room, vec_sink_state, slice_source_rest, slice_source_state};
+
+use crate::streams::{Failed, Sink, Source};
+
+/// A sink over a vector, which tells its bytes. A growth of the vector that is refused is a failure.
+#[derive(Debug, Drop)]
+pub struct VecSink {
+    bytes: Vec<u8>,
+    failures: u64,
+}
+
+impl VecSink {
+    /// A sink that has not failed. The vector's bytes count as taken.
+    pub fn new(bytes: Vec<u8>) -> Self
+        ensures taken { vec_sink_bytes result ≡ bytes.items }
+        ensures failures { vec_sink_failures result ≡ 0 }
+        ensures room { vec_sink_room result ≡ vec_capacity bytes - vec_len bytes }
+    {
+        VecSink { bytes, failures: 0 }
+    }
+
+    /// All bytes that were taken.
+    pub fn into_bytes(self) -> Vec<u8>
+        ensures { result.items ≡ vec_sink_bytes self }
+    {
+        let VecSink { bytes, .. } = self;
+        bytes
+    }
+}
+
+impl Sink for VecSink {
+    ghost state = { vec_sink_state };
+
+    /// Takes all bytes, or none where memory is short. It is not, where the vector has room for them.
+    fn write(&mut self, bytes: &[u8]) -> Result<usize, Failed>
+        ensures all { IfOk result (λ n. n ≡ length bytes.now) }
+        ensures ok { OnOk result (vec_sink_bytes self.new ≡ vec_sink_bytes self.old ++ bytes.now) }
+        ensures err { OnErr result (vec_sink_bytes self.new ≡ vec_sink_bytes self.old) }
+        ensures full { OnErr result (vec_sink_room self.old < length bytes.now) }
+        ensures counts { vec_sink_failures self.new ≡ failures_after result (vec_sink_failures self.old) }
+    {
+        if self.bytes.extend_from_slice(bytes).is_err() {
+            self.failures = self.failures.saturating_add(1);
+            return Err(Failed);
+        }
+        Ok(bytes.len())
+    }
+}
+
+/// A source over a slice, which tells its bytes and never fails.
+#[derive(Clone, Copy, Debug)]
+pub struct SliceSource<'a> {
+    rest: &'a [u8],
+}
+
+impl<'a> SliceSource<'a> {
+    /// A source that gives these bytes.
+    pub fn new(bytes: &'a [u8]) -> Self
+        ensures { slice_source_rest result ≡ bytes.now }
+    {
+        SliceSource { rest: bytes }
+    }
+}
+
+impl Source for SliceSource<'_> {
+    ghost state = { slice_source_state };
+
+    /// Gives as many bytes as there are and the buffer has room for.
+    fn read(&mut self, buffer: &mut [u8]) -> Result<usize, Failed>
+        ensures within { IfOk result (λ n. n ≤ length buffer.old) }
+        ensures gives { Gives (slice_source_state self.old) (slice_source_state self.new) result buffer.new }
+        ensures count { result ≡ Ok (min (length (slice_source_rest self.old)) (length buffer.old)) }
+        ensures copied { IfOk result (λ n. buffer.new ≡ take n (slice_source_rest self.old) ++ drop n buffer.old) }
+        ensures rest { IfOk result (λ n. slice_source_rest self.new ≡ drop n (slice_source_rest self.old)) }
+    {
+        let count = self.rest.len().min(buffer.len());
+        let (front, rest) = self.rest.split_at(count);
+        buffer[..count].copy_from_slice(front);
+        self.rest = rest;
+        Ok(count)
+    }
+}

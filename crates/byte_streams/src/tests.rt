@@ -1,0 +1,132 @@
+//! Sinks and sources that fail, and what is sent to them.
+
+ghost use Rattle.std.specs.Prelude.{None};
+
+use crate::{Failed, Sink, SliceSource, Source, VecSink, send, send_pieces};
+use std::test::Fail;
+
+/// How many bytes a short sink takes at most.
+const MOST: usize = 16;
+
+/// Takes one byte at a time, fails once it has a number of them, and tells no bytes.
+#[derive(Drop)]
+struct ShortSink {
+    taken: [u8; MOST],
+    count: usize,
+    room: usize,
+    failures: u64,
+}
+
+impl ShortSink {
+    fn new(room: usize) -> Self {
+        ShortSink {
+            taken: [0; MOST],
+            count: 0,
+            room,
+            failures: 0,
+        }
+    }
+
+    fn bytes(&self) -> &[u8] {
+        self.taken.get(..self.count).unwrap_or(&[])
+    }
+}
+
+impl Sink for ShortSink {
+    ghost state = { λ sink. record { taken = None; failures = sink.failures } };
+
+    fn write(&mut self, bytes: &[u8]) -> Result<usize, Failed> {
+        let Some(first) = bytes.first() else {
+            return Ok(0);
+        };
+        if self.count >= self.room || self.count >= self.taken.len() {
+            self.failures = self.failures.saturating_add(1);
+            return Err(Failed);
+        }
+        self.taken[self.count] = *first;
+        self.count += 1;
+        Ok(1)
+    }
+}
+
+/// How many bytes a sink has room for, how many of the text it then takes, and how often it fails.
+const ROOMS: [(usize, usize, u64); 4] = [(0, 0, 1), (2, 2, 1), (5, 5, 1), (6, 6, 0)];
+
+#[test]
+fn send_stops_where_the_sink_fails(rt: HostRuntime) {
+    for (room, taken, failures) in ROOMS {
+        let mut sink = ShortSink::new(room);
+        assert_eq!(rt; send(b"abcdef", &mut sink).is_ok(), failures == 0);
+        assert_eq!(rt; sink.bytes(), &b"abcdef"[..taken], "room {room}");
+        assert_eq!(rt; sink.failures, failures);
+    }
+}
+
+#[test]
+fn send_pieces_stops_where_the_sink_fails(rt: HostRuntime) {
+    for (room, taken, failures) in ROOMS {
+        let mut sink = ShortSink::new(room);
+        let pieces = [b"".as_slice(), b"a", b"bcde", b"", b"f"];
+        assert_eq!(rt; send_pieces(&pieces, &mut sink).is_ok(), failures == 0);
+        assert_eq!(rt; sink.bytes(), &b"abcdef"[..taken], "room {room}");
+        assert_eq!(rt; sink.failures, failures);
+    }
+}
+
+/// Holds with any one allocation refused too: the write then took nothing, and is made again.
+#[test]
+fn vec_sink_keeps_all_bytes(rt: HostRuntime) -> Result<(), Fail> {
+    let mut sink = VecSink::new(Vec::new(rt.alloc()));
+    for part in [b"a".as_slice(), b"bc", b"", b"de"] {
+        if send(part, &mut sink).is_err() {
+            send(part, &mut sink)?;
+        }
+    }
+    assert_eq!(rt; sink.into_bytes().as_slice(), b"abcde".as_slice());
+    Ok(())
+}
+
+/// Two million bytes, offered at once; once more where an allocation was refused.
+#[test]
+fn vec_sink_takes_many_bytes_at_once(rt: HostRuntime) -> Result<(), Fail> {
+    const COUNT: usize = 2 * 1024 * 1024;
+    let bytes = match vec![in rt.alloc(); 7u8; COUNT] {
+        Ok(bytes) => bytes,
+        Err(_) => vec![in rt.alloc(); 7u8; COUNT]?,
+    };
+    let mut sink = VecSink::new(Vec::new(rt.alloc()));
+    let taken = match sink.write(&bytes) {
+        Ok(taken) => taken,
+        Err(Failed) => sink.write(&bytes)?,
+    };
+    assert_eq!(rt; taken, COUNT);
+    assert!(rt; sink.into_bytes().as_slice() == bytes.as_slice());
+    Ok(())
+}
+
+fn read_from<R: Source>(source: &mut R, buffer: &mut [u8]) -> Result<usize, Failed> {
+    source.read(buffer)
+}
+
+#[test]
+fn slice_source_gives_what_fits(rt: HostRuntime) -> Result<(), Fail> {
+    let mut source = SliceSource::new(b"abc");
+    let mut buffer = [0; 2];
+    assert_eq!(rt; read_from(&mut source, &mut [])?, 0);
+    assert_eq!(rt; read_from(&mut source, &mut buffer)?, 2);
+    assert_eq!(rt; buffer.as_slice(), b"ab".as_slice());
+    assert_eq!(rt; read_from(&mut source, &mut buffer)?, 1);
+    assert_eq!(rt; buffer.as_slice(), b"cb".as_slice());
+    assert_eq!(rt; read_from(&mut source, &mut buffer)?, 0);
+    Ok(())
+}
+
+#[test]
+fn failed_says_so(rt: HostRuntime) -> Result<(), Fail> {
+    let text = match format!(in rt.alloc(); "{Failed}") {
+        Ok(text) => text,
+        Err(_) => format!(in rt.alloc(); "{Failed}")?,
+    };
+    assert_eq!(rt; text.as_str(), "the device failed");
+    Ok(())
+}

@@ -1,0 +1,12 @@
+-- What hashes are: as many bytes as their algorithm has.
+use Rattle.std.proofs.Common.{◌≡◌, ℕ, List, length, refl}
+use Rattle.sha1.specs.Sha1 as sha1
+use Rattle.sha2.specs.Sha256 as sha256
+use Rattle.sha2.specs.Sha512 as sha512
+use Rattle.pcr_banks.specs.declared.alg.Alg.{Alg}
+use Rattle.pcr_banks.specs.Hashing.{hash_of, size_of}
+use Rattle.pcr_banks.proofs.AlgLaws.{every_alg}
+
+pub hash_size : (alg : Alg) (bytes : List ℕ) → length (hash_of alg bytes) ≡ size_of alg
+unfolding sha1.sha1 sha1.digest_bytes sha256.sha256 sha256.digest_bytes sha512.sha384 sha512.digest_bytes
+hash_size = every_alg _ (λ bytes. refl, (λ bytes. refl, (λ bytes. refl, tt)))
