@@ -5,11 +5,13 @@
 mod answering;
 mod book;
 mod fault;
+mod gathers;
 mod op;
 mod origin;
 mod refusing;
 
 pub use book::Book;
 pub use fault::BookFault;
+pub use gathers::{GatherFault, gather};
 pub use op::{Answer, Op, Outcome, Receipt, Record};
 pub use origin::Origin;
