@@ -3,3 +3,4 @@ pub mod HistoryLaws
 pub mod RunLaws
 pub mod GatherLaws
 pub mod MarkLaws
+pub mod OriginLaws
