@@ -4,3 +4,4 @@ pub mod RunLaws
 pub mod GatherLaws
 pub mod MarkLaws
 pub mod OriginLaws
+pub mod AccountLaws
