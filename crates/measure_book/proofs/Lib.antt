@@ -1,3 +1,4 @@
 pub mod PlaceLaws
 pub mod HistoryLaws
 pub mod RunLaws
+pub mod ExportLaws

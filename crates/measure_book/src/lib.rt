@@ -4,12 +4,14 @@
 
 mod answering;
 mod book;
+mod export;
 mod fault;
 mod op;
 mod origin;
 mod refusing;
 
 pub use book::Book;
+pub use export::ExportFault;
 pub use fault::BookFault;
 pub use op::{Answer, Op, Outcome, Receipt, Record};
 pub use origin::Origin;
