@@ -6,6 +6,7 @@ mod answering;
 mod book;
 mod export;
 mod fault;
+pub mod laws;
 mod op;
 mod origin;
 mod refusing;
