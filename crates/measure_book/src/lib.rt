@@ -16,3 +16,6 @@ pub use export::ExportFault;
 pub use fault::BookFault;
 pub use op::{Answer, Op, Outcome, Receipt, Record};
 pub use origin::Origin;
+
+#[cfg(test)]
+mod tests;
