@@ -100,21 +100,24 @@ fn applied(book: &mut Book, op: &Op) -> Result<Receipt, BookFault> {
     }
 }
 
-/// Opens a book and runs the operations on it; on another book once more where an allocation was refused.
+/// Opens a book and runs the operations on it; on another book once more where an allocation was refused. The outcomes
+/// take the place of those that are there.
 fn run_on_new(
     alloc: Global,
     origin: Origin,
     ops: &[Op],
-) -> Result<(Book, Vec<Outcome>), BookFault> {
+    outcomes: &mut Vec<Outcome>,
+) -> Result<Book, BookFault> {
     let mut book = opened(alloc, origin)?;
-    if let Ok(outcomes) = book.run(ops) {
-        if !outcomes.contains(&Outcome::Refused(BookFault::Memory)) {
-            return Ok((book, outcomes));
+    if let Ok(first) = book.run(ops) {
+        if !first.contains(&Outcome::Refused(BookFault::Memory)) {
+            *outcomes = first;
+            return Ok(book);
         }
     }
     let mut book = opened(alloc, origin)?;
-    let outcomes = book.run(ops)?;
-    Ok((book, outcomes))
+    *outcomes = book.run(ops)?;
+    Ok(book)
 }
 
 /// The operations of the first worked example: `/bin/sh` is measured twice with the content `abc`, and once empty.

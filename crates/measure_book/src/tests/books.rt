@@ -26,21 +26,19 @@ fn spelling_of(alloc: Global, entry: &Entry) -> Result<Vec<u8>, AllocError> {
 #[test]
 fn three_operations(rt: HostRuntime) -> Result<(), Fail> {
     let alloc = rt.alloc();
-    let (book, outcomes) = run_on_new(alloc, origin(100), &three_measurements(alloc)?)?;
-    let [first, second, third] = three_measurements(alloc)?;
+    let mut outcomes = Vec::new(alloc);
+    let ops = three_measurements(alloc)?;
+    let book = run_on_new(alloc, origin(100), &ops, &mut outcomes)?;
     assert_eq!(rt; outcomes.len(), 3);
-    assert_eq!(rt;
-        outcomes[0],
-        Outcome::Done(receipt(1, first, Answer::Added(1)))
-    );
-    assert_eq!(rt;
-        outcomes[1],
-        Outcome::Done(receipt(2, second, Answer::Known(1)))
-    );
-    assert_eq!(rt;
-        outcomes[2],
-        Outcome::Done(receipt(3, third, Answer::Added(2)))
-    );
+    for (place, content, answer) in [
+        (1, b"abc".as_slice(), Answer::Added(1)),
+        (2, b"abc", Answer::Known(1)),
+        (3, b"", Answer::Added(2)),
+    ] {
+        let op = measure(alloc, b"/bin/sh", sha256(content))?;
+        let outcome = outcomes.get(place as usize - 1).ok_or("no outcome")?;
+        assert_eq!(rt; *outcome, Outcome::Done(receipt(place, op, answer)));
+    }
     assert_eq!(rt; book.records().len(), 4);
     assert_eq!(rt; book.entries().len(), 3);
     assert_eq!(rt; *book.origin(), origin(100));
@@ -49,9 +47,8 @@ fn three_operations(rt: HostRuntime) -> Result<(), Fail> {
         answer: Answer::Added(0),
     };
     assert_eq!(rt; book.records()[0], opening);
-    let [.., third] = three_measurements(alloc)?;
     let last = Record {
-        op: third,
+        op: measure(alloc, b"/bin/sh", sha256(b""))?,
         answer: Answer::Added(2),
     };
     assert_eq!(rt; book.records()[3], last);
@@ -78,10 +75,8 @@ fn violation_then_measure(rt: HostRuntime) -> Result<(), Fail> {
         first,
         receipt(1, violation(alloc, b"/etc/x")?, Answer::Added(1))
     );
-    assert_eq!(rt;
-        spelling_of(alloc, &book.entries()[1])?.as_slice(),
-        VIOLATION
-    );
+    let added = book.entries().last().ok_or("no entry")?;
+    assert_eq!(rt; spelling_of(alloc, added)?.as_slice(), VIOLATION);
     let after = extended(alloc, before.bytes(), &[0xFF; 32])?;
     assert_eq!(rt; book.banks().read(Alg::Sha256, 10), Some(after));
     let zeros = measure(alloc, b"/etc/x", Digest::zero(Alg::Sha256))?;
@@ -100,19 +95,16 @@ fn run_with_refusal_between(rt: HostRuntime) -> Result<(), Fail> {
         violation(alloc, b"/etc/\0x")?,
         read(Alg::Sha256, 10),
     ];
-    let (mut book, outcomes) = run_on_new(alloc, origin(100), &ops)?;
-    let [first, _, last] = ops;
+    let mut outcomes = Vec::new(alloc);
+    let mut book = run_on_new(alloc, origin(100), &ops, &mut outcomes)?;
     let value = book.banks().read(Alg::Sha256, 10).ok_or("no bank")?;
     assert_eq!(rt; outcomes.len(), 3);
-    assert_eq!(rt;
-        outcomes[0],
-        Outcome::Done(receipt(1, first, Answer::Added(1)))
-    );
+    let first = measure(alloc, b"/bin/sh", sha256(b"abc"))?;
+    let added = Outcome::Done(receipt(1, first, Answer::Added(1)));
+    assert_eq!(rt; outcomes[0], added);
     assert_eq!(rt; outcomes[1], Outcome::Refused(BookFault::NulInPath));
-    assert_eq!(rt;
-        outcomes[2],
-        Outcome::Done(receipt(2, last, Answer::Value(value)))
-    );
+    let seen = Outcome::Done(receipt(2, read(Alg::Sha256, 10), Answer::Value(value)));
+    assert_eq!(rt; outcomes[2], seen);
     assert_eq!(rt; book.records().len(), 3);
     assert_eq!(rt; book.entries().len(), 2);
     let aggregate = measure(alloc, b"boot_aggregate", sha256(&[0; 320]))?;
@@ -134,7 +126,8 @@ fn run_with_refusal_between(rt: HostRuntime) -> Result<(), Fail> {
     let mut sink = ShortSink::new();
     assert_eq!(rt; book.export(&mut sink), Err(ExportFault::Sink));
     assert_eq!(rt; sink.failures, 1);
-    assert_eq!(rt; sink.bytes(), &text[..100]);
+    assert_eq!(rt; sink.bytes().len(), 100);
+    assert!(rt; text.starts_with(sink.bytes()));
     Ok(())
 }
 
@@ -171,13 +164,13 @@ fn reads_follow_the_entries(rt: HostRuntime) -> Result<(), Fail> {
 fn many_files_are_known_again(rt: HostRuntime) -> Result<(), Fail> {
     let alloc = rt.alloc();
     let mut book = opened(alloc, origin(401))?;
-    let mut path = copied(alloc, b"/f/000")?;
     for known in [false, true] {
         for number in 0..200u32 {
-            path[3] = b'0' + (number / 100) as u8;
-            path[4] = b'0' + (number / 10 % 10) as u8;
-            path[5] = b'0' + (number % 10) as u8;
-            let op = measure(alloc, &path, sha256(b"abc"))?;
+            let path = match format!(in alloc; "/f/{number}") {
+                Ok(path) => path,
+                Err(_) => format!(in alloc; "/f/{number}")?,
+            };
+            let op = measure(alloc, path.as_bytes(), sha256(b"abc"))?;
             let expected = if known {
                 Answer::Known(number + 1)
             } else {

@@ -84,7 +84,13 @@ fn list_of(alloc: Global, bytes: &[u8]) -> Result<Vec<Entry>, ListFault> {
 #[test]
 fn export_replays(rt: HostRuntime) -> Result<(), Fail> {
     let alloc = rt.alloc();
-    let (book, _) = run_on_new(alloc, origin(100), &three_measurements(alloc)?)?;
+    let mut outcomes = Vec::new(alloc);
+    let book = run_on_new(
+        alloc,
+        origin(100),
+        &three_measurements(alloc)?,
+        &mut outcomes,
+    )?;
     let mut bytes = export_of(alloc, &book)?;
     assert_eq!(rt;
         bytes.as_slice(),
@@ -107,12 +113,19 @@ fn export_replays(rt: HostRuntime) -> Result<(), Fail> {
 #[test]
 fn export_stops_where_the_sink_fails(rt: HostRuntime) -> Result<(), Fail> {
     let alloc = rt.alloc();
-    let (book, _) = run_on_new(alloc, origin(100), &three_measurements(alloc)?)?;
+    let mut outcomes = Vec::new(alloc);
+    let book = run_on_new(
+        alloc,
+        origin(100),
+        &three_measurements(alloc)?,
+        &mut outcomes,
+    )?;
     let text = spellings(alloc, book.entries())?;
     let mut sink = ShortSink::new();
     assert_eq!(rt; book.export(&mut sink), Err(ExportFault::Sink));
     assert_eq!(rt; sink.failures, 1);
-    assert_eq!(rt; sink.bytes(), &text[..ROOM]);
+    assert_eq!(rt; sink.bytes().len(), ROOM);
+    assert!(rt; text.starts_with(sink.bytes()));
     Ok(())
 }
 
@@ -128,8 +141,8 @@ fn export_after_other_bytes(rt: HostRuntime) -> Result<(), Fail> {
     let mut sink = VecSink::new(room);
     book.export(&mut sink)?;
     let bytes = sink.into_bytes();
-    assert_eq!(rt; &bytes[..6], b"before".as_slice());
-    assert_eq!(rt; &bytes[6..], spellings(alloc, book.entries())?.as_slice());
+    let text = bytes.strip_prefix(b"before".as_slice()).ok_or("no front")?;
+    assert_eq!(rt; text, spellings(alloc, book.entries())?.as_slice());
     Ok(())
 }
 
