@@ -5,3 +5,5 @@ pub mod GatherLaws
 pub mod MarkLaws
 pub mod OriginLaws
 pub mod AccountLaws
+pub mod ExportLaws
+pub mod AnswerLaws
