@@ -1,0 +1,10 @@
+pub mod Operations
+pub mod Faults
+pub mod Histories
+pub mod Runs
+pub mod Books
+pub mod Equality
+pub mod Steps
+pub mod BookParts
+pub mod Groups
+pub mod GroupParts
