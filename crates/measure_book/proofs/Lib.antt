@@ -7,3 +7,4 @@ pub mod OriginLaws
 pub mod AccountLaws
 pub mod ExportLaws
 pub mod AnswerLaws
+pub mod OneToOneLaws
