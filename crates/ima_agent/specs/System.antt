@@ -1,4 +1,4 @@
--- What stands behind the program's sources and sinks.
+-- What the program's sources read and its sinks write to.
 use Rattle.std.specs.Prelude.{ℕ, Bool, true, false, List, Option, None}
 use Rattle.byte_streams.specs.Streams.{SinkState, SourceState}
 use Rattle.ima_agent.specs.declared.system.Input.{Input}

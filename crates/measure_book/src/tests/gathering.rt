@@ -55,7 +55,12 @@ fn group_of(alloc: Global, outcome: Outcome) -> Result<Vec<Outcome>, AllocError>
 /// The book of the first worked example, which three measurements were done on.
 fn book_of_three(alloc: Global) -> Result<Book, BookFault> {
     let mut outcomes = Vec::new(alloc);
-    run_on_new(alloc, origin(100), &three_measurements(alloc)?, &mut outcomes)
+    run_on_new(
+        alloc,
+        origin(100),
+        &three_measurements(alloc)?,
+        &mut outcomes,
+    )
 }
 
 #[test]
@@ -64,21 +69,27 @@ fn gather_each_cause(rt: HostRuntime) -> Result<(), Fail> {
     let book = book_of_three(alloc)?;
     let whole = [group(alloc, &book, &[1, 2, 3])?];
     assert_eq!(rt; gathered(alloc, &book, 100, &whole), Ok(()));
-    let two = [
-        group(alloc, &book, &[3])?,
-        group(alloc, &book, &[1, 2])?,
-    ];
+    let two = [group(alloc, &book, &[3])?, group(alloc, &book, &[1, 2])?];
     assert_eq!(rt; gathered(alloc, &book, 100, &two), Ok(()));
-    assert_eq!(rt; gathered(alloc, &book, 99, &two), Err(GatherFault::ForeignBook));
+    assert_eq!(rt;
+        gathered(alloc, &book, 99, &two),
+        Err(GatherFault::ForeignBook)
+    );
     let twice = [group(alloc, &book, &[1, 1, 2, 3])?];
-    assert_eq!(rt; gathered(alloc, &book, 100, &twice), Err(GatherFault::OutOfOrder));
-    let double = [
-        group(alloc, &book, &[1, 2, 3])?,
-        group(alloc, &book, &[1])?,
-    ];
-    assert_eq!(rt; gathered(alloc, &book, 100, &double), Err(GatherFault::Double));
+    assert_eq!(rt;
+        gathered(alloc, &book, 100, &twice),
+        Err(GatherFault::OutOfOrder)
+    );
+    let double = [group(alloc, &book, &[1, 2, 3])?, group(alloc, &book, &[1])?];
+    assert_eq!(rt;
+        gathered(alloc, &book, 100, &double),
+        Err(GatherFault::Double)
+    );
     let gap = [group(alloc, &book, &[1, 3])?];
-    assert_eq!(rt; gathered(alloc, &book, 100, &gap), Err(GatherFault::Unnamed { place: 2 }));
+    assert_eq!(rt;
+        gathered(alloc, &book, 100, &gap),
+        Err(GatherFault::Unnamed { place: 2 })
+    );
     let mut other_answer = group(alloc, &book, &[1, 2, 3])?;
     let op = measure(alloc, b"/bin/sh", sha256(b"abc"))?;
     other_answer[1] = Outcome::Done(receipt(2, op, Answer::Known(2)));
@@ -88,7 +99,10 @@ fn gather_each_cause(rt: HostRuntime) -> Result<(), Fail> {
         group(alloc, &book, &[1, 2, 3])?,
         group_of(alloc, Outcome::Refused(BookFault::Full))?,
     ];
-    assert_eq!(rt; gathered(alloc, &book, 100, &full), Err(GatherFault::FalseFull));
+    assert_eq!(rt;
+        gathered(alloc, &book, 100, &full),
+        Err(GatherFault::FalseFull)
+    );
     let fresh = opened(alloc, origin(100))?;
     assert_eq!(rt; gathered(alloc, &fresh, 100, &[]), Ok(()));
     Ok(())
@@ -101,29 +115,44 @@ fn gather_order_of_causes(rt: HostRuntime) -> Result<(), Fail> {
     let opening = [group(alloc, &book, &[0])?];
     let first = GatherFault::Stranger { group: 0, index: 0 };
     assert_eq!(rt; gathered(alloc, &book, 100, &opening), Err(first));
-    assert_eq!(rt; gathered(alloc, &book, 100, &[]), Err(GatherFault::Unnamed { place: 1 }));
+    assert_eq!(rt;
+        gathered(alloc, &book, 100, &[]),
+        Err(GatherFault::Unnamed { place: 1 })
+    );
     let turned = [group(alloc, &book, &[2, 1])?];
-    assert_eq!(rt; gathered(alloc, &book, 100, &turned), Err(GatherFault::OutOfOrder));
+    assert_eq!(rt;
+        gathered(alloc, &book, 100, &turned),
+        Err(GatherFault::OutOfOrder)
+    );
     let double = [group(alloc, &book, &[1])?, group(alloc, &book, &[1])?];
-    assert_eq!(rt; gathered(alloc, &book, 100, &double), Err(GatherFault::Double));
+    assert_eq!(rt;
+        gathered(alloc, &book, 100, &double),
+        Err(GatherFault::Double)
+    );
     let op = measure(alloc, b"/bin/sh", sha256(b"abc"))?;
     let past = Outcome::Done(receipt(u32::MAX, op, Answer::Added(1)));
-    let far = [
-        group(alloc, &book, &[2, 1])?,
-        group_of(alloc, past)?,
-    ];
+    let far = [group(alloc, &book, &[2, 1])?, group_of(alloc, past)?];
     let stranger = GatherFault::Stranger { group: 1, index: 0 };
     assert_eq!(rt; gathered(alloc, &book, 100, &far), Err(stranger));
-    assert_eq!(rt; gathered(alloc, &book, 99, &far), Err(GatherFault::ForeignBook));
+    assert_eq!(rt;
+        gathered(alloc, &book, 99, &far),
+        Err(GatherFault::ForeignBook)
+    );
     let late = [
         group(alloc, &book, &[1, 2])?,
         group(alloc, &book, &[1, 3, 2])?,
     ];
-    assert_eq!(rt; gathered(alloc, &book, 100, &late), Err(GatherFault::OutOfOrder));
+    assert_eq!(rt;
+        gathered(alloc, &book, 100, &late),
+        Err(GatherFault::OutOfOrder)
+    );
     let mut short = group(alloc, &book, &[1, 2])?;
     short.push(Outcome::Refused(BookFault::Full))?;
     let short = [short];
-    assert_eq!(rt; gathered(alloc, &book, 100, &short), Err(GatherFault::Unnamed { place: 3 }));
+    assert_eq!(rt;
+        gathered(alloc, &book, 100, &short),
+        Err(GatherFault::Unnamed { place: 3 })
+    );
     Ok(())
 }
 
@@ -188,8 +217,10 @@ fn two_callers<R: Threads + Wait + Sync>(
 /// The values of PCR 10 after each entry of the book's list, from the first on.
 fn values_of(alloc: Global, book: &Book) -> Result<Vec<Digest>, Fail> {
     let entries = book.entries();
-    let mut values =
-        Vec::with_capacity(alloc, entries.len()).or_else(|_| Vec::with_capacity(alloc, entries.len()))?;
+    let mut values = Vec::with_capacity(alloc, entries.len()).or_else(|_| Vec::with_capacity(
+        alloc,
+        entries.len(),
+    ))?;
     let mut banks = start();
     for entry in entries {
         entry.replay_into(&mut banks);

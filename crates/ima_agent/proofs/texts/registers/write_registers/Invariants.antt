@@ -6,4 +6,5 @@ use Rattle.ima_agent.specs.RegisterTexts.{bank_text}
 use Rattle.ima_agent.proofs.texts.registers.write_registers.Given as goal
 
 abbrev pub invariant-loop-alg : goal.invariant-loop-alg
-invariant-loop-alg g l = Sent (g.S.Sink.state l.initial.sink) (g.S.Sink.state l.sink) (flat_map (bank_text l.now l.start) (take l.alg-index all_algs))
+invariant-loop-alg g l = Sent (g.S.Sink.state l.initial.sink) (g.S.Sink.state l.sink)
+    (flat_map (bank_text l.now l.start) (take l.alg-index all_algs))
