@@ -6,6 +6,7 @@ mod loading;
 mod logs;
 mod program;
 mod real_boot;
+mod real_boot_book;
 mod real_boot_lines;
 mod real_boot_list;
 mod replaying;

@@ -1,6 +1,6 @@
 -- Registers that are read one after another, and joined.
-use Rattle.std.proofs.Common.{◌≡◌, ℕ, zero, suc, ◌+◌, ◌<◌, Bool, true, false, cond, ltb, List, [], ◌∷◌, ◌++◌, length, get_or, map, Option, Some, None, refl, sym, ap, ◌∙◌, append_assoc, arith}
-use Rattle.std.specs.Prelude.{option_map, is_some}
+use Rattle.std.proofs.Common.{◌≡◌, ℕ, zero, suc, ◌+◌, ◌<◌, true, List, [], ◌∷◌, ◌++◌, length, get_or, map, Option, Some, None, refl, sym, ap, ◌∙◌, append_assoc, arith}
+use Rattle.std.specs.Prelude.{option_map}
 use Rattle.std.specs.List.{range_with_len}
 use Rattle.std.proofs.lemmas.List.{append-nil}
 use Rattle.std.proofs.lemmas.List.FromFn.{map-range_with_len_more, length-map-range_with_len, get_or-map-range_with_len}
@@ -11,8 +11,8 @@ use Rattle.pcr_banks.specs.declared.hashing.Hasher.{Hasher}
 use Rattle.pcr_banks.specs.Hashing.{hash_of}
 use Rattle.pcr_banks.specs.Digests.{bytes_of, digest_of}
 use Rattle.pcr_banks.specs.Hashers.{HasTaken}
-use Rattle.pcr_banks.specs.Registers.{in_bank, bank_of, is_active, value_at}
-use Rattle.pcr_banks.proofs.AlgLaws.{every_alg}
+use Rattle.pcr_banks.specs.Registers.{bank_of, is_active, value_at}
+use Rattle.pcr_banks.proofs.BankLaws.{some_digest, no_digest, read_value, read_none, active_bank}
 use Rattle.ima_list.specs.Aggregates.{aggregated, all_joined, joined_values, boot_aggregate_of}
 
 -- ---- values joined
@@ -57,39 +57,6 @@ joined_lacks value_of count register lt e =
     let values = map value_of (range_with_len 0 count) in
     one_missing values register (omega (arith, length-map-range_with_len value_of 0 count))
     (get_or-map-range_with_len value_of 0 count register register (Some []) lt (omega arith) ∙ e)
-
--- ---- values that are read
-
-same_bytes : (alg : Alg) (bytes : List ℕ) → bytes_of (digest_of alg bytes) ≡ bytes
-same_bytes = every_alg _ (λ bytes. refl, (λ bytes. refl, (λ bytes. refl, tt)))
-
-abbrev pub some_digest : Digest → Option Digest
-some_digest digest = Some digest
-
-abbrev pub no_digest : Option Digest
-no_digest = None
-
-read_value : (alg : Alg) (value : Option (List ℕ)) (digest : Digest) → some_digest digest ≡ option_map (digest_of alg) value
-    → value ≡ Some (bytes_of digest)
-read_value alg None digest e = absurd cc
-read_value alg (Some bytes) digest e =
-    let same : digest ≡ digest_of alg bytes = cc in
-    ap (λ (b : List ℕ). Some b) (sym (ap bytes_of same ∙ same_bytes alg bytes))
-
-read_none : (alg : Alg) (value : Option (List ℕ)) → no_digest ≡ option_map (digest_of alg) value → value ≡ None
-read_none alg None e = refl
-read_none alg (Some bytes) e = absurd cc
-
-abbrev no_value : Option (List ℕ)
-no_value = None
-
-none_of_both : (b : Bool) (value : List ℕ) → cond b no_value no_value ≡ Some value → ⊥
-none_of_both true value e = cc
-none_of_both false value e = cc
-
-active_bank : (bank : Option (List (List ℕ))) (register : ℕ) (value : List ℕ) → in_bank bank register ≡ Some value → is_some bank ≡ true
-active_bank (Some values) register value e = refl
-active_bank None register value e = absurd (none_of_both (ltb register 24) value e)
 
 -- ---- the loop
 

@@ -1,5 +1,10 @@
 pub mod PlaceLaws
 pub mod HistoryLaws
 pub mod RunLaws
+pub mod GatherLaws
+pub mod MarkLaws
+pub mod OriginLaws
+pub mod AccountLaws
 pub mod ExportLaws
 pub mod AnswerLaws
+pub mod OneToOneLaws

@@ -6,3 +6,5 @@ pub mod Books
 pub mod Equality
 pub mod Steps
 pub mod BookParts
+pub mod Groups
+pub mod GroupParts

@@ -7,6 +7,7 @@ mod answering;
 mod book;
 mod export;
 mod fault;
+mod gathers;
 pub mod laws;
 mod op;
 mod origin;
@@ -15,6 +16,7 @@ mod refusing;
 pub use book::Book;
 pub use export::ExportFault;
 pub use fault::BookFault;
+pub use gathers::{GatherFault, gather};
 pub use op::{Answer, Op, Outcome, Receipt, Record};
 pub use origin::Origin;
 

@@ -2,6 +2,7 @@
 
 mod books;
 mod exports;
+mod gathering;
 mod memory;
 mod refusals;
 mod values;

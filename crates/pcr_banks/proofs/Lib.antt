@@ -3,3 +3,4 @@ pub mod SetLaws
 pub mod OptionLaws
 pub mod ExtendLaws
 pub mod HashLaws
+pub mod BankLaws

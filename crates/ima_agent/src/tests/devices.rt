@@ -7,6 +7,7 @@ use crate::{Files, LoadFault, run};
 use boot_log::LogFault;
 use byte_streams::{Failed, Sink, SliceSource, VecSink};
 use ima_list::ListFault;
+use measure_book::BookFault;
 use std::alloc::{AllocError, Global};
 use std::test::Fail;
 
@@ -129,6 +130,12 @@ impl Refusal for LogFault {
 impl Refusal for ListFault {
     fn is_refusal(&self) -> bool {
         *self == ListFault::Memory
+    }
+}
+
+impl Refusal for BookFault {
+    fn is_refusal(&self) -> bool {
+        *self == BookFault::Memory
     }
 }
 

@@ -12,7 +12,7 @@ use std::test::Fail;
 const LENGTH: usize = 11_929;
 
 /// PCR 10 in `samples/real-boot/expected.txt`.
-const REGISTER: &[u8] = b"e8ed95b94e8d66f42e5b9be4d794dc0c7701e2360f03537fe59e9ba861a8024f";
+pub const REGISTER: &[u8] = b"e8ed95b94e8d66f42e5b9be4d794dc0c7701e2360f03537fe59e9ba861a8024f";
 
 /// The bytes of the list.
 pub fn list_bytes(alloc: Global) -> Result<Vec<u8>, Fail> {
@@ -20,12 +20,12 @@ pub fn list_bytes(alloc: Global) -> Result<Vec<u8>, Fail> {
 }
 
 /// Reads the list; once more where an allocation was refused.
-fn entries_of(alloc: Global, bytes: &[u8]) -> Result<Vec<Entry>, ListFault> {
+pub fn entries_of(alloc: Global, bytes: &[u8]) -> Result<Vec<Entry>, ListFault> {
     once_more(|| read_list(alloc, bytes))
 }
 
 /// Reads the firmware log; once more where an allocation was refused.
-fn log_of(alloc: Global, bytes: &[u8]) -> Result<BootLog<'_>, LogFault> {
+pub fn log_of(alloc: Global, bytes: &[u8]) -> Result<BootLog<'_>, LogFault> {
     match read_log(alloc, bytes) {
         Err(LogFault::Memory) => read_log(alloc, bytes),
         answer => answer,

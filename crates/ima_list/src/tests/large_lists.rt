@@ -1,8 +1,8 @@
 //! Many entries and large ones, of each register and of each algorithm: a body that gives up without cause fails here.
 
 use super::{
-    EMPTY_ENTRY, MEASUREMENT, append_entry, entry_of, joined, line_of, list_of, measured,
-    once_more, spelling_of, violated,
+    MEASUREMENT, REGISTER_PLACE, append_entry, entry_of, joined, line_of, list_of, measured,
+    measurement_with, once_more, spelling_of, violated,
 };
 use crate::{Fields, Template, replay};
 use pcr_banks::{Alg, AlgSet, Banks, Digest, REGISTERS, hash};
@@ -19,8 +19,7 @@ fn measurement_into_each_register(rt: HostRuntime) -> Result<(), Fail> {
         let entry = measured(alloc, register, Template::ImaNg, &file, b"/bin/sh")?;
         assert_eq!(rt; entry.register(), register);
         let spelling = spelling_of(alloc, &entry)?;
-        let number = register.to_le_bytes();
-        let expected = joined(alloc, &[&number, &MEASUREMENT[4..]])?;
+        let expected = measurement_with(alloc, REGISTER_PLACE, register as u8)?;
         assert_eq!(rt; spelling.as_slice(), expected.as_slice());
         let start = Banks::new(AlgSet::empty().with(Alg::Sha256), 0);
         let mut banks = start;
@@ -69,16 +68,19 @@ fn twelve_thousand_entries(rt: HostRuntime) -> Result<(), Fail> {
     Ok(())
 }
 
-/// The line of an entry of register 10 whose template digest is zero and whose name is `ima-xx`, up to its payload.
+/// An entry of register 10 whose template digest is zero and whose name is `ima-xx`, up to the length of its payload.
+const OTHER_HEAD: &[u8] = b"\x0a\x00\x00\x00\
+    \x00\x00\x00\x00\x00\x00\x00\x00\x00\x00\x00\x00\x00\x00\x00\x00\x00\x00\x00\x00\
+    \x06\x00\x00\x00ima-xx";
+
+/// The line of this entry, up to its payload.
 const OTHER_FRONT: &[u8] = b"10 0000000000000000000000000000000000000000 ima-xx ";
 
 /// An entry of this name with a payload of one byte repeated: read, written and shown.
 fn assert_large_payload(rt: &impl Abort, alloc: Global, size: u32) -> Result<(), Fail> {
     let count = size as usize;
     let payload = once_more(AllocError, || [0xAB].repeat(alloc, count))?;
-    let number = size.to_le_bytes();
-    let front = &EMPTY_ENTRY[..24];
-    let bytes = joined(alloc, &[front, b"\x06\0\0\0ima-xx", &number, &payload])?;
+    let bytes = joined(alloc, &[OTHER_HEAD, &size.to_le_bytes(), &payload])?;
     let entry = entry_of(alloc, &bytes)?;
     assert!(rt; entry.payload() == payload.as_slice());
     assert!(rt; spelling_of(alloc, &entry)?.as_slice() == bytes.as_slice());

@@ -30,6 +30,7 @@ fn replay_and_fields_in_the_library(rt: HostRuntime) -> Result<(), Fail> {
     let fault = ReplayFault::BadTemplateDigest { entry: 0 };
     assert_eq!(rt; replay(start(), &list_of(alloc, &forged)?), Err(fault));
     assert_fields(&rt, alloc)?;
+    assert_empty_path(&rt, alloc)?;
     for (alg, count) in [(Alg::Sha1, 160), (Alg::Sha256, 320), (Alg::Sha384, 480)] {
         let banks = Banks::new(AlgSet::empty().with(alg), 0);
         let expected = hash(alg, &[0; 480][..count]);
@@ -57,7 +58,7 @@ fn assert_replayed(rt: &impl Abort, alloc: Global, bytes: &[u8], part: &[u8]) ->
 }
 
 /// The entry has fields, and none where its last byte is not a NUL, where a byte follows, or where the algorithm is not
-/// known; an empty path is one.
+/// known.
 fn assert_fields(rt: &impl Abort, alloc: Global) -> Result<(), Fail> {
     let file = hash(Alg::Sha256, b"abc");
     let path = b"/bin/sh";
@@ -71,11 +72,18 @@ fn assert_fields(rt: &impl Abort, alloc: Global) -> Result<(), Fail> {
     for bytes in [&last, &longer, &unknown] {
         assert_eq!(rt; entry_of(alloc, bytes)?.fields(), None);
     }
-    let empty = measurement_with(alloc, PAYLOAD_LENGTH, 49)?;
-    let empty = joined(alloc, &[&empty[..82], b"\x01\0\0\0\0"])?;
+    Ok(())
+}
+
+/// A field n-ng of a NUL alone is an empty path.
+fn assert_empty_path(rt: &impl Abort, alloc: Global) -> Result<(), Fail> {
+    let file = hash(Alg::Sha256, b"abc");
+    let front = &MEASUREMENT[..PAYLOAD_LENGTH];
+    let digest = &MEASUREMENT[PAYLOAD_PLACE..82];
+    let bytes = joined(alloc, &[front, b"\x31\0\0\0", digest, b"\x01\0\0\0\0"])?;
     let path = b"";
     assert_eq!(rt;
-        entry_of(alloc, &empty)?.fields(),
+        entry_of(alloc, &bytes)?.fields(),
         Some(Fields { file, path })
     );
     Ok(())
