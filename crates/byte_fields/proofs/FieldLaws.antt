@@ -36,19 +36,30 @@ wide32 = record {
 pub number_takes : {E : Type 0} (fault : E) (w : Width) (limit : ℕ) (wide : IsWide w limit) (bytes : List ℕ) (n : ℕ) (rest : List ℕ)
     → IsBytes bytes → number_at fault w bytes ≡ Ok (n, rest) → Takes bytes (to_le_bytes w n) rest × (n < limit)
 number_takes fault w limit wide bytes n rest fits e =
-    let g = guard_ok (ltb (length bytes) (byte_len w)) fault (Ok (from_le_bytes w (take (byte_len w) bytes), drop (byte_len w) bytes)) (n, rest) e in
+    let g = guard_ok (ltb (length bytes) (byte_len w)) fault (Ok (from_le_bytes w (take (byte_len w) bytes), drop (byte_len w) bytes))
+    (n, rest) e in
     let long : byte_len w ≤ length bytes = ltb-false _ _ g.0 in
     let pair = ok_is (from_le_bytes w (take (byte_len w) bytes), drop (byte_len w) bytes) (n, rest) g.1 in
     let n-is : from_le_bytes w (take (byte_len w) bytes) ≡ n = ap (λ (p : ℕ × List ℕ). p.0) pair in
     let rest-is : drop (byte_len w) bytes ≡ rest = ap (λ (p : ℕ × List ℕ). p.1) pair in
-    let front : to_le_bytes w n ≡ take (byte_len w) bytes = rw (← n-is) (wide.back (take (byte_len w) bytes) (omega (arith, length-take (byte_len w) bytes)) (IsBytes-take (byte_len w) bytes fits)) in
-    (record { parts = rw (front, ← rest-is) (sym (take-append-drop (byte_len w) bytes)); rest_fits = rw (← rest-is) (IsBytes-drop (byte_len w) bytes fits) }, rw (← n-is) (wide.below (take (byte_len w) bytes) (IsBytes-take (byte_len w) bytes fits)))
+    let front : to_le_bytes w n ≡ take (byte_len w) bytes =
+    rw (← n-is) (wide.back (take (byte_len w) bytes) (omega (arith, length-take (byte_len w) bytes))
+    (IsBytes-take (byte_len w) bytes fits)) in (
+      record {
+        parts = rw (front, ← rest-is) (sym (take-append-drop (byte_len w) bytes));
+        rest_fits = rw (← rest-is)
+            (IsBytes-drop (byte_len w) bytes fits);
+      },
+      rw (← n-is)
+          (wide.below (take (byte_len w) bytes) (IsBytes-take (byte_len w) bytes fits)),
+    )
 
 pub number_again : {E : Type 0} (fault : E) (w : Width) (limit : ℕ) (wide : IsWide w limit) (n : ℕ) (rest : List ℕ)
     → n < limit → number_at fault w (to_le_bytes w n ++ rest) ≡ Ok (n, rest)
 number_again fault w limit wide n rest lt =
     let len = wide.len n in
-    let long : ltb (length (to_le_bytes w n ++ rest)) (byte_len w) ≡ false = le-ltb _ _ (omega (arith, length-append (to_le_bytes w n) rest)) in
+    let long : ltb (length (to_le_bytes w n ++ rest)) (byte_len w) ≡ false =
+    le-ltb _ _ (omega (arith, length-append (to_le_bytes w n) rest)) in
     rw (long, take_at (to_le_bytes w n) rest (byte_len w) len, drop_at (to_le_bytes w n) rest (byte_len w) len, wide.again n lt) refl
 
 -- ---- parts
@@ -60,21 +71,31 @@ part_takes fault count bytes part rest fits e =
     let long : count ≤ length bytes = ltb-false _ _ g.0 in
     let pair = ok_is (take count bytes, drop count bytes) (part, rest) g.1 in
     let part-is : take count bytes ≡ part = ap (λ (p : List ℕ × List ℕ). p.0) pair in
-    let rest-is : drop count bytes ≡ rest = ap (λ (p : List ℕ × List ℕ). p.1) pair in
-    (record { parts = rw (← part-is, ← rest-is) (sym (take-append-drop count bytes)); rest_fits = rw (← rest-is) (IsBytes-drop count bytes fits) }, rw (← part-is) (omega (arith, length-take count bytes)))
+    let rest-is : drop count bytes ≡ rest = ap (λ (p : List ℕ × List ℕ). p.1) pair in (
+      record {
+        parts = rw (← part-is, ← rest-is) (sym (take-append-drop count bytes));
+        rest_fits = rw (← rest-is)
+            (IsBytes-drop count bytes fits);
+      },
+      rw (← part-is) (omega (arith, length-take count bytes)),
+    )
 
 -- A part that was read is as long as was asked, whatever the bytes.
-pub part_length : {E : Type 0} (fault : E) (count : ℕ) (bytes part rest : List ℕ) → part_at fault count bytes ≡ Ok (part, rest) → length part ≡ count
+pub part_length : {E : Type 0} (fault : E) (count : ℕ) (bytes part rest : List ℕ) → part_at fault count bytes ≡ Ok (part, rest)
+    → length part ≡ count
 part_length fault count bytes part rest e =
     let g = guard_ok (ltb (length bytes) count) fault (Ok (take count bytes, drop count bytes)) (part, rest) e in
     let long : count ≤ length bytes = ltb-false _ _ g.0 in
-    let part-is : take count bytes ≡ part = ap (λ (p : List ℕ × List ℕ). p.0) (ok_is (take count bytes, drop count bytes) (part, rest) g.1) in
+    let part-is : take count bytes ≡ part = ap (λ (p : List ℕ × List ℕ). p.0)
+    (ok_is (take count bytes, drop count bytes) (part, rest) g.1) in
     rw (← part-is) (omega (arith, length-take count bytes))
 
-pub part_bytes : {E : Type 0} (fault : E) (count : ℕ) (bytes part rest : List ℕ) → IsBytes bytes → part_at fault count bytes ≡ Ok (part, rest) → IsBytes part
+pub part_bytes : {E : Type 0} (fault : E) (count : ℕ) (bytes part rest : List ℕ) → IsBytes bytes
+    → part_at fault count bytes ≡ Ok (part, rest) → IsBytes part
 part_bytes fault count bytes part rest fits e =
     let g = guard_ok (ltb (length bytes) count) fault (Ok (take count bytes, drop count bytes)) (part, rest) e in
-    subst IsBytes (ap (λ (p : List ℕ × List ℕ). p.0) (ok_is (take count bytes, drop count bytes) (part, rest) g.1)) (IsBytes-take count bytes fits)
+    subst IsBytes (ap (λ (p : List ℕ × List ℕ). p.0) (ok_is (take count bytes, drop count bytes) (part, rest) g.1))
+    (IsBytes-take count bytes fits)
 
 pub part_again : {E : Type 0} (fault : E) (part rest : List ℕ) → part_at fault (length part) (part ++ rest) ≡ Ok (part, rest)
 part_again fault part rest =
@@ -92,7 +113,7 @@ byte_takes fault (b ∷ bytes) byte rest fits e =
     let rest-is : bytes ≡ rest = ap (λ (p : ℕ × List ℕ). p.1) pair in
     (record { parts = rw (byte-is, rest-is) refl; rest_fits = rw (← rest-is) (IsBytes-rest b bytes fits) }, rw (← byte-is) (fits 0))
 
--- ---- bytes behind their number
+-- ---- length-prefixed bytes
 
 pub sized_takes : {E : Type 0} (fault : E) (bytes part rest : List ℕ)
     → IsBytes bytes → sized_at fault bytes ≡ Ok (part, rest) → Takes bytes (sized32 part) rest × (length part < 2 ^ 32)
@@ -104,7 +125,8 @@ sized_takes fault bytes part rest fits e =
     let size-is : length part ≡ a.0.0 = taken.1 in
     (Takes-then bytes (number32 (length part)) a.0.1 part rest (rw size-is number.0) taken.0, rw size-is number.1)
 
-pub sized_again : {E : Type 0} (fault : E) (part rest : List ℕ) → length part < 2 ^ 32 → sized_at fault (sized32 part ++ rest) ≡ Ok (part, rest)
+pub sized_again : {E : Type 0} (fault : E) (part rest : List ℕ) → length part < 2 ^ 32
+    → sized_at fault (sized32 part ++ rest) ≡ Ok (part, rest)
 unfolding sized_at
 sized_again fault part rest lt =
     ap (sized_at fault) (append_assoc (number32 (length part)) part rest)
@@ -117,7 +139,8 @@ cond_fault {A} true fault d x e = sym (same_fault {A = A} fault d e)
 cond_fault false fault d x e = absurd cc
 
 pub number_fault : {E : Type 0} (fault : E) (w : Width) (bytes : List ℕ) (d : E) → number_at fault w bytes ≡ Err d → d ≡ fault
-number_fault fault w bytes d e = cond_fault (ltb (length bytes) (byte_len w)) fault d (from_le_bytes w (take (byte_len w) bytes), drop (byte_len w) bytes) e
+number_fault fault w bytes d e = cond_fault (ltb (length bytes) (byte_len w)) fault d
+    (from_le_bytes w (take (byte_len w) bytes), drop (byte_len w) bytes) e
 
 pub part_fault : {E : Type 0} (fault : E) (count : ℕ) (bytes : List ℕ) (d : E) → part_at fault count bytes ≡ Err d → d ≡ fault
 part_fault fault count bytes d e = cond_fault (ltb (length bytes) count) fault d (take count bytes, drop count bytes) e

@@ -9,17 +9,20 @@ use Rattle.byte_fields.proofs.Steps.{IsBytes}
 -- A reader of items, each of which takes bytes.
 abbrev pub Shortens : {X E : Type 0} → (ℕ → List ℕ → Result (X × List ℕ) E) → Type 0
 Shortens {X} item_at =
-    (k : ℕ) (bytes : List ℕ) (item : X) (after : List ℕ) → IsBytes bytes → item_at k bytes ≡ Ok (item, after) → IsBytes after × (length after < length bytes)
+    (k : ℕ) (bytes : List ℕ) (item : X) (after : List ℕ) → IsBytes bytes → item_at k bytes ≡ Ok (item, after)
+    → IsBytes after × (length after < length bytes)
 
 -- A step over the first item, where bytes are left.
-pub items_step : {X E : Type 0} (item_at : ℕ → List ℕ → Result (X × List ℕ) E) (lost : ℕ → E) (steps k : ℕ) (bytes : List ℕ) (item : X) (after : List ℕ)
+pub items_step : {X E : Type 0} (item_at : ℕ → List ℕ → Result (X × List ℕ) E) (lost : ℕ → E) (steps k : ℕ) (bytes : List ℕ) (item : X)
+    (after : List ℕ)
     → 0 < length bytes → item_at k bytes ≡ Ok (item, after)
     → items_within item_at lost (suc steps) k bytes ≡ (items_within item_at lost steps (k + 1) after >>= λ others. Ok (item ∷ others))
 unfolding items_within
 items_step item_at lost steps k [] item after some e = absurd (omega arith)
 items_step item_at lost steps k (byte ∷ bytes) item after some e = rw e refl
 
-pub items_none : {X E : Type 0} (item_at : ℕ → List ℕ → Result (X × List ℕ) E) (lost : ℕ → E) (steps k : ℕ) → items_within item_at lost steps k [] ≡ Ok []
+pub items_none : {X E : Type 0} (item_at : ℕ → List ℕ → Result (X × List ℕ) E) (lost : ℕ → E) (steps k : ℕ)
+    → items_within item_at lost steps k [] ≡ Ok []
 unfolding items_within
 items_none item_at lost zero k = refl
 items_none item_at lost (suc steps) k = refl
@@ -43,14 +46,16 @@ items_enough {X} {E} item_at lost shortens (suc steps) (suc more) k (byte ∷ by
     (λ first. items_within item_at lost more (k + 1) first.1 >>= λ others. Ok (first.0 ∷ others))
     (λ item after e.
     let shorter = shortens k (byte ∷ bytes) item after fits e in
-    ap (λ (r : Result (List X) E). r >>= λ others. Ok (item ∷ others)) (items_enough item_at lost shortens steps more (k + 1) after shorter.0 (omega (arith, shorter.1)) (omega (arith, shorter.1))))
+    ap (λ (r : Result (List X) E). r >>= λ others. Ok (item ∷ others))
+    (items_enough item_at lost shortens steps more (k + 1) after shorter.0 (omega (arith, shorter.1)) (omega (arith, shorter.1))))
 
 -- What is read after these items, with them in front.
 abbrev pub with_front : {X E : Type 0} → List X → Result (List X) E → Result (List X) E
 with_front front reading = reading >>= λ others. Ok (front ++ others)
 
 -- After some of the items: what is left to read gives what reading all gives.
-pub record ReadsOn {X E : Type 0} (item_at : ℕ → List ℕ → Result (X × List ℕ) E) (lost : ℕ → E) (start : ℕ) (bytes : List ℕ) (items : List X) (rest : List ℕ) : Type 0 where
+pub record ReadsOn {X E : Type 0} (item_at : ℕ → List ℕ → Result (X × List ℕ) E) (lost : ℕ → E) (start : ℕ) (bytes : List ℕ)
+    (items : List X) (rest : List ℕ) : Type 0 where
   pub reading : with_front items (items_from item_at lost (length items + start) rest) ≡ items_from item_at lost start bytes
   pub fits : IsBytes rest
   pub shorter : length items + length rest ≤ length bytes
@@ -60,7 +65,8 @@ with_none : {X E : Type 0} (r : Result (List X) E) → with_front [] r ≡ r
 with_none (Ok items) = refl
 with_none (Err fault) = refl
 
-pub reads_at_first : {X E : Type 0} (item_at : ℕ → List ℕ → Result (X × List ℕ) E) (lost : ℕ → E) (start : ℕ) (bytes : List ℕ) → IsBytes bytes → ReadsOn item_at lost start bytes [] bytes
+pub reads_at_first : {X E : Type 0} (item_at : ℕ → List ℕ → Result (X × List ℕ) E) (lost : ℕ → E) (start : ℕ) (bytes : List ℕ)
+    → IsBytes bytes → ReadsOn item_at lost start bytes [] bytes
 reads_at_first {X} item_at lost start bytes fits =
     let none : 0 + start ≡ start = omega arith in
     record {
@@ -82,7 +88,8 @@ from_first : {X E : Type 0} (item_at : ℕ → List ℕ → Result (X × List �
 from_first {X} {E} item_at lost shortens k rest item after fits some e =
     let shorter = shortens k rest item after fits e in
     let steps : length rest ≡ suc (length rest - 1) = omega arith in
-    let enough = items_enough item_at lost shortens (length rest - 1) (length after) (k + 1) after shorter.0 (omega (arith, shorter.1)) (omega arith) in
+    let enough = items_enough item_at lost shortens (length rest - 1) (length after) (k + 1) after shorter.0 (omega (arith, shorter.1))
+    (omega arith) in
     ap (λ (n : ℕ). items_within item_at lost n k rest) steps
     ∙ items_step item_at lost (length rest - 1) k rest item after some e
     ∙ ap (λ (r : Result (List X) E). r >>= λ others. Ok (item ∷ others)) enough
@@ -93,14 +100,16 @@ unfolding items_within
 from_fault item_at lost k [] fault some e = absurd (omega arith)
 from_fault item_at lost k (byte ∷ rest) fault some e = rw e refl
 
-begun_first : {X E : Type 0} (item_at : ℕ → List ℕ → Result (X × List ℕ) E) (start : ℕ) (bytes : List ℕ) (items : List X) (rest : List ℕ) (x : X × List ℕ)
+begun_first : {X E : Type 0} (item_at : ℕ → List ℕ → Result (X × List ℕ) E) (start : ℕ) (bytes : List ℕ) (items : List X) (rest : List ℕ)
+    (x : X × List ℕ)
     → items ≡ [] → rest ≡ bytes → item_at (length items + start) rest ≡ Ok x → IsOk (item_at start bytes)
 begun_first {X} item_at start bytes items rest x none all e =
     let k : length items + start ≡ start = ap (λ (xs : List X). length xs + start) none ∙ (omega arith) in
     let one : item_at start bytes ≡ Ok x = sym (ap (λ (n : ℕ). item_at n rest) k ∙ ap (item_at start) all) ∙ e in
     rw one refl
 
-pub has_begun : {X E : Type 0} (item_at : ℕ → List ℕ → Result (X × List ℕ) E) (lost : ℕ → E) (start : ℕ) (bytes : List ℕ) (items : List X) (rest : List ℕ) (x : X × List ℕ)
+pub has_begun : {X E : Type 0} (item_at : ℕ → List ℕ → Result (X × List ℕ) E) (lost : ℕ → E) (start : ℕ) (bytes : List ℕ) (items : List X)
+    (rest : List ℕ) (x : X × List ℕ)
     → ReadsOn item_at lost start bytes items rest → item_at (length items + start) rest ≡ Ok x → IsOk (item_at start bytes)
 has_begun item_at lost start bytes items rest x on e =
     elim on.begun [
@@ -110,24 +119,29 @@ has_begun item_at lost start bytes items rest x on e =
 
 pub reads_on : {X E : Type 0} (item_at : ℕ → List ℕ → Result (X × List ℕ) E) (lost : ℕ → E) → Shortens item_at
     → (start : ℕ) (bytes : List ℕ) (items : List X) (rest : List ℕ) (item : X) (after : List ℕ)
-    → 0 < length rest → ReadsOn item_at lost start bytes items rest → item_at (length items + start) rest ≡ Ok (item, after) → ReadsOn item_at lost start bytes (items ++ item ∷ []) after
+    → 0 < length rest → ReadsOn item_at lost start bytes items rest → item_at (length items + start) rest ≡ Ok (item, after)
+    → ReadsOn item_at lost start bytes (items ++ item ∷ []) after
 reads_on item_at lost shortens start bytes items rest item after some on e =
     let shorter = shortens (length items + start) rest item after on.fits e in
     let count : length (items ++ item ∷ []) + start ≡ length items + start + 1 = omega (arith, length-append items (item ∷ [])) in
     let first = from_first item_at lost shortens (length items + start) rest item after on.fits some e in
     record {
-      reading = rw count (sym (with_one_more items item (items_from item_at lost (length items + start + 1) after)) ∙ ap (with_front items) (sym first) ∙ on.reading);
+      reading = rw count (sym (with_one_more items item (items_from item_at lost (length items + start + 1) after))
+          ∙ ap (with_front items) (sym first) ∙ on.reading);
       fits = shorter.0;
       shorter = omega (arith, on.shorter, shorter.1, length-append items (item ∷ []));
       begun = inr (has_begun item_at lost start bytes items rest (item, after) on e);
     }
 
-pub reads_fault : {X E : Type 0} (item_at : ℕ → List ℕ → Result (X × List ℕ) E) (lost : ℕ → E) (start : ℕ) (bytes : List ℕ) (items : List X) (rest : List ℕ) (fault : E)
-    → 0 < length rest → ReadsOn item_at lost start bytes items rest → item_at (length items + start) rest ≡ Err fault → items_from item_at lost start bytes ≡ Err fault
+pub reads_fault : {X E : Type 0} (item_at : ℕ → List ℕ → Result (X × List ℕ) E) (lost : ℕ → E) (start : ℕ) (bytes : List ℕ)
+    (items : List X) (rest : List ℕ) (fault : E)
+    → 0 < length rest → ReadsOn item_at lost start bytes items rest → item_at (length items + start) rest ≡ Err fault
+    → items_from item_at lost start bytes ≡ Err fault
 reads_fault item_at lost start bytes items rest fault some on e =
     sym on.reading ∙ ap (with_front items) (from_fault item_at lost (length items + start) rest fault some e)
 
-pub reads_to_end : {X E : Type 0} (item_at : ℕ → List ℕ → Result (X × List ℕ) E) (lost : ℕ → E) (start : ℕ) (bytes : List ℕ) (items : List X) (rest : List ℕ)
+pub reads_to_end : {X E : Type 0} (item_at : ℕ → List ℕ → Result (X × List ℕ) E) (lost : ℕ → E) (start : ℕ) (bytes : List ℕ)
+    (items : List X) (rest : List ℕ)
     → rest ≡ [] → ReadsOn item_at lost start bytes items rest → items_from item_at lost start bytes ≡ Ok items
 reads_to_end {X} {E} item_at lost start bytes items rest none on =
     let last : items_from item_at lost (length items + start) rest ≡ Ok [] = rw none (items_none item_at lost 0 (length items + start)) in
@@ -141,4 +155,5 @@ not_empty is_empty (byte ∷ bytes) e f = omega arith
 
 pub empty : (is_empty : Bool) (bytes : List ℕ) → is_empty ≡ eqb (length bytes) 0 → is_empty ≡ true → bytes ≡ []
 empty is_empty [] e f = refl
-empty is_empty (byte ∷ bytes) e f = let none : length (byte ∷ bytes) ≡ 0 = eqb-true (length (byte ∷ bytes)) 0 (sym e ∙ f) in absurd (omega arith)
+empty is_empty (byte ∷ bytes) e f = let none : length (byte ∷ bytes) ≡ 0 = eqb-true (length (byte ∷ bytes)) 0 (sym e ∙ f) in absurd
+    (omega arith)

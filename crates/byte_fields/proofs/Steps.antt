@@ -1,12 +1,10 @@
 -- Steps that may fail, and what a reader took from the front of its bytes.
-use Rattle.std.proofs.Common.{◌≡◌, ℕ, ◌+◌, ◌<◌, ◌⊎◌, suc, Bool, true, false, cond, List, ◌∷◌, ◌++◌, get_or, take, drop, Option, Some, None, Result, Ok, Err, refl, sym, ap, ◌∙◌, append_assoc, arith, inl, inr}
-use Rattle.std.specs.Prelude.{ok_or}
+use Rattle.std.proofs.Common.{◌≡◌, ℕ, ◌+◌, ◌⊎◌, suc, Bool, true, false, cond, List, ◌∷◌, ◌++◌, take, drop, Option, Some, None, Result, Ok, Err, refl, sym, ap, ◌∙◌, append_assoc, arith, inl, inr}
+use Rattle.std.specs.Prelude.{ok_or, IsOk}
 use Rattle.std.proofs.lemmas.Bool.{cases_lt}
 use Rattle.std.proofs.lemmas.List.{get_or-drop, get_or-take, get_or_past, length-take}
 use Rattle.byte_fields.specs.Reading.{◌>>=◌}
-
-abbrev pub IsBytes : List ℕ → Type 0
-IsBytes bytes = (i : ℕ) → get_or bytes i 0 < 256
+pub use Rattle.byte_fields.specs.Spelling.{IsBytes}
 
 pub IsBytes-drop : (n : ℕ) (bytes : List ℕ) → IsBytes bytes → IsBytes (drop n bytes)
 IsBytes-drop n bytes h i = rw get_or-drop (h (n + i))
@@ -28,7 +26,7 @@ failed A d = Err d
 pub same_fault : {A E : Type 0} (c d : E) → failed A c ≡ failed A d → c ≡ d
 same_fault c d e = cc
 
-err_is : {A B E : Type 0} (c d : E) → failed B c ≡ failed B d → failed A c ≡ failed A d
+pub err_is : {A B E : Type 0} (c d : E) → failed B c ≡ failed B d → failed A c ≡ failed A d
 err_is {A} {B} c d e = ap (failed A) (same_fault {A = B} c d e)
 
 -- The value of a step that did not fail.
@@ -37,7 +35,8 @@ bind_ok (Ok x) f y e = (x, refl, e)
 bind_ok (Err d) f y e = absurd cc
 
 -- A step that failed, or the one after it.
-pub bind_err : {A B E : Type 0} (r : Result A E) (f : A → Result B E) (d : E) → (r >>= f) ≡ Err d → (r ≡ Err d) ⊎ ((x : A) × (r ≡ Ok x) × (f x ≡ Err d))
+pub bind_err : {A B E : Type 0} (r : Result A E) (f : A → Result B E) (d : E) → (r >>= f) ≡ Err d
+    → (r ≡ Err d) ⊎ ((x : A) × (r ≡ Ok x) × (f x ≡ Err d))
 bind_err (Ok x) f d e = inr (x, refl, e)
 bind_err (Err c) f d e = inl (err_is c d e)
 
@@ -55,11 +54,28 @@ pub ok_or_ok : {A E : Type 0} (o : Option A) (d : E) (x : A) → ok_or o d ≡ O
 ok_or_ok (Some y) d x e = cc
 ok_or_ok None d x e = absurd cc
 
-abbrev done : {A : Type 0} (E : Type 0) → A → Result A E
-done E x = Ok x
+abbrev pub the_ok : {A : Type 0} (E : Type 0) → A → Result A E
+the_ok E x = Ok x
 
-pub ok_is : {A E : Type 0} (x y : A) → done E x ≡ done E y → x ≡ y
+pub ok_is : {A E : Type 0} (x y : A) → the_ok E x ≡ the_ok E y → x ≡ y
 ok_is x y e = cc
+
+pub ok_not_err : {A E : Type 0} (x : A) (fault : E) → the_ok E x ≡ Err fault → ⊥
+ok_not_err x fault e = cc
+
+-- A fault that comes through a step which cannot fail.
+pub kept_err : {A B E : Type 0} (r : Result A E) (f : A → B) (fault : E) → (r >>= λ x. the_ok E (f x)) ≡ Err fault → r ≡ Err fault
+kept_err (Ok x) f fault e = absurd (ok_not_err (f x) fault e)
+kept_err {A} {B} {E} (Err y) f fault e = err_is {A = A} {B = B} y fault e
+
+-- What there is where there is no fault.
+pub is_ok_value : {A E : Type 0} (r : Result A E) → IsOk r → (x : A) × (r ≡ Ok x)
+is_ok_value (Ok x) ok = (x, refl)
+is_ok_value (Err fault) ok = absurd cc
+
+-- One result has one fault.
+pub fault_is : {A E : Type 0} (r : Result A E) (y f g : E) → r ≡ Err y → y ≡ f → r ≡ Err g → f ≡ g
+fault_is r y f g a b c = cc
 
 -- What a reader took from the front, and the rest.
 pub record Takes (bytes text rest : List ℕ) : Type 0 where

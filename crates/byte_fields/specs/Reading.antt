@@ -1,5 +1,5 @@
 -- Reading fields from left to right, with the first fault that is met.
-use Rattle.std.specs.Prelude.{◌≡◌, ℕ, zero, suc, ◌+◌, nat_lt, if◌then◌else◌, List, [], ◌∷◌, length, take, drop, Result, Ok, Err}
+use Rattle.std.specs.Prelude.{◌≡◌, ◌⊎◌, ℕ, zero, suc, ◌+◌, nat_lt, if◌then◌else◌, List, [], ◌∷◌, length, take, drop, Result, Ok, Err}
 use Rattle.std.specs.Int.{Width, w32, byte_len, from_le_bytes}
 
 -- ---- steps that may fail
@@ -14,7 +14,12 @@ abbrev pub Reads : {X Y E : Type 0} → (X → Y) → Result X E → Result Y E 
 Reads view (Ok x) reading = reading ≡ Ok (view x)
 Reads view (Err fault) reading = reading ≡ Err fault
 
--- ---- fields: a value and the bytes after it, or the fault to give where bytes are missing
+-- The same, unless memory ran out: `memory` is the fault that says so.
+abbrev pub ReadsInMemory : {X Y E : Type 0} → E → (X → Y) → Result X E → Result Y E → Type 0
+ReadsInMemory memory view (Ok x) reading = reading ≡ Ok (view x)
+ReadsInMemory memory view (Err fault) reading = (fault ≡ memory) ⊎ (reading ≡ Err fault)
+
+-- ---- fields: a value and the remaining bytes, or the fault to give where bytes are missing
 
 abbrev pub number_at : {E : Type 0} → E → Width → List ℕ → Result (ℕ × List ℕ) E
 number_at fault width bytes =
@@ -28,7 +33,7 @@ abbrev pub byte_at : {E : Type 0} → E → List ℕ → Result (ℕ × List ℕ
 byte_at fault [] = Err fault
 byte_at fault (byte ∷ bytes) = Ok (byte, bytes)
 
--- Bytes behind their number, which takes four bytes.
+-- Length-prefixed bytes: the length takes four bytes.
 unfoldable pub sized_at : {E : Type 0} → E → List ℕ → Result (List ℕ × List ℕ) E
 sized_at fault bytes = do
   size ← number_at fault w32 bytes

@@ -1,6 +1,10 @@
--- How numbers, and bytes behind their number, are spelled in little endian records.
-use Rattle.std.specs.Prelude.{ℕ, List, ◌++◌, length}
+-- How numbers and length-prefixed bytes are spelled in little endian records.
+use Rattle.std.specs.Prelude.{ℕ, ◌^◌, ◌<◌, List, ◌++◌, length, slice_index}
 use Rattle.std.specs.Int.{w16, w32, to_le_bytes}
+
+-- Each number of the list is a byte.
+abbrev pub IsBytes : List ℕ → Type 0
+IsBytes bytes = (i : ℕ) → slice_index bytes i < 2 ^ 8
 
 -- A number of four bytes, and one of two.
 abbrev pub number32 : ℕ → List ℕ
@@ -9,6 +13,6 @@ number32 n = to_le_bytes w32 n
 abbrev pub number16 : ℕ → List ℕ
 number16 n = to_le_bytes w16 n
 
--- Bytes behind their number, which takes four bytes.
+-- Length-prefixed bytes: the length takes four bytes.
 abbrev pub sized32 : List ℕ → List ℕ
 sized32 bytes = number32 (length bytes) ++ bytes

@@ -22,7 +22,7 @@ fn parts_are_as_long_as_asked(rt: HostRuntime) -> Result<(), u8> {
         (2, b"ab", b"c"),
         (3, b"abc", b""),
     ] {
-        let (part, rest) = part_of(7, count, b"abc")?;
+        let (part, rest) = part_at(7, count, b"abc")?;
         assert_eq!(rt; part, front);
         assert_eq!(rt; rest, after);
     }
@@ -30,8 +30,8 @@ fn parts_are_as_long_as_asked(rt: HostRuntime) -> Result<(), u8> {
 }
 
 #[test]
-fn sized_parts_stand_behind_their_number(rt: HostRuntime) -> Result<(), u8> {
-    let (part, rest) = sized_part(7, b"\x02\0\0\0abc")?;
+fn length_prefixed_parts(rt: HostRuntime) -> Result<(), u8> {
+    let (part, rest) = sized_at(7, b"\x02\0\0\0abc")?;
     assert_eq!(rt; part, b"ab".as_slice());
     assert_eq!(rt; rest, b"c".as_slice());
     Ok(())
@@ -42,7 +42,7 @@ fn missing_bytes_are_the_fault_handed_in(rt: HostRuntime) {
     assert_eq!(rt; u32_at(7, b"abc").err(), Some(7));
     assert_eq!(rt; u16_at(8, b"a").err(), Some(8));
     assert_eq!(rt; u8_at(9, b"").err(), Some(9));
-    assert_eq!(rt; part_of(10, 4, b"abc").err(), Some(10));
-    assert_eq!(rt; sized_part(11, b"\x01\0\0").err(), Some(11));
-    assert_eq!(rt; sized_part(12, b"\x02\0\0\0a").err(), Some(12));
+    assert_eq!(rt; part_at(10, 4, b"abc").err(), Some(10));
+    assert_eq!(rt; sized_at(11, b"\x01\0\0").err(), Some(11));
+    assert_eq!(rt; sized_at(12, b"\x02\0\0\0a").err(), Some(12));
 }

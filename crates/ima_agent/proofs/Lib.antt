@@ -1,2 +1,2 @@
 pub mod LoadingLemmas
-pub mod TextLaws
+pub mod RegisterLaws

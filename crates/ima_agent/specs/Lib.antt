@@ -1,5 +1,6 @@
 pub mod Hexadecimal
 pub mod Loading
-pub mod Texts
+pub mod RegisterTexts
+pub mod FaultTexts
 pub mod Program
 pub mod System

@@ -1,9 +1,12 @@
--- What loading takes from a source.
-use Rattle.std.specs.Prelude.{ℕ, ◌+◌, ◌<◌, List, length, Option, None, Some, ⊤, Result, Ok, Err}
+-- What loading takes from a source, and why an input is not loaded.
+use Rattle.std.specs.Prelude.{◌≡◌, ℕ, ◌+◌, ◌<◌, ◌⊎◌, List, length, Option, None, Some, ⊤, Result, Ok, Err, String, string_bytes}
+use Rattle.std.specs.Global.{Global}
 use Rattle.std.specs.Io.KnownBytes.{Consumes}
-use Rattle.ima_list.specs.Outside.{failures_after}
+use Rattle.byte_streams.specs.Streams.{SourceState, failures_after}
 use Rattle.ima_agent.specs.declared.loading.LoadFault.{LoadFault}
 use Rattle.ima_agent.specs.declared.loading.LoadFault.TheVariants.{TooLong, Source, Memory}
+use Rattle.ima_agent.specs.declared.fault.RunFault.{RunFault}
+use Rattle.ima_agent.specs.declared.fault.RunFault.TheVariants as runs
 
 -- How many failures the source counts after loading: a fault of the source is one more, and nothing else is.
 abbrev pub failures_after_load : {A : Type 0} → Result A LoadFault → ℕ → ℕ
@@ -17,8 +20,38 @@ pub record LosesFront (old new : Option (List ℕ)) : Type 0 where
   pub front : List ℕ
   pub lost : Consumes old new front
 
--- A source that tells its bytes lost more than so many.
+-- A source that tells its bytes lost more bytes than this count.
 abbrev pub LosesMoreThan : ℕ → Option (List ℕ) → Option (List ℕ) → Type 0
-LosesMoreThan limit None new = ⊤
-LosesMoreThan limit (Some left) None = ⊥
-LosesMoreThan limit (Some left) (Some rest) = limit + length rest < length left
+LosesMoreThan count None new = ⊤
+LosesMoreThan count (Some left) None = ⊥
+LosesMoreThan count (Some left) (Some rest) = count + length rest < length left
+
+-- ---- the program's inputs
+
+-- How many bytes an input may have: 64 MiB.
+abbrev pub input_limit : ℕ
+input_limit = 67108864
+
+-- The fault says that the input of this name has too many bytes.
+pub record IsTooLong (name : List ℕ) (fault : RunFault) : Type 0 where
+  pub input : String Global
+  pub names : string_bytes input ≡ name
+  pub says : fault ≡ runs.TooLong input
+
+-- The fault says that the input of this name could not be opened, or failed.
+pub record IsNotRead (name : List ℕ) (fault : RunFault) : Type 0 where
+  pub input : String Global
+  pub names : string_bytes input ≡ name
+  pub says : fault ≡ runs.Read input
+
+-- Why an input was not loaded from its source: it has more bytes than an input may have, and more than these were taken; or the
+-- source failed, once; or memory ran out. The fault names the input.
+abbrev pub IsLoadFaultOf : List ℕ → SourceState → SourceState → RunFault → Type 0
+IsLoadFaultOf name old new fault =
+    (IsTooLong name fault × LosesMoreThan input_limit old.remaining new.remaining × (new.failures ≡ old.failures))
+    ⊎ (IsNotRead name fault × (new.failures ≡ failures_after {A = ℕ} (Err fault) old.failures))
+    ⊎ (fault ≡ runs.Memory)
+
+-- Why an input of this name was not had: it has too many bytes, it could not be opened or failed, or memory ran out.
+abbrev pub IsInputFault : List ℕ → RunFault → Type 0
+IsInputFault name fault = IsTooLong name fault ⊎ IsNotRead name fault ⊎ (fault ≡ runs.Memory)

@@ -1,28 +1,33 @@
--- What the program answers.
-use Rattle.std.specs.Prelude.{◌≡◌, ℕ, ◌+◌, ◌-◌, ◌^◌, min, ◌⊎◌, ⊤, if◌then◌else◌, List, [], ◌∷◌, codes, string_bytes, bytes_eq, flat_map, Option, Some, None, Ok, Err, IsErr}
-use Rattle.std.specs.Io.KnownBytes.{Appends}
+-- What the program answers. All of this is this project's choice.
+use Rattle.std.specs.Prelude.{◌≡◌, ℕ, ◌⊎◌, if◌then◌else◌, List, [], ◌∷◌, codes, map, string_bytes, bytes_eq, flat_map, Option, Some, None, Result, Ok, Err, IsErr, String}
+use Rattle.std.specs.Global.{Global, Vec}
 use Rattle.hex.specs.Hex.{decode_of}
 use Rattle.pcr_banks.specs.declared.banks.Banks.{Banks}
 use Rattle.pcr_banks.specs.Registers.{IsReset}
+use Rattle.boot_log.specs.declared.fault.LogFault.{LogFault}
 use Rattle.boot_log.specs.declared.header.Row.{Row}
-use Rattle.boot_log.specs.Spelling.{Logged, IsLog, algs_in}
+use Rattle.boot_log.specs.Spelling.{LogEvent, IsLog, algs_in}
 use Rattle.boot_log.specs.Reading.{log_fault}
 use Rattle.boot_log.specs.Replaying.{IsFirmware, startup_locality}
-use Rattle.ima_list.specs.Outside.{TakesPart}
-use Rattle.ima_list.specs.Listed.{Listed}
+use Rattle.byte_streams.specs.declared.streams.Failed.{Failed}
+use Rattle.byte_streams.specs.Streams.{SinkState, Sends}
+use Rattle.ima_list.specs.declared.fault.ListFault.{ListFault}
+use Rattle.ima_list.specs.ListEntry.{ListEntry}
 use Rattle.ima_list.specs.Spelling.{IsReading}
 use Rattle.ima_list.specs.Lines.{line_of}
-use Rattle.ima_agent.specs.declared.texts.RunFault.{RunFault}
-use Rattle.ima_agent.specs.declared.texts.RunFault.TheVariants as runs
+use Rattle.ima_agent.specs.declared.fault.RunFault.{RunFault}
+use Rattle.ima_agent.specs.declared.fault.RunFault.TheVariants as runs
 use Rattle.ima_agent.specs.Hexadecimal.{without_white_space}
-use Rattle.ima_agent.specs.Texts.{registers_text, fault_line, fault_status}
+use Rattle.ima_agent.specs.Loading.{IsInputFault}
+use Rattle.ima_agent.specs.RegisterTexts.{registers_text}
+use Rattle.ima_agent.specs.FaultTexts.{fault_line, fault_status}
 
 -- The text is a firmware event log in hexadecimal, and what is shown are the registers that differ from their reset
 -- values after its events.
 pub record ShowsRegisters (text shown : List ℕ) : Type 0 where
   pub bytes : List ℕ
   pub table : List Row
-  pub events : List Logged
+  pub events : List LogEvent
   pub start : Banks
   pub now : Banks
   pub decoded : decode_of (without_white_space text) ≡ Ok bytes
@@ -31,31 +36,34 @@ pub record ShowsRegisters (text shown : List ℕ) : Type 0 where
   pub firmware : IsFirmware (algs_in table) events now
   pub text_is : shown ≡ registers_text now start
 
--- The text is no firmware event log in hexadecimal, for this cause; want of memory may always be the cause.
+-- The text is hexadecimal, and its bytes have this first fault of a log.
+pub record IsNoLog (text : List ℕ) (fault : RunFault) : Type 0 where
+  pub bytes : List ℕ
+  pub decoded : decode_of (without_white_space text) ≡ Ok bytes
+  pub first : LogFault
+  pub first_is : log_fault bytes ≡ Some first
+  pub says : fault ≡ runs.Log first
+
+-- Why no registers are shown: the text is not hexadecimal, or its bytes are no log; or memory ran out.
 abbrev pub IsRefusedFor : List ℕ → RunFault → Type 0
-IsRefusedFor text runs.NotHex = IsErr (decode_of (without_white_space text))
-IsRefusedFor text (runs.Log fault) = (bytes : List ℕ) × (decode_of (without_white_space text) ≡ Ok bytes) × (log_fault bytes ≡ Some fault)
-IsRefusedFor text runs.Memory = ⊤
-IsRefusedFor text runs.Usage = ⊥
-IsRefusedFor text (runs.List fault) = ⊥
-IsRefusedFor text (runs.TooLong name) = ⊥
-IsRefusedFor text (runs.Read name) = ⊥
+IsRefusedFor text fault =
+    ((fault ≡ runs.NotHex) × IsErr (decode_of (without_white_space text))) ⊎ IsNoLog text fault ⊎ (fault ≡ runs.Memory)
 
 -- The bytes are a measurement list, and what is shown are the lines of its entries.
 pub record ShowsList (bytes shown : List ℕ) : Type 0 where
-  pub entries : List Listed
+  pub entries : List ListEntry
   pub reading : IsReading bytes (Ok entries)
   pub text_is : shown ≡ flat_map line_of entries
 
--- The bytes are no measurement list, for this cause; want of memory may always be the cause.
+-- The bytes read as this fault of a list.
+pub record IsNoList (bytes : List ℕ) (fault : RunFault) : Type 0 where
+  pub first : ListFault
+  pub reading : IsReading bytes (Err first)
+  pub says : fault ≡ runs.List first
+
+-- Why no list is shown: the bytes are no list, or memory ran out.
 abbrev pub IsNoListFor : List ℕ → RunFault → Type 0
-IsNoListFor bytes (runs.List fault) = IsReading bytes (Err fault)
-IsNoListFor bytes runs.Memory = ⊤
-IsNoListFor bytes runs.Usage = ⊥
-IsNoListFor bytes runs.NotHex = ⊥
-IsNoListFor bytes (runs.Log fault) = ⊥
-IsNoListFor bytes (runs.TooLong name) = ⊥
-IsNoListFor bytes (runs.Read name) = ⊥
+IsNoListFor bytes fault = IsNoList bytes fault ⊎ (fault ≡ runs.Memory)
 
 -- ---- words
 
@@ -83,16 +91,6 @@ abbrev pub input_name : Command → List ℕ
 input_name Registers = codes "-"
 input_name (Show name) = name
 
--- The input of this name was not loaded.
-abbrev pub IsInputFault : List ℕ → RunFault → Type 0
-IsInputFault name (runs.TooLong input) = string_bytes input ≡ name
-IsInputFault name (runs.Read input) = string_bytes input ≡ name
-IsInputFault name runs.Memory = ⊤
-IsInputFault name runs.Usage = ⊥
-IsInputFault name runs.NotHex = ⊥
-IsInputFault name (runs.Log fault) = ⊥
-IsInputFault name (runs.List fault) = ⊥
-
 -- What was loaded is not what the command reads.
 abbrev pub IsContentFault : Command → RunFault → Type 0
 IsContentFault Registers fault = (text : List ℕ) × IsRefusedFor text fault
@@ -112,19 +110,21 @@ IsOutput command text status =
     (ShowsFor command text × (status ≡ 0))
     ⊎ ((fault : RunFault) × IsFaultFor command fault × (text ≡ fault_line fault) × (status ≡ fault_status fault))
 
--- The sink took the whole text, and did not fail.
-pub record TakesAll (old new : Option (List ℕ)) (failed failures : ℕ) (text : List ℕ) : Type 0 where
-  pub taken : Appends old new text
-  pub failures_same : failures ≡ failed
+-- The status of an output that was sent; 3 where the sink failed.
+abbrev pub status_after : {A E : Type 0} → Result A E → ℕ → ℕ
+status_after (Ok value) status = status
+status_after (Err fault) status = 3
 
--- The sink failed once, and took a prefix of the text.
-pub record FailsOnce (old new : Option (List ℕ)) (failed failures : ℕ) (text : List ℕ) : Type 0 where
-  pub taken : TakesPart old new text
-  pub failed_once : failures ≡ min (failed + 1) (2 ^ 64 - 1)
-
--- The answer to what the words ask for: the output's status, or 3 where the sink failed.
-pub record Answers (command : Option Command) (answer : ℕ) (old new : Option (List ℕ)) (failed failures : ℕ) : Type 0 where
+-- The answer to what is asked: some output was sent, and the answer is its status, or 3 where the sink failed.
+pub record Answers (IsAsked : List ℕ → ℕ → Type 0) (answer : ℕ) (old new : SinkState) : Type 0 where
   pub text : List ℕ
   pub status : ℕ
-  pub output : IsOutput command text status
-  pub written : (TakesAll old new failed failures text × (answer ≡ status)) ⊎ (FailsOnce old new failed failures text × (answer ≡ 3))
+  pub sent : Result (Unit {0}) Failed
+  pub output : IsAsked text status
+  pub sends : Sends old new sent text
+  pub answer_is : answer ≡ status_after sent status
+
+-- The output where the words could not be had, as where memory ran out; else that of the words.
+abbrev pub IsOutputOf : {E : Type 0} → Result (Vec (String Global)) E → List ℕ → ℕ → Type 0
+IsOutputOf (Ok words) text status = IsOutput (command_of (map string_bytes words.items)) text status
+IsOutputOf (Err fault) text status = (text ≡ fault_line runs.Memory) × (status ≡ fault_status runs.Memory)

@@ -1,7 +1,8 @@
 -- What stands behind the program's sources and sinks.
-use Rattle.std.specs.Prelude.{ℕ, Bool, true, false, List, Option}
-use Rattle.ima_agent.specs.declared.system.Origin.{Origin}
-use Rattle.ima_agent.specs.declared.system.Origin.TheVariants.{File, StandardInput}
+use Rattle.std.specs.Prelude.{ℕ, Bool, true, false, List, Option, None}
+use Rattle.byte_streams.specs.Streams.{SinkState, SourceState}
+use Rattle.ima_agent.specs.declared.system.Input.{Input}
+use Rattle.ima_agent.specs.declared.system.Input.TheVariants.{File, StandardInput}
 use Rattle.ima_agent.specs.declared.system.ReadSource.{ReadSource}
 use Rattle.ima_agent.specs.declared.system.SystemFiles.{SystemFiles}
 use Rattle.ima_agent.specs.declared.system.WriteSink.{WriteSink}
@@ -10,20 +11,36 @@ use Rattle.ima_agent.specs.declared.system.WriteSink.{WriteSink}
 abbrev pub reader_of : {R : Type 0} → ReadSource R → R
 reader_of source = source.reader
 
+-- How often a source failed.
+abbrev pub reads_failed : {R : Type 0} → ReadSource R → ℕ
+reads_failed source = source.failures
+
+-- A source tells no bytes, and counts its failures.
+abbrev pub read_source_state : {R : Type 0} → ReadSource R → SourceState
+read_source_state source = record { remaining = None; failures = reads_failed source }
+
 -- The writer that a sink writes to.
 abbrev pub writer_of : {W : Type 0} → WriteSink W → W
 writer_of sink = sink.writer
+
+-- How often a sink failed.
+abbrev pub writes_failed : {W : Type 0} → WriteSink W → ℕ
+writes_failed sink = sink.failures
+
+-- A sink tells no bytes, and counts its failures.
+abbrev pub write_sink_state : {W : Type 0} → WriteSink W → SinkState
+write_sink_state sink = record { taken = None; failures = writes_failed sink }
 
 -- The runtime whose files and standard input these are.
 abbrev pub runtime_of : {R : Type 0} → SystemFiles R → R
 runtime_of files = files.runtime.now
 
 -- Whether the bytes come from a file, and not from standard input.
-abbrev pub is_file : {F I : Type 0} → Origin F I → Bool
+abbrev pub is_file : {F I : Type 0} → Input F I → Bool
 is_file (File file) = true
 is_file (StandardInput input) = false
 
--- The bytes still to come, where the file or the standard input tells them.
-abbrev pub bytes_to_come : {F I : Type 0} → (F → Option (List ℕ)) → (I → Option (List ℕ)) → Origin F I → Option (List ℕ)
-bytes_to_come of_file of_input (File file) = of_file file
-bytes_to_come of_file of_input (StandardInput input) = of_input input
+-- The remaining bytes, where the file or the standard input tells them.
+abbrev pub remaining_bytes : {F I : Type 0} → (F → Option (List ℕ)) → (I → Option (List ℕ)) → Input F I → Option (List ℕ)
+remaining_bytes of_file of_input (File file) = of_file file
+remaining_bytes of_file of_input (StandardInput input) = of_input input

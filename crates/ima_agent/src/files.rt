@@ -1,4 +1,4 @@
-use ima_list::{Failed, Source};
+use byte_streams::{Failed, Source};
 
 /// Where the program's inputs come from.
 pub trait Files {

@@ -1,9 +1,11 @@
+//! All bytes of a source.
+
 ghost use Rattle.std.specs.Prelude.{◌≡◌, ◌<◌, ◌≤◌, length, vec_len, is_some, IfOk, IfSome, IsErrOf, OnOk};
 ghost use Rattle.std.specs.Io.KnownBytes.{IsAtEnd};
 ghost use Rattle.ima_agent.specs.declared.loading.LoadFault.TheVariants.{Memory, Source};
 ghost use Rattle.ima_agent.specs.Loading.{failures_after_load, LosesFront, LosesMoreThan};
 
-use ima_list::{Failed, Source};
+use byte_streams::{Failed, Source};
 use std::alloc::{AllocError, Global};
 use thiserror::Error;
 
@@ -19,7 +21,7 @@ pub enum LoadFault {
     /// The source failed.
     #[error("the source failed")]
     Source,
-    /// Memory was short.
+    /// Memory ran out.
     #[error("out of memory")]
     Memory,
 }
@@ -45,15 +47,15 @@ impl From<AllocError> for LoadFault {
 /// `TooLong` says that more than `limit` bytes came, `Source` that the source failed during this call. After a fault the
 /// source has lost the bytes that it gave.
 pub fn load<R: Source>(alloc: Global, source: &mut R, limit: u64) -> Result<Vec<u8>, LoadFault>
-    ensures all { IfOk result (λ bytes. IfSome (R.remaining source.old) (λ left. bytes.items ≡ left)) }
-    ensures end { OnOk result (IsAtEnd (R.remaining source.new)) }
+    ensures all { IfOk result (λ bytes. IfSome (R.state source.old).remaining (λ left. bytes.items ≡ left)) }
+    ensures end { OnOk result (IsAtEnd (R.state source.new).remaining) }
     ensures within { IfOk result (λ bytes. vec_len bytes ≤ limit) }
     ensures too_long { IsErrOf result LoadFault.TooLong →
-        LosesMoreThan limit (R.remaining source.old) (R.remaining source.new) }
-    ensures more { IsErrOf result LoadFault.TooLong → IfSome (R.remaining source.old) (λ left. limit < length left) }
-    ensures front { LosesFront (R.remaining source.old) (R.remaining source.new) }
-    ensures telling { is_some (R.remaining source.new) ≡ is_some (R.remaining source.old) }
-    ensures counts { R.failures source.new ≡ failures_after_load result (R.failures source.old) }
+        LosesMoreThan limit (R.state source.old).remaining (R.state source.new).remaining }
+    ensures more { IsErrOf result LoadFault.TooLong → IfSome (R.state source.old).remaining (λ left. limit < length left) }
+    ensures front { LosesFront (R.state source.old).remaining (R.state source.new).remaining }
+    ensures telling { is_some (R.state source.new).remaining ≡ is_some (R.state source.old).remaining }
+    ensures counts { (R.state source.new).failures ≡ failures_after_load result (R.state source.old).failures }
 {
     let mut bytes = Vec::new(alloc);
     let mut piece = [0; PIECE];

@@ -1,24 +1,22 @@
 //! What the program does for its words.
 
-ghost use Rattle.std.specs.Prelude.{◌≡◌, codes, map, flat_map, string_bytes, is_some, IfOk, IfErr};
-ghost use Rattle.std.specs.Option.{option_map_or};
+ghost use Rattle.std.specs.Prelude.{◌≡◌, map, flat_map, string_bytes, IfOk, IfErr};
+ghost use Rattle.std.specs.Process.{exit_status};
 ghost use Rattle.ima_list.specs.Lines.{line_of};
-ghost use Rattle.ima_agent.specs.Program.{Answers, IsFaultFor, IsInputFault, IsNoListFor, IsRefusedFor, ShowsFor, ShowsList, ShowsRegisters, command_of};
+ghost use Rattle.ima_agent.specs.FaultTexts.{fault_line, fault_status};
+ghost use Rattle.ima_agent.specs.Program.{Answers, IsFaultFor, IsNoListFor, IsOutput, IsOutputOf, IsRefusedFor, ShowsFor, ShowsList, ShowsRegisters, command_of};
 
+use crate::fault::RunFault;
 use crate::files::Files;
 use crate::hexadecimal::{HexFault, decode_hexadecimal};
-use crate::loading::{LoadFault, load};
-use crate::texts::{RunFault, status_of, write_fault, write_registers};
+use crate::inputs::loaded;
+use crate::texts::{status_of, write_fault, write_registers};
 use boot_log::{LogFault, read_log};
-use ima_list::{Entry, Failed, ListFault, Sink, VecSink, read_list, send};
-use pcr_banks::Banks;
+use byte_streams::{Failed, Sink, VecSink, send};
+use ima_list::{Entry, ListFault, read_list};
 use std::alloc::{AllocError, Global};
-
-/// How many bytes an input may have.
-const INPUT_LIMIT: u64 = 64 * 1024 * 1024;
-
-/// What standard input is called.
-const STANDARD_INPUT: &str = "-";
+use std::io;
+use std::process::ExitCode;
 
 /// The exit status where all went well.
 const DONE: u8 = 0;
@@ -26,27 +24,48 @@ const DONE: u8 = 0;
 /// The exit status where the sink failed.
 const FAILED: u8 = 3;
 
+/// Does what the words ask for, as [`run`], and answers the process's exit code. Where the words could not be had, the
+/// program fails as one that is out of memory: the line `failed: memory`, and the status 3.
+pub fn exit_code<F: Files, S: Sink>(
+    alloc: Global,
+    words: io::Result<Vec<String>>,
+    files: &mut F,
+    sink: &mut S,
+) -> ExitCode
+    ensures { Answers (IsOutputOf words) (exit_status result) (S.state sink.old) (S.state sink.new) }
+{
+    match words {
+        Ok(words) => ExitCode::from(run(alloc, &words, files, sink)),
+        Err(_) => ExitCode::from(failed(&RunFault::Memory, sink)),
+    }
+}
+
 /// Does what the words ask for, the program's name left out, and answers the exit status.
 ///
 /// Without words: loads standard input, a firmware event log in hexadecimal, and writes the registers that differ from
 /// their reset values. With the words `show LIST`: loads the file LIST, a binary measurement list, and writes the line of
 /// each entry. Other words are refused as a wrong command line. The whole output is prepared before its first byte is
-/// written; a fault is written as one line. The status is 0 where all is done, 2 for input that is refused, and 3 for want
-/// of memory and a device's fault. After a fault of the sink nothing more is written.
+/// written; a fault is written as one line. The status is 0 where all is done, 2 for input that is refused, and 3 where
+/// memory ran out or a device failed. After a fault of the sink nothing more is written.
 pub fn run<F: Files, S: Sink>(alloc: Global, words: &[String], files: &mut F, sink: &mut S) -> u8
-    ensures answers { Answers (command_of (map string_bytes words.now)) result
-        (S.taken sink.old) (S.taken sink.new) (S.failures sink.old) (S.failures sink.new) }
-    ensures telling { is_some (S.taken sink.new) ≡ is_some (S.taken sink.old) }
+    ensures { Answers (IsOutput (command_of (map string_bytes words.now))) result (S.state sink.old) (S.state sink.new) }
 {
     match output_of(alloc, words, files) {
         Ok(output) => match send(&output, sink) {
             Ok(()) => DONE,
             Err(Failed) => FAILED,
         },
-        Err(fault) => match write_fault(&fault, sink) {
-            Ok(()) => status_of(&fault),
-            Err(Failed) => FAILED,
-        },
+        Err(fault) => failed(&fault, sink),
+    }
+}
+
+// Writes the line of the fault, and answers its status, or that of a sink that failed.
+fn failed<S: Sink>(fault: &RunFault, sink: &mut S) -> u8
+    ensures { Answers (λ text status. (text ≡ fault_line fault.now) × (status ≡ fault_status fault.now)) result (S.state sink.old) (S.state sink.new) }
+{
+    match write_fault(fault, sink) {
+        Ok(()) => status_of(fault),
+        Err(Failed) => FAILED,
     }
 }
 
@@ -68,42 +87,6 @@ fn output_of<F: Files>(alloc: Global, words: &[String], files: &mut F) -> Result
     }
 }
 
-// All bytes of an input: a file of this name, or standard input.
-fn loaded<F: Files>(alloc: Global, files: &mut F, name: Option<&str>) -> Result<Vec<u8>, RunFault>
-    ensures { IfErr result (IsInputFault (option_map_or (λ name. name.now) name.entry (codes "-"))) }
-{
-    let input = name.unwrap_or(STANDARD_INPUT);
-    let Ok(mut source) = files.source(name) else {
-        return Err(read_fault(alloc, input));
-    };
-    match load(alloc, &mut source, INPUT_LIMIT) {
-        Ok(bytes) => Ok(bytes),
-        Err(LoadFault::TooLong) => Err(too_long(alloc, input)),
-        Err(LoadFault::Source) => Err(read_fault(alloc, input)),
-        Err(LoadFault::Memory) => Err(RunFault::Memory),
-    }
-}
-
-// The input of this name could not be taken, or failed.
-fn read_fault(alloc: Global, input: &str) -> RunFault
-    ensures { IsInputFault input.now result }
-{
-    match String::from_str(alloc, input) {
-        Ok(input) => RunFault::Read(input),
-        Err(_) => RunFault::Memory,
-    }
-}
-
-// The input of this name has too many bytes.
-fn too_long(alloc: Global, input: &str) -> RunFault
-    ensures { IsInputFault input.now result }
-{
-    match String::from_str(alloc, input) {
-        Ok(input) => RunFault::TooLong(input),
-        Err(_) => RunFault::Memory,
-    }
-}
-
 // The registers of a log in hexadecimal that differ from their reset values.
 fn shown_registers(alloc: Global, text: &[u8]) -> Result<Vec<u8>, RunFault>
     ensures shown { IfOk result (λ shown. ShowsRegisters text.now shown.items) }
@@ -119,7 +102,7 @@ fn shown_registers(alloc: Global, text: &[u8]) -> Result<Vec<u8>, RunFault>
         Err(LogFault::Memory) => return Err(RunFault::Memory),
         Err(fault) => return Err(RunFault::Log(fault)),
     };
-    let start = Banks::new(log.algs(), log.locality());
+    let start = log.reset_registers();
     let mut shown = VecSink::new(Vec::new(alloc));
     match write_registers(&log.registers(), &start, &mut shown) {
         Ok(()) => Ok(shown.into_bytes()),

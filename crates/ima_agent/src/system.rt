@@ -2,21 +2,22 @@
 
 ghost use Rattle.std.specs.Prelude.{◌≡◌, ◌<◌, ◌≤◌, length, None, is_some, IfOk, IsNone, IsOk};
 ghost use Rattle.std.specs.Io.KnownBytes.{ReadConsumes, WriteAppends};
-ghost use Rattle.ima_list.specs.Outside.{failures_after};
-ghost use Rattle.ima_agent.specs.System.{reader_of, writer_of, runtime_of, is_file, bytes_to_come};
+ghost use Rattle.byte_streams.specs.Streams.{failures_after};
+ghost use Rattle.ima_agent.specs.System.{reader_of, writer_of, reads_failed, writes_failed, read_source_state, write_sink_state, runtime_of, is_file, remaining_bytes};
 
 #[cfg(test)]
 mod tests;
 
 use crate::files::Files;
-use ima_list::{Failed, Sink, Source};
+use byte_streams::{Failed, Sink, Source};
 use std::fs::File;
+use std::io;
 use std::io::{Read, Write};
-use std::{io, rt};
+use std::rt::Files as FileSystem;
 
 /// A source over a reader of std.
 ///
-/// It tells no bytes. Each error of the reader, an interrupted call included, is a failure.
+/// It tells no bytes. Each error of the reader is a failure, an interrupted call included.
 #[derive(Debug, Drop)]
 pub struct ReadSource<R> {
     reader: R,
@@ -27,7 +28,7 @@ impl<R: Read> ReadSource<R> {
     /// A source that gives the reader's bytes and has not failed.
     pub fn new(reader: R) -> Self
         ensures reader { reader_of result ≡ reader }
-        ensures failures { ⟦<ReadSource<R> as Source>⟧.failures result ≡ 0 }
+        ensures failures { reads_failed result ≡ 0 }
     {
         ReadSource {
             reader,
@@ -37,15 +38,13 @@ impl<R: Read> ReadSource<R> {
 }
 
 impl<R: Read> Source for ReadSource<R> {
-    ghost remaining = { λ _. None };
-
-    ghost failures = { λ source. source.failures };
+    ghost state = { read_source_state };
 
     /// Gives what one read of the reader gives.
     fn read(&mut self, buffer: &mut [u8]) -> Result<usize, Failed>
         ensures within { IfOk result (λ n. n ≤ length buffer.old) }
         ensures reads { ReadConsumes (R.remaining (reader_of self.old)) (R.remaining (reader_of self.new)) result buffer.new }
-        ensures counts { self.new.failures ≡ failures_after result self.old.failures }
+        ensures counts { reads_failed self.new ≡ failures_after result (reads_failed self.old) }
     {
         match self.reader.read(buffer) {
             Ok(count) => Ok(count),
@@ -71,7 +70,7 @@ impl<W: Write> WriteSink<W> {
     /// A sink that hands bytes to the writer and has not failed.
     pub fn new(writer: W) -> Self
         ensures writer { writer_of result ≡ writer }
-        ensures failures { ⟦<WriteSink<W> as Sink>⟧.failures result ≡ 0 }
+        ensures failures { writes_failed result ≡ 0 }
     {
         WriteSink {
             writer,
@@ -81,16 +80,14 @@ impl<W: Write> WriteSink<W> {
 }
 
 impl<W: Write> Sink for WriteSink<W> {
-    ghost taken = { λ _. None };
-
-    ghost failures = { λ sink. sink.failures };
+    ghost state = { write_sink_state };
 
     /// Takes what one write of the writer takes.
     fn write(&mut self, bytes: &[u8]) -> Result<usize, Failed>
         ensures within { IfOk result (λ n. n ≤ length bytes.now) }
         ensures advances { IfOk result (λ n. 0 < length bytes.now → 0 < n) }
         ensures writes { WriteAppends (W.contents (writer_of self.old)) (W.contents (writer_of self.new)) result bytes.now }
-        ensures counts { self.new.failures ≡ failures_after result self.old.failures }
+        ensures counts { writes_failed self.new ≡ failures_after result (writes_failed self.old) }
     {
         match self.writer.write(bytes) {
             Ok(count) if count > 0 || bytes.is_empty() => Ok(count),
@@ -104,20 +101,20 @@ impl<W: Write> Sink for WriteSink<W> {
 
 /// Where the bytes of an input come from.
 #[derive(Debug, Drop)]
-pub enum Origin<F, I> {
+pub enum Input<F, I> {
     /// A file.
     File(F),
     /// Standard input.
     StandardInput(I),
 }
 
-impl<F: Read, I: Read> Read for Origin<F, I> {
-    ghost remaining = { λ origin. bytes_to_come F.remaining I.remaining origin };
+impl<F: Read, I: Read> Read for Input<F, I> {
+    ghost remaining = { λ input. remaining_bytes F.remaining I.remaining input };
 
     fn read(&mut self, buffer: &mut [u8]) -> io::Result<usize> {
         match self {
-            Origin::File(file) => file.read(buffer),
-            Origin::StandardInput(input) => input.read(buffer),
+            Input::File(file) => file.read(buffer),
+            Input::StandardInput(stream) => stream.read(buffer),
         }
     }
 }
@@ -130,7 +127,7 @@ pub struct SystemFiles<'a, R> {
     runtime: &'a R,
 }
 
-impl<'a, R: rt::Files + io::Input> SystemFiles<'a, R> {
+impl<'a, R: FileSystem + io::Input> SystemFiles<'a, R> {
     /// The files and the standard input of this runtime.
     pub fn new(runtime: &'a R) -> Self
         ensures { runtime_of result ≡ runtime.now }
@@ -139,22 +136,22 @@ impl<'a, R: rt::Files + io::Input> SystemFiles<'a, R> {
     }
 }
 
-impl<R: rt::Files + io::Input> Files for SystemFiles<'_, R> {
-    type Src = ReadSource<Origin<R::File, R::Reader>>;
+impl<R: FileSystem + io::Input> Files for SystemFiles<'_, R> {
+    type Src = ReadSource<Input<R::File, R::Reader>>;
 
     /// Opens the file of this name, or standard input.
     fn source(&mut self, name: Option<&str>) -> Result<Self::Src, Failed>
         ensures origin { IfOk result (λ source. is_file (reader_of source) ≡ is_some name.entry) }
         ensures standard_input { IsNone name.entry → IsOk result }
-        ensures failures { IfOk result (λ source. source.failures ≡ 0) }
+        ensures failures { IfOk result (λ source. reads_failed source ≡ 0) }
     {
-        let origin = match name {
-            None => Origin::StandardInput(self.runtime.reader()),
+        let input = match name {
+            None => Input::StandardInput(self.runtime.reader()),
             Some(name) => match File::open(self.runtime, name) {
-                Ok(file) => Origin::File(file),
+                Ok(file) => Input::File(file),
                 Err(_) => return Err(Failed),
             },
         };
-        Ok(ReadSource::new(origin))
+        Ok(ReadSource::new(input))
     }
 }

@@ -1,10 +1,14 @@
 //! Worked examples, and devices to run them on.
 
 mod devices;
+mod inputs;
 mod loading;
+mod logs;
 mod program;
 mod real_boot;
+mod real_boot_book;
 mod real_boot_lines;
 mod real_boot_list;
+mod replaying;
 mod show;
 mod texts;

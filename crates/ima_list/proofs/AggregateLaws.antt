@@ -1,28 +1,30 @@
 -- Registers that are read one after another, and joined.
-use Rattle.std.proofs.Common.{◌≡◌, ℕ, zero, suc, ◌+◌, ◌<◌, Bool, true, false, cond, ltb, List, [], ◌∷◌, ◌++◌, length, get_or, map, Option, Some, None, refl, sym, ap, ◌∙◌, append_assoc, arith}
-use Rattle.std.specs.Prelude.{option_map, is_some}
+use Rattle.std.proofs.Common.{◌≡◌, ℕ, zero, suc, ◌+◌, ◌<◌, true, List, [], ◌∷◌, ◌++◌, length, get_or, map, Option, Some, None, refl, sym, ap, ◌∙◌, append_assoc, arith}
+use Rattle.std.specs.Prelude.{option_map}
 use Rattle.std.specs.List.{range_with_len}
 use Rattle.std.proofs.lemmas.List.{append-nil}
 use Rattle.std.proofs.lemmas.List.FromFn.{map-range_with_len_more, length-map-range_with_len, get_or-map-range_with_len}
 use Rattle.pcr_banks.specs.declared.alg.Alg.{Alg}
-use Rattle.pcr_banks.specs.declared.alg.Alg.TheVariants.{Sha1, Sha256, Sha384}
 use Rattle.pcr_banks.specs.declared.banks.Banks.{Banks}
 use Rattle.pcr_banks.specs.declared.digest.Digest.{Digest}
 use Rattle.pcr_banks.specs.declared.hashing.Hasher.{Hasher}
 use Rattle.pcr_banks.specs.Hashing.{hash_of}
 use Rattle.pcr_banks.specs.Digests.{bytes_of, digest_of}
 use Rattle.pcr_banks.specs.Hashers.{HasTaken}
-use Rattle.pcr_banks.specs.Registers.{in_bank, bank_of, is_active, value_at}
+use Rattle.pcr_banks.specs.Registers.{bank_of, is_active, value_at}
+use Rattle.pcr_banks.proofs.BankLaws.{some_digest, no_digest, read_value, read_none, active_bank}
 use Rattle.ima_list.specs.Aggregates.{aggregated, all_joined, joined_values, boot_aggregate_of}
 
 -- ---- values joined
 
 swapped : (front value : List ℕ) (o : Option (List ℕ))
-    → option_map (λ rest. front ++ rest) (option_map (λ text. text ++ value) o) ≡ option_map (λ text. text ++ value) (option_map (λ rest. front ++ rest) o)
+    → option_map (λ rest. front ++ rest) (option_map (λ text. text ++ value) o) ≡ option_map (λ text. text ++ value)
+    (option_map (λ rest. front ++ rest) o)
 swapped front value None = refl
 swapped front value (Some text) = ap (λ (t : List ℕ). Some t) (sym (append_assoc front text value))
 
-one_more : (values : List (Option (List ℕ))) (value : List ℕ) → all_joined (values ++ Some value ∷ []) ≡ option_map (λ text. text ++ value) (all_joined values)
+one_more : (values : List (Option (List ℕ))) (value : List ℕ)
+    → all_joined (values ++ Some value ∷ []) ≡ option_map (λ text. text ++ value) (all_joined values)
 one_more [] value = ap (λ (t : List ℕ). Some t) (append-nil value)
 one_more (None ∷ values) value = refl
 one_more (Some front ∷ values) value =
@@ -38,56 +40,23 @@ joined_none : (value_of : ℕ → Option (List ℕ)) → joined_values value_of 
 unfolding joined_values
 joined_none value_of = refl
 
-joined_more : (value_of : ℕ → Option (List ℕ)) (count : ℕ) (text value : List ℕ) → joined_values value_of count ≡ Some text → value_of count ≡ Some value
+joined_more : (value_of : ℕ → Option (List ℕ)) (count : ℕ) (text value : List ℕ) → joined_values value_of count ≡ Some text
+    → value_of count ≡ Some value
     → joined_values value_of (count + 1) ≡ Some (text ++ value)
 unfolding joined_values
 joined_more value_of count text value e is =
-    ap all_joined (map-range_with_len_more value_of 0 count count (omega arith) ∙ ap (λ (o : Option (List ℕ)). map value_of (range_with_len 0 count) ++ o ∷ []) is)
+    ap all_joined (map-range_with_len_more value_of 0 count count (omega arith)
+    ∙ ap (λ (o : Option (List ℕ)). map value_of (range_with_len 0 count) ++ o ∷ []) is)
     ∙ one_more (map value_of (range_with_len 0 count)) value
     ∙ ap (option_map (λ t. t ++ value)) e
 
-joined_lacks : (value_of : ℕ → Option (List ℕ)) (count register : ℕ) → register < count → value_of register ≡ None → joined_values value_of count ≡ None
+joined_lacks : (value_of : ℕ → Option (List ℕ)) (count register : ℕ) → register < count → value_of register ≡ None
+    → joined_values value_of count ≡ None
 unfolding joined_values
 joined_lacks value_of count register lt e =
     let values = map value_of (range_with_len 0 count) in
     one_missing values register (omega (arith, length-map-range_with_len value_of 0 count))
     (get_or-map-range_with_len value_of 0 count register register (Some []) lt (omega arith) ∙ e)
-
--- ---- values that are read
-
-same_bytes : (alg : Alg) (bytes : List ℕ) → bytes_of (digest_of alg bytes) ≡ bytes
-same_bytes Sha1 bytes = refl
-same_bytes Sha256 bytes = refl
-same_bytes Sha384 bytes = refl
-
-abbrev pub some_digest : Digest → Option Digest
-some_digest digest = Some digest
-
-abbrev pub no_digest : Option Digest
-no_digest = None
-
-some_inj : (x y : Digest) → some_digest x ≡ some_digest y → x ≡ y
-some_inj x y e = cc
-
-read_value : (alg : Alg) (value : Option (List ℕ)) (digest : Digest) → some_digest digest ≡ option_map (digest_of alg) value → value ≡ Some (bytes_of digest)
-read_value alg None digest e = absurd cc
-read_value alg (Some bytes) digest e =
-    ap (λ (b : List ℕ). Some b) (sym (ap bytes_of (some_inj digest (digest_of alg bytes) e) ∙ same_bytes alg bytes))
-
-read_none : (alg : Alg) (value : Option (List ℕ)) → no_digest ≡ option_map (digest_of alg) value → value ≡ None
-read_none alg None e = refl
-read_none alg (Some bytes) e = absurd cc
-
-abbrev no_value : Option (List ℕ)
-no_value = None
-
-none_of_both : (b : Bool) (value : List ℕ) → cond b no_value no_value ≡ Some value → ⊥
-none_of_both true value e = cc
-none_of_both false value e = cc
-
-active_bank : (bank : Option (List (List ℕ))) (register : ℕ) (value : List ℕ) → in_bank bank register ≡ Some value → is_some bank ≡ true
-active_bank (Some values) register value e = refl
-active_bank None register value e = absurd (none_of_both (ltb register 24) value e)
 
 -- ---- the loop
 
@@ -108,7 +77,8 @@ joined_at_first hasher banks alg taken = record {
 
 pub joined_next : (old new : Hasher) (banks : Banks) (alg : Alg) (register : ℕ) (digest : Digest) → HasJoined old banks alg register
     → some_digest digest ≡ option_map (digest_of alg) (value_at banks alg register)
-    → ((a : Alg) (taken : List ℕ) → HasTaken old a taken → HasTaken new a (taken ++ bytes_of digest)) → HasJoined new banks alg (register + 1)
+    → ((a : Alg) (taken : List ℕ) → HasTaken old a taken → HasTaken new a (taken ++ bytes_of digest))
+    → HasJoined new banks alg (register + 1)
 joined_next old new banks alg register digest before e update =
     let value = read_value alg (value_at banks alg register) digest e in
     record {

@@ -4,3 +4,4 @@ pub mod TemplateLaws
 pub mod ReplayLaws
 pub mod FieldsLaws
 pub mod AggregateLaws
+pub mod LineLaws

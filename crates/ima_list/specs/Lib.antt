@@ -1,4 +1,5 @@
-pub mod Listed
+pub mod ListEntry
+pub mod ListFaults
 pub mod Spelling
 pub mod Reading
 pub mod Templates

@@ -24,6 +24,6 @@ fn aggregated(alg: Alg) -> u32
 {
     match alg {
         Alg::Sha1 => 8,
-        Alg::Sha256 | Alg::Sha384 => 10,
+        _ => 10,
     }
 }

@@ -1,7 +1,7 @@
 //! The measurement list of Linux IMA: templates, entries, their fields and lines, the binary list read and written, its
 //! replay into registers, and the boot aggregate (Linux kernel documentation, 'IMA Template Management Mechanism').
 //!
-//! The sinks and sources of `byte_streams` are handed on.
+//! The sinks and sources of `byte_streams` are exported from here too.
 #![tactic(auto)]
 
 mod aggregate;
@@ -19,11 +19,11 @@ mod writing;
 
 pub use aggregate::boot_aggregate;
 pub use byte_streams::{Failed, Sink, SliceSource, Source, VecSink, send, send_pieces};
-pub use entry::{Entry, ima_hashes_276_bytes};
+pub use entry::Entry;
 pub use fault::ListFault;
 pub use fields::Fields;
-pub use reading::{list_has_one_reading, no_spelling_begins_another, read_list};
-pub use replaying::{ReplayFault, replay, replay_goes_on};
+pub use reading::read_list;
+pub use replaying::{ReplayFault, replay};
 pub use template::{EntryFault, Template};
 pub use writing::{send_entry, write_entry};
 

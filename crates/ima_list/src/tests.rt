@@ -1,17 +1,20 @@
-//! Worked examples, and a sink to run them on.
+//! Worked examples, and lists of many and of large entries. Each test holds with any one allocation refused too.
 
 mod aggregates;
-mod sending;
 mod entries;
 mod fields;
+mod large_lists;
+mod laws;
 mod lines;
 mod lists;
 mod replaying;
+mod sending;
 mod templates;
 
-use crate::{Entry, ListFault, read_list, write_entry};
-use pcr_banks::{Alg, Digest, Hasher};
+use crate::{Entry, ListFault, Template, read_list, write_entry};
+use pcr_banks::{Alg, Digest, Hasher, REGISTERS};
 use std::alloc::{AllocError, Global};
+use std::fmt::Display;
 use std::test::Fail;
 
 /// The entry of `/bin/sh`, measured into PCR 10 with the SHA-256 of `abc`, in the template `ima-ng`.
@@ -58,12 +61,27 @@ const EMPTY_ENTRY: &[u8] = b"\x0a\x00\x00\x00\
     \x00\x00\x00\x00\x00\x00\x00\x00\x00\x00\x00\x00\x00\x00\x00\x00\x00\x00\x00\x00\
     \x00\x00\x00\x00\x00\x00\x00\x00";
 
-/// The algorithms, each of which has a bank.
-const ALGS: [Alg; 3] = [Alg::Sha1, Alg::Sha256, Alg::Sha384];
+/// What a call returns; where that is the fault of a refused allocation, what the same call returns once more.
+fn once_more<T: Drop, E: Copy + PartialEq, F: FnMut() -> Result<T, E>>(
+    refused: E,
+    mut call: F,
+) -> Result<T, E>
+    requires { F.IsAlwaysCallable call }
+{
+    match call() {
+        Err(fault) if fault == refused => call(),
+        answer => answer,
+    }
+}
 
-/// The parts joined, and once more where an allocation was refused.
+/// The parts joined.
 fn joined(alloc: Global, parts: &[&[u8]]) -> Result<Vec<u8>, AllocError> {
-    parts.concat(alloc).or_else(|_| parts.concat(alloc))
+    once_more(AllocError, || parts.concat(alloc))
+}
+
+/// The words of a fault.
+fn words_of<D: Display + Drop>(alloc: Global, fault: D) -> Result<String, AllocError> {
+    once_more(AllocError, || format!(in alloc; "{fault}"))
 }
 
 /// The entry of `/bin/sh` with this byte at a place.
@@ -75,50 +93,76 @@ fn measurement_with(alloc: Global, place: usize, byte: u8) -> Result<Vec<u8>, Al
     Ok(bytes)
 }
 
-/// An entry of the template `ima` with this path, behind this length. It has the digest of a violation.
+/// An entry of the template `ima` with this path, after this length. It has the digest of a violation.
 fn ima_entry(alloc: Global, length: &[u8], path: &[u8]) -> Result<Vec<u8>, AllocError> {
     let front = &EMPTY_ENTRY[..24];
     joined(alloc, &[front, b"\x03\0\0\0ima", &[1; 20], length, path])
 }
 
-/// Reads a list, and once more where an allocation was refused.
+/// The list that the bytes are.
 fn list_of(alloc: Global, bytes: &[u8]) -> Result<Vec<Entry>, ListFault> {
-    match read_list(alloc, bytes) {
-        Err(ListFault::Memory) => read_list(alloc, bytes),
-        answer => answer,
-    }
+    once_more(ListFault::Memory, || read_list(alloc, bytes))
 }
 
-/// The last entry of a list; once more where an allocation was refused.
+/// The last entry of a list.
 fn entry_of(alloc: Global, bytes: &[u8]) -> Result<Entry, Fail> {
     Ok(list_of(alloc, bytes)?.pop().ok_or("no entry")?)
 }
 
-/// Appends an entry's spelling, and once more where an allocation was refused.
-fn append_entry(entry: &Entry, out: &mut Vec<u8>) -> Result<(), AllocError> {
-    if write_entry(entry, out).is_ok() {
-        return Ok(());
+/// The entry of a file that was measured.
+fn measured(
+    alloc: Global,
+    register: u32,
+    template: Template,
+    file: &Digest,
+    path: &[u8],
+) -> Result<Entry, Fail> {
+    template.check(file.alg(), path)?;
+    if register >= REGISTERS {
+        return Err(Fail::new("no register"));
     }
-    write_entry(entry, out)
+    let entry = once_more(AllocError, || {
+        Entry::measurement(alloc, register, template, file, path)
+    })?;
+    Ok(entry)
 }
 
-/// An entry's spelling; once more where an allocation was refused.
+/// The entry of a violation in PCR 10.
+fn violated(alloc: Global, template: Template, alg: Alg, path: &[u8]) -> Result<Entry, Fail> {
+    template.check(alg, path)?;
+    let entry = once_more(AllocError, || {
+        Entry::violation(alloc, 10, template, alg, path)
+    })?;
+    Ok(entry)
+}
+
+/// Appends an entry's spelling.
+fn append_entry(entry: &Entry, out: &mut Vec<u8>) -> Result<(), AllocError> {
+    once_more(AllocError, || write_entry(entry, out))
+}
+
+/// An entry's spelling.
 fn spelling_of(alloc: Global, entry: &Entry) -> Result<Vec<u8>, AllocError> {
     let mut bytes = Vec::new(alloc);
     append_entry(entry, &mut bytes)?;
     Ok(bytes)
 }
 
-/// An entry's line; once more where an allocation was refused.
+/// An entry's hashed bytes.
+fn hashed_of(alloc: Global, entry: &Entry) -> Result<Vec<u8>, AllocError> {
+    let mut bytes = Vec::new(alloc);
+    once_more(AllocError, || entry.hashed_bytes(&mut bytes))?;
+    Ok(bytes)
+}
+
+/// An entry's line.
 fn line_of(alloc: Global, entry: &Entry) -> Result<Vec<u8>, AllocError> {
     let mut text = Vec::new(alloc);
-    if entry.line(&mut text).is_err() {
-        entry.line(&mut text)?;
-    }
+    once_more(AllocError, || entry.line(&mut text))?;
     Ok(text)
 }
 
-/// The hash of a file's digest, a path, and so many zero bytes that fill it.
+/// The hash of a file's digest, a path, and the zero bytes that fill it.
 fn filled_hash(alg: Alg, file: &Digest, path: &[u8], fill: &[u8]) -> Digest {
     let mut hasher = Hasher::new(alg);
     for part in [file.bytes(), path, fill] {

@@ -1,5 +1,6 @@
-//! The book of an agent: each measurement, violation and read of a register is one operation on it, which appends one
-//! record and is answered as the register object of one caller alone would answer it.
+//! The book of a measuring agent. Each operation on it is a measurement, a violation or a read of a register; it appends one
+//! record, and is answered as if its caller were the only one. The book's list can be exported, and replayed from the
+//! registers at the start it gives the book's registers.
 #![tactic(auto)]
 
 mod answering;

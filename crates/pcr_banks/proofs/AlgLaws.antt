@@ -65,7 +65,8 @@ some_of test (alg ∷ algs) e =
 pub some_passes : (test : Alg → Bool) → list_any test all_algs ≡ true → (alg : Alg) × (test alg ≡ true)
 some_passes test e = some_of test all_algs e
 
-any_has : (test : Alg → Bool) (alg : Alg) (algs : List Alg) → test alg ≡ true → list_any (same_alg alg) algs ≡ true → list_any test algs ≡ true
+any_has : (test : Alg → Bool) (alg : Alg) (algs : List Alg) → test alg ≡ true → list_any (same_alg alg) algs ≡ true
+    → list_any test algs ≡ true
 any_has test alg [] passes e = absurd cc
 any_has test alg (first ∷ algs) passes e =
     elim (or_cases (same_alg alg first) (list_any (same_alg alg) algs) e) [
@@ -73,18 +74,19 @@ any_has test alg (first ∷ algs) passes e =
       | inr others ↦ or_right (test first) (list_any test algs) (any_has test alg algs passes others)
     ]
 
-pub stands : (alg : Alg) → list_any (same_alg alg) all_algs ≡ true
-stands = every_alg _ (refl, (refl, (refl, tt)))
+pub is_listed : (alg : Alg) → list_any (same_alg alg) all_algs ≡ true
+is_listed = every_alg _ (refl, (refl, (refl, tt)))
 
 pub list_has : (test : Alg → Bool) (alg : Alg) → test alg ≡ true → list_any test all_algs ≡ true
-list_has test alg passes = any_has test alg all_algs passes (stands alg)
+list_has test alg passes = any_has test alg all_algs passes (is_listed alg)
 
 -- A test passes for no algorithm where it passes for none of the list.
 pub none_passes : (test : Alg → Bool) → list_any test all_algs ≡ false → (alg : Alg) → test alg ≡ false
 none_passes test e alg = false_from_ne_true (test alg) (λ passes. both_ways (list_any test all_algs) e (list_has test alg passes))
 
 pub list_lacks : (test : Alg → Bool) → ((alg : Alg) → test alg ≡ false) → list_any test all_algs ≡ false
-list_lacks test none = false_from_ne_true (list_any test all_algs) (λ e. let found = some_passes test e in both_ways (test found.0) (none found.0) found.1)
+list_lacks test none = false_from_ne_true (list_any test all_algs)
+    (λ e. let found = some_passes test e in both_ways (test found.0) (none found.0) found.1)
 
 -- One of the list is this algorithm and passes a test exactly where this algorithm passes it.
 pub one_of_all : (test : Alg → Bool) (a : Alg) → list_any (λ alg. same_alg a alg && test alg) all_algs ≡ test a
@@ -93,7 +95,7 @@ one_of_all test a =
     elim (cases_Bool (test a)) [
       | inl passes ↦ list_has one a (and_from (same_alg a a) (test a) (same_alg_here a) passes) ∙ sym passes
       | inr fails ↦ list_lacks one (λ alg. false_from_ne_true (one alg) (λ both.
-        let parts = and_parts (same_alg a alg) (test alg) both in
-        let passes : test a ≡ true = rw (same_alg_is a alg parts.0) parts.1 in
-        both_ways (test a) fails passes)) ∙ sym fails
+          let parts = and_parts (same_alg a alg) (test alg) both in
+          let passes : test a ≡ true = rw (same_alg_is a alg parts.0) parts.1 in
+          both_ways (test a) fails passes)) ∙ sym fails
     ]

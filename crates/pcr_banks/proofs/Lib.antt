@@ -1,4 +1,6 @@
 pub mod AlgLaws
 pub mod SetLaws
+pub mod OptionLaws
 pub mod ExtendLaws
 pub mod HashLaws
+pub mod BankLaws

@@ -1,5 +1,5 @@
 -- Sets of algorithms, and digests of all banks, are what they have for each algorithm.
-use Rattle.std.proofs.Common.{◌≡◌, ℕ, Bool, List, Option, refl}
+use Rattle.std.proofs.Common.{◌≡◌, ℕ, Bool, List, Option, refl, sym, ◌∙◌}
 use Rattle.pcr_banks.specs.declared.alg.Alg.{Alg}
 use Rattle.pcr_banks.specs.declared.alg.Alg.TheVariants.{Sha1, Sha256, Sha384}
 use Rattle.pcr_banks.specs.declared.sets.AlgSet.{AlgSet}
@@ -20,5 +20,15 @@ pub digest_of_bank : (bytes : Alg → Option (List ℕ)) (alg : Alg) → digest_
 digest_of_bank bytes = every_alg _ (refl, (refl, (refl, tt)))
 
 -- Digests are those that a function of the algorithm gives, where each is.
-pub per_bank_is : (digests : PerBank) (bytes : Alg → Option (List ℕ)) → ((alg : Alg) → digest_in digests alg ≡ bytes alg) → digests ≡ per_bank bytes
+pub per_bank_is : (digests : PerBank) (bytes : Alg → Option (List ℕ)) → ((alg : Alg) → digest_in digests alg ≡ bytes alg)
+    → digests ≡ per_bank bytes
 per_bank_is digests bytes same = rw (← same Sha1, ← same Sha256, ← same Sha384) refl
+
+-- Sets that have the same algorithms are one.
+pub same_algs : (first second : AlgSet) → ((alg : Alg) → has_alg first alg ≡ has_alg second alg) → first ≡ second
+same_algs first second same = algs_are first (has_alg second) same ∙ sym (algs_are second (has_alg second) (λ alg. refl))
+
+-- Digests that are the same for each algorithm are one.
+pub same_digests : (first second : PerBank) → ((alg : Alg) → digest_in first alg ≡ digest_in second alg) → first ≡ second
+same_digests first second same =
+    per_bank_is first (digest_in second) same ∙ sym (per_bank_is second (digest_in second) (λ alg. refl))

@@ -8,6 +8,10 @@ use Rattle.pcr_banks.specs.declared.sets.PerBank.{PerBank}
 use Rattle.pcr_banks.specs.Hashing.{hash_of, size_of}
 use Rattle.pcr_banks.specs.Sets.{has_alg, digest_in}
 
+-- How many registers a bank has, numbered from 0 (PC Client Platform TPM Profile, 'PCR Attributes').
+abbrev pub register_count : ℕ
+register_count = 24
+
 -- A register of `size` bytes after a start from the locality: PCR 0 is zero but for its last byte, which is the
 -- locality; PCR 17 to 22, which a dynamic launch resets, have all bits set; all others are zero
 -- (PC Client Platform TPM Profile, 'PCR Initial and Reset Values'; for PCR 0 also the PC Client Platform
@@ -36,11 +40,11 @@ bank_of banks Sha384 = banks.sha384
 abbrev pub is_active : Banks → Alg → Bool
 is_active banks alg = is_some (bank_of banks alg)
 
--- A register of a bank: there are 24 of them, numbered from 0.
+-- A register of a bank.
 abbrev pub in_bank : Option (List (List ℕ)) → ℕ → Option (List ℕ)
-in_bank bank register = if nat_lt register 24 then option_and_then (λ values. slice_get values register) bank else None
+in_bank bank register = if nat_lt register register_count then option_and_then (λ values. slice_get values register) bank else None
 
--- The value of a register, where its bank is active and its number is below 24.
+-- The value of a register, where its bank is active and there is one of this number.
 abbrev pub value_at : Banks → Alg → ℕ → Option (List ℕ)
 value_at banks alg register = in_bank (bank_of banks alg) register
 
@@ -48,7 +52,7 @@ value_at banks alg register = in_bank (bank_of banks alg) register
 pub record IsReset (algs : AlgSet) (locality : ℕ) (banks : Banks) : Type 0 where
   pub active : (a : Alg) → is_active banks a ≡ has_alg algs a
   pub values : (a : Alg) (r : ℕ) → value_at banks a r
-      ≡ (if has_alg algs a && nat_lt r 24 then Some (reset_value a r locality) else None)
+      ≡ (if has_alg algs a && nat_lt r register_count then Some (reset_value a r locality) else None)
 
 -- The value after an extend by the digest, or the old one where there is no digest.
 abbrev pub extended_by : Alg → Option (List ℕ) → List ℕ → List ℕ

@@ -2,7 +2,7 @@ ghost use Rattle.std.specs.Prelude.{◌≡◌, ◌≢◌, IfSome, IfNone};
 ghost use Rattle.pcr_banks.specs.declared.alg.Alg.{Alg};
 ghost use Rattle.pcr_banks.specs.Hashing.{size_of, tpm_id_of, name_of};
 
-/// A hash algorithm that a bank of registers may use. The variants stand in the order of algorithms.
+/// A hash algorithm that a bank of registers may use. The variants are in the order of algorithms.
 #[derive(Clone, Copy, Debug, PartialEq, Eq)]
 pub enum Alg {
     /// SHA-1, of 20 bytes (FIPS 180-4, section 6.1).

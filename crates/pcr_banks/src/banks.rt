@@ -1,21 +1,24 @@
 ghost use Rattle.std.specs.Prelude.{◌≡◌, ℕ, ◌<◌, ◌&&◌, nat_lt, if◌then◌else◌, slice_get, option_map, Some, None, is_some, IsTrue, IsSome};
 ghost use Rattle.pcr_banks.specs.declared.alg.Alg.TheVariants as algs;
 ghost use Rattle.pcr_banks.specs.Digests.{digest_of};
-ghost use Rattle.pcr_banks.specs.Registers.{IsReset, Extends, ExtendsBank, is_active, value_at, in_bank, reset_bytes};
+ghost use Rattle.pcr_banks.specs.Registers.{register_count, IsReset, Extends, ExtendsBank, is_active, value_at, in_bank, reset_bytes};
 
 use crate::{Alg, AlgSet, Digest, PerBank};
 use sha1::Sha1;
 use sha2::{Digest as Hashes, Sha256, Sha384};
 
-// How many registers a bank has (PC Client Platform TPM Profile, 'PCR Attributes').
-const REGISTERS: usize = 24;
+/// How many registers a bank has, numbered from 0 (PC Client Platform TPM Profile, 'PCR Attributes').
+pub const REGISTERS: u32 = 24;
+
+// The same, as a length.
+const PLACES: usize = REGISTERS as usize;
 
 /// The register banks of a TPM: for each active algorithm the values of PCR 0 to 23.
 #[derive(Clone, Copy, Debug, PartialEq, Eq)]
 pub struct Banks {
-    sha1: Option<[[u8; 20]; REGISTERS]>,
-    sha256: Option<[[u8; 32]; REGISTERS]>,
-    sha384: Option<[[u8; 48]; REGISTERS]>,
+    sha1: Option<[[u8; 20]; PLACES]>,
+    sha256: Option<[[u8; 32]; PLACES]>,
+    sha384: Option<[[u8; 48]; PLACES]>,
 }
 
 impl Banks {
@@ -43,10 +46,10 @@ impl Banks {
         }
     }
 
-    /// The value of a register, or `None` where the bank is not active or the register is 24 or more.
+    /// The value of a register, or `None` where the bank is not active or the register is not below [`REGISTERS`].
     pub fn read(&self, alg: Alg, register: u32) -> Option<Digest>
         ensures value { result ≡ option_map (digest_of alg) (value_at self.now alg register) }
-        ensures found { IsTrue (is_active self.now alg) → register < 24 → IsSome result }
+        ensures found { IsTrue (is_active self.now alg) → register < register_count → IsSome result }
     {
         let index = register as usize;
         match alg {
@@ -59,7 +62,7 @@ impl Banks {
     /// Extends a register in each active bank that has a digest among these: the new value is the hash of the old
     /// one followed by the digest (TPM 2.0 Library, part 1, 'Extend of a PCR'). Nothing else changes.
     pub fn extend(&mut self, register: u32, digests: &PerBank)
-        requires { register < 24 }
+        requires { register < register_count }
         ensures { Extends self.old self.new register digests.now }
     {
         let index = register as usize;
@@ -70,11 +73,11 @@ impl Banks {
 }
 
 // The bank of an algorithm of N bytes after a start from the locality, where the algorithm is active.
-fn reset_bank<const N: usize>(active: bool, locality: u8) -> Option<[[u8; N]; REGISTERS]>
+fn reset_bank<const N: usize>(active: bool, locality: u8) -> Option<[[u8; N]; PLACES]>
     requires { 0 < N }
     ensures active { is_some result ≡ active }
     ensures values { (r : ℕ) → in_bank result r
-        ≡ (if active && nat_lt r 24 then Some (reset_bytes N r locality) else None) }
+        ≡ (if active && nat_lt r register_count then Some (reset_bytes N r locality) else None) }
 {
     if active {
         Some(reset_registers(locality))
@@ -84,12 +87,12 @@ fn reset_bank<const N: usize>(active: bool, locality: u8) -> Option<[[u8; N]; RE
 }
 
 // The registers of a bank of N bytes after a start from the locality.
-fn reset_registers<const N: usize>(locality: u8) -> [[u8; N]; REGISTERS]
+fn reset_registers<const N: usize>(locality: u8) -> [[u8; N]; PLACES]
     requires { 0 < N }
-    ensures { (r : ℕ) → r < 24 → slice_get result r ≡ Some (reset_bytes N r locality) }
+    ensures { (r : ℕ) → r < register_count → slice_get result r ≡ Some (reset_bytes N r locality) }
 {
-    let mut registers = [[0x00; N]; REGISTERS];
-    for register in 0..REGISTERS {
+    let mut registers = [[0x00; N]; PLACES];
+    for register in 0..PLACES {
         registers[register] = reset_register(register, locality);
     }
     registers
@@ -111,8 +114,8 @@ fn reset_register<const N: usize>(register: usize, locality: u8) -> [u8; N]
     }
 }
 
-fn extend_sha1(bank: &mut Option<[[u8; 20]; REGISTERS]>, index: usize, digest: Option<[u8; 20]>)
-    requires { index < 24 }
+fn extend_sha1(bank: &mut Option<[[u8; 20]; PLACES]>, index: usize, digest: Option<[u8; 20]>)
+    requires { index < register_count }
     ensures { ExtendsBank algs.Sha1 bank.old bank.new index digest }
 {
     if let (Some(registers), Some(digest)) = (bank, digest) {
@@ -123,8 +126,8 @@ fn extend_sha1(bank: &mut Option<[[u8; 20]; REGISTERS]>, index: usize, digest: O
     }
 }
 
-fn extend_sha256(bank: &mut Option<[[u8; 32]; REGISTERS]>, index: usize, digest: Option<[u8; 32]>)
-    requires { index < 24 }
+fn extend_sha256(bank: &mut Option<[[u8; 32]; PLACES]>, index: usize, digest: Option<[u8; 32]>)
+    requires { index < register_count }
     ensures { ExtendsBank algs.Sha256 bank.old bank.new index digest }
 {
     if let (Some(registers), Some(digest)) = (bank, digest) {
@@ -135,8 +138,8 @@ fn extend_sha256(bank: &mut Option<[[u8; 32]; REGISTERS]>, index: usize, digest:
     }
 }
 
-fn extend_sha384(bank: &mut Option<[[u8; 48]; REGISTERS]>, index: usize, digest: Option<[u8; 48]>)
-    requires { index < 24 }
+fn extend_sha384(bank: &mut Option<[[u8; 48]; PLACES]>, index: usize, digest: Option<[u8; 48]>)
+    requires { index < register_count }
     ensures { ExtendsBank algs.Sha384 bank.old bank.new index digest }
 {
     if let (Some(registers), Some(digest)) = (bank, digest) {

@@ -7,6 +7,9 @@ ghost use Rattle.pcr_banks.specs.Digests.{alg_of, bytes_of, digest_of};
 use crate::Alg;
 use hex::FromHex;
 
+/// The most hexadecimal digits that a digest has: those of SHA-512, the longest hash of FIPS 180-4.
+pub const MOST_DIGITS: usize = 128;
+
 /// The digest of a message: an algorithm, and as many bytes as its hash has.
 #[derive(Clone, Copy, Debug, PartialEq, Eq)]
 pub enum Digest {
@@ -88,7 +91,7 @@ impl Digest {
     }
 
     /// Writes the lower case digits at the front, leaves the rest, and answers how many digits there are.
-    pub fn hex_into(&self, out: &mut [u8; 128]) -> usize
+    pub fn hex_into(&self, out: &mut [u8; MOST_DIGITS]) -> usize
         ensures count { result ≡ 2 * size_of (alg_of self.now) }
         ensures written { out.new ≡ encode_lower (bytes_of self.now) ++ drop result out.old }
     {

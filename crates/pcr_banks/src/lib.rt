@@ -11,8 +11,8 @@ pub mod laws;
 mod sets;
 
 pub use alg::Alg;
-pub use banks::Banks;
-pub use digest::Digest;
+pub use banks::{Banks, REGISTERS};
+pub use digest::{Digest, MOST_DIGITS};
 pub use hashing::{Hasher, hash};
 pub use sets::{AlgSet, PerBank};
 

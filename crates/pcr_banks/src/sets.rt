@@ -1,6 +1,7 @@
 ghost use Rattle.std.specs.Prelude.{◌≡◌, ◌↔◌, ◌||◌, false, Some, None, if◌then◌else◌, option_map, IsTrue};
+ghost use Rattle.std.specs.List.{list_any};
 ghost use Rattle.pcr_banks.specs.declared.alg.Alg.{Alg};
-ghost use Rattle.pcr_banks.specs.Hashing.{same_alg};
+ghost use Rattle.pcr_banks.specs.Hashing.{all_algs, same_alg};
 ghost use Rattle.pcr_banks.specs.Digests.{alg_of, bytes_of, digest_of};
 ghost use Rattle.pcr_banks.specs.Sets.{has_alg, digest_in};
 
@@ -58,7 +59,14 @@ impl AlgSet {
     pub fn is_empty(self) -> bool
         ensures { IsTrue result ↔ ((a : Alg) → has_alg self a ≡ false) }
     {
-        !(self.sha1 || self.sha256 || self.sha384)
+        !self.has_any()
+    }
+
+    // Whether the set has one of all algorithms.
+    fn has_any(self) -> bool
+        ensures { result ≡ list_any (has_alg self) all_algs }
+    {
+        Alg::ALL.iter().any(|alg| self.has(*alg))
     }
 }
 

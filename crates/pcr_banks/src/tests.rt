@@ -45,7 +45,7 @@ fn hash_of_pieces(alg: Alg, pieces: &[&[u8]]) -> Digest {
 
 #[test]
 fn hash_of_bytes_in_pieces(rt: HostRuntime) {
-    for alg in [Alg::Sha1, Alg::Sha256, Alg::Sha384] {
+    for alg in Alg::ALL {
         assert_eq!(rt; hash_of_pieces(alg, &[b"a", b"", b"bc"]), hash(alg, b"abc"));
     }
     assert_eq!(rt;
@@ -61,6 +61,7 @@ fn algorithms_in_numbers_and_texts(rt: HostRuntime) {
         (Alg::Sha256, 0x000B, 32, "sha256"),
         (Alg::Sha384, 0x000C, 48, "sha384"),
     ];
+    assert_eq!(rt; Alg::ALL, expected.map(|(alg, _, _, _)| alg));
     for (alg, id, size, name) in expected {
         assert_eq!(rt; alg.tpm_id(), id);
         assert_eq!(rt; Alg::from_id(id), Some(alg));
@@ -84,7 +85,7 @@ fn algorithms_in_numbers_and_texts(rt: HostRuntime) {
 
 #[test]
 fn digest_from_its_bytes(rt: HostRuntime) -> Result<(), Fail> {
-    for alg in [Alg::Sha1, Alg::Sha256, Alg::Sha384] {
+    for alg in Alg::ALL {
         let digest = Digest::ones(alg);
         assert_eq!(rt; digest.alg(), alg);
         assert_eq!(rt; digest.bytes().len(), alg.size());
@@ -122,7 +123,7 @@ fn digest_from_digits_of_either_case(rt: HostRuntime) {
 
 #[test]
 fn digits_at_the_front_of_the_room(rt: HostRuntime) {
-    let mut room = [b'-'; 128];
+    let mut room = [b'-'; MOST_DIGITS];
     let count = hash(Alg::Sha256, &[0; 64]).hex_into(&mut room);
     assert_eq!(rt; count, 64);
     let (digits, rest) = room.split_at(64);
@@ -182,7 +183,7 @@ fn extend_changes_one_register(rt: HostRuntime) {
     banks.extend(10, &PerBank::empty().with(Digest::zero(Alg::Sha256)));
     let extended = Digest::from_hex(Alg::Sha256, SHA256_OF_64_ZEROS);
     assert_eq!(rt; banks.read(Alg::Sha256, 10), extended);
-    for register in 0..24 {
+    for register in 0..REGISTERS {
         assert_eq!(rt;
             banks.read(Alg::Sha1, register),
             start.read(Alg::Sha1, register)

@@ -4,7 +4,7 @@ ghost use Rattle.std.specs.Prelude.{◌≤◌, IfOk};
 
 use super::*;
 use crate::{LoadFault, load};
-use ima_list::send;
+use byte_streams::send;
 use std::io::{Error, ErrorKind};
 use std::test::Fail;
 

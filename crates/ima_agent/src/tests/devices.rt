@@ -1,10 +1,15 @@
 //! Files and sinks in memory.
 
-ghost use Rattle.std.specs.Prelude.{Some};
+ghost use Rattle.std.specs.Prelude.{None};
 
-use crate::{Files, run};
-use ima_list::{Failed, Sink, SliceSource, VecSink};
+use crate::hexadecimal::{HexFault, decode_hexadecimal};
+use crate::{Files, LoadFault, run};
+use boot_log::LogFault;
+use byte_streams::{Failed, Sink, SliceSource, VecSink};
+use ima_list::ListFault;
+use measure_book::BookFault;
 use std::alloc::{AllocError, Global};
+use std::test::Fail;
 
 /// Standard input, and no other file.
 #[derive(Drop)]
@@ -39,25 +44,30 @@ impl<'a> Files for OneFile<'a> {
     }
 }
 
-/// A sink that takes one byte a write and fails once so many are taken.
+/// How many bytes a short sink takes at most.
+const MOST: usize = 16;
+
+/// A sink that takes one byte a write, and fails once it has as many bytes as it has room for.
 #[derive(Drop)]
 pub struct ShortSink {
-    bytes: Vec<u8>,
+    bytes: [u8; MOST],
+    count: usize,
     room: usize,
     failures: u64,
 }
 
 impl ShortSink {
-    pub fn new(alloc: Global, room: usize) -> Self {
+    pub fn new(room: usize) -> Self {
         ShortSink {
-            bytes: Vec::new(alloc),
+            bytes: [0; MOST],
+            count: 0,
             room,
             failures: 0,
         }
     }
 
     pub fn bytes(&self) -> &[u8] {
-        &self.bytes
+        self.bytes.get(..self.count).unwrap_or(&[])
     }
 
     pub fn failures(&self) -> u64 {
@@ -66,33 +76,111 @@ impl ShortSink {
 }
 
 impl Sink for ShortSink {
-    ghost taken = { λ sink. Some sink.bytes.items };
-
-    ghost failures = { λ sink. sink.failures };
+    ghost state = { λ sink. record { taken = None; failures = sink.failures } };
 
     fn write(&mut self, bytes: &[u8]) -> Result<usize, Failed> {
         let Some(first) = bytes.first() else {
             return Ok(0);
         };
-        if self.bytes.len() < self.room && self.bytes.push(*first).is_ok() {
-            return Ok(1);
+        if self.count >= self.room || self.count >= self.bytes.len() {
+            self.failures = self.failures.saturating_add(1);
+            return Err(Failed);
         }
-        self.failures = self.failures.saturating_add(1);
-        Err(Failed)
+        self.bytes[self.count] = *first;
+        self.count += 1;
+        Ok(1)
     }
 }
 
-/// The words of a command, and once more where an allocation was refused.
+/// A fault that may say that an allocation was refused.
+pub trait Refusal: Drop {
+    fn is_refusal(&self) -> bool;
+}
+
+impl Refusal for AllocError {
+    fn is_refusal(&self) -> bool {
+        true
+    }
+}
+
+impl Refusal for Failed {
+    fn is_refusal(&self) -> bool {
+        true
+    }
+}
+
+impl Refusal for LoadFault {
+    fn is_refusal(&self) -> bool {
+        *self == LoadFault::Memory
+    }
+}
+
+impl Refusal for HexFault {
+    fn is_refusal(&self) -> bool {
+        *self == HexFault::Memory
+    }
+}
+
+impl Refusal for LogFault {
+    fn is_refusal(&self) -> bool {
+        *self == LogFault::Memory
+    }
+}
+
+impl Refusal for ListFault {
+    fn is_refusal(&self) -> bool {
+        *self == ListFault::Memory
+    }
+}
+
+impl Refusal for BookFault {
+    fn is_refusal(&self) -> bool {
+        *self == BookFault::Memory
+    }
+}
+
+/// What the attempt answers; where it says that an allocation was refused, what it answers once more.
+pub fn once_more<T: Drop, E: Refusal, F: Fn() -> Result<T, E>>(attempt: F) -> Result<T, E>
+    requires { F.IsAlwaysCallable attempt }
+{
+    let first = attempt();
+    match &first {
+        Err(fault) if fault.is_refusal() => attempt(),
+        _ => first,
+    }
+}
+
+/// The parts joined.
+pub fn joined(alloc: Global, parts: &[&[u8]]) -> Result<Vec<u8>, AllocError> {
+    once_more(|| parts.concat(alloc))
+}
+
+/// The texts joined.
+pub fn text_of(alloc: Global, parts: &[&str]) -> Result<String, AllocError> {
+    once_more(|| {
+        let mut text = String::new(alloc);
+        for part in parts {
+            text.push_str(part)?;
+        }
+        Ok(text)
+    })
+}
+
+/// The bytes that hexadecimal texts spell, joined.
+pub fn bytes_of(alloc: Global, parts: &[&str]) -> Result<Vec<u8>, Fail> {
+    let text = text_of(alloc, parts)?;
+    Ok(once_more(|| decode_hexadecimal(alloc, text.as_bytes()))?)
+}
+
+/// The words of a command.
 pub fn words_of(alloc: Global, words: &[&str]) -> Result<Vec<String>, AllocError> {
-    words_once(alloc, words).or_else(|_| words_once(alloc, words))
-}
-
-fn words_once(alloc: Global, words: &[&str]) -> Result<Vec<String>, AllocError> {
-    let mut owned = Vec::new(alloc);
-    for word in words {
-        owned.push(String::from_str(alloc, word)?)?;
-    }
-    Ok(owned)
+    once_more(|| {
+        let mut owned = Vec::new(alloc);
+        for word in words {
+            owned.push(String::from_str(alloc, word)?)?;
+        }
+        Ok(owned)
+    })
 }
 
 /// What the program answers and writes for this standard input; once more where an allocation was refused.

@@ -1,8 +1,9 @@
 ghost use Rattle.std.specs.Prelude.{None};
 
+use super::devices::once_more;
 use crate::hexadecimal::{HexFault, decode_hexadecimal};
 use crate::{LoadFault, load};
-use ima_list::{Failed, SliceSource, Source};
+use byte_streams::{Failed, SliceSource, Source};
 use std::alloc::Global;
 use std::test::Fail;
 
@@ -14,9 +15,7 @@ struct FailingSource {
 }
 
 impl Source for FailingSource {
-    ghost remaining = { λ _. None };
-
-    ghost failures = { λ source. source.failures };
+    ghost state = { λ source. record { remaining = None; failures = source.failures } };
 
     fn read(&mut self, buffer: &mut [u8]) -> Result<usize, Failed> {
         if self.reads == 0 {
@@ -30,14 +29,11 @@ impl Source for FailingSource {
 
 /// Loads bytes, and once more where an allocation was refused.
 fn loaded(alloc: Global, bytes: &[u8], limit: u64) -> Result<Vec<u8>, LoadFault> {
-    match load(alloc, &mut SliceSource::new(bytes), limit) {
-        Err(LoadFault::Memory) => load(alloc, &mut SliceSource::new(bytes), limit),
-        answer => answer,
-    }
+    once_more(|| load(alloc, &mut SliceSource::new(bytes), limit))
 }
 
 #[test]
-fn expected_lines_and_load_limit(rt: HostRuntime) -> Result<(), Fail> {
+fn expected_lines_and_load_limit_of_load(rt: HostRuntime) -> Result<(), Fail> {
     let alloc = rt.alloc();
     assert_eq!(rt; loaded(alloc, b"abcde", 4).err(), Some(LoadFault::TooLong));
     assert_eq!(rt; loaded(alloc, b"abcd", 4)?.as_slice(), b"abcd".as_slice());
@@ -59,24 +55,24 @@ fn load_joins_pieces(rt: HostRuntime) -> Result<(), Fail> {
     Ok(())
 }
 
+/// The source fails at the first read, or at a later one.
 #[test]
 fn load_says_that_the_source_failed(rt: HostRuntime) {
     for reads in [0, 2] {
         let mut source = FailingSource { reads, failures: 0 };
-        let fault = load(rt.alloc(), &mut source, 100).err();
-        if fault != Some(LoadFault::Memory) {
-            assert_eq!(rt; fault, Some(LoadFault::Source));
-            assert_eq!(rt; source.failures, 1);
+        let mut answer = load(rt.alloc(), &mut source, 100).err();
+        if answer == Some(LoadFault::Memory) {
+            source = FailingSource { reads, failures: 0 };
+            answer = load(rt.alloc(), &mut source, 100).err();
         }
+        assert_eq!(rt; answer, Some(LoadFault::Source));
+        assert_eq!(rt; source.failures, 1);
     }
 }
 
 /// Decodes a text, and once more where an allocation was refused.
 fn decoded(alloc: Global, text: &[u8]) -> Result<Vec<u8>, HexFault> {
-    match decode_hexadecimal(alloc, text) {
-        Err(HexFault::Memory) => decode_hexadecimal(alloc, text),
-        answer => answer,
-    }
+    once_more(|| decode_hexadecimal(alloc, text))
 }
 
 #[test]

@@ -1,5 +1,6 @@
 //! The measurement list of a real boot, and PCR 10 as the TPM had it after the list.
 
+use super::devices::{bytes_of, once_more};
 use super::real_boot::FIRMWARE_LOG;
 use boot_log::{BootLog, LogFault, read_log};
 use ima_list::{Entry, ListFault, boot_aggregate, read_list, replay, write_entry};
@@ -11,63 +12,32 @@ use std::test::Fail;
 const LENGTH: usize = 11_929;
 
 /// PCR 10 in `samples/real-boot/expected.txt`.
-const REGISTER: &[u8] = b"e8ed95b94e8d66f42e5b9be4d794dc0c7701e2360f03537fe59e9ba861a8024f";
-
-/// The value of a hexadecimal digit in lower case.
-fn digit_value(digit: u8) -> Option<u8> {
-    match digit {
-        b'0'..=b'9' => Some(digit - b'0'),
-        b'a'..=b'f' => Some(digit - b'a' + 10),
-        _ => None,
-    }
-}
-
-/// The bytes that the digits of a text spell; line feeds are left out.
-fn decoded(alloc: Global, text: &str) -> Result<Vec<u8>, AllocError> {
-    let mut bytes = match Vec::with_capacity(alloc, LENGTH) {
-        Ok(bytes) => bytes,
-        Err(_) => Vec::with_capacity(alloc, LENGTH)?,
-    };
-    let mut high = None;
-    for digit in text.as_bytes() {
-        let Some(value) = digit_value(*digit) else {
-            continue;
-        };
-        match high.take() {
-            None => high = Some(value << 4),
-            Some(front) => bytes.push(front | value)?,
-        }
-    }
-    Ok(bytes)
-}
+pub const REGISTER: &[u8] = b"e8ed95b94e8d66f42e5b9be4d794dc0c7701e2360f03537fe59e9ba861a8024f";
 
 /// The bytes of the list.
-pub fn list_bytes(alloc: Global) -> Result<Vec<u8>, AllocError> {
-    decoded(alloc, LIST)
+pub fn list_bytes(alloc: Global) -> Result<Vec<u8>, Fail> {
+    bytes_of(alloc, &[LIST])
 }
 
 /// Reads the list; once more where an allocation was refused.
-fn entries_of(alloc: Global, bytes: &[u8]) -> Result<Vec<Entry>, ListFault> {
-    match read_list(alloc, bytes) {
-        Err(ListFault::Memory) => read_list(alloc, bytes),
-        answer => answer,
-    }
+pub fn entries_of(alloc: Global, bytes: &[u8]) -> Result<Vec<Entry>, ListFault> {
+    once_more(|| read_list(alloc, bytes))
 }
 
 /// Reads the firmware log; once more where an allocation was refused.
-fn log_of(alloc: Global, bytes: &[u8]) -> Result<BootLog<'_>, LogFault> {
+pub fn log_of(alloc: Global, bytes: &[u8]) -> Result<BootLog<'_>, LogFault> {
     match read_log(alloc, bytes) {
         Err(LogFault::Memory) => read_log(alloc, bytes),
         answer => answer,
     }
 }
 
-/// Appends an entry's spelling, and once more where an allocation was refused.
+/// Appends an entry's spelling; once more where an allocation was refused.
 fn append_entry(entry: &Entry, out: &mut Vec<u8>) -> Result<(), AllocError> {
-    if write_entry(entry, out).is_ok() {
-        return Ok(());
+    match write_entry(entry, out) {
+        Err(AllocError) => write_entry(entry, out),
+        answer => answer,
     }
-    write_entry(entry, out)
 }
 
 #[test]
@@ -98,7 +68,7 @@ fn real_boot_list(rt: HostRuntime) -> Result<(), Fail> {
 #[test]
 fn real_boot_replay(rt: HostRuntime) -> Result<(), Fail> {
     let alloc = rt.alloc();
-    let log = decoded(alloc, FIRMWARE_LOG)?;
+    let log = bytes_of(alloc, &[FIRMWARE_LOG])?;
     let registers = log_of(alloc, &log)?.registers();
     let entries = entries_of(alloc, &list_bytes(alloc)?)?;
     let banks = replay(registers, &entries)?;

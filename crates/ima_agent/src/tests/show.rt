@@ -1,12 +1,12 @@
 //! The program's words `show LIST` over files in memory.
 
-use super::devices::{OneFile, ShortSink, StandardInput, ran_over, words_of};
+use super::devices::{OneFile, ShortSink, StandardInput, joined, ran_over, words_of};
 use crate::run;
 use std::alloc::{AllocError, Global};
 use std::test::Fail;
 
 /// The entry of `/bin/sh`, measured into PCR 10 with the SHA-256 of `abc`, in the template `ima-ng`.
-const MEASUREMENT: &[u8] = b"\x0a\x00\x00\x00\
+pub const MEASUREMENT: &[u8] = b"\x0a\x00\x00\x00\
     \x83\xfd\xff\x31\x51\x75\x58\x71\x57\xed\x3a\xa6\x04\xe7\xf9\xec\x63\xca\x0b\x42\
     \x06\x00\x00\x00ima-ng\
     \x38\x00\x00\x00\
@@ -16,18 +16,23 @@ const MEASUREMENT: &[u8] = b"\x0a\x00\x00\x00\
     \x08\x00\x00\x00/bin/sh\x00";
 
 /// Its line.
-const MEASUREMENT_LINE: &[u8] = b"10 83fdff315175587157ed3aa604e7f9ec63ca0b42 ima-ng \
+pub const MEASUREMENT_LINE: &[u8] = b"10 83fdff315175587157ed3aa604e7f9ec63ca0b42 ima-ng \
     sha256:ba7816bf8f01cfea414140de5dae2223b00361a396177a9cb410ff61f20015ad /bin/sh\n";
 
-/// What stands behind the digest in an entry of the template `ima` whose path is said to have 256 bytes.
+/// The entry of a violation of `/etc/x` in PCR 10, in the template `ima-ng` with SHA-256.
+pub const VIOLATION: &[u8] = b"\x0a\x00\x00\x00\
+    \x00\x00\x00\x00\x00\x00\x00\x00\x00\x00\x00\x00\x00\x00\x00\x00\x00\x00\x00\x00\
+    \x06\x00\x00\x00ima-ng\
+    \x37\x00\x00\x00\
+    \x28\x00\x00\x00sha256:\x00\
+    \x00\x00\x00\x00\x00\x00\x00\x00\x00\x00\x00\x00\x00\x00\x00\x00\
+    \x00\x00\x00\x00\x00\x00\x00\x00\x00\x00\x00\x00\x00\x00\x00\x00\
+    \x07\x00\x00\x00/etc/x\x00";
+
+/// What comes after the digest in an entry of the template `ima` whose path is said to have 256 bytes.
 const IMA_PART: &[u8] = b"\x03\0\0\0ima\
     \x01\x01\x01\x01\x01\x01\x01\x01\x01\x01\x01\x01\x01\x01\x01\x01\x01\x01\x01\x01\
     \0\x01\0\0";
-
-/// The parts joined, and once more where an allocation was refused.
-fn joined(alloc: Global, parts: &[&[u8]]) -> Result<Vec<u8>, AllocError> {
-    parts.concat(alloc).or_else(|_| parts.concat(alloc))
-}
 
 /// What the program answers and writes for these words, where the file `x` holds these bytes.
 fn answered(alloc: Global, words: &[&str], bytes: &[u8]) -> Result<(u8, Vec<u8>), AllocError> {
@@ -36,7 +41,7 @@ fn answered(alloc: Global, words: &[&str], bytes: &[u8]) -> Result<(u8, Vec<u8>)
 }
 
 #[test]
-fn measure_prints_registers(rt: HostRuntime) -> Result<(), Fail> {
+fn measure_prints_registers_shown_list(rt: HostRuntime) -> Result<(), Fail> {
     let alloc = rt.alloc();
     let (status, output) = answered(alloc, &["show", "x"], MEASUREMENT)?;
     assert_eq!(rt; status, 0);
@@ -61,11 +66,8 @@ fn measure_prints_registers(rt: HostRuntime) -> Result<(), Fail> {
 
 /// A fault is one line: no entry before it is shown.
 #[test]
-fn replay_and_fields(rt: HostRuntime) -> Result<(), Fail> {
+fn lists_that_are_refused(rt: HostRuntime) -> Result<(), Fail> {
     let alloc = rt.alloc();
-    let (status, output) = answered(alloc, &["show", "x"], b"")?;
-    assert_eq!(rt; status, 0);
-    assert!(rt; output.is_empty());
     let cut = joined(alloc, &[&MEASUREMENT[..93]])?;
     let register = joined(alloc, &[b"\x18", &MEASUREMENT[1..]])?;
     let long = joined(alloc, &[&MEASUREMENT[..24], IMA_PART])?;
@@ -81,6 +83,7 @@ fn replay_and_fields(rt: HostRuntime) -> Result<(), Fail> {
             [MEASUREMENT, &register],
             b"refused: list fault 2 at entry 1\n",
         ),
+        ([MEASUREMENT, &long], b"refused: list fault 3 at entry 1\n"),
     ] {
         let bytes = joined(alloc, &parts)?;
         let (status, output) = answered(alloc, &["show", "x"], &bytes)?;
@@ -130,7 +133,7 @@ fn dash_is_a_file(rt: HostRuntime) -> Result<(), Fail> {
     Ok(())
 }
 
-/// Wants all its memory: the program runs once, and the sink fails within the line.
+/// The program runs once more where an allocation was refused: then what it wrote begins as the line of that fault.
 #[test]
 fn a_failing_sink_ends_the_lines(rt: HostRuntime) -> Result<(), Fail> {
     let alloc = rt.alloc();
@@ -139,8 +142,12 @@ fn a_failing_sink_ends_the_lines(rt: HostRuntime) -> Result<(), Fail> {
         name: "x",
         bytes: MEASUREMENT,
     };
-    let mut sink = ShortSink::new(alloc, 9);
-    let status = run(alloc, &words, &mut file, &mut sink);
+    let mut sink = ShortSink::new(9);
+    let mut status = run(alloc, &words, &mut file, &mut sink);
+    if sink.bytes().starts_with(b"failed: m") {
+        sink = ShortSink::new(9);
+        status = run(alloc, &words, &mut file, &mut sink);
+    }
     assert_eq!(rt; status, 3);
     assert_eq!(rt; sink.bytes(), &MEASUREMENT_LINE[..9]);
     assert_eq!(rt; sink.failures(), 1);

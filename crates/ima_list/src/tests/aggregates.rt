@@ -1,13 +1,12 @@
 //! The boot aggregate.
 
-use super::ALGS;
 use crate::boot_aggregate;
 use pcr_banks::{Alg, AlgSet, Banks, Digest, PerBank, hash};
 
 /// The banks of all algorithms at their start.
 fn start() -> Banks {
     let mut algs = AlgSet::empty();
-    for alg in ALGS {
+    for alg in Alg::ALL {
         algs = algs.with(alg);
     }
     Banks::new(algs, 0)
@@ -21,7 +20,7 @@ fn aggregates_of_reset_registers(rt: HostRuntime) {
         let expected = hash(alg, &zeros[..count]);
         assert_eq!(rt; boot_aggregate(&start(), alg), Some(expected));
         let alone = Banks::new(AlgSet::empty().with(alg), 0);
-        for other in ALGS {
+        for other in Alg::ALL {
             let answer = boot_aggregate(&alone, other);
             assert_eq!(rt; answer, (other == alg).then_some(expected));
         }
@@ -33,7 +32,7 @@ fn aggregates_of_reset_registers(rt: HostRuntime) {
 #[test]
 fn registers_that_the_aggregate_holds(rt: HostRuntime) {
     let mut parts = PerBank::empty();
-    for alg in ALGS {
+    for alg in Alg::ALL {
         parts = parts.with(Digest::ones(alg));
     }
     for (register, sha1, others) in [

@@ -1,46 +1,25 @@
 //! Entries that are made, and what they tell.
 
 use super::{
-    ALGS, DIGEST_PLACE, MEASUREMENT, MEASUREMENT_LINE, NAME_END, PAYLOAD_LENGTH, PAYLOAD_PLACE,
-    REGISTER_PLACE, VIOLATION, entry_of, filled_hash, joined, line_of, measurement_with,
-    spelling_of,
+    DIGEST_PLACE, MEASUREMENT, MEASUREMENT_LINE, NAME_END, PAYLOAD_LENGTH, PAYLOAD_PLACE,
+    REGISTER_PLACE, VIOLATION, entry_of, filled_hash, hashed_of, joined, line_of, list_of,
+    measured, measurement_with, spelling_of, violated,
 };
-use crate::{Entry, Fields, Template, ima_hashes_276_bytes, read_list, replay, write_entry};
+use crate::{Entry, EntryFault, Fields, ListFault, Template, replay, write_entry};
 use pcr_banks::{Alg, AlgSet, Banks, Digest, hash};
 use std::alloc::{AllocError, Global};
 use std::test::Fail;
 
-/// The entry of a file in PCR 10; once more where an allocation was refused.
-fn measured(alloc: Global, template: Template, file: &Digest, path: &[u8]) -> Result<Entry, Fail> {
-    template.check(file.alg(), path)?;
-    if let Ok(entry) = Entry::measurement(alloc, 10, template, file, path) {
-        return Ok(entry);
-    }
-    Ok(Entry::measurement(alloc, 10, template, file, path)?)
-}
-
-/// The entry of a violation in PCR 10, likewise.
-fn violated(alloc: Global, template: Template, alg: Alg, path: &[u8]) -> Result<Entry, Fail> {
-    template.check(alg, path)?;
-    if let Ok(entry) = Entry::violation(alloc, 10, template, alg, path) {
-        return Ok(entry);
-    }
-    Ok(Entry::violation(alloc, 10, template, alg, path)?)
-}
-
-/// Wants all its memory: no call under test is made twice.
+/// Of 255 bytes of path: what is hashed of the entry, how it is written and read; and one byte more is refused.
 #[test]
 fn ima_entry_layout(rt: HostRuntime) -> Result<(), Fail> {
     let alloc = rt.alloc();
     let file = hash(Alg::Sha1, b"abc");
-    let path = [b'a'; 255];
-    Template::Ima.check(file.alg(), &path)?;
-    let entry = Entry::measurement(alloc, 10, Template::Ima, &file, &path)?;
-    let expected = joined(alloc, &[file.bytes(), &path, b"\0"])?;
+    let path = [b'a'; 256];
+    let entry = measured(alloc, 10, Template::Ima, &file, &path[..255])?;
+    let expected = joined(alloc, &[file.bytes(), &path[..255], b"\0"])?;
     assert_eq!(rt; expected.len(), 276);
-    let mut hashed = Vec::new(alloc);
-    entry.hashed_bytes(&mut hashed)?;
-    assert_eq!(rt; hashed.as_slice(), expected.as_slice());
+    assert_eq!(rt; hashed_of(alloc, &entry)?.as_slice(), expected.as_slice());
     let digest = hash(Alg::Sha1, &expected);
     assert_eq!(rt; Digest::Sha1(entry.digest()), digest);
     let fields: [&[u8]; 4] = [
@@ -50,24 +29,26 @@ fn ima_entry_layout(rt: HostRuntime) -> Result<(), Fail> {
         file.bytes(),
     ];
     let head = joined(alloc, &fields)?;
-    let expected = joined(alloc, &[&head, b"\xff\0\0\0", &path])?;
-    assert_eq!(rt; expected.len(), 310);
-    let mut written = Vec::new(alloc);
-    write_entry(&entry, &mut written)?;
-    assert_eq!(rt; written.as_slice(), expected.as_slice());
-    let entries = read_list(alloc, &expected)?;
-    assert_eq!(rt; entries.as_slice(), [entry].as_slice());
+    let spelling = joined(alloc, &[&head, b"\xff\0\0\0", &path[..255]])?;
+    assert_eq!(rt; spelling.len(), 310);
+    assert_eq!(rt; spelling_of(alloc, &entry)?.as_slice(), spelling.as_slice());
+    assert_eq!(rt; list_of(alloc, &spelling)?.as_slice(), [entry].as_slice());
+    let refused = Err(EntryFault::PathTooLong);
+    assert_eq!(rt; Template::Ima.check(Alg::Sha1, &path), refused);
+    let long = joined(alloc, &[&head, b"\0\x01\0\0", &path])?;
+    let fault = ListFault::NameTooLong { entry: 0 };
+    assert_eq!(rt; list_of(alloc, &long).err(), Some(fault));
     Ok(())
 }
 
-/// The path is filled to 256 bytes behind the file's digest, an empty path too.
+/// The path is filled to 256 bytes after the file's digest, an empty path too.
 #[test]
 fn ima_path_is_filled(rt: HostRuntime) -> Result<(), Fail> {
     let file = hash(Alg::Sha1, b"abc");
     let zeros = [0; 256];
     for (path, fill) in [(b"".as_slice(), 256), (b"/", 255), (b"/bin/sh", 249)] {
-        let entry = measured(rt.alloc(), Template::Ima, &file, path)?;
-        for alg in ALGS {
+        let entry = measured(rt.alloc(), 10, Template::Ima, &file, path)?;
+        for alg in Alg::ALL {
             let expected = filled_hash(alg, &file, path, &zeros[..fill]);
             assert_eq!(rt; entry.template_digest(alg), expected);
         }
@@ -78,35 +59,32 @@ fn ima_path_is_filled(rt: HostRuntime) -> Result<(), Fail> {
     Ok(())
 }
 
-/// Wants all its memory.
+/// How the entry is written and read, what is hashed of it, its fields and its line; and two faults, and no entries.
 #[test]
 fn ima_ng_entry_layout(rt: HostRuntime) -> Result<(), Fail> {
     let alloc = rt.alloc();
     let file = hash(Alg::Sha256, b"abc");
-    Template::ImaNg.check(file.alg(), b"/bin/sh")?;
-    let entry = Entry::measurement(alloc, 10, Template::ImaNg, &file, b"/bin/sh")?;
-    let mut written = Vec::new(alloc);
-    write_entry(&entry, &mut written)?;
+    let path = b"/bin/sh";
+    let entry = measured(alloc, 10, Template::ImaNg, &file, path)?;
     assert_eq!(rt; MEASUREMENT.len(), 94);
-    assert_eq!(rt; written.as_slice(), MEASUREMENT);
+    assert_eq!(rt; spelling_of(alloc, &entry)?.as_slice(), MEASUREMENT);
     let payload = &MEASUREMENT[PAYLOAD_PLACE..];
     assert_eq!(rt; payload.len(), 56);
     assert_eq!(rt; Digest::Sha1(entry.digest()), hash(Alg::Sha1, payload));
-    let mut hashed = Vec::new(alloc);
-    entry.hashed_bytes(&mut hashed)?;
-    assert_eq!(rt; hashed.as_slice(), payload);
-    let path = b"/bin/sh";
+    assert_eq!(rt; hashed_of(alloc, &entry)?.as_slice(), payload);
     assert_eq!(rt; entry.fields(), Some(Fields { file, path }));
-    let mut text = joined(alloc, &[b"front"])?;
-    entry.line(&mut text)?;
-    let expected = joined(alloc, &[b"front", MEASUREMENT_LINE])?;
-    assert_eq!(rt; text.as_slice(), expected.as_slice());
-    let entries = read_list(alloc, MEASUREMENT)?;
-    assert_eq!(rt; entries.as_slice(), [entry].as_slice());
+    assert_eq!(rt; line_of(alloc, &entry)?.as_slice(), MEASUREMENT_LINE);
+    assert_eq!(rt; list_of(alloc, MEASUREMENT)?.as_slice(), [entry].as_slice());
+    let cut = list_of(alloc, &MEASUREMENT[..93]).err();
+    assert_eq!(rt; cut, Some(ListFault::Truncated { entry: 0 }));
+    let bad = measurement_with(alloc, REGISTER_PLACE, 24)?;
+    let bad = list_of(alloc, &bad).err();
+    assert_eq!(rt; bad, Some(ListFault::BadRegister { entry: 0 }));
+    assert_eq!(rt; list_of(alloc, b"")?.len(), 0);
     Ok(())
 }
 
-/// A payload of the template `ima-ng`: what stands before the digest, and the path behind its length with the NUL.
+/// A payload of the template `ima-ng`: a front, the digest, and the length-prefixed path with its NUL.
 fn ima_ng_payload(
     alloc: Global,
     front: &[u8],
@@ -128,7 +106,7 @@ fn ima_ng_digest_fields(rt: HostRuntime) -> Result<(), Fail> {
         (Alg::Sha384, b"\x38\0\0\0sha384:\0", 1, 2),
     ] {
         let file = hash(alg, b"abc");
-        let entry = measured(alloc, Template::ImaNg, &file, &path[..count])?;
+        let entry = measured(alloc, 10, Template::ImaNg, &file, &path[..count])?;
         let length = length.to_le_bytes();
         let payload = ima_ng_payload(alloc, front, file.bytes(), &length, &path[..count])?;
         assert_eq!(rt; entry.payload(), payload.as_slice());
@@ -137,19 +115,15 @@ fn ima_ng_digest_fields(rt: HostRuntime) -> Result<(), Fail> {
     Ok(())
 }
 
-/// Wants all its memory.
 #[test]
 fn violation_entry_layout(rt: HostRuntime) -> Result<(), Fail> {
     let alloc = rt.alloc();
-    Template::ImaNg.check(Alg::Sha256, b"/etc/x")?;
-    let entry = Entry::violation(alloc, 10, Template::ImaNg, Alg::Sha256, b"/etc/x")?;
-    let mut written = Vec::new(alloc);
-    write_entry(&entry, &mut written)?;
+    let entry = violated(alloc, Template::ImaNg, Alg::Sha256, b"/etc/x")?;
     assert_eq!(rt; VIOLATION.len(), 93);
-    assert_eq!(rt; written.as_slice(), VIOLATION);
+    assert_eq!(rt; spelling_of(alloc, &entry)?.as_slice(), VIOLATION);
     assert!(rt; entry.is_violation());
     assert!(rt; entry.is_genuine());
-    for alg in ALGS {
+    for alg in Alg::ALL {
         assert_eq!(rt; entry.parts().get(alg), Some(Digest::ones(alg)));
         assert_eq!(rt;
             entry.template_digest(alg),
@@ -183,7 +157,7 @@ fn fields_of_an_entry(rt: HostRuntime) -> Result<(), Fail> {
     assert_eq!(rt; entry.payload(), payload);
     assert!(rt; !entry.is_violation());
     assert!(rt; entry.is_genuine());
-    for alg in ALGS {
+    for alg in Alg::ALL {
         assert_eq!(rt; entry.template_digest(alg), hash(alg, payload));
         assert_eq!(rt; entry.parts().get(alg), Some(hash(alg, payload)));
     }
@@ -205,12 +179,8 @@ fn other_template_as_bytes(rt: HostRuntime) -> Result<(), Fail> {
     let payload = &MEASUREMENT[PAYLOAD_PLACE..];
     assert_eq!(rt; entry.name(), b"ima-xx".as_slice());
     assert_eq!(rt; entry.payload(), payload);
-    let mut hashed = Vec::new(alloc);
-    if entry.hashed_bytes(&mut hashed).is_err() {
-        entry.hashed_bytes(&mut hashed)?;
-    }
-    assert_eq!(rt; hashed.as_slice(), payload);
-    for alg in ALGS {
+    assert_eq!(rt; hashed_of(alloc, &entry)?.as_slice(), payload);
+    for alg in Alg::ALL {
         assert_eq!(rt; entry.template_digest(alg), hash(alg, payload));
     }
     assert_eq!(rt; spelling_of(alloc, &entry)?.as_slice(), bytes.as_slice());
@@ -250,7 +220,7 @@ fn wrong_digest_is_not_genuine(rt: HostRuntime) -> Result<(), Fail> {
     assert!(rt; !entry.is_genuine());
     assert!(rt; !entry.is_violation());
     let payload = &MEASUREMENT[PAYLOAD_PLACE..];
-    for alg in ALGS {
+    for alg in Alg::ALL {
         assert_eq!(rt; entry.parts().get(alg), Some(hash(alg, payload)));
     }
     Ok(())
@@ -279,18 +249,6 @@ fn replay_extends_the_register(rt: HostRuntime) -> Result<(), Fail> {
     Ok(())
 }
 
-/// Holds with any one allocation refused too: the same call again makes the entry.
-#[test]
-fn entries_made_after_a_refused_allocation(rt: HostRuntime) -> Result<(), Fail> {
-    let alloc = rt.alloc();
-    let file = hash(Alg::Sha256, b"abc");
-    let entry = measured(alloc, Template::ImaNg, &file, b"/bin/sh")?;
-    assert_eq!(rt; spelling_of(alloc, &entry)?.as_slice(), MEASUREMENT);
-    let entry = violated(alloc, Template::ImaNg, Alg::Sha256, b"/etc/x")?;
-    assert_eq!(rt; spelling_of(alloc, &entry)?.as_slice(), VIOLATION);
-    Ok(())
-}
-
 /// Holds with any one allocation refused too: the vector is then as before, and the same call again appends all bytes.
 #[test]
 fn bytes_appended_after_a_refused_allocation(rt: HostRuntime) -> Result<(), Fail> {
@@ -310,10 +268,4 @@ fn bytes_appended_after_a_refused_allocation(rt: HostRuntime) -> Result<(), Fail
     let both = joined(alloc, &[&hashed, MEASUREMENT])?;
     assert_eq!(rt; out.as_slice(), both.as_slice());
     Ok(())
-}
-
-/// The law takes nothing and does nothing.
-#[test]
-fn law_of_hashed_bytes() {
-    ima_hashes_276_bytes();
 }

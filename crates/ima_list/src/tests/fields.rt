@@ -12,7 +12,7 @@ const FRONT: &[u8] = b"\x28\0\0\0sha256:\0";
 /// The field n-ng of this entry.
 const PATH: &[u8] = b"\x08\0\0\0/bin/sh\0";
 
-/// The bytes of the entry of `/bin/sh` with another payload: a front, a digest and a path's field, behind its length.
+/// The bytes of the entry of `/bin/sh` with another payload, length-prefixed: a front, a digest and a path's field.
 fn bytes_with(
     alloc: Global,
     length: &[u8],
@@ -98,7 +98,7 @@ fn empty_path(rt: HostRuntime) -> Result<(), Fail> {
     Ok(())
 }
 
-/// A path of the template `ima` stands without a NUL, and one that has any is no field.
+/// A path of the template `ima` has no NUL after it, and a path that has any is no field.
 #[test]
 fn fields_of_the_template_ima(rt: HostRuntime) -> Result<(), Fail> {
     let alloc = rt.alloc();

@@ -6,7 +6,7 @@ use super::{
 };
 use std::test::Fail;
 
-/// The register is right in two places, and nothing else of the line depends on it.
+/// The register is right-aligned to width 2, and nothing else of the line depends on it.
 #[test]
 fn registers_in_two_places(rt: HostRuntime) -> Result<(), Fail> {
     let alloc = rt.alloc();
@@ -38,7 +38,7 @@ fn lines_of_the_template_ima(rt: HostRuntime) -> Result<(), Fail> {
     Ok(())
 }
 
-/// An entry with no payload has nothing behind its name, known or not, and the space behind it.
+/// The line of an entry with no payload ends after its name and a space, whether the name is known or not.
 #[test]
 fn lines_without_a_payload(rt: HostRuntime) -> Result<(), Fail> {
     let alloc = rt.alloc();

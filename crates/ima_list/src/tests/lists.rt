@@ -1,11 +1,14 @@
 //! Lists that are read, their faults, and what is written back.
 
+use super::sending::assert_sent_byte_by_byte;
 use super::{
     EMPTY_ENTRY, MEASUREMENT, NAME_END, PAYLOAD_LENGTH, REGISTER_PLACE, VIOLATION, append_entry,
-    entry_of, ima_entry, joined, list_of, measurement_with, spelling_of,
+    entry_of, ima_entry, joined, list_of, measurement_with, spelling_of, violated, words_of,
 };
-use crate::laws::{checked_entries_are_entries, spellings_read_back};
-use crate::{ListFault, list_has_one_reading, no_spelling_begins_another, read_list};
+use crate::{ListFault, Template, read_list};
+use pcr_banks::Alg;
+use std::alloc::Global;
+use std::process::Abort;
 use std::test::Fail;
 
 /// A list of no entries needs no memory.
@@ -15,17 +18,14 @@ fn empty_list(rt: HostRuntime) -> Result<(), Fail> {
     Ok(())
 }
 
-/// Wants all its memory: the list with no fault is read once.
+/// The entry with no name and no payload, a name with a NUL, a violation, torn ends, and an entry sent byte by byte.
 #[test]
 fn entries_and_torn_ends(rt: HostRuntime) -> Result<(), Fail> {
     let alloc = rt.alloc();
-    assert_eq!(rt; EMPTY_ENTRY.len(), 32);
-    let entries = read_list(alloc, EMPTY_ENTRY)?;
-    assert_eq!(rt; entries.len(), 1);
-    assert_eq!(rt; entries[0].name(), b"".as_slice());
-    assert_eq!(rt; entries[0].payload(), b"".as_slice());
-    assert!(rt; entries[0].is_violation());
-    assert_eq!(rt; spelling_of(alloc, &entries[0])?.as_slice(), EMPTY_ENTRY);
+    assert_empty_entry(&rt, alloc)?;
+    assert_nul_kept(&rt, alloc)?;
+    let violation = violated(alloc, Template::ImaNg, Alg::Sha256, b"/etc/x")?;
+    assert_eq!(rt; spelling_of(alloc, &violation)?.as_slice(), VIOLATION);
     for (end, fault) in [
         (
             b"\x18\0\0\0".as_slice(),
@@ -38,13 +38,24 @@ fn entries_and_torn_ends(rt: HostRuntime) -> Result<(), Fail> {
         let bytes = joined(alloc, &[MEASUREMENT, end])?;
         assert_eq!(rt; list_of(alloc, &bytes).err(), Some(fault), "{end:?}");
     }
+    assert_sent_byte_by_byte(&rt, &entry_of(alloc, MEASUREMENT)?);
     Ok(())
 }
 
-/// The kernel's name with a NUL behind it is another name: the payload stands behind a length.
-#[test]
-fn nul_behind_a_name(rt: HostRuntime) -> Result<(), Fail> {
-    let alloc = rt.alloc();
+/// The shortest entry: its name and its payload are empty, and it is a violation.
+fn assert_empty_entry(rt: &impl Abort, alloc: Global) -> Result<(), Fail> {
+    assert_eq!(rt; EMPTY_ENTRY.len(), 32);
+    let entries = list_of(alloc, EMPTY_ENTRY)?;
+    assert_eq!(rt; entries.len(), 1);
+    assert_eq!(rt; entries[0].name(), b"".as_slice());
+    assert_eq!(rt; entries[0].payload(), b"".as_slice());
+    assert!(rt; entries[0].is_violation());
+    assert_eq!(rt; spelling_of(alloc, &entries[0])?.as_slice(), EMPTY_ENTRY);
+    Ok(())
+}
+
+/// The kernel's name with a NUL after it is another name: the payload is length-prefixed.
+fn assert_nul_kept(rt: &impl Abort, alloc: Global) -> Result<(), Fail> {
     let front = &EMPTY_ENTRY[..24];
     let bytes = joined(alloc, &[front, b"\x04\0\0\0ima\0\x02\0\0\0xy"])?;
     let entry = entry_of(alloc, &bytes)?;
@@ -152,32 +163,31 @@ fn list_read_after_a_refused_allocation(rt: HostRuntime) -> Result<(), Fail> {
 
 #[test]
 fn list_faults_in_words(rt: HostRuntime) -> Result<(), Fail> {
-    for (fault, words) in [
-        (ListFault::Truncated { entry: 0 }, "entry 0 is cut short"),
+    for (fault, number, entry, words) in [
+        (
+            ListFault::Truncated { entry: 0 },
+            1,
+            Some(0),
+            "entry 0 is cut short",
+        ),
         (
             ListFault::BadRegister { entry: 12 },
+            2,
+            Some(12),
             "entry 12 names a register of 24 or more",
         ),
         (
             ListFault::NameTooLong { entry: 3 },
+            3,
+            Some(3),
             "entry 3 has a path that is too long",
         ),
-        (ListFault::Memory, "out of memory"),
+        (ListFault::Memory, 4, None, "out of memory"),
     ] {
-        let text = match format!(in rt.alloc(); "{fault}") {
-            Ok(text) => text,
-            Err(_) => format!(in rt.alloc(); "{fault}")?,
-        };
+        assert_eq!(rt; fault.number(), number);
+        assert_eq!(rt; fault.entry(), entry);
+        let text = words_of(rt.alloc(), fault)?;
         assert_eq!(rt; text.as_str(), words);
     }
     Ok(())
-}
-
-/// The laws take nothing and do nothing.
-#[test]
-fn laws_of_lists() {
-    no_spelling_begins_another();
-    list_has_one_reading(MEASUREMENT);
-    spellings_read_back();
-    checked_entries_are_entries();
 }

@@ -1,11 +1,13 @@
 //! Lists replayed into registers.
 
 use super::{
-    DIGEST_PLACE, EMPTY_ENTRY, MEASUREMENT, PAYLOAD_PLACE, REGISTER_PLACE, VIOLATION, entry_of,
-    joined, list_of, measurement_with,
+    DIGEST_PLACE, EMPTY_ENTRY, MEASUREMENT, PAYLOAD_LENGTH, PAYLOAD_PLACE, REGISTER_PLACE,
+    VIOLATION, entry_of, joined, list_of, measurement_with, words_of,
 };
-use crate::{Fields, ReplayFault, replay, replay_goes_on};
-use pcr_banks::{Alg, AlgSet, Banks, Digest, hash};
+use crate::{Fields, ReplayFault, boot_aggregate, replay};
+use pcr_banks::{Alg, AlgSet, Banks, REGISTERS, hash};
+use std::alloc::Global;
+use std::process::Abort;
 use std::test::Fail;
 
 /// The banks of these examples at their start, of SHA-256 alone.
@@ -13,42 +15,77 @@ fn start() -> Banks {
     Banks::new(AlgSet::empty().with(Alg::Sha256), 0)
 }
 
+/// Replays of a measurement and of violations, a forged entry, payloads without fields, an empty path, and the boot
+/// aggregates of reset registers: all of this example but what the program shows.
 #[test]
-fn replay_and_fields(rt: HostRuntime) -> Result<(), Fail> {
+fn replay_and_fields_in_the_library(rt: HostRuntime) -> Result<(), Fail> {
     let alloc = rt.alloc();
-    let file = hash(Alg::Sha256, b"abc");
-    let path = b"/bin/sh";
-    let entry = entry_of(alloc, MEASUREMENT)?;
-    assert_eq!(rt; entry.fields(), Some(Fields { file, path }));
     let part = hash(Alg::Sha256, &MEASUREMENT[PAYLOAD_PLACE..]);
-    for (bytes, part) in [(MEASUREMENT, part.bytes()), (VIOLATION, &[0xFF; 32])] {
-        let entries = list_of(alloc, bytes)?;
-        let banks = replay(start(), &entries)?;
-        let once = hash(Alg::Sha256, &joined(alloc, &[&[0; 32], part])?);
-        for register in 0..24 {
-            let expected = match register {
-                10 => Some(once),
-                _ => start().read(Alg::Sha256, register),
-            };
-            assert_eq!(rt; banks.read(Alg::Sha256, register), expected);
-        }
-        for alg in [Alg::Sha1, Alg::Sha384] {
-            assert!(rt; !banks.active(alg));
-        }
+    assert_replayed(&rt, alloc, MEASUREMENT, part.bytes())?;
+    assert_replayed(&rt, alloc, VIOLATION, &[0xFF; 32])?;
+    let front = &MEASUREMENT[..DIGEST_PLACE];
+    let zeros = joined(alloc, &[front, &[0; 20], &MEASUREMENT[DIGEST_PLACE + 20..]])?;
+    assert_replayed(&rt, alloc, &zeros, &[0xFF; 32])?;
+    let forged = measurement_with(alloc, DIGEST_PLACE, 0x84)?;
+    let fault = ReplayFault::BadTemplateDigest { entry: 0 };
+    assert_eq!(rt; replay(start(), &list_of(alloc, &forged)?), Err(fault));
+    assert_fields(&rt, alloc)?;
+    assert_empty_path(&rt, alloc)?;
+    for (alg, count) in [(Alg::Sha1, 160), (Alg::Sha256, 320), (Alg::Sha384, 480)] {
+        let banks = Banks::new(AlgSet::empty().with(alg), 0);
+        let expected = hash(alg, &[0; 480][..count]);
+        assert_eq!(rt; boot_aggregate(&banks, alg), Some(expected));
+    }
+    assert_eq!(rt; boot_aggregate(&start(), Alg::Sha1), None);
+    Ok(())
+}
+
+/// The replay of one entry extends PCR 10 by this part, and changes nothing else.
+fn assert_replayed(rt: &impl Abort, alloc: Global, bytes: &[u8], part: &[u8]) -> Result<(), Fail> {
+    let banks = replay(start(), &list_of(alloc, bytes)?)?;
+    let once = hash(Alg::Sha256, &joined(alloc, &[&[0; 32], part])?);
+    for register in 0..REGISTERS {
+        let expected = match register {
+            10 => Some(once),
+            _ => start().read(Alg::Sha256, register),
+        };
+        assert_eq!(rt; banks.read(Alg::Sha256, register), expected);
+    }
+    for alg in [Alg::Sha1, Alg::Sha384] {
+        assert!(rt; !banks.active(alg));
     }
     Ok(())
 }
 
-/// An entry with the digest of a violation extends its register by all bits set, whatever its payload is.
-#[test]
-fn digest_of_zeros_is_a_violation(rt: HostRuntime) -> Result<(), Fail> {
-    let alloc = rt.alloc();
-    let front = &MEASUREMENT[..DIGEST_PLACE];
-    let bytes = joined(alloc, &[front, &[0; 20], &MEASUREMENT[DIGEST_PLACE + 20..]])?;
-    let entries = list_of(alloc, &bytes)?;
-    let banks = replay(start(), &entries)?;
-    let once = hash(Alg::Sha256, &joined(alloc, &[&[0; 32], &[0xFF; 32]])?);
-    assert_eq!(rt; banks.read(Alg::Sha256, 10), Some(once));
+/// The entry has fields, and none where its last byte is not a NUL, where a byte follows, or where the algorithm is not
+/// known.
+fn assert_fields(rt: &impl Abort, alloc: Global) -> Result<(), Fail> {
+    let file = hash(Alg::Sha256, b"abc");
+    let path = b"/bin/sh";
+    let entry = entry_of(alloc, MEASUREMENT)?;
+    assert_eq!(rt; entry.fields(), Some(Fields { file, path }));
+    let last = measurement_with(alloc, MEASUREMENT.len() - 1, 1)?;
+    let longer = measurement_with(alloc, PAYLOAD_LENGTH, 57)?;
+    let longer = joined(alloc, &[&longer, b"\0"])?;
+    let (front, after) = MEASUREMENT.split_at(PAYLOAD_PLACE + 4);
+    let unknown = joined(alloc, &[front, b"sha999", &after[6..]])?;
+    for bytes in [&last, &longer, &unknown] {
+        assert_eq!(rt; entry_of(alloc, bytes)?.fields(), None);
+    }
+    Ok(())
+}
+
+/// A field n-ng of a NUL alone is an empty path.
+fn assert_empty_path(rt: &impl Abort, alloc: Global) -> Result<(), Fail> {
+    let file = hash(Alg::Sha256, b"abc");
+    let front = &MEASUREMENT[..PAYLOAD_LENGTH];
+    let digest = &MEASUREMENT[PAYLOAD_PLACE..82];
+    let bytes = joined(alloc, &[front, b"\x31\0\0\0", digest, b"\x01\0\0\0\0"])?;
+    let path = b"";
+    assert_eq!(rt;
+        entry_of(alloc, &bytes)?.fields(),
+        Some(Fields { file, path })
+    );
     Ok(())
 }
 
@@ -103,17 +140,8 @@ fn replay_of_lists_joined(rt: HostRuntime) -> Result<(), Fail> {
 #[test]
 fn replay_fault_in_words(rt: HostRuntime) -> Result<(), Fail> {
     let fault = ReplayFault::BadTemplateDigest { entry: 12 };
-    let text = match format!(in rt.alloc(); "{fault}") {
-        Ok(text) => text,
-        Err(_) => format!(in rt.alloc(); "{fault}")?,
-    };
+    let text = words_of(rt.alloc(), fault)?;
     let words = "entry 12 has a template digest that is not its own";
     assert_eq!(rt; text.as_str(), words);
     Ok(())
-}
-
-/// The law takes nothing and does nothing.
-#[test]
-fn law_of_replay() {
-    replay_goes_on();
 }

@@ -3,7 +3,8 @@
 ghost use Rattle.std.specs.Prelude.{None};
 
 use super::{MEASUREMENT, entry_of};
-use crate::{Failed, Sink, send_entry};
+use crate::{Entry, Failed, Sink, send_entry};
+use std::process::Abort;
 use std::test::Fail;
 
 /// How many bytes a short sink takes at most.
@@ -51,13 +52,18 @@ impl Sink for OneByteSink {
 }
 
 /// Sending takes no memory: the sink has none to refuse.
-#[test]
-fn entry_sent_byte_by_byte(rt: HostRuntime) -> Result<(), Fail> {
-    let entry = entry_of(rt.alloc(), MEASUREMENT)?;
+pub(super) fn assert_sent_byte_by_byte(rt: &impl Abort, entry: &Entry) {
     let mut sink = OneByteSink::new(MOST);
-    assert_eq!(rt; send_entry(&entry, &mut sink), Ok(()));
+    assert_eq!(rt; send_entry(entry, &mut sink), Ok(()));
     assert_eq!(rt; sink.bytes(), MEASUREMENT);
     assert_eq!(rt; sink.failures, 0);
+}
+
+/// A sink that fails has a prefix of the entry.
+#[test]
+fn entry_sent_to_a_sink_that_fails(rt: HostRuntime) -> Result<(), Fail> {
+    let entry = entry_of(rt.alloc(), MEASUREMENT)?;
+    assert_sent_byte_by_byte(&rt, &entry);
     for room in [0, 3, 4, 24, 34, 38, 93] {
         let mut sink = OneByteSink::new(room);
         assert_eq!(rt; send_entry(&entry, &mut sink), Err(Failed));

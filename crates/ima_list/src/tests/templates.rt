@@ -1,6 +1,6 @@
 //! Templates, and why they have no entry.
 
-use super::{ALGS, MEASUREMENT, PAYLOAD_PLACE, filled_hash};
+use super::{MEASUREMENT, PAYLOAD_PLACE, filled_hash, words_of};
 use crate::{EntryFault, Template};
 use pcr_banks::{Alg, hash};
 use std::test::Fail;
@@ -82,7 +82,7 @@ fn template_faults_in_order(rt: HostRuntime) {
 
 #[test]
 fn ima_takes_sha1_alone(rt: HostRuntime) {
-    for alg in ALGS {
+    for alg in Alg::ALL {
         assert_eq!(rt; Template::Ima.check(alg, b"/").is_ok(), alg == Alg::Sha1);
         assert_eq!(rt; Template::ImaNg.check(alg, b"/"), Ok(()));
     }
@@ -96,7 +96,7 @@ fn digests_of_measurements(rt: HostRuntime) -> Result<(), Fail> {
     let sha256 = hash(Alg::Sha256, b"abc");
     Template::Ima.check(sha1.alg(), b"/bin/sh")?;
     Template::ImaNg.check(sha256.alg(), b"/bin/sh")?;
-    for by in ALGS {
+    for by in Alg::ALL {
         let answer = Template::Ima.digest_of(by, &sha1, b"/bin/sh");
         assert_eq!(rt; answer, filled_hash(by, &sha1, b"/bin/sh", &[0; 249]));
         let answer = Template::ImaNg.digest_of(by, &sha256, b"/bin/sh");
@@ -115,10 +115,7 @@ fn template_faults_in_words(rt: HostRuntime) -> Result<(), Fail> {
         (EntryFault::NulInPath, "the path has a NUL"),
         (EntryFault::PathTooLong, "the path is too long"),
     ] {
-        let text = match format!(in rt.alloc(); "{fault}") {
-            Ok(text) => text,
-            Err(_) => format!(in rt.alloc(); "{fault}")?,
-        };
+        let text = words_of(rt.alloc(), fault)?;
         assert_eq!(rt; text.as_str(), words);
     }
     Ok(())

@@ -4,11 +4,11 @@ use Rattle.ima_agent.proofs.loading.load.Given as goal
 
 abbrev pub invariant-loop-bytes : goal.invariant-loop-bytes
 invariant-loop-bytes g l =
-    let source = g.R.Source in
+    let state = g.R.Source.state in
     record {
-      lost : Consumes (source.remaining l.fn.source) (source.remaining l.source) l.bytes.items;
-      telling : is_some (source.remaining l.source) ≡ is_some (source.remaining l.fn.source);
-      failures : source.failures l.source ≡ source.failures l.fn.source;
+      lost : Consumes (state l.fn.source).remaining (state l.source).remaining l.bytes.items;
+      telling : is_some (state l.source).remaining ≡ is_some (state l.fn.source).remaining;
+      failures : (state l.source).failures ≡ (state l.fn.source).failures;
       within : vec_len l.bytes ≤ l.limit;
     }
 

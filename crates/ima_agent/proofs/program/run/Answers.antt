@@ -1,27 +1,34 @@
-use Rattle.std.proofs.Common.{refl, inl, inr}
-use Rattle.ima_agent.specs.Texts.{fault_line, fault_status}
+use Rattle.std.proofs.Common.{refl, Ok, Err, inl, inr}
 use Rattle.ima_agent.proofs.program.run.Goals as goal
 
-pub returns-in-Ok-send-clause-answers : goal.returns-in-Ok-send-clause-answers
-returns-in-Ok-send-clause-answers g c = record {
+pub returns-in-Ok-send : goal.returns-in-Ok-send
+returns-in-Ok-send g c = record {
   text = c.in-Ok.output.items;
   status = 0;
+  sent = Ok tt;
   output = inl (c.in-Ok.ensures.shown, refl);
-  written = inl (record { taken = rw (← c.deref.ensures.value) c.in-Ok-send.ensures.ok; failures_same = c.in-Ok-send.ensures.counts }, refl);
+  sends = rw (← c.deref.ensures.value) c.in-Ok-send.ensures;
+  answer_is = refl;
 }
 
-pub returns-in-Ok-clause-answers : goal.returns-in-Ok-clause-answers
-returns-in-Ok-clause-answers g c = record {
+pub returns-in-Ok : goal.returns-in-Ok
+returns-in-Ok g c = record {
   text = c.in-Ok.output.items;
   status = 0;
+  sent = Err c.in-Err-send.field-0;
   output = inl (c.in-Ok.ensures.shown, refl);
-  written = inr (record { taken = rw (← c.deref.ensures.value) c.in-Err-send.ensures.part; failed_once = c.in-Err-send.ensures.counts }, refl);
+  sends = rw (← c.deref.ensures.value) c.in-Err-send.ensures;
+  answer_is = refl;
 }
 
-pub returns-clause-answers : goal.returns-clause-answers
-returns-clause-answers g c = record {
-  text = fault_line c.in-Err.fault;
-  status = fault_status c.in-Err.fault;
-  output = inr (c.in-Err.fault, c.in-Err.ensures.fault, refl, refl);
-  written = inr (record { taken = c.in-Err-write_fault.ensures.part; failed_once = c.in-Err-write_fault.ensures.counts }, refl);
-}
+pub returns : goal.returns
+returns g c =
+    let said = c.failed.ensures in
+    record {
+      text = said.text;
+      status = said.status;
+      sent = said.sent;
+      output = inr (c.in-Err.fault, c.in-Err.ensures.fault, said.output.0, said.output.1);
+      sends = said.sends;
+      answer_is = said.answer_is;
+    }

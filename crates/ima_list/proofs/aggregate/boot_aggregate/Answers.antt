@@ -9,10 +9,12 @@ loop-register-init c = joined_at_first c.new-hasher.result c.args.banks.now c.ar
 
 pub returns-in_err-read-clause-value : goal.returns-in_err-read-clause-value
 returns-in_err-read-clause-value c =
-    let none = lacks_none c.args.banks.now c.args.alg c.aggregated-register-end.result c.loop-register.register c.aggregated-register-end.ensures c.loop-register-test.true c.in_err-read.ensures.value in
+    let none = lacks_none c.args.banks.now c.args.alg c.aggregated-register-end.result c.loop-register.register
+    c.aggregated-register-end.ensures c.loop-register-test.true c.in_err-read.ensures.value in
     c.from_residual.ensures ∙ ap (option_map (digest_of c.args.alg)) (sym none)
 
 pub loop-register-preserved : goal.loop-register-preserved
 loop-register-preserved c =
-    joined_next c.loop-register.hasher c.update.new.self c.args.banks.now c.args.alg c.loop-register.register c.in_ok-read.field-0 c.loop-register.invariant c.in_ok-read.ensures.value
+    joined_next c.loop-register.hasher c.update.new.self c.args.banks.now c.args.alg c.loop-register.register c.in_ok-read.field-0
+    c.loop-register.invariant c.in_ok-read.ensures.value
     (rw (← c.bytes.ensures.value) c.update.ensures)

@@ -3,14 +3,14 @@ use Rattle.std.specs.Prelude.{nat_lt, if◌then◌else◌}
 use Rattle.pcr_banks.specs.declared.alg.Alg.{Alg}
 use Rattle.pcr_banks.specs.declared.banks.Banks.{Banks}
 use Rattle.pcr_banks.specs.declared.sets.AlgSet.{AlgSet}
-use Rattle.pcr_banks.specs.Registers.{is_active, value_at, reset_value}
+use Rattle.pcr_banks.specs.Registers.{register_count, is_active, value_at, reset_value}
 use Rattle.pcr_banks.specs.Sets.{has_alg}
 use Rattle.pcr_banks.proofs.AlgLaws.{every_alg}
 use Rattle.pcr_banks.proofs.banks.Banks.new.Goals as goal
 
 abbrev HasResetValues : AlgSet → ℕ → Banks → Alg → Type 0
 HasResetValues algs locality banks a = (r : ℕ) → value_at banks a r
-    ≡ (if has_alg algs a && nat_lt r 24 then Some (reset_value a r locality) else None)
+    ≡ (if has_alg algs a && nat_lt r register_count then Some (reset_value a r locality) else None)
 
 pub returns : goal.returns
 returns c =

@@ -1,0 +1,9 @@
+use Rattle.std.proofs.Common.{take}
+use Rattle.std.specs.Prelude.{flat_map}
+use Rattle.byte_streams.proofs.SinkLaws.{Sent}
+use Rattle.ima_agent.specs.RegisterTexts.{all_registers, register_change}
+use Rattle.ima_agent.proofs.texts.registers.write_bank.Given as goal
+
+abbrev pub invariant-loop-register : goal.invariant-loop-register
+invariant-loop-register g l =
+    Sent (g.S.Sink.state l.initial.sink) (g.S.Sink.state l.sink) (flat_map (register_change l.now l.start l.alg) (take l.register all_registers))

@@ -1,0 +1,39 @@
+-- The lines of registers. All of this is this project's choice.
+use Rattle.std.specs.Prelude.{ℕ, Bool, true, not, List, [], ◌++◌, codes, decimal, bytes_eq, flat_map, if◌then◌else◌, Option, Some, None}
+use Rattle.std.specs.List.{range_with_len}
+use Rattle.hex.specs.Hex.{encode_lower}
+use Rattle.pcr_banks.specs.declared.alg.Alg.{Alg}
+use Rattle.pcr_banks.specs.declared.banks.Banks.{Banks}
+use Rattle.pcr_banks.specs.Hashing.{name_of, all_algs}
+use Rattle.pcr_banks.specs.Registers.{register_count, value_at}
+
+-- A register line: algorithm, register in decimal, value in lower case hexadecimal.
+abbrev pub register_line : Alg → ℕ → List ℕ → List ℕ
+register_line alg register value =
+    name_of alg ++ (codes " " ++ (decimal register ++ (codes " " ++ (encode_lower value ++ codes "\n"))))
+
+-- Whether a value is not the one before, or there was none.
+abbrev pub differs : Option (List ℕ) → List ℕ → Bool
+differs None value = true
+differs (Some before) value = not (bytes_eq before value)
+
+-- The line of a register that has a value other than before.
+abbrev pub change_line : Alg → ℕ → Option (List ℕ) → Option (List ℕ) → List ℕ
+change_line alg register before None = []
+change_line alg register before (Some value) = if differs before value then register_line alg register value else []
+
+-- The line of a register of a bank where it differs from the start.
+abbrev pub register_change : Banks → Banks → Alg → ℕ → List ℕ
+register_change now start alg register = change_line alg register (value_at start alg register) (value_at now alg register)
+
+-- The numbers of the registers, rising.
+unfoldable pub all_registers : List ℕ
+all_registers = range_with_len 0 register_count
+
+-- The lines of a bank, by rising registers.
+abbrev pub bank_text : Banks → Banks → Alg → List ℕ
+bank_text now start alg = flat_map (register_change now start alg) all_registers
+
+-- The lines of all banks, in the order of algorithms.
+abbrev pub registers_text : Banks → Banks → List ℕ
+registers_text now start = flat_map (bank_text now start) all_algs

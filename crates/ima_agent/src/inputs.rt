@@ -1,0 +1,69 @@
+//! The program's inputs, loaded whole.
+
+ghost use Rattle.std.specs.Prelude.{◌≡◌, ◌≤◌, ◌⊎◌, codes, vec_len, is_some, IfOk, IfErr, IfSome, OnOk};
+ghost use Rattle.std.specs.Option.{option_map_or};
+ghost use Rattle.ima_agent.specs.Loading.{input_limit, IsInputFault, IsLoadFaultOf, IsNotRead, IsTooLong};
+ghost use Rattle.ima_agent.specs.declared.fault.RunFault.{RunFault};
+
+use crate::fault::RunFault;
+use crate::files::Files;
+use crate::loading::{LoadFault, load};
+use byte_streams::Source;
+use std::alloc::Global;
+
+/// How many bytes an input may have.
+const INPUT_LIMIT: u64 = 64 * 1024 * 1024;
+
+/// What standard input is called.
+const STANDARD_INPUT: &str = "-";
+
+/// All bytes of an input, which are at most 64 MiB: those of the file of this name, or of standard input where there is no
+/// name. A fault names the input; standard input is called `-`.
+pub(crate) fn loaded<F: Files>(
+    alloc: Global,
+    files: &mut F,
+    name: Option<&str>,
+) -> Result<Vec<u8>, RunFault>
+    ensures within { IfOk result (λ bytes. vec_len bytes ≤ input_limit) }
+    ensures fault { IfErr result (IsInputFault (option_map_or (λ name. name.now) name.entry (codes "-"))) }
+{
+    let input = name.unwrap_or(STANDARD_INPUT);
+    match files.source(name) {
+        Ok(mut source) => loaded_from(alloc, &mut source, input),
+        Err(_) => Err(not_read(alloc, input)),
+    }
+}
+
+// All bytes of the source of the input of this name, which are at most 64 MiB.
+fn loaded_from<R: Source>(alloc: Global, source: &mut R, input: &str) -> Result<Vec<u8>, RunFault>
+    ensures all { IfOk result (λ bytes. IfSome (R.state source.old).remaining (λ left. bytes.items ≡ left)) }
+    ensures within { IfOk result (λ bytes. vec_len bytes ≤ input_limit) }
+    ensures fault { IfErr result (IsLoadFaultOf input.now (R.state source.old) (R.state source.new)) }
+{
+    match load(alloc, source, INPUT_LIMIT) {
+        Ok(bytes) => Ok(bytes),
+        Err(LoadFault::TooLong) => Err(too_long(alloc, input)),
+        Err(LoadFault::Source) => Err(not_read(alloc, input)),
+        Err(LoadFault::Memory) => Err(RunFault::Memory),
+    }
+}
+
+// The fault that the input of this name could not be opened, or failed.
+fn not_read(alloc: Global, input: &str) -> RunFault
+    ensures { IsNotRead input.now result ⊎ (result ≡ RunFault.Memory) }
+{
+    match String::from_str(alloc, input) {
+        Ok(input) => RunFault::Read(input),
+        Err(_) => RunFault::Memory,
+    }
+}
+
+// The fault that the input of this name has too many bytes.
+fn too_long(alloc: Global, input: &str) -> RunFault
+    ensures { IsTooLong input.now result ⊎ (result ≡ RunFault.Memory) }
+{
+    match String::from_str(alloc, input) {
+        Ok(input) => RunFault::TooLong(input),
+        Err(_) => RunFault::Memory,
+    }
+}

@@ -1,0 +1,92 @@
+//! The list of a real boot, made again by a book.
+
+use super::devices::{bytes_of, once_more};
+use super::real_boot::FIRMWARE_LOG;
+use super::real_boot_list::{REGISTER, entries_of, list_bytes, log_of};
+use ima_list::{Entry, Template};
+use measure_book::{Answer, Book, BookFault, Op, Origin, Receipt};
+use pcr_banks::{Alg, Digest};
+use std::alloc::{AllocError, Global};
+use std::test::Fail;
+
+/// Opens a book; once more where an allocation was refused.
+fn opened(alloc: Global, origin: Origin) -> Result<Book, BookFault> {
+    once_more(|| Book::open(alloc, origin))
+}
+
+/// Does an operation; once more where an allocation was refused.
+fn applied(book: &mut Book, op: &Op) -> Result<Receipt, BookFault> {
+    match book.apply(op) {
+        Err(BookFault::Memory) => book.apply(op),
+        answer => answer,
+    }
+}
+
+/// The operation that an entry comes of, where its file's digest is by an algorithm that we know; once more where an
+/// allocation was refused.
+fn operation_of(alloc: Global, entry: &Entry) -> Result<Option<Op>, AllocError> {
+    let Some(fields) = entry.fields() else {
+        return Ok(None);
+    };
+    let path = once_more(|| Vec::from_slice(alloc, fields.path))?;
+    Ok(Some(if entry.is_violation() {
+        Op::Violation { path }
+    } else {
+        Op::Measure {
+            path,
+            digest: fields.file,
+        }
+    }))
+}
+
+/// A book that starts with the registers of the boot's log and is fed what the entries of the boot's list tell, violations
+/// as violations, makes these very entries.
+///
+/// Compared are: the book's first entry, which is the book's own boot aggregate, with the list's; each later entry, in
+/// order, with the list's, but for the one entry whose digest is by SHA-512, which is no algorithm of ours and is left out;
+/// and PCR 10. With the entry that was left out put back in its place, the replay gives the PCR 10 that the TPM had
+/// (`samples/real-boot/expected.txt`); without it, it gives the book's.
+#[test]
+fn real_boot_book(rt: HostRuntime) -> Result<(), Fail> {
+    let alloc = rt.alloc();
+    let log = bytes_of(alloc, &[FIRMWARE_LOG])?;
+    let start = log_of(alloc, &log)?.registers();
+    let list = entries_of(alloc, &list_bytes(alloc)?)?;
+    let origin = Origin {
+        start,
+        template: Template::ImaNg,
+        alg: Alg::Sha256,
+        limit: 1000,
+    };
+    let mut book = opened(alloc, origin)?;
+    let mut whole = start;
+    let mut left_out = 0;
+    for (place, entry) in list.iter().enumerate() {
+        entry.replay_into(&mut whole);
+        let Some(op) = operation_of(alloc, entry)? else {
+            left_out += 1;
+            continue;
+        };
+        if place > 0 {
+            let answer = applied(&mut book, &op)?.answer;
+            assert!(rt; matches!(answer, Answer::Added(_)), "entry {place}");
+        }
+        let made = book.entries().last().ok_or("no entry")?;
+        assert!(rt; made == entry, "entry {place}");
+    }
+    assert_eq!(rt; left_out, 1);
+    assert_eq!(rt; book.entries().len() + left_out, list.len());
+    let mut without = start;
+    for entry in list.iter() {
+        if entry.fields().is_some() {
+            entry.replay_into(&mut without);
+        }
+    }
+    assert_eq!(rt; *book.banks(), without);
+    assert!(rt; book.banks().read(Alg::Sha256, 10) != whole.read(Alg::Sha256, 10));
+    assert_eq!(rt;
+        whole.read(Alg::Sha256, 10),
+        Digest::from_hex(Alg::Sha256, REGISTER)
+    );
+    Ok(())
+}
