@@ -172,16 +172,16 @@ fn gather_on_a_full_book(rt: HostRuntime) -> Result<(), Fail> {
 /// How many times each of two callers measures its file and reads the register.
 const ROUNDS: u8 = 50;
 
-/// Measures a file of this path, whose content is another each time, and reads the register after each measurement.
+/// Measures the caller's file, whose content is another each time, and reads the register after each measurement.
 fn measured_and_read<R: Wait>(
     rt: &R,
     alloc: Global,
     book: &Mutex<Book>,
-    path: &[u8],
+    caller: u8,
 ) -> Result<Vec<Outcome>, AllocError> {
     let mut outcomes = group_with_room(alloc, 2 * ROUNDS as usize)?;
     for round in 0..ROUNDS {
-        let op = measure(alloc, path, sha256(&[path[path.len() - 1], round]))?;
+        let op = measure(alloc, &[b'/', caller], sha256(&[caller, round]))?;
         outcomes.push(Outcome::of(applied(&mut book.lock(rt), &op)))?;
         let op = read(Alg::Sha256, 10);
         outcomes.push(Outcome::of(applied(&mut book.lock(rt), &op)))?;
@@ -200,15 +200,15 @@ fn two_callers<R: Threads + Wait + Sync>(
     Result<Vec<Outcome>, AllocError>,
 ) {
     thread::scope(thread::scope_env(), rt, |scope| {
-        let first = scope.spawn(|| measured_and_read(rt, alloc, book, b"/bin/1"));
-        let second = scope.spawn(|| measured_and_read(rt, alloc, book, b"/bin/2"));
+        let first = scope.spawn(|| measured_and_read(rt, alloc, book, b'1'));
+        let second = scope.spawn(|| measured_and_read(rt, alloc, book, b'2'));
         let first = match first {
             Ok(handle) => handle.join(rt),
-            Err(_) => measured_and_read(rt, alloc, book, b"/bin/1"),
+            Err(_) => measured_and_read(rt, alloc, book, b'1'),
         };
         let second = match second {
             Ok(handle) => handle.join(rt),
-            Err(_) => measured_and_read(rt, alloc, book, b"/bin/2"),
+            Err(_) => measured_and_read(rt, alloc, book, b'2'),
         };
         (first, second)
     })
