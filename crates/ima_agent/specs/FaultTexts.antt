@@ -1,9 +1,7 @@
 -- The line of a fault, and the exit status after it. All of this is this project's choice.
 use Rattle.std.specs.Prelude.{ℕ, List, [], ◌++◌, codes, decimal, Option, Some, None, string_bytes}
-use Rattle.boot_log.specs.declared.fault.LogFault.{LogFault}
 use Rattle.boot_log.specs.declared.fault.LogFault.TheVariants as logs
 use Rattle.boot_log.specs.Faults.{log_fault_number, log_fault_event}
-use Rattle.ima_list.specs.declared.fault.ListFault.{ListFault}
 use Rattle.ima_list.specs.declared.fault.ListFault.TheVariants as lists
 use Rattle.ima_list.specs.ListFaults.{list_fault_number, list_fault_entry}
 use Rattle.ima_agent.specs.declared.fault.RunFault.{RunFault}
