@@ -1,0 +1,6 @@
+pub mod Jobs
+pub mod Faults
+pub mod Taking
+pub mod Working
+pub mod Ending
+pub mod Batches
