@@ -3,3 +3,7 @@ pub mod HistoryLaws
 pub mod RunLaws
 pub mod GatherLaws
 pub mod MarkLaws
+pub mod OriginLaws
+pub mod AccountLaws
+pub mod ExportLaws
+pub mod AnswerLaws

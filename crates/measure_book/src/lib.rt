@@ -4,14 +4,20 @@
 
 mod answering;
 mod book;
+mod export;
 mod fault;
 mod gathers;
+pub mod laws;
 mod op;
 mod origin;
 mod refusing;
 
 pub use book::Book;
+pub use export::ExportFault;
 pub use fault::BookFault;
 pub use gathers::{GatherFault, gather};
 pub use op::{Answer, Op, Outcome, Receipt, Record};
 pub use origin::Origin;
+
+#[cfg(test)]
+mod tests;
