@@ -1,11 +1,12 @@
 //! What one worker does.
 
-ghost use Rattle.std.specs.Prelude.{◌≡◌, ◌<◌, ◌≤◌, ◌++◌, ◌∷◌, [], length, map, slice_index, IfErr, OnErr, OnOk, IfOk, MatchResult};
+ghost use Rattle.std.specs.Prelude.{◌≡◌, ◌<◌, length, map, slice_get, OnErr, MatchResult, option_map};
+ghost use Rattle.std.specs.Option.{option_copied};
 ghost use Rattle.measure_book.specs.Operations.{book_op_of, book_outcome_of};
-ghost use Rattle.hash_workers.specs.Jobs.{operation_of, operations_of};
+ghost use Rattle.hash_workers.specs.Jobs.{operations_of};
 ghost use Rattle.hash_workers.specs.Taking.{FollowsCut};
 ghost use Rattle.hash_workers.specs.Working.{IsWorked};
-ghost use Rattle.hash_workers.specs.Ending.{IsEnd, StopsFor, TakesOne};
+ghost use Rattle.hash_workers.specs.Ending.{IsEnd, KeepsOne, StopsFor, TakesOne, TellsAll};
 
 use crate::cut::Cut;
 use crate::gate::Gate;
@@ -66,6 +67,8 @@ pub(crate) fn take_jobs<B: Recorder, G: Gate>(
     ensures taken { FollowsCut cut.workers cut.count cut.next result.taken.items }
     ensures worked { IsWorked origin.now (operations_of origin.now.alg jobs.now) result.taken.items (map book_outcome_of result.outcomes.items) }
     ensures end { IsEnd cut.workers cut.count cut.next result.taken.items result.end }
+    ensures told { TellsAll origin.now (operations_of origin.now.alg jobs.now) (B.told recorder.old) (B.told recorder.new)
+        result.taken.items (map book_outcome_of result.outcomes.items) result.end }
 {
     let mut work = Work {
         taken: Vec::new(alloc),
@@ -73,9 +76,12 @@ pub(crate) fn take_jobs<B: Recorder, G: Gate>(
         end: End::NoneLeft,
     };
     while let Some(number) = cut.draw() {
-        if let Err(end) = work.take(alloc, recorder, origin, jobs, number, gate) {
-            work.end = end;
-            return work;
+        match work.take(alloc, recorder, origin, jobs, number, gate) {
+            Ok(()) => (),
+            Err(end) => {
+                work.end = end;
+                return work;
+            }
         }
     }
     work
@@ -95,8 +101,9 @@ impl Work {
         requires { number < length jobs.now }
         ensures takes { MatchResult result
             (λ _. TakesOne origin.now (operations_of origin.now.alg jobs.now) number self.old.taken.items self.new.taken.items
-                (map book_outcome_of self.old.outcomes.items) (map book_outcome_of self.new.outcomes.items))
-            (λ end. StopsFor end) }
+                (map book_outcome_of self.old.outcomes.items) (map book_outcome_of self.new.outcomes.items)
+                (B.told recorder.old) (B.told recorder.new))
+            (λ end. StopsFor origin.now (B.told recorder.old) (B.told recorder.new) end) }
         ensures refused { OnErr result ((self.new.taken.items ≡ self.old.taken.items) × (self.new.outcomes.items ≡ self.old.outcomes.items)) }
         ensures end { self.new.end ≡ self.old.end }
     {
@@ -116,6 +123,13 @@ impl Work {
         number: u32,
         op: Option<&Op>,
     ) -> Result<(), End>
+        ensures keeps { MatchResult result
+            (λ _. KeepsOne origin.now (option_map book_op_of (option_copied op.entry)) number self.old.taken.items self.new.taken.items
+                (map book_outcome_of self.old.outcomes.items) (map book_outcome_of self.new.outcomes.items)
+                (B.told recorder.old) (B.told recorder.new))
+            (λ end. StopsFor origin.now (B.told recorder.old) (B.told recorder.new) end) }
+        ensures refused { OnErr result ((self.new.taken.items ≡ self.old.taken.items) × (self.new.outcomes.items ≡ self.old.outcomes.items)) }
+        ensures end { self.new.end ≡ self.old.end }
     {
         self.taken.reserve(1)?;
         self.outcomes.reserve(1)?;
