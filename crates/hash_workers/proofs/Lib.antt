@@ -1,1 +1,4 @@
 pub mod WorkLaws
+pub mod ScatterLaws
+pub mod EndLaws
+pub mod CutLaws

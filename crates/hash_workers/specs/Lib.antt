@@ -3,4 +3,6 @@ pub mod Faults
 pub mod Taking
 pub mod Working
 pub mod Ending
+pub mod Seats
+pub mod Scattering
 pub mod Batches

@@ -14,6 +14,20 @@ pub(crate) struct Cut {
 }
 
 impl Cut {
+    /// The cut of one worker, which has taken no job yet.
+    pub(crate) fn of(worker: usize, workers: usize, count: usize) -> Self
+        requires known { worker < workers }
+        requires few { workers ≤ 8 }
+        requires small { count < 2 ^ 32 }
+        ensures { (result.next ≡ worker) × (result.workers ≡ workers) × (result.count ≡ count) }
+    {
+        Cut {
+            next: worker,
+            workers,
+            count,
+        }
+    }
+
     /// Takes the next job, if one is left.
     pub(crate) fn draw(&mut self) -> Option<u32>
         ensures some { IfSome result (λ job. (job ≡ self.old.next) × (job < self.old.count)
