@@ -145,12 +145,38 @@ cuts_rise origin ops workers count works some are = record {
 pub works_pair : (origin : Origin) (ops : List BookOp) (workers count : ℕ) (works : List Work) → AreWorksOf origin ops workers count works
     → ArePairs (map taken_of works) (map outcomes_of works)
 works_pair origin ops workers count works are = record {
-  workers = length-map outcomes_of works ∙ sym (length-map taken_of works);
+  workers = length-map works outcomes_of ∙ sym (length-map works taken_of);
   each = λ worker taken group has_taken has_group.
     let here = map_at taken_of works worker taken has_taken in
     let there = map_at outcomes_of works worker group has_group in
     let same : here.0 ≡ there.0 = same_Some here.0 there.0 (sym here.1 ∙ there.1) in
     let pairs = (are.each worker here.0 here.1).worked.pairs in
-    let mapped = length-map book_outcome_of here.0.outcomes.items in
+    let mapped = length-map here.0.outcomes.items book_outcome_of in
     ap length (sym there.2 ∙ ap outcomes_of (sym same)) ∙ sym mapped ∙ pairs ∙ ap length here.2;
 }
+
+-- ---- the same of what the code shows
+
+no_end_of : (works shown : List Work) (end : End) → shown ≡ works → HasNoEnd shown end (length shown) → HasNoEnd works end (length works)
+no_end_of works shown end is none = let At : List Work → Type 0 = λ ws. HasNoEnd ws end (length ws) in subst At is none
+
+pub hands_of : (origin : Origin) (ops : List BookOp) (workers count n : ℕ) (works first second : List Work) (takings : List (List ℕ)) → 0 < workers → n ≡ count
+    → AreWorksOf origin ops workers count works → first ≡ works → HasNoEnd first OutOfMemory (length first) → second ≡ works → HasNoEnd second ForeignBook (length second)
+    → takings ≡ map taken_of works → HandsOutEach n takings
+hands_of origin ops workers count n works first second takings some size are first_is not_memory second_is not_foreign is =
+    let At : List (List ℕ) → Type 0 = λ ts. HandsOutEach n ts in
+    let Of : ℕ → Type 0 = λ m. HandsOutEach m (map taken_of works) in
+    subst At (sym is) (subst Of (sym size)
+      (cuts_hand_out origin ops workers count works some are (no_end_of works first OutOfMemory first_is not_memory) (no_end_of works second ForeignBook second_is not_foreign)))
+
+pub rises_of : (origin : Origin) (ops : List BookOp) (workers count : ℕ) (works : List Work) (takings : List (List ℕ)) → 0 < workers → AreWorksOf origin ops workers count works
+    → takings ≡ map taken_of works → RiseForEach takings
+rises_of origin ops workers count works takings some are is =
+    let At : List (List ℕ) → Type 0 = λ ts. RiseForEach ts in subst At (sym is) (cuts_rise origin ops workers count works some are)
+
+pub pairs_of : (origin : Origin) (ops : List BookOp) (workers count : ℕ) (works : List Work) (takings : List (List ℕ)) (groups : List (List Outcome)) → AreWorksOf origin ops workers count works
+    → takings ≡ map taken_of works → groups ≡ map outcomes_of works → ArePairs takings groups
+pairs_of origin ops workers count works takings groups are is groups_are =
+    let At : List (List ℕ) → Type 0 = λ ts. ArePairs ts groups in
+    let Of : List (List Outcome) → Type 0 = λ gs. ArePairs (map taken_of works) gs in
+    subst At (sym is) (subst Of (sym groups_are) (works_pair origin ops workers count works are))

@@ -2,3 +2,5 @@ pub mod WorkLaws
 pub mod ScatterLaws
 pub mod EndLaws
 pub mod CutLaws
+pub mod BatchLaws
+pub mod FaultLaws
