@@ -22,11 +22,11 @@ pub no_end_more : (works : List Work) (end : End) (i : ℕ) (work : Work) (b : B
     → b ≡ sameb ends.the_type work.end end → b ≡ false → HasNoEnd works end i → HasNoEnd works end (i + 1)
 no_end_more works end i work b within is test fails none = record {
   each = λ worker other below has. elim (cases_lt worker i) [
-    inl less ↦ none.each worker other less has
-  | inr more ↦ λ ends_so.
-      let same : worker ≡ i = omega arith in
-      let here = slice_get_read works (length works) i work refl within is in
-      let one : work ≡ other = same_Some work other (sym here ∙ ap (slice_get works) (sym same) ∙ has) in
-      true≢false (sym (true_same ends.the_type work.end end (ap (λ (w : Work). w.end) one ∙ ends_so)) ∙ (sym test ∙ fails))
+    | inl less ↦ none.each worker other less has
+    | inr more ↦ λ ends_so.
+        let same : worker ≡ i = omega arith in
+        let here = slice_get_read works (length works) i work refl within is in
+        let one : work ≡ other = same_Some work other (sym here ∙ ap (slice_get works) (sym same) ∙ has) in
+        true≢false (sym (true_same ends.the_type work.end end (ap (λ (w : Work). w.end) one ∙ ends_so)) ∙ (sym test ∙ fails))
   ];
 }

@@ -32,7 +32,8 @@ pub record HasJob (outcomes : List BookOutcome) (place : ℕ) : Type 0 where
   pub place_is : receipt.place ≡ place
 
 -- Each job has one outcome: `by` has the worker of each job.
-pub record IsBatch (origin : Origin) (ops : List BookOp) (workers : ℕ) (book : BookState) (outcomes : List BookOutcome) (by : List ℕ) : Type 0 where
+pub record IsBatch (origin : Origin) (ops : List BookOp) (workers : ℕ) (book : BookState) (outcomes : List BookOutcome) (by : List ℕ) :
+    Type 0 where
   -- The book has the given origin.
   pub origin_is : book.origin ≡ origin
   -- There is one outcome and one worker for each job.

@@ -21,7 +21,8 @@ Leaves origin None before after outcome = (outcome ≡ refused Memory) × (after
 Leaves origin (Some op) before after outcome = IsEntered origin before after op outcome
 
 -- The book that is told after one operation.
-pub record ToldAfterOp (origin : Origin) (now_told : Option BookState) (before : BookState) (op : Option BookOp) (outcome : BookOutcome) : Type 0 where
+pub record ToldAfterOp (origin : Origin) (now_told : Option BookState) (before : BookState) (op : Option BookOp) (outcome : BookOutcome)
+    : Type 0 where
   pub after : BookState
   pub tells : now_told ≡ Some after
   pub leaves : Leaves origin op before after outcome
@@ -41,14 +42,16 @@ pub record KeepsOne (origin : Origin) (op : Option BookOp) (job : ℕ) (taken no
 -- ---- a job
 
 -- The book that is told after one job.
-pub record ToldAfterJob (origin : Origin) (ops : List BookOp) (now_told : Option BookState) (before : BookState) (job : ℕ) (outcome : BookOutcome) : Type 0 where
+pub record ToldAfterJob (origin : Origin) (ops : List BookOp) (now_told : Option BookState) (before : BookState) (job : ℕ)
+    (outcome : BookOutcome) : Type 0 where
   pub after : BookState
   pub tells : now_told ≡ Some after
   pub records : after.records ≡ records_after before.records outcome
   pub is_done : IsDoneAfter origin ops before.records job outcome
 
-pub record TellsJob (origin : Origin) (ops : List BookOp) (told now_told : Option BookState) (job : ℕ) (outcome : BookOutcome) : Type 0 where
-  pub each : (book : BookState) → told ≡ Some book → ToldAfterJob origin ops now_told book job outcome
+pub record TellsJob (origin : Origin) (ops : List BookOp) (told now_told : Option BookState) (job : ℕ) (outcome : BookOutcome) : Type 0
+  where
+    pub each : (book : BookState) → told ≡ Some book → ToldAfterJob origin ops now_told book job outcome
 
 -- The job is taken, with an outcome of its own.
 pub record TakesOne (origin : Origin) (ops : List BookOp) (job : ℕ) (taken now_taken : List ℕ) (outcomes now_outcomes : List BookOutcome)

@@ -12,7 +12,8 @@ pub record AreBelow (count : ℕ) (taken : List ℕ) : Type 0 where
   pub each : (index job : ℕ) → slice_get taken index ≡ Some job → job < count
 
 pub record Rise (taken : List ℕ) : Type 0 where
-  pub each : (first second earlier later : ℕ) → first < second → slice_get taken first ≡ Some earlier → slice_get taken second ≡ Some later → earlier < later
+  pub each : (first second earlier later : ℕ) → first < second → slice_get taken first ≡ Some earlier
+      → slice_get taken second ≡ Some later → earlier < later
 
 -- From an index on, the worker's jobs have what it has for them.
 pub record ArePlaced {X : Type 0} (taken : List ℕ) (group : List X) (worker from : ℕ) (outcomes : List X) (by : List ℕ) : Type 0 where
@@ -37,6 +38,8 @@ abbrev pub got_at : {X : Type 0} → List (List X) → ℕ → ℕ → Option X
 got_at groups worker index = option_and_then (λ group. slice_get group index) (slice_get groups worker)
 
 -- The jobs of all workers from this one on have what the workers have for them.
-pub record AreScattered {X : Type 0} (takings : List (List ℕ)) (groups : List (List X)) (first : ℕ) (outcomes : List X) (by : List ℕ) : Type 0 where
-  pub each : (worker index job : ℕ) (outcome : X) → first ≤ worker → Took takings worker index job → got_at groups worker index ≡ Some outcome
+pub record AreScattered {X : Type 0} (takings : List (List ℕ)) (groups : List (List X)) (first : ℕ) (outcomes : List X) (by : List ℕ) :
+    Type 0 where
+  pub each : (worker index job : ℕ) (outcome : X) → first ≤ worker → Took takings worker index job
+      → got_at groups worker index ≡ Some outcome
       → (slice_get outcomes job ≡ Some outcome) × (slice_get by job ≡ Some worker)

@@ -116,10 +116,7 @@ fn places(alloc: Global, count: usize) -> Result<Vec<Outcome>, AllocError>
 }
 
 // The jobs and the outcomes of each worker, apart.
-fn split(
-    alloc: Global,
-    works: Vec<Work>,
-) -> Result<(Vec<Vec<u32>>, Vec<Vec<Outcome>>), AllocError>
+fn split(alloc: Global, works: Vec<Work>) -> Result<(Vec<Vec<u32>>, Vec<Vec<Outcome>>), AllocError>
     ensures takings { IfOk result (λ lists. map items_of lists.0.items ≡ map taken_of works.items) }
     ensures groups { IfOk result (λ lists. map items_of lists.1.items ≡ map outcomes_of works.items) }
 {

@@ -47,11 +47,7 @@ pub(crate) fn fan_out<R: Threads + Wait + Sync, G: Gate + Sync>(
 }
 
 // The cuts of all workers, which take this number of jobs in all.
-fn cuts_of(
-    alloc: Global,
-    workers: usize,
-    count: usize,
-) -> Result<Vec<Cut>, AllocError>
+fn cuts_of(alloc: Global, workers: usize, count: usize) -> Result<Vec<Cut>, AllocError>
     requires few { workers ≤ 8 }
     requires small { count < 2 ^ 32 }
     ensures len { IfOk result (λ cuts. vec_len cuts ≡ workers) }

@@ -15,3 +15,6 @@ pub use batch::{Batch, measure_files};
 pub use fault::AgentFault;
 pub use gate::{Gate, NoGate};
 pub use job::{Job, op_of};
+
+#[cfg(test)]
+mod tests;

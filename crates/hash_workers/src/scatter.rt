@@ -28,7 +28,13 @@ pub(crate) fn scatter(
 }
 
 // Puts the outcomes of one worker to its jobs.
-fn place(outcomes: &mut Vec<Outcome>, by: &mut Vec<u32>, worker: u32, taken: &[u32], mut group: Vec<Outcome>)
+fn place(
+    outcomes: &mut Vec<Outcome>,
+    by: &mut Vec<u32>,
+    worker: u32,
+    taken: &[u32],
+    mut group: Vec<Outcome>,
+)
     requires below { AreBelow (vec_len outcomes.old) taken.now }
     requires rise { Rise taken.now }
     requires pairs { vec_len group ≡ length taken.now }

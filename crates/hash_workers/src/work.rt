@@ -101,8 +101,8 @@ impl Work {
         requires { number < length jobs.now }
         ensures takes { MatchResult result
             (λ _. TakesOne origin.now (operations_of origin.now.alg jobs.now) number self.old.taken.items self.new.taken.items
-                (map book_outcome_of self.old.outcomes.items) (map book_outcome_of self.new.outcomes.items)
-                (B.told recorder.old) (B.told recorder.new))
+            (map book_outcome_of self.old.outcomes.items) (map book_outcome_of self.new.outcomes.items)
+            (B.told recorder.old) (B.told recorder.new))
             (λ end. StopsFor origin.now (B.told recorder.old) (B.told recorder.new) end) }
         ensures refused { OnErr result ((self.new.taken.items ≡ self.old.taken.items) × (self.new.outcomes.items ≡ self.old.outcomes.items)) }
         ensures end { self.new.end ≡ self.old.end }
@@ -125,8 +125,8 @@ impl Work {
     ) -> Result<(), End>
         ensures keeps { MatchResult result
             (λ _. KeepsOne origin.now (option_map book_op_of (option_copied op.entry)) number self.old.taken.items self.new.taken.items
-                (map book_outcome_of self.old.outcomes.items) (map book_outcome_of self.new.outcomes.items)
-                (B.told recorder.old) (B.told recorder.new))
+            (map book_outcome_of self.old.outcomes.items) (map book_outcome_of self.new.outcomes.items)
+            (B.told recorder.old) (B.told recorder.new))
             (λ end. StopsFor origin.now (B.told recorder.old) (B.told recorder.new) end) }
         ensures refused { OnErr result ((self.new.taken.items ≡ self.old.taken.items) × (self.new.outcomes.items ≡ self.old.outcomes.items)) }
         ensures end { self.new.end ≡ self.old.end }

@@ -6,5 +6,5 @@ use Rattle.hash_workers.proofs.batch.split.Given as goal
 abbrev pub invariant-loop-work : goal.invariant-loop-work
 invariant-loop-work l = record {
   takings : map items_of l.takings.items ≡ map taken_of l.yielded;
-  groups : map items_of l.groups.items ≡ map outcomes_of l.yielded
+  groups : map items_of l.groups.items ≡ map outcomes_of l.yielded;
 }

@@ -6,5 +6,5 @@ abbrev pub invariant-loop-worker : goal.invariant-loop-worker
 invariant-loop-worker l = record {
   len : vec_len l.cuts ≡ l.worker;
   room : l.workers ≤ vec_capacity l.cuts;
-  each : (worker : ℕ) (d : _) → worker < l.worker → IsCutOf l.workers l.count worker (get_or l.cuts.items worker d)
+  each : (worker : ℕ) (d : _) → worker < l.worker → IsCutOf l.workers l.count worker (get_or l.cuts.items worker d);
 }

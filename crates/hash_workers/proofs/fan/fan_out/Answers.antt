@@ -10,10 +10,10 @@ returns g c =
     record {
       one_each = omega arith;
       each = λ worker work here.
-        let within = slice_get_within c.in_ok-works.works.items worker work here in
-        let inside : worker < length c.in_ok-cuts.cuts.items = omega arith in
-        let gives = (c.in_ok-works.ensures.each worker work inside).1 in
-        work_of _ _ c.args.workers (length c.args.jobs.now) worker c.in_ok-cuts.cuts.items gives.job _ work
-        (c.in_ok-cuts.ensures.each worker gives.job (omega arith)) (gives.job_is gives.job)
-        (get_or_from_slice_get c.in_ok-works.works.items worker work work here) gives.call.met;
+          let within = slice_get_within c.in_ok-works.works.items worker work here in
+          let inside : worker < length c.in_ok-cuts.cuts.items = omega arith in
+          let gives = (c.in_ok-works.ensures.each worker work inside).1 in
+          work_of _ _ c.args.workers (length c.args.jobs.now) worker c.in_ok-cuts.cuts.items gives.job _ work
+          (c.in_ok-cuts.ensures.each worker gives.job (omega arith)) (gives.job_is gives.job)
+          (get_or_from_slice_get c.in_ok-works.works.items worker work work here) gives.call.met;
     }

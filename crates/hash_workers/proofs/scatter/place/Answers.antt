@@ -13,17 +13,22 @@ loop-outcome-preserved c =
     let inside : c.len.result < length c.args.taken.now = omega arith in
     let At : ℕ → Type 0 = λ i. slice_get c.args.taken.now i ≡ Some (get_or c.args.taken.now c.len.result 0) in
     let took : slice_get c.args.taken.now (vec_len c.pop.new.self) ≡ Some (get_or c.args.taken.now c.len.result 0) =
-        subst At at (slice_get-get_or c.args.taken.now c.len.result 0 inside) in
+    subst At at (slice_get-get_or c.args.taken.now c.len.result 0 inside) in
     let below : get_or c.args.taken.now c.len.result 0 < vec_len c.args.outcomes.now = c.requires.below.each _ _ took in
     let sizes = c.requires.sizes in
-    let got = front_last c.args.group.items c.loop-outcome.group.items c.pop.new.self.items c.in-Some.outcome (vec_len c.pop.new.self) popped (omega arith) kept.front in
+    let got = front_last c.args.group.items c.loop-outcome.group.items c.pop.new.self.items c.in-Some.outcome (vec_len c.pop.new.self)
+    popped (omega arith) kept.front in
     record {
       within = omega arith;
       front = front_less c.args.group.items c.loop-outcome.group.items c.pop.new.self.items c.in-Some.outcome popped kept.front;
-      placed = placed_more c.args.taken.now c.args.group.items c.loop-outcome.outcomes.items c.loop-outcome.by.items c.args.worker (vec_len c.pop.new.self)
-          (vec_len c.loop-outcome.group) (get_or c.args.taken.now c.len.result 0) c.in-Some.outcome step c.requires.rise took got (omega arith) (omega arith) kept.placed;
-      kept = kept_more c.args.taken.now c.args.outcomes.now.items c.loop-outcome.outcomes.items c.args.by.now.items c.loop-outcome.by.items c.args.worker
-          (vec_len c.pop.new.self) (vec_len c.loop-outcome.group) (get_or c.args.taken.now c.len.result 0) c.in-Some.outcome step took kept.kept;
+      placed = placed_more c.args.taken.now c.args.group.items c.loop-outcome.outcomes.items c.loop-outcome.by.items c.args.worker
+          (vec_len c.pop.new.self)
+          (vec_len c.loop-outcome.group) (get_or c.args.taken.now c.len.result 0) c.in-Some.outcome step c.requires.rise took got
+          (omega arith) (omega arith) kept.placed;
+      kept = kept_more c.args.taken.now c.args.outcomes.now.items c.loop-outcome.outcomes.items c.args.by.now.items
+          c.loop-outcome.by.items c.args.worker
+          (vec_len c.pop.new.self) (vec_len c.loop-outcome.group) (get_or c.args.taken.now c.len.result 0) c.in-Some.outcome step took
+          kept.kept;
       outcomes_len = search rules;
       by_len = search rules;
     }

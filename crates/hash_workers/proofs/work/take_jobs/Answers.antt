@@ -4,7 +4,8 @@ use Rattle.hash_workers.proofs.work.take_jobs.Goals as goal
 
 pub returns-in-Err-clause-told : goal.returns-in-Err-clause-told
 returns-in-Err-clause-told g c =
-    stop_tells c.args.origin.now _ _ _ _ _ _ _ _ c.in-Err.end c.in-Err.ensures.refused.0 c.in-Err.ensures.refused.1 c.loop-number.invariant.tells c.in-Err.ensures.takes
+    stop_tells c.args.origin.now _ _ _ _ _ _ _ _ c.in-Err.end c.in-Err.ensures.refused.0 c.in-Err.ensures.refused.1
+    c.loop-number.invariant.tells c.in-Err.ensures.takes
 
 pub loop-number-preserved : goal.loop-number-preserved
 loop-number-preserved g c =

@@ -16,7 +16,7 @@ invariant-loop-number g l = record {
   worked : IsWorked l.origin (operations_of l.origin.alg l.jobs) l.work.taken.items (map book_outcome_of l.work.outcomes.items);
   tells : TellsAll l.origin (operations_of l.origin.alg l.jobs) (g.B.Recorder.told l.fn.recorder) (g.B.Recorder.told l.recorder)
       l.work.taken.items (map book_outcome_of l.work.outcomes.items) NoneLeft;
-  end : l.work.end ≡ NoneLeft
+  end : l.work.end ≡ NoneLeft;
 }
 
 abbrev pub decreases-loop-number : goal.decreases-loop-number
