@@ -1,0 +1,6 @@
+pub mod WorkLaws
+pub mod ScatterLaws
+pub mod EndLaws
+pub mod CutLaws
+pub mod BatchLaws
+pub mod FaultLaws

@@ -1,0 +1,56 @@
+-- What the jobs became, in the order of the jobs (this project's choice).
+use Rattle.std.specs.Prelude.{◌≡◌, ◌≢◌, ℕ, ◌<◌, List, length, slice_get, Some}
+use Rattle.measure_book.specs.declared.origin.Origin.{Origin}
+use Rattle.measure_book.specs.declared.fault.BookFault.{BookFault}
+use Rattle.measure_book.specs.declared.fault.BookFault.TheVariants.{Memory}
+use Rattle.measure_book.specs.Operations.{BookOp, BookReceipt, BookOutcome, done, refused}
+use Rattle.measure_book.specs.Histories.{refusal_of}
+use Rattle.measure_book.specs.Groups.{NamesRecord}
+use Rattle.measure_book.specs.Books.{BookState}
+
+-- The job is done, with this receipt.
+abbrev pub IsDone : List BookOutcome → ℕ → BookReceipt → Type 0
+IsDone outcomes job receipt = slice_get outcomes job ≡ Some (done receipt)
+
+-- The receipt is one of this job's operation.
+pub record IsReceiptOfJob (ops : List BookOp) (job : ℕ) (receipt : BookReceipt) : Type 0 where
+  pub op : BookOp
+  pub has : slice_get ops job ≡ Some op
+  pub operation : receipt.operation ≡ op
+
+-- After this number of records, this is the first cause against the operation of the job.
+pub record IsRefusalOfJob (origin : Origin) (ops : List BookOp) (count job : ℕ) (fault : BookFault) : Type 0 where
+  pub op : BookOp
+  pub has : slice_get ops job ≡ Some op
+  pub refusal : refusal_of origin count op ≡ Some fault
+
+-- Some job has the receipt of the record at this place.
+pub record HasJob (outcomes : List BookOutcome) (place : ℕ) : Type 0 where
+  pub job : ℕ
+  pub receipt : BookReceipt
+  pub is_done : IsDone outcomes job receipt
+  pub place_is : receipt.place ≡ place
+
+-- Each job has one outcome: `by` has the worker of each job.
+pub record IsBatch (origin : Origin) (ops : List BookOp) (workers : ℕ) (book : BookState) (outcomes : List BookOutcome) (by : List ℕ) :
+    Type 0 where
+  -- The book has the given origin.
+  pub origin_is : book.origin ≡ origin
+  -- There is one outcome and one worker for each job.
+  pub outcomes_of_all : length outcomes ≡ length ops
+  pub workers_of_all : length by ≡ length ops
+  pub worker_below : (job worker : ℕ) → slice_get by job ≡ Some worker → worker < workers
+  -- Each receipt is one of its job's operation, and names its record.
+  pub receipts : (job : ℕ) (receipt : BookReceipt) → IsDone outcomes job receipt → IsReceiptOfJob ops job receipt
+  pub names : (job : ℕ) (receipt : BookReceipt) → IsDone outcomes job receipt → NamesRecord book.records receipt
+  -- Receipts and records from place 1 on correspond one to one: no two jobs have one record, and each record is a job's.
+  pub apart : (job other : ℕ) (receipt another : BookReceipt) → IsDone outcomes job receipt → IsDone outcomes other another
+      → receipt.place ≡ another.place → job ≡ other
+  pub named : (place : ℕ) → 0 < place → place < length book.records → HasJob outcomes place
+  -- The places of one worker's jobs rise with the jobs.
+  pub rise : (worker first second : ℕ) (earlier later : BookReceipt) → first < second
+      → slice_get by first ≡ Some worker → slice_get by second ≡ Some worker
+      → IsDone outcomes first earlier → IsDone outcomes second later → earlier.place < later.place
+  -- Each refusal but that for want of memory is the first cause against the job's operation at the book's end.
+  pub refusals : (job : ℕ) (fault : BookFault) → slice_get outcomes job ≡ Some (refused fault) → fault ≢ Memory
+      → IsRefusalOfJob origin ops (length book.records) job fault

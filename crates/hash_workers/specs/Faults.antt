@@ -1,0 +1,41 @@
+-- Why there is no batch.
+use Rattle.std.specs.Prelude.{◌≡◌, ◌≢◌, ℕ, ◌≤◌, None, Some}
+use Rattle.measure_book.specs.declared.fault.BookFault.{BookFault}
+use Rattle.measure_book.specs.declared.fault.BookFault.TheVariants as books
+use Rattle.measure_book.specs.declared.gathers.GatherFault.{GatherFault}
+use Rattle.measure_book.specs.declared.gathers.GatherFault.TheVariants as gathers
+use Rattle.measure_book.specs.declared.origin.Origin.{Origin}
+use Rattle.measure_book.specs.Histories.{open_refusal_of}
+use Rattle.hash_workers.specs.declared.fault.AgentFault.{AgentFault}
+use Rattle.hash_workers.specs.declared.fault.AgentFault.TheVariants as agents
+
+-- Want of memory is one fault, wherever it was found.
+abbrev pub fault_of_book : BookFault → AgentFault
+fault_of_book books.Memory = agents.Memory
+fault_of_book fault = agents.Book fault
+
+abbrev pub fault_of_gather : GatherFault → AgentFault
+fault_of_gather gathers.Memory = agents.Memory
+fault_of_gather fault = agents.Gather fault
+
+-- How many workers there may be.
+abbrev pub IsNumberOfWorkers : ℕ → Type 0
+IsNumberOfWorkers workers = (1 ≤ workers) × (workers ≤ 8)
+
+-- The workers may begin: there is a right number of them, and nothing is against opening a book.
+abbrev pub MayBegin : ℕ → Origin → Type 0
+MayBegin workers origin = IsNumberOfWorkers workers × (open_refusal_of origin ≡ None)
+
+-- Where each fault stands, for this number of workers and this origin.
+abbrev pub IsFaultOf : ℕ → Origin → AgentFault → Type 0
+IsFaultOf workers origin agents.Workers = IsNumberOfWorkers workers → ⊥
+IsFaultOf workers origin (agents.Book fault) = IsNumberOfWorkers workers × (open_refusal_of origin ≡ Some fault)
+IsFaultOf workers origin (agents.Gather fault) = MayBegin workers origin × (fault ≢ gathers.Memory)
+IsFaultOf workers origin agents.Memory = MayBegin workers origin
+
+-- Where a fault may still stand once a book is opened.
+abbrev pub IsLateFault : AgentFault → Type 0
+IsLateFault agents.Workers = ⊥
+IsLateFault (agents.Book fault) = ⊥
+IsLateFault (agents.Gather fault) = fault ≢ gathers.Memory
+IsLateFault agents.Memory = Unit {0}

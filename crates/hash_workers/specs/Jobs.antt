@@ -1,0 +1,18 @@
+-- What a job is recorded as (this project's choice).
+use Rattle.std.specs.Prelude.{List, map}
+use Rattle.pcr_banks.specs.declared.alg.Alg.{Alg}
+use Rattle.pcr_banks.specs.Hashing.{hash_of}
+use Rattle.pcr_banks.specs.Digests.{digest_of}
+use Rattle.measure_book.specs.Operations.{BookOp, measure, violation, read}
+use Rattle.hash_workers.specs.declared.job.Job.{Job}
+use Rattle.hash_workers.specs.declared.job.Job.TheVariants as jobs
+
+-- The operation of a job: a file is the measurement of its path with the hash of its content by the algorithm, and a
+-- violation or a read is itself.
+abbrev pub operation_of : Alg → Job → BookOp
+operation_of alg (jobs.File path content) = measure path.items (digest_of alg (hash_of alg content.items))
+operation_of alg (jobs.Violation path) = violation path.items
+operation_of alg (jobs.Read bank register) = read bank register
+
+abbrev pub operations_of : Alg → List Job → List BookOp
+operations_of alg jobs' = map (operation_of alg) jobs'

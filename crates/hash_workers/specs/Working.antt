@@ -1,0 +1,64 @@
+-- What one worker did: its jobs in the order in which it took them, and what became of each (this project's choice).
+use Rattle.std.specs.Prelude.{◌≡◌, ◌≢◌, ◌⊎◌, ℕ, List, [], ◌∷◌, length, slice_get, Option, Some}
+use Rattle.measure_book.specs.declared.origin.Origin.{Origin}
+use Rattle.measure_book.specs.declared.fault.BookFault.TheVariants.{Memory}
+use Rattle.measure_book.specs.Operations.{BookOp, BookRecord, BookOutcome, done, refused}
+use Rattle.measure_book.specs.Histories.{refusal_of}
+use Rattle.measure_book.specs.Runs.{RunsTo, IsOutcome, records_after}
+use Rattle.measure_book.specs.Books.{BookState}
+
+-- What becomes of an operation, whatever the book had before: it is done with a receipt of its own, refused for want of
+-- memory, or refused for the first cause that holds after some number of records.
+abbrev pub MayBecome : Origin → BookOp → BookOutcome → Type 0
+MayBecome origin op (done receipt) = receipt.operation ≡ op
+MayBecome origin op (refused fault) = (fault ≡ Memory) ⊎ ((count : ℕ) × (refusal_of origin count op ≡ Some fault))
+
+-- The outcome is one of the operation of this job.
+pub record IsOutcomeOfJob (origin : Origin) (ops : List BookOp) (job : ℕ) (outcome : BookOutcome) : Type 0 where
+  pub op : BookOp
+  pub has : slice_get ops job ≡ Some op
+  pub becomes : MayBecome origin op outcome
+
+-- Each job that was taken has one outcome, which is one of its operation.
+pub record IsWorked (origin : Origin) (ops : List BookOp) (taken : List ℕ) (outcomes : List BookOutcome) : Type 0 where
+  pub pairs : length outcomes ≡ length taken
+  pub each : (index job : ℕ) (outcome : BookOutcome) → slice_get taken index ≡ Some job → slice_get outcomes index ≡ Some outcome
+      → IsOutcomeOfJob origin ops job outcome
+
+-- An operation is done on a book of this origin: the book before runs to the book after.
+pub record IsEntered (origin : Origin) (before after : BookState) (op : BookOp) (outcome : BookOutcome) : Type 0 where
+  pub origin_is : before.origin ≡ origin
+  pub origin_stays : after.origin ≡ origin
+  pub runs : RunsTo origin before.records (op ∷ []) (outcome ∷ []) after.records
+
+-- The recorder told this book, or none; then it tells that one.
+pub record Tells (told now_told : Option BookState) (before after : BookState) : Type 0 where
+  pub each : (book : BookState) → told ≡ Some book → (book ≡ before) × (now_told ≡ Some after)
+
+-- An operation is recorded: it is done on some book. Where the recorder tells its book, it is that one.
+pub record Records (origin : Origin) (told now_told : Option BookState) (op : BookOp) (outcome : BookOutcome) : Type 0 where
+  pub before : BookState
+  pub after : BookState
+  pub entered : IsEntered origin before after op outcome
+  pub tells : Tells told now_told before after
+
+-- The book is of another origin, and stays as it is.
+pub record IsForeign (origin : Origin) (told now_told : Option BookState) : Type 0 where
+  pub found : BookState
+  pub other : found.origin ≢ origin
+  pub tells : Tells told now_told found found
+
+-- The job is done, with this outcome, in a book that has these records: it is refused since its operation found no memory,
+-- or its operation has this outcome after these records.
+pub record IsDoneAfter (origin : Origin) (ops : List BookOp) (before : List BookRecord) (job : ℕ) (outcome : BookOutcome) : Type 0 where
+  pub op : BookOp
+  pub has : slice_get ops job ≡ Some op
+  pub becomes : (outcome ≡ refused Memory) ⊎ IsOutcome origin before op outcome
+
+-- The jobs are done in this order, with these outcomes, in a book that has the first records, and then has the last.
+abbrev pub AreDoneInOrder : Origin → List BookOp → List BookRecord → List ℕ → List BookOutcome → List BookRecord → Type 0
+AreDoneInOrder origin ops old [] [] new = new ≡ old
+AreDoneInOrder origin ops old [] (outcome ∷ outcomes) new = ⊥
+AreDoneInOrder origin ops old (job ∷ jobs) [] new = ⊥
+AreDoneInOrder origin ops old (job ∷ jobs) (outcome ∷ outcomes) new =
+    IsDoneAfter origin ops old job outcome × AreDoneInOrder origin ops (records_after old outcome) jobs outcomes new

@@ -1,0 +1,130 @@
+//! Jobs that workers do at once, and what becomes of each.
+
+ghost use Rattle.std.specs.Prelude.{◌≡◌, ◌↔◌, ◌<◌, ◌≤◌, ◌^◌, length, map, vec_len, Some, Err, IfOk, IfErr, MatchResult};
+ghost use Rattle.measure_book.specs.declared.fault.BookFault.{BookFault};
+ghost use Rattle.measure_book.specs.Operations.{book_outcome_of};
+ghost use Rattle.measure_book.specs.Histories.{open_refusal_of};
+ghost use Rattle.hash_workers.specs.Jobs.{operations_of};
+ghost use Rattle.hash_workers.specs.Faults.{IsFaultOf, IsLateFault, IsNumberOfWorkers, MayBegin};
+ghost use Rattle.hash_workers.specs.Seats.{AreWorksOf, outcomes_of, taken_of};
+ghost use Rattle.hash_workers.specs.Scattering.{items_of};
+ghost use Rattle.hash_workers.specs.Batches.{IsBatch};
+
+use crate::fan::{fan_out, has_end};
+use crate::fault::AgentFault;
+use crate::gate::Gate;
+use crate::job::Job;
+use crate::scatter::scatter;
+use crate::work::{End, Work};
+use measure_book::{Book, BookFault, GatherFault, Origin, Outcome, gather};
+use std::alloc::{AllocError, Global};
+use std::sync::Wait;
+use std::thread::Threads;
+
+/// The greatest number of workers.
+const MOST_WORKERS: usize = 8;
+
+/// What became of jobs.
+#[derive(Debug, Drop)]
+pub struct Batch {
+    /// The book in which they were recorded.
+    pub book: Book,
+    /// The outcome of each job.
+    pub outcomes: Vec<Outcome>,
+    /// The worker of each job, from 0.
+    pub by: Vec<u32>,
+}
+
+/// Opens a book, and has the jobs recorded in it by a number of workers at once, 1 to 8. Worker `w` takes the jobs `w`,
+/// `w + workers` and so on: it makes the operation of each, then takes the book's lock, and holds it for this operation
+/// alone. The gate is told of each job.
+///
+/// There is one outcome for each job, whatever the schedule: the receipts and the book's records from place 1 on
+/// correspond one to one, and the places of one worker's jobs rise with the jobs.
+///
+/// Refused in this order: `Workers` where the number of workers is not 1 to 8, `Book` where no book is opened, `Memory`
+/// where there is no memory for the call's own or a worker's lists, and `Gather` where what the workers got does not
+/// account for the book's records. After the last two the book is given up.
+pub fn measure_files<R: Threads + Wait + Sync, G: Gate + Sync>(
+    rt: &R,
+    alloc: Global,
+    origin: Origin,
+    jobs: &[Job],
+    workers: usize,
+    gate: &G,
+) -> Result<Batch, AgentFault>
+    requires { length jobs.now < 2 ^ 32 }
+    // Each job has one outcome.
+    ensures batch { IfOk result (λ batch. IsBatch origin (operations_of origin.alg jobs.now) workers
+        batch.book (map book_outcome_of batch.outcomes.items) batch.by.items) }
+    // The workers begin only where their number is right and a book may be opened, and each fault has its cause.
+    ensures fault { MatchResult result (λ _. MayBegin workers origin) (IsFaultOf workers origin) }
+    // `Workers` stands exactly where the number is not 1 to 8.
+    ensures workers { (result ≡ Err AgentFault.Workers) ↔ (IsNumberOfWorkers workers → ⊥) }
+    // Where the number is right and something is against opening a book, this is the fault.
+    ensures book { (fault : BookFault) → IsNumberOfWorkers workers → open_refusal_of origin ≡ Some fault
+        → result ≡ Err (AgentFault.Book fault) }
+{
+    if workers == 0 || workers > MOST_WORKERS {
+        return Err(AgentFault::Workers);
+    }
+    let book = Book::open(alloc, origin)?;
+    let (book, works) = fan_out(rt, alloc, book, &origin, jobs, workers, gate)?;
+    settle(alloc, book, &origin, jobs, workers, works)
+}
+
+// Settles what the workers did with the book, and puts their outcomes in the order of the jobs.
+fn settle(
+    alloc: Global,
+    book: Book,
+    origin: &Origin,
+    jobs: &[Job],
+    workers: usize,
+    works: Vec<Work>,
+) -> Result<Batch, AgentFault>
+    requires small { length jobs.now < 2 ^ 32 }
+    requires number { IsNumberOfWorkers workers }
+    requires works { AreWorksOf origin.now (operations_of origin.now.alg jobs.now) workers (length jobs.now) works.items }
+    ensures batch { IfOk result (λ batch. IsBatch origin.now (operations_of origin.now.alg jobs.now) workers
+        batch.book (map book_outcome_of batch.outcomes.items) batch.by.items) }
+    ensures fault { IfErr result IsLateFault }
+{
+    if has_end(&works, End::OutOfMemory) {
+        return Err(AgentFault::Memory);
+    }
+    let foreign = has_end(&works, End::ForeignBook);
+    let mut outcomes = places(alloc, jobs.len())?;
+    let mut by = vec![in alloc; 0u32; jobs.len()]?;
+    let (takings, groups) = split(alloc, works)?;
+    if foreign {
+        return Err(AgentFault::Gather(GatherFault::ForeignBook));
+    }
+    gather(alloc, &book, origin, &groups)?;
+    scatter(&mut outcomes, &mut by, &takings, groups);
+    Ok(Batch { book, outcomes, by })
+}
+
+// A place for each job's outcome.
+fn places(alloc: Global, count: usize) -> Result<Vec<Outcome>, AllocError>
+    ensures { IfOk result (λ outcomes. vec_len outcomes ≡ count) }
+{
+    let mut outcomes = Vec::with_capacity(alloc, count)?;
+    for _job in 0..count {
+        outcomes.push_reserved(Outcome::Refused(BookFault::Memory));
+    }
+    Ok(outcomes)
+}
+
+// The jobs and the outcomes of each worker, apart.
+fn split(alloc: Global, works: Vec<Work>) -> Result<(Vec<Vec<u32>>, Vec<Vec<Outcome>>), AllocError>
+    ensures takings { IfOk result (λ lists. map items_of lists.0.items ≡ map taken_of works.items) }
+    ensures groups { IfOk result (λ lists. map items_of lists.1.items ≡ map outcomes_of works.items) }
+{
+    let mut takings = Vec::with_capacity(alloc, works.len())?;
+    let mut groups = Vec::with_capacity(alloc, works.len())?;
+    for work in works {
+        takings.push(work.taken)?;
+        groups.push(work.outcomes)?;
+    }
+    Ok((takings, groups))
+}

@@ -1,0 +1,58 @@
+//! Why there is no batch.
+
+ghost use Rattle.std.specs.Prelude.{◌≡◌};
+ghost use Rattle.hash_workers.specs.Faults.{fault_of_book, fault_of_gather};
+
+use measure_book::{BookFault, GatherFault};
+use std::alloc::AllocError;
+use thiserror::Error;
+
+/// Why jobs are not done. The first cause that holds is the one that is answered, in this order: `Workers`, `Book`,
+/// `Memory`, `Gather`.
+#[derive(Clone, Copy, Debug, PartialEq, Eq, Error)]
+pub enum AgentFault {
+    /// 1: the number of workers is not 1 to 8.
+    #[error("the number of workers is not 1 to 8")]
+    Workers,
+    /// 2: no book is opened; never for want of memory.
+    #[error("no book is opened: {0}")]
+    Book(BookFault),
+    /// 3: what the workers got does not account for the book's records; never for want of memory.
+    #[error("the outcomes are not those of the book: {0}")]
+    Gather(GatherFault),
+    /// 4: out of memory.
+    #[error("out of memory")]
+    Memory,
+}
+
+impl From<BookFault> for AgentFault {
+    ghost from_gives = { λ book_fault fault. fault ≡ fault_of_book book_fault };
+
+    fn from(fault: BookFault) -> Self {
+        match fault {
+            BookFault::Memory => AgentFault::Memory,
+            other => AgentFault::Book(other),
+        }
+    }
+}
+
+impl From<GatherFault> for AgentFault {
+    ghost from_gives = { λ gather_fault fault. fault ≡ fault_of_gather gather_fault };
+
+    fn from(fault: GatherFault) -> Self {
+        match fault {
+            GatherFault::Memory => AgentFault::Memory,
+            other => AgentFault::Gather(other),
+        }
+    }
+}
+
+impl From<AllocError> for AgentFault {
+    ghost use Rattle.hash_workers.specs.declared.fault.AgentFault.TheVariants.{Memory};
+
+    ghost from_gives = { λ _ fault. fault ≡ Memory };
+
+    fn from(_refused: AllocError) -> Self {
+        AgentFault::Memory
+    }
+}

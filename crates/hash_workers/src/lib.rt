@@ -1,0 +1,20 @@
+//! Files are hashed by several workers at once, and recorded in one book: each job has one outcome, whatever the schedule.
+#![tactic(auto)]
+
+mod batch;
+mod cut;
+mod fan;
+mod fault;
+mod gate;
+mod job;
+mod recorder;
+mod scatter;
+mod work;
+
+pub use batch::{Batch, measure_files};
+pub use fault::AgentFault;
+pub use gate::{Gate, NoGate};
+pub use job::{Job, op_of};
+
+#[cfg(test)]
+mod tests;

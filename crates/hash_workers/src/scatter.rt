@@ -1,0 +1,51 @@
+//! Outcomes, put in the order of the jobs.
+
+ghost use Rattle.std.specs.Prelude.{◌≡◌, ◌≤◌, ◌<◌, ◌^◌, length, map, vec_len};
+ghost use Rattle.hash_workers.specs.Taking.{HandsOutEach, RiseForEach};
+ghost use Rattle.hash_workers.specs.Scattering.{AreBelow, AreKept, ArePlaced, ArePairs, AreScattered, Rise, items_of};
+
+use measure_book::Outcome;
+
+/// Puts each outcome to its job, and the worker that it comes from beside it.
+pub(crate) fn scatter(
+    outcomes: &mut Vec<Outcome>,
+    by: &mut Vec<u32>,
+    takings: &[Vec<u32>],
+    mut groups: Vec<Vec<Outcome>>,
+)
+    requires each { HandsOutEach (vec_len outcomes.old) (map items_of takings.now) }
+    requires rise { RiseForEach (map items_of takings.now) }
+    requires pairs { ArePairs (map items_of takings.now) (map items_of groups.items) }
+    requires sizes { vec_len by.old ≡ vec_len outcomes.old }
+    requires few { vec_len groups < 2 ^ 32 }
+    ensures scattered { AreScattered (map items_of takings.now) (map items_of groups.items) 0 outcomes.new.items by.new.items }
+    ensures sizes { (vec_len outcomes.new ≡ vec_len outcomes.old) × (vec_len by.new ≡ vec_len by.old) }
+{
+    while let Some(group) = groups.pop() {
+        let worker = groups.len();
+        place(outcomes, by, worker as u32, &takings[worker], group);
+    }
+}
+
+// Puts the outcomes of one worker to its jobs.
+fn place(
+    outcomes: &mut Vec<Outcome>,
+    by: &mut Vec<u32>,
+    worker: u32,
+    taken: &[u32],
+    mut group: Vec<Outcome>,
+)
+    requires below { AreBelow (vec_len outcomes.old) taken.now }
+    requires rise { Rise taken.now }
+    requires pairs { vec_len group ≡ length taken.now }
+    requires sizes { vec_len by.old ≡ vec_len outcomes.old }
+    ensures placed { ArePlaced taken.now group.items worker 0 outcomes.new.items by.new.items }
+    ensures kept { AreKept taken.now 0 outcomes.old.items outcomes.new.items by.old.items by.new.items }
+    ensures sizes { (vec_len outcomes.new ≡ vec_len outcomes.old) × (vec_len by.new ≡ vec_len by.old) }
+{
+    while let Some(outcome) = group.pop() {
+        let job = taken[group.len()] as usize;
+        outcomes[job] = outcome;
+        by[job] = worker;
+    }
+}
