@@ -1,15 +1,15 @@
 -- Full accounts of what workers did, put in the order of the jobs, are a batch.
-use Rattle.std.proofs.Common.{◌≡◌, ◌≢◌, ℕ, zero, suc, ◌+◌, ◌<◌, ◌≤◌, Bool, true, false, List, [], ◌∷◌, length, map, Option, Some, None, refl, sym, ap, ◌∙◌, subst, inl, inr, arith}
-use Rattle.std.specs.Prelude.{◌⊎◌, ◌==◌, slice_get, option_map, option_and_then, if◌then◌else◌, Vec, unwrap_or, Result, Ok, Err, MatchResult}
+use Rattle.std.proofs.Common.{◌≡◌, ◌≢◌, ℕ, ◌<◌, Bool, true, false, List, length, map, Option, Some, None, refl, sym, ap, ◌∙◌, subst, inl, inr, arith}
+use Rattle.std.specs.Prelude.{◌==◌, slice_get, option_map, option_and_then, if◌then◌else◌, Vec}
 use Rattle.std.specs.Option.{option_or}
 use Rattle.std.specs.declared.alloc.Global.{Global}
 use Rattle.std.proofs.lemmas.List.{length-map}
-use Rattle.std.proofs.lemmas.Bool.{cases_lt, eqb-true, eq-eqb}
+use Rattle.std.proofs.lemmas.Bool.{cases_lt, eq-eqb}
 use Rattle.std.proofs.lemmas.Option.{same_Some, none-some, slice_get-map, slice_get_within}
 use Rattle.measure_book.specs.declared.origin.Origin.{Origin}
 use Rattle.measure_book.specs.declared.op.Outcome.{Outcome}
 use Rattle.measure_book.specs.declared.fault.BookFault.{BookFault}
-use Rattle.measure_book.specs.declared.fault.BookFault.TheVariants.{WrongHash, NoBank, BadRegister, NulInPath, PathTooLong, ZeroDigest, Full, Memory}
+use Rattle.measure_book.specs.declared.fault.BookFault.TheVariants.{Full, Memory}
 use Rattle.measure_book.specs.Operations.{BookOp, BookReceipt, BookOutcome, done, refused, book_outcome_of}
 use Rattle.measure_book.specs.Histories.{refusal_of, op_refusal}
 use Rattle.measure_book.specs.Groups as groups
@@ -17,10 +17,10 @@ use Rattle.measure_book.specs.Groups.{groups_of, outcome_at, HasReceipt, Account
 use Rattle.measure_book.specs.Books.{BookState}
 use Rattle.hash_workers.specs.declared.work.Work.{Work}
 use Rattle.hash_workers.specs.Taking.{Took, HandsOutEach, RiseForEach}
-use Rattle.hash_workers.specs.Working.{MayBecome, IsOutcomeOfJob}
+use Rattle.hash_workers.specs.Working.{IsOutcomeOfJob}
 use Rattle.hash_workers.specs.Scattering.{items_of, got_at, ArePairs, AreScattered}
 use Rattle.hash_workers.specs.Seats.{AreWorksOf, taken_of, outcomes_of}
-use Rattle.hash_workers.specs.Batches.{IsDone, IsReceiptOfJob, IsRefusalOfJob, HasJob, IsBatch}
+use Rattle.hash_workers.specs.Batches.{IsReceiptOfJob, IsRefusalOfJob, IsBatch}
 use Rattle.hash_workers.proofs.CutLaws.{map_at, at_map, list_at, at_list, within_at}
 
 -- ---- the groups that are gathered are what the workers have

@@ -1,19 +1,18 @@
 -- Fixed cuts hand out each number once, and rise for each worker.
 use Rattle.std.proofs.Common.{◌≡◌, ◌≢◌, ℕ, zero, suc, ◌+◌, ◌*◌, ◌/◌, ◌%◌, ◌<◌, ◌≤◌, List, [], ◌∷◌, length, get_or, map, Option, Some, None, refl, sym, ap, ◌∙◌, subst, inl, inr, arith}
-use Rattle.std.specs.Prelude.{◌⊎◌, slice_get, option_and_then}
+use Rattle.std.specs.Prelude.{slice_get, option_and_then}
 use Rattle.std.proofs.Math.Nat.{mul-le-mul_left}
 use Rattle.std.proofs.lemmas.List.{length-map}
 use Rattle.std.proofs.lemmas.Bool.{cases_lt}
 use Rattle.std.proofs.lemmas.Option.{same_Some, none-some, slice_get_within, slice_get_cases}
 use Rattle.measure_book.specs.declared.origin.Origin.{Origin}
 use Rattle.measure_book.specs.declared.op.Outcome.{Outcome}
-use Rattle.measure_book.specs.Operations.{BookOp, BookOutcome, book_outcome_of}
+use Rattle.measure_book.specs.Operations.{BookOp, book_outcome_of}
 use Rattle.hash_workers.specs.declared.cut.Cut.{Cut}
 use Rattle.hash_workers.specs.declared.work.End.{End}
 use Rattle.hash_workers.specs.declared.work.End.TheVariants.{NoneLeft, OutOfMemory, ForeignBook}
 use Rattle.hash_workers.specs.declared.work.Work.{Work}
-use Rattle.hash_workers.specs.Taking.{Took, IsTaken, HandsOutEach, RiseForEach, FollowsCut, IsWholeCut}
-use Rattle.hash_workers.specs.Working.{IsWorked}
+use Rattle.hash_workers.specs.Taking.{Took, HandsOutEach, RiseForEach, FollowsCut, IsWholeCut}
 use Rattle.hash_workers.specs.Ending.{IsEnd}
 use Rattle.hash_workers.specs.Scattering.{got_at, ArePairs}
 use Rattle.hash_workers.specs.Seats.{IsCutOf, IsWorkOf, AreWorksOf, HasNoEnd, taken_of, outcomes_of}

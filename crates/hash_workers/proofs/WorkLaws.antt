@@ -1,6 +1,6 @@
 -- A worker's work, one job after others.
-use Rattle.std.proofs.Common.{◌≡◌, ◌≢◌, ℕ, zero, suc, ◌+◌, ◌*◌, ◌<◌, ◌≤◌, List, [], ◌∷◌, ◌++◌, length, length-append, get_or, Option, Some, None, refl, sym, ap, ◌∙◌, subst, inl, inr, arith, map}
-use Rattle.std.specs.Prelude.{◌⊎◌, slice_get, slice_index_or, unwrap_or, IfSome, IfOk, option_map, MatchResult, Result, Ok, Err}
+use Rattle.std.proofs.Common.{◌≡◌, ◌≢◌, ℕ, zero, suc, ◌+◌, ◌*◌, ◌<◌, List, [], ◌∷◌, ◌++◌, length, length-append, get_or, Option, Some, None, refl, sym, ap, ◌∙◌, subst, inl, inr, arith, map}
+use Rattle.std.specs.Prelude.{◌⊎◌, slice_get, unwrap_or, IfSome, IfOk, option_map, MatchResult, Result, Ok, Err}
 use Rattle.std.specs.Option.{option_copied}
 use Rattle.std.specs.Result.{result_ok}
 use Rattle.std.proofs.lemmas.List.{map_push}
@@ -15,7 +15,7 @@ use Rattle.measure_book.specs.declared.fault.BookFault.{BookFault}
 use Rattle.measure_book.specs.declared.fault.BookFault.TheVariants.{Memory}
 use Rattle.measure_book.specs.Operations.{BookOp, BookRecord, BookOutcome, done, refused, book_op_of, book_outcome_of}
 use Rattle.measure_book.specs.Histories.{refusal_of}
-use Rattle.measure_book.specs.Runs.{RunsTo, IsOutcome, records_after}
+use Rattle.measure_book.specs.Runs.{records_after}
 use Rattle.measure_book.specs.Books.{BookState}
 use Rattle.hash_workers.specs.declared.recorder.ForeignBook.{ForeignBook}
 use Rattle.hash_workers.specs.declared.work.End.{End}
@@ -24,8 +24,8 @@ use Rattle.hash_workers.specs.declared.work.End.TheVariants as ends
 use Rattle.hash_workers.specs.declared.job.Job.{Job}
 use Rattle.hash_workers.specs.Jobs.{operation_of, operations_of}
 use Rattle.hash_workers.specs.Taking.{FollowsCut}
-use Rattle.hash_workers.specs.Working.{MayBecome, IsOutcomeOfJob, IsWorked, IsEntered, Records, IsForeign, Tells, IsDoneAfter, AreDoneInOrder}
-use Rattle.hash_workers.specs.Ending.{Becomes, Leaves, ToldAfterOp, TellsOp, KeepsOne, ToldAfterJob, TellsJob, TakesOne, ToldAfterAll, TellsAll, StopsFor}
+use Rattle.hash_workers.specs.Working.{MayBecome, IsOutcomeOfJob, IsWorked, IsEntered, Records, IsForeign, IsDoneAfter, AreDoneInOrder}
+use Rattle.hash_workers.specs.Ending.{Becomes, TellsOp, KeepsOne, ToldAfterJob, TellsJob, TakesOne, TellsAll, StopsFor}
 
 -- ---- lists with one element more
 

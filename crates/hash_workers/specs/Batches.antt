@@ -51,6 +51,6 @@ pub record IsBatch (origin : Origin) (ops : List BookOp) (workers : ℕ) (book :
   pub rise : (worker first second : ℕ) (earlier later : BookReceipt) → first < second
       → slice_get by first ≡ Some worker → slice_get by second ≡ Some worker
       → IsDone outcomes first earlier → IsDone outcomes second later → earlier.place < later.place
-  -- Each refusal but that for want of memory is the first cause against the job's operation at the book's end.
+  -- Each refusal but that of an operation for which memory ran out is the first cause against the job's operation at the book's end.
   pub refusals : (job : ℕ) (fault : BookFault) → slice_get outcomes job ≡ Some (refused fault) → fault ≢ Memory
       → IsRefusalOfJob origin ops (length book.records) job fault

@@ -77,7 +77,7 @@ pub record TellsAll (origin : Origin) (ops : List BookOp) (told now_told : Optio
     (taken : List ℕ) (outcomes : List BookOutcome) (end : End) : Type 0 where
   pub each : (book : BookState) → told ≡ Some book → ToldAfterAll origin ops now_told book taken outcomes end
 
--- A worker stops early for want of memory, with the book as it was, or since the book is of another origin.
+-- A worker stops early since memory ran out, with the book as it was, or since the book is of another origin.
 abbrev pub StopsFor : Origin → Option BookState → Option BookState → End → Type 0
 StopsFor origin told now_told NoneLeft = ⊥
 StopsFor origin told now_told OutOfMemory = now_told ≡ told

@@ -9,7 +9,7 @@ use Rattle.measure_book.specs.Histories.{open_refusal_of}
 use Rattle.hash_workers.specs.declared.fault.AgentFault.{AgentFault}
 use Rattle.hash_workers.specs.declared.fault.AgentFault.TheVariants as agents
 
--- Want of memory is one fault, wherever it was found.
+-- That memory ran out is one fault, wherever it ran out.
 abbrev pub fault_of_book : BookFault → AgentFault
 fault_of_book books.Memory = agents.Memory
 fault_of_book fault = agents.Book fault

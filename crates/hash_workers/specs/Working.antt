@@ -7,8 +7,8 @@ use Rattle.measure_book.specs.Histories.{refusal_of}
 use Rattle.measure_book.specs.Runs.{RunsTo, IsOutcome, records_after}
 use Rattle.measure_book.specs.Books.{BookState}
 
--- What becomes of an operation, whatever the book had before: it is done with a receipt of its own, refused for want of
--- memory, or refused for the first cause that holds after some number of records.
+-- What becomes of an operation, whatever the book had before: it is done with a receipt of its own, refused since
+-- memory ran out, or refused for the first cause that holds after some number of records.
 abbrev pub MayBecome : Origin → BookOp → BookOutcome → Type 0
 MayBecome origin op (done receipt) = receipt.operation ≡ op
 MayBecome origin op (refused fault) = (fault ≡ Memory) ⊎ ((count : ℕ) × (refusal_of origin count op ≡ Some fault))

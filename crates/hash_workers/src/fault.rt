@@ -14,10 +14,10 @@ pub enum AgentFault {
     /// 1: the number of workers is not 1 to 8.
     #[error("the number of workers is not 1 to 8")]
     Workers,
-    /// 2: no book is opened; never for want of memory.
+    /// 2: no book is opened; never `BookFault::Memory`.
     #[error("no book is opened: {0}")]
     Book(BookFault),
-    /// 3: what the workers got does not account for the book's records; never for want of memory.
+    /// 3: what the workers got does not account for the book's records; never `GatherFault::Memory`.
     #[error("the outcomes are not those of the book: {0}")]
     Gather(GatherFault),
     /// 4: out of memory.

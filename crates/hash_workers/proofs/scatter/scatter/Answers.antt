@@ -1,6 +1,6 @@
-use Rattle.std.proofs.Common.{◌≡◌, ◌+◌, ◌<◌, ◌≤◌, ℕ, List, length, get_or, map, vec_len, Some, sym, ◌∙◌, ap, subst, arith}
+use Rattle.std.proofs.Common.{◌≡◌, ◌+◌, ℕ, List, length, map, vec_len, Some, sym, ◌∙◌, ap, subst, arith}
 use Rattle.std.specs.Prelude.{slice_get}
-use Rattle.hash_workers.specs.Scattering.{AreBelow, Rise, ArePlaced, AreKept, items_of}
+use Rattle.hash_workers.specs.Scattering.{AreBelow, Rise, ArePlaced, items_of}
 use Rattle.hash_workers.proofs.ScatterLaws.{items_here, items_at, below_of, rise_of, front_less, front_last, scattered_more}
 use Rattle.hash_workers.proofs.scatter.scatter.Goals as goal
 
