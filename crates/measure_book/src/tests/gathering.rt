@@ -92,7 +92,8 @@ fn gather_each_cause(rt: HostRuntime) -> Result<(), Fail> {
     );
     let mut other_answer = group(alloc, &book, &[1, 2, 3])?;
     let op = measure(alloc, b"/bin/sh", sha256(b"abc"))?;
-    other_answer[1] = Outcome::Done(receipt(2, op, Answer::Known(2)));
+    let second = other_answer.get_mut(1).ok_or("no second outcome")?;
+    *second = Outcome::Done(receipt(2, op, Answer::Known(2)));
     let stranger = GatherFault::Stranger { group: 0, index: 1 };
     assert_eq!(rt; gathered(alloc, &book, 100, &[other_answer]), Err(stranger));
     let full = [
