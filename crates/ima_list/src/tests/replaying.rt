@@ -18,7 +18,7 @@ fn start() -> Banks {
 /// Replays of a measurement and of violations, a forged entry, payloads without fields, an empty path, and the boot
 /// aggregates of reset registers: all of this example but what the program shows.
 #[test]
-fn replay_and_fields_in_the_library(rt: HostRuntime) -> Result<(), Fail> {
+fn replay_and_fields(rt: HostRuntime) -> Result<(), Fail> {
     let alloc = rt.alloc();
     let part = hash(Alg::Sha256, &MEASUREMENT[PAYLOAD_PLACE..]);
     assert_replayed(&rt, alloc, MEASUREMENT, part.bytes())?;
