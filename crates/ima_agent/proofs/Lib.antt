@@ -1,2 +1,4 @@
 pub mod LoadingLemmas
 pub mod RegisterLaws
+pub mod ExpectedLaws
+pub mod VerdictLaws

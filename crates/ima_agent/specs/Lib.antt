@@ -4,3 +4,7 @@ pub mod RegisterTexts
 pub mod FaultTexts
 pub mod Program
 pub mod System
+pub mod ExpectFaults
+pub mod ExpectedTexts
+pub mod Verdicts
+pub mod ReportTexts

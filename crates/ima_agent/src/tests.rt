@@ -1,6 +1,7 @@
 //! Worked examples, and devices to run them on.
 
 mod devices;
+mod expected;
 mod inputs;
 mod loading;
 mod logs;
@@ -9,6 +10,8 @@ mod real_boot;
 mod real_boot_book;
 mod real_boot_lines;
 mod real_boot_list;
+mod real_boot_verdict;
 mod replaying;
 mod show;
 mod texts;
+mod verdicts;

@@ -3,7 +3,7 @@
 ghost use Rattle.std.specs.Prelude.{None};
 
 use crate::hexadecimal::{HexFault, decode_hexadecimal};
-use crate::{Files, LoadFault, run};
+use crate::{ExpectFault, Files, LoadFault, VerifyFault, run};
 use boot_log::LogFault;
 use byte_streams::{Failed, Sink, SliceSource, VecSink};
 use ima_list::ListFault;
@@ -130,6 +130,18 @@ impl Refusal for LogFault {
 impl Refusal for ListFault {
     fn is_refusal(&self) -> bool {
         *self == ListFault::Memory
+    }
+}
+
+impl Refusal for ExpectFault {
+    fn is_refusal(&self) -> bool {
+        *self == ExpectFault::Memory
+    }
+}
+
+impl Refusal for VerifyFault {
+    fn is_refusal(&self) -> bool {
+        *self == VerifyFault::Memory
     }
 }
 

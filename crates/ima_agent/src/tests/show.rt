@@ -104,6 +104,7 @@ fn other_words_are_refused(rt: HostRuntime) -> Result<(), Fail> {
         &["show ", "x"],
         &["", "x"],
         &["x", "show"],
+        &["verify"],
         &["x"],
         &[""],
         &["-"],
