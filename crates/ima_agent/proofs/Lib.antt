@@ -1,4 +1,3 @@
 pub mod LoadingLemmas
-pub mod RegisterLaws
-pub mod ExpectedLaws
-pub mod VerdictLaws
+pub mod MeasuringLaws
+pub mod FaultLaws

@@ -1,10 +1,10 @@
 pub mod Hexadecimal
 pub mod Loading
-pub mod RegisterTexts
+pub mod Faults
 pub mod FaultTexts
+pub mod Plans
+pub mod Showing
+pub mod Verifying
+pub mod Measuring
 pub mod Program
 pub mod System
-pub mod ExpectFaults
-pub mod ExpectedTexts
-pub mod Verdicts
-pub mod ReportTexts

@@ -1,7 +1,15 @@
 //! Why the program did not do what it was asked for.
 
+ghost use Rattle.std.specs.Prelude.{◌≡◌};
+ghost use Rattle.ima_agent.specs.Faults.{fault_of_agent, fault_of_expected, fault_of_list, fault_of_log, fault_of_verdict};
+ghost use Rattle.ima_agent.specs.declared.fault.RunFault.TheVariants.{Memory};
+
 use boot_log::LogFault;
-use ima_list::ListFault;
+use boot_verdict::{ExpectFault, VerifyFault};
+use hash_workers::AgentFault;
+use ima_list::{ListFault, ReplayFault};
+use measure_book::{BookFault, GatherFault};
+use std::alloc::{AllocError, AllocFailed};
 use thiserror::Error;
 
 /// Why the program did not do what it was asked for.
@@ -19,13 +27,108 @@ pub enum RunFault {
     /// An input is not a measurement list.
     #[error("list: {0}")]
     List(ListFault),
+    /// An entry of the list is not genuine.
+    #[error("replay: {0}")]
+    Replay(ReplayFault),
+    /// An input does not state expected registers.
+    #[error("expected registers: {0}")]
+    Expect(ExpectFault),
+    /// No book was opened for the files.
+    #[error("book: {0}")]
+    Book(BookFault),
+    /// The file of this number was refused; files count from 0.
+    #[error("job {job}: {fault}")]
+    Outcome {
+        /// The number of the file.
+        job: u32,
+        /// Why the book refused it.
+        fault: BookFault,
+    },
     /// The input of this name has more bytes than the program takes.
     #[error("too long {0}")]
     TooLong(String),
     /// The input of this name could not be opened, or failed while it was read.
     #[error("read {0}")]
     Read(String),
+    /// What the workers got does not account for the book's records.
+    #[error("gather: {0}")]
+    Gather(GatherFault),
     /// The program is out of memory.
     #[error("memory")]
     Memory,
+}
+
+impl From<LogFault> for RunFault {
+    ghost from_gives = { λ log_fault fault. fault ≡ fault_of_log log_fault };
+
+    fn from(fault: LogFault) -> Self {
+        match fault {
+            LogFault::Memory => RunFault::Memory,
+            other => RunFault::Log(other),
+        }
+    }
+}
+
+impl From<ListFault> for RunFault {
+    ghost from_gives = { λ list_fault fault. fault ≡ fault_of_list list_fault };
+
+    fn from(fault: ListFault) -> Self {
+        match fault {
+            ListFault::Memory => RunFault::Memory,
+            other => RunFault::List(other),
+        }
+    }
+}
+
+impl From<ExpectFault> for RunFault {
+    ghost from_gives = { λ expect_fault fault. fault ≡ fault_of_expected expect_fault };
+
+    fn from(fault: ExpectFault) -> Self {
+        match fault {
+            ExpectFault::Memory => RunFault::Memory,
+            other => RunFault::Expect(other),
+        }
+    }
+}
+
+impl From<VerifyFault> for RunFault {
+    ghost from_gives = { λ verify_fault fault. fault ≡ fault_of_verdict verify_fault };
+
+    fn from(fault: VerifyFault) -> Self {
+        match fault {
+            VerifyFault::Log(fault) => fault.into(),
+            VerifyFault::List(fault) => fault.into(),
+            VerifyFault::Replay(fault) => RunFault::Replay(fault),
+            VerifyFault::Memory => RunFault::Memory,
+        }
+    }
+}
+
+impl From<AgentFault> for RunFault {
+    ghost from_gives = { λ agent_fault fault. fault ≡ fault_of_agent agent_fault };
+
+    fn from(fault: AgentFault) -> Self {
+        match fault {
+            AgentFault::Workers => RunFault::Usage,
+            AgentFault::Book(fault) => RunFault::Book(fault),
+            AgentFault::Gather(fault) => RunFault::Gather(fault),
+            AgentFault::Memory => RunFault::Memory,
+        }
+    }
+}
+
+impl From<AllocError> for RunFault {
+    ghost from_gives = { λ _ fault. fault ≡ Memory };
+
+    fn from(_refused: AllocError) -> Self {
+        RunFault::Memory
+    }
+}
+
+impl<T: Drop> From<AllocFailed<T>> for RunFault {
+    ghost from_gives = { λ _ fault. fault ≡ Memory };
+
+    fn from(_refused: AllocFailed<T>) -> Self {
+        RunFault::Memory
+    }
 }

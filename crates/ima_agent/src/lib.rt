@@ -1,27 +1,34 @@
-//! The agent as a library: loading, texts, the program, and its files and streams.
+//! The agent as a library: loading, the command line, the program, and its files and streams. The verdict and its texts are
+//! handed on from `boot_verdict`.
 #![tactic(auto)]
 
-mod expected;
 mod fault;
 mod files;
 mod hexadecimal;
 mod inputs;
 mod loading;
+mod measuring;
+mod output;
+mod plan;
 mod program;
-mod report;
+mod showing;
 mod system;
 mod texts;
-mod verifier;
+mod verifying;
+mod words;
 
-pub use expected::{ExpectFault, Expected, read_expected};
+pub use boot_verdict::{
+    Aggregate, ExpectFault, Expected, Report, Row, State, VerifyFault, read_expected, verify,
+    write_registers, write_report,
+};
 pub use fault::RunFault;
 pub use files::Files;
 pub use loading::{LoadFault, load};
+pub use plan::{Plan, Print};
 pub use program::{exit_code, run};
-pub use report::{Aggregate, Report, Row, State};
 pub use system::{Input, ReadSource, SystemFiles, WriteSink};
-pub use texts::{status_of, write_fault, write_registers, write_report};
-pub use verifier::{VerifyFault, verify};
+pub use texts::{status_of, write_fault};
+pub use words::read_words;
 
 #[cfg(test)]
 mod tests;

@@ -14,6 +14,7 @@ fn words(rt: &(impl Env + AllocGlobal)) -> io::Result<Vec<String>> {
 fn main(rt: HostRuntime) -> ExitCode {
     let mut output = WriteSink::new(rt.stdout());
     exit_code(
+        &rt,
         rt.alloc(),
         words(&rt),
         &mut SystemFiles::new(&rt),

@@ -9,7 +9,9 @@ use byte_streams::{Failed, Sink, SliceSource, VecSink};
 use ima_list::ListFault;
 use measure_book::BookFault;
 use std::alloc::{AllocError, Global};
+use std::sync::Wait;
 use std::test::Fail;
+use std::thread::Threads;
 
 /// Standard input, and no other file.
 #[derive(Drop)]
@@ -196,23 +198,35 @@ pub fn words_of(alloc: Global, words: &[&str]) -> Result<Vec<String>, AllocError
 }
 
 /// What the program answers and writes for this standard input; once more where an allocation was refused.
-pub fn ran(alloc: Global, words: &[String], input: &[u8]) -> (u8, Vec<u8>) {
-    ran_over(alloc, words, &mut StandardInput(input))
+pub fn ran(
+    rt: &(impl Threads + Wait + Sync + AllocGlobal),
+    words: &[String],
+    input: &[u8],
+) -> (u8, Vec<u8>) {
+    ran_over(rt, words, &mut StandardInput(input))
 }
 
 /// What the program answers and writes over these files; once more where an allocation was refused, which shows as the
 /// status 3 without the whole line of an input that could not be taken.
-pub fn ran_over<F: Files>(alloc: Global, words: &[String], files: &mut F) -> (u8, Vec<u8>) {
-    let first = ran_once(alloc, words, files);
+pub fn ran_over<R: Threads + Wait + Sync + AllocGlobal, F: Files>(
+    rt: &R,
+    words: &[String],
+    files: &mut F,
+) -> (u8, Vec<u8>) {
+    let first = ran_once(rt, words, files);
     let told = first.1.starts_with(b"failed: read ") && first.1.ends_with(b"\n");
     if first.0 == 3 && !told {
-        return ran_once(alloc, words, files);
+        return ran_once(rt, words, files);
     }
     first
 }
 
-fn ran_once<F: Files>(alloc: Global, words: &[String], files: &mut F) -> (u8, Vec<u8>) {
-    let mut sink = VecSink::new(Vec::new(alloc));
-    let status = run(alloc, words, files, &mut sink);
+fn ran_once<R: Threads + Wait + Sync + AllocGlobal, F: Files>(
+    rt: &R,
+    words: &[String],
+    files: &mut F,
+) -> (u8, Vec<u8>) {
+    let mut sink = VecSink::new(Vec::new(rt.alloc()));
+    let status = run(rt, rt.alloc(), words, files, &mut sink);
     (status, sink.into_bytes())
 }

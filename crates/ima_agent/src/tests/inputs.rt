@@ -19,7 +19,7 @@ fn hexadecimal_text_of_many_bytes(rt: HostRuntime) -> Result<(), Fail> {
         alloc,
         &[&space, HEADER.as_bytes(), &space, EVENT.as_bytes()],
     )?;
-    let (status, output) = ran(alloc, &[], &input);
+    let (status, output) = ran(&rt, &[], &input);
     assert_eq!(rt; status, 0);
     assert_eq!(rt; output.as_slice(), EXTENDED_LINE);
     Ok(())
@@ -36,7 +36,7 @@ fn nul_is_not_hexadecimal(rt: HostRuntime) -> Result<(), Fail> {
         [header, event, b"\0"],
     ] {
         let input = joined(alloc, &parts)?;
-        let (status, output) = ran(alloc, &[], &input);
+        let (status, output) = ran(&rt, &[], &input);
         assert_eq!(rt; status, 2);
         assert_eq!(rt; output.as_slice(), b"refused: not hexadecimal\n".as_slice());
     }
@@ -79,10 +79,10 @@ fn list_of_many_bytes(rt: HostRuntime) -> Result<(), Fail> {
         bytes: &bytes,
         taken: false,
     };
-    let (mut status, mut output) = ran_over(alloc, &words, &mut files);
+    let (mut status, mut output) = ran_over(&rt, &words, &mut files);
     if status == 3 {
         files.taken = false;
-        (status, output) = ran_over(alloc, &words, &mut files);
+        (status, output) = ran_over(&rt, &words, &mut files);
     }
     assert_eq!(rt; status, 0);
     assert_eq!(rt; output.len(), COUNT * MEASUREMENT_LINE.len());
@@ -104,14 +104,14 @@ fn names_with_spaces(rt: HostRuntime) -> Result<(), Fail> {
             name: "x",
             bytes: MEASUREMENT,
         };
-        let (status, output) = ran_over(alloc, &words, &mut other);
+        let (status, output) = ran_over(&rt, &words, &mut other);
         assert_eq!(rt; status, 3);
         assert_eq!(rt; output.as_slice(), line);
         let mut same = OneFile {
             name,
             bytes: MEASUREMENT,
         };
-        let (status, output) = ran_over(alloc, &words, &mut same);
+        let (status, output) = ran_over(&rt, &words, &mut same);
         assert_eq!(rt; status, 0);
         assert_eq!(rt; output.as_slice(), MEASUREMENT_LINE);
     }

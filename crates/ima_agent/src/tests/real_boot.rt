@@ -62,7 +62,7 @@ sha256 9 fa3fce7849ae123cf4b6c09b3e31b3a1dfd8d2501d907f40856c502e3bd554c2
 
 #[test]
 fn real_boot_registers(rt: HostRuntime) {
-    let (status, output) = ran(rt.alloc(), &[], FIRMWARE_LOG.as_bytes());
+    let (status, output) = ran(&rt, &[], FIRMWARE_LOG.as_bytes());
     assert_eq!(rt; status, 0);
     assert_eq!(rt; output.as_slice(), REGISTERS.as_bytes());
 }

@@ -30,7 +30,7 @@ fn real_boot_lines(rt: HostRuntime) -> Result<(), Fail> {
         name: "ima.list",
         bytes: &list,
     };
-    let (status, output) = ran_over(alloc, &words, &mut files);
+    let (status, output) = ran_over(&rt, &words, &mut files);
     assert_eq!(rt; status, 0);
     let (before, rest) = ASCII.split_at(SHA512_PLACE);
     let after = rest.strip_prefix(SHA512_LINE).ok_or("no line")?;

@@ -13,11 +13,11 @@ fn replay_and_fields_shown(rt: HostRuntime) -> Result<(), Fail> {
         (b"".as_slice(), 0, b"".as_slice()),
         (&MEASUREMENT[..93], 2, b"refused: list fault 1 at entry 0\n"),
     ] {
-        let answer = ran_over(alloc, &words, &mut OneFile { name: "x", bytes });
+        let answer = ran_over(&rt, &words, &mut OneFile { name: "x", bytes });
         assert_eq!(rt; answer.0, status);
         assert_eq!(rt; answer.1.as_slice(), line);
     }
-    let answer = ran_over(alloc, &words, &mut StandardInput(MEASUREMENT));
+    let answer = ran_over(&rt, &words, &mut StandardInput(MEASUREMENT));
     assert_eq!(rt; answer.0, 3);
     assert_eq!(rt; answer.1.as_slice(), b"failed: read x\n".as_slice());
     Ok(())

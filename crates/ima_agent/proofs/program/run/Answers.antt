@@ -3,20 +3,20 @@ use Rattle.ima_agent.proofs.program.run.Goals as goal
 
 pub returns-in-Ok-send : goal.returns-in-Ok-send
 returns-in-Ok-send g c = record {
-  text = c.in-Ok.output.items;
-  status = 0;
+  text = c.in-Ok.output.text.items;
+  status = c.in-Ok.output.status;
   sent = Ok tt;
-  output = inl (c.in-Ok.ensures.shown, refl);
+  output = inl c.in-Ok.ensures.shown;
   sends = rw (← c.deref.ensures.value) c.in-Ok-send.ensures;
   answer_is = refl;
 }
 
 pub returns-in-Ok : goal.returns-in-Ok
 returns-in-Ok g c = record {
-  text = c.in-Ok.output.items;
-  status = 0;
+  text = c.in-Ok.output.text.items;
+  status = c.in-Ok.output.status;
   sent = Err c.in-Err-send.field-0;
-  output = inl (c.in-Ok.ensures.shown, refl);
+  output = inl c.in-Ok.ensures.shown;
   sends = rw (← c.deref.ensures.value) c.in-Err-send.ensures;
   answer_is = refl;
 }

@@ -1,0 +1,139 @@
+-- The verdict: registers of the log and of the list, and which fault comes first.
+use Rattle.std.proofs.Common.{◌≡◌, ◌⊎◌, ℕ, List, length, map, Option, None, Some, option_map, Result, Ok, Err, refl, sym, ap, ◌∙◌, inl, inr}
+use Rattle.pcr_banks.specs.declared.alg.Alg.{Alg}
+use Rattle.pcr_banks.specs.declared.alg.Alg.TheVariants.{Sha1, Sha256, Sha384}
+use Rattle.pcr_banks.specs.declared.banks.Banks.{Banks}
+use Rattle.pcr_banks.specs.declared.digest.Digest.{Digest}
+use Rattle.pcr_banks.specs.declared.sets.AlgSet.{AlgSet}
+use Rattle.pcr_banks.specs.Hashing.{hash_of}
+use Rattle.pcr_banks.specs.Digests.{alg_of, bytes_of, digest_of}
+use Rattle.pcr_banks.specs.Registers.{value_at, extended_by_all}
+use Rattle.boot_log.specs.declared.fault.LogFault.{LogFault}
+use Rattle.boot_log.specs.declared.fault.LogFault.TheVariants as logs
+use Rattle.boot_log.specs.Spelling.{LogEvent}
+use Rattle.boot_log.specs.Reading.{log_fault}
+use Rattle.boot_log.specs.Replaying.{IsFirmware, startup_locality}
+use Rattle.ima_list.specs.declared.fault.ListFault.{ListFault}
+use Rattle.ima_list.specs.declared.fault.ListFault.TheVariants as lists
+use Rattle.ima_list.specs.ListEntry.{ListEntry}
+use Rattle.ima_list.specs.Spelling.{IsReading}
+use Rattle.ima_list.specs.Aggregates.{aggregated, boot_aggregate_of, joined_values}
+use Rattle.ima_list.specs.Replaying.{IsReplayed, digests_of}
+use Rattle.boot_verdict.specs.declared.expected.Expected.{Expected}
+use Rattle.boot_verdict.specs.declared.report.Aggregate.{Aggregate}
+use Rattle.boot_verdict.specs.declared.report.Row.{Row}
+use Rattle.boot_verdict.specs.Verdicts.{Verdict, verdict_on, IsVerifyFault, IsSomeLog, aggregate_of, compared, stated_aggregate, booted_aggregate, booted_value, fault_of_list, fault_of_log, final_value, row_of, row_on, state_for}
+
+-- ---- registers
+
+-- Functions with the same values are the same.
+fun_same : {A B : Type 0} (f g : A → B) → ((x : A) → f x ≡ g x) → f ≡ g
+fun_same f g same = λ i x. same x i
+
+-- The boot aggregate of the log's registers.
+pub booted_same : (algs : AlgSet) (events : List LogEvent) (banks : Banks) (alg : Alg) → IsFirmware algs events banks
+    → boot_aggregate_of banks alg ≡ booted_aggregate algs events alg
+booted_same algs events banks alg firmware =
+    ap (λ (f : ℕ → Option (List ℕ)). option_map (hash_of alg) (joined_values f (aggregated alg)))
+    (fun_same (value_at banks alg) (booted_value algs events alg) (λ r. firmware.values alg r))
+
+bytes_back : (alg : Alg) (value : Option (List ℕ)) → option_map bytes_of (option_map (digest_of alg) value) ≡ value
+bytes_back alg None = refl
+bytes_back Sha1 (Some value) = refl
+bytes_back Sha256 (Some value) = refl
+bytes_back Sha384 (Some value) = refl
+
+pub aggregate_same : (algs : AlgSet) (events : List LogEvent) (start : Banks) (entries : List ListEntry) (stated : Digest)
+    (value : Option Digest) (alg : Alg)
+    → IsFirmware algs events start → stated_aggregate entries ≡ Some (alg_of stated, bytes_of stated) → alg ≡ alg_of stated
+    → value ≡ option_map (digest_of alg) (boot_aggregate_of start alg)
+    → compared (bytes_of stated) (option_map bytes_of value) ≡ aggregate_of algs events (stated_aggregate entries)
+aggregate_same algs events start entries stated value alg firmware states by is =
+    ap (λ (o : Option Digest). compared (bytes_of stated) (option_map bytes_of o)) is
+    ∙ ap (compared (bytes_of stated)) (bytes_back alg (boot_aggregate_of start alg) ∙ booted_same algs events start alg firmware)
+    ∙ ap (λ (a : Alg). compared (bytes_of stated) (booted_aggregate algs events a)) by
+    ∙ ap (aggregate_of algs events) (sym states)
+
+-- A register after the log and the list.
+final_same : (algs : AlgSet) (events : List LogEvent) (entries : List ListEntry) (start banks : Banks) (alg : Alg) (register : ℕ)
+    → IsFirmware algs events start → IsReplayed start entries banks
+    → value_at banks alg register ≡ final_value algs events entries alg register
+final_same algs events entries start banks alg register firmware replayed =
+    replayed.values alg register
+    ∙ ap (λ (v : Option (List ℕ)). option_map (λ value. extended_by_all alg value (digests_of entries alg register)) v)
+    (firmware.values alg register)
+
+-- The row of an expected register that has this value.
+abbrev row_with : Expected → Option (List ℕ) → Row
+row_with e value = record { expected = e; state = state_for e value }
+
+pub rows_same : (algs : AlgSet) (events : List LogEvent) (entries : List ListEntry) (start banks : Banks) (expected : List Expected)
+    → IsFirmware algs events start → IsReplayed start entries banks
+    → map (row_of banks) expected ≡ map (row_on algs events entries) expected
+rows_same algs events entries start banks expected firmware replayed =
+    ap (λ (f : Expected → Row). map f expected)
+    (fun_same (row_of banks) (row_on algs events entries) (λ e. ap (row_with e)
+    (final_same algs events entries start banks e.alg e.register firmware replayed)))
+
+-- ---- the verdict
+
+-- What a report has, part by part.
+pub verdict_same : (algs : AlgSet) (events : List LogEvent) (entries : List ListEntry) (start banks : Banks) (expected : List Expected)
+    (event-count locality entry-count : ℕ) (aggregate : Aggregate) (rows : List Row)
+    → IsFirmware algs events start → IsReplayed start entries banks
+    → event-count ≡ length events → locality ≡ startup_locality events → entry-count ≡ length entries
+    → aggregate ≡ aggregate_of algs events (stated_aggregate entries) → rows ≡ map (row_of banks) expected
+    → ◌≡◌ {A = Verdict} (record { events = event-count; locality = locality; entries = entry-count; aggregate = aggregate; rows = rows })
+    (verdict_on algs events entries expected)
+verdict_same algs events entries start banks expected event-count locality entry-count aggregate rows firmware replayed a b c d e =
+    let f = e ∙ rows_same algs events entries start banks expected firmware replayed in
+    λ i. record { events = a i; locality = b i; entries = c i; aggregate = d i; rows = f i }
+
+-- The verdict on the same parts.
+pub verdict_on_same : (algs other : AlgSet) (events more : List LogEvent) (entries others : List ListEntry) (expected : List Expected)
+    → algs ≡ other → events ≡ more → entries ≡ others → verdict_on algs events entries expected ≡ verdict_on other more others expected
+verdict_on_same algs other events more entries others expected a b c = λ i. verdict_on (a i) (b i) (c i) expected
+
+-- ---- results
+
+-- What a result has.
+abbrev got : {A E : Type 0} → A → Result A E → A
+got other (Ok value) = value
+got other (Err fault) = other
+
+pub ok_same : {A E : Type 0} (a b : A) → ◌≡◌ {A = Result A E} (Ok a) (Ok b) → a ≡ b
+ok_same a b e = ap (got a) e
+
+-- ---- faults
+
+pub log_first : (log list : List ℕ) (fault : LogFault) → (fault ≡ logs.Memory) ⊎ (log_fault log ≡ Some fault)
+    → IsVerifyFault log list (fault_of_log fault)
+log_first log list logs.Memory cause = tt
+log_first log list (logs.Truncated event) (inr first) = first
+log_first log list (logs.Truncated event) (inl e) = absurd cc
+log_first log list logs.NotCryptoAgile (inr first) = first
+log_first log list logs.NotCryptoAgile (inl e) = absurd cc
+log_first log list logs.BadHeader (inr first) = first
+log_first log list logs.BadHeader (inl e) = absurd cc
+log_first log list logs.DigestSize (inr first) = first
+log_first log list logs.DigestSize (inl e) = absurd cc
+log_first log list logs.NoBank (inr first) = first
+log_first log list logs.NoBank (inl e) = absurd cc
+log_first log list (logs.UnknownAlg event) (inr first) = first
+log_first log list (logs.UnknownAlg event) (inl e) = absurd cc
+log_first log list (logs.DoubleDigest event) (inr first) = first
+log_first log list (logs.DoubleDigest event) (inl e) = absurd cc
+log_first log list (logs.MissingDigest event) (inr first) = first
+log_first log list (logs.MissingDigest event) (inl e) = absurd cc
+log_first log list (logs.BadRegister event) (inr first) = first
+log_first log list (logs.BadRegister event) (inl e) = absurd cc
+
+pub list_first : (log list : List ℕ) (fault : ListFault) → IsSomeLog log → (fault ≡ lists.Memory) ⊎ IsReading list (Err fault)
+    → IsVerifyFault log list (fault_of_list fault)
+list_first log list lists.Memory is cause = tt
+list_first log list (lists.Truncated entry) is (inr first) = (is, first)
+list_first log list (lists.Truncated entry) is (inl e) = absurd cc
+list_first log list (lists.BadRegister entry) is (inr first) = (is, first)
+list_first log list (lists.BadRegister entry) is (inl e) = absurd cc
+list_first log list (lists.NameTooLong entry) is (inr first) = (is, first)
+list_first log list (lists.NameTooLong entry) is (inl e) = absurd cc

@@ -1,0 +1,22 @@
+use Rattle.std.proofs.Common.{inl, inr}
+use Rattle.std.proofs.lemmas.Result.{err_from_is_err_and}
+use Rattle.boot_verdict.proofs.ExpectedLaws.{reads_none, reads_more, no_fault}
+use Rattle.boot_verdict.proofs.expected.read_expected.Goals as goal
+
+pub loop-rest-init : goal.loop-rest-init
+loop-rest-init c = rw c.new-expected.ensures.items (reads_none c.args.text)
+
+pub returns-in_err-take_line-clause-only : goal.returns-in_err-take_line-clause-only
+returns-in_err-take_line-clause-only c =
+    let p = err_from_is_err_and c.from_residual.result c.from_residual.ensures.1 in
+    λ expected states.
+    rw (p.1, p.2) (elim c.in_err-take_line.ensures.fault [
+      | inl memory ↦ memory
+      | inr wrong ↦ absurd (no_fault c.args.text.now c.line_at.result.0.now c.loop-rest.expected.items expected c.loop-rest.number
+          c.in-Some.text c.line_at.result.1 c.in_err-take_line.field-0.0 (rw c.in-Some.is at c.loop-rest.invariant) c.line_at.ensures.line wrong states)
+    ])
+
+pub loop-rest-preserved : goal.loop-rest-preserved
+loop-rest-preserved c =
+    reads_more c.args.text.now c.line_at.result.0.now c.loop-rest.expected.items c.take_line.new.expected.items c.loop-rest.number
+    c.in-Some.text c.line_at.result.1 (rw c.in-Some.is at c.loop-rest.invariant) c.line_at.ensures.line c.line_at.ensures.shorter c.in_ok-take_line.ensures.taken

@@ -1,0 +1,14 @@
+-- What a fault of expected registers says: its number, and the line that it names. All of this is this project's choice.
+use Rattle.std.specs.Prelude.{ℕ, Option, Some, None}
+use Rattle.boot_verdict.specs.declared.expected.ExpectFault.{ExpectFault}
+use Rattle.boot_verdict.specs.declared.expected.ExpectFault.TheVariants.{BadLine, DoubleLine, Memory}
+
+abbrev pub expect_fault_number : ExpectFault → ℕ
+expect_fault_number (BadLine line) = 1
+expect_fault_number (DoubleLine line) = 2
+expect_fault_number Memory = 3
+
+abbrev pub expect_fault_line : ExpectFault → Option ℕ
+expect_fault_line (BadLine line) = Some line
+expect_fault_line (DoubleLine line) = Some line
+expect_fault_line Memory = None

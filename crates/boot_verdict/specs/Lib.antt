@@ -1,0 +1,5 @@
+pub mod RegisterTexts
+pub mod ExpectFaults
+pub mod ExpectedTexts
+pub mod Verdicts
+pub mod ReportTexts

@@ -1,0 +1,58 @@
+-- The text of a report. All of this is this project's choice.
+use Rattle.std.specs.Prelude.{ℕ, Bool, true, false, List, [], ◌++◌, codes, decimal, flat_map}
+use Rattle.hex.specs.Hex.{encode_lower}
+use Rattle.pcr_banks.specs.Hashing.{name_of}
+use Rattle.pcr_banks.specs.Digests.{bytes_of}
+use Rattle.boot_verdict.specs.declared.expected.Expected.{Expected}
+use Rattle.boot_verdict.specs.declared.report.Row.{Row}
+use Rattle.boot_verdict.specs.declared.report.State.{State}
+use Rattle.boot_verdict.specs.declared.report.State.TheVariants.{Match, Differ, Absent}
+use Rattle.boot_verdict.specs.declared.report.Aggregate.{Aggregate}
+use Rattle.boot_verdict.specs.declared.report.Aggregate.TheVariants.{Good, Wrong, NoBank, Missing}
+use Rattle.boot_verdict.specs.Verdicts.{Verdict, matches}
+
+abbrev pub aggregate_word : Aggregate → List ℕ
+aggregate_word Good = codes "good"
+aggregate_word Wrong = codes "wrong"
+aggregate_word NoBank = codes "nobank"
+aggregate_word Missing = codes "missing"
+
+-- Three lines: events and locality, entries, boot aggregate.
+abbrev pub heading_text : ℕ → ℕ → ℕ → Aggregate → List ℕ
+heading_text events locality entries aggregate =
+    codes "events " ++ (decimal events ++ (codes " locality " ++ (decimal locality
+    ++ (codes "\nentries " ++ (decimal entries
+    ++ (codes "\nboot_aggregate " ++ (aggregate_word aggregate ++ codes "\n")))))))
+
+-- What a register has, beside what is expected; where it is another value, that follows.
+abbrev pub state_word : State → List ℕ
+state_word Match = codes "match"
+state_word (Differ value) = codes "differ "
+state_word Absent = codes "absent"
+
+-- A value that differs, in lower case hexadecimal.
+abbrev pub state_digits : State → List ℕ
+state_digits Match = []
+state_digits (Differ value) = encode_lower (bytes_of value)
+state_digits Absent = []
+
+-- What a line on an expected register begins with: the algorithm's name, and the register in decimal.
+abbrev pub register_words : Expected → List ℕ
+register_words expected = name_of expected.alg ++ (codes " " ++ (decimal expected.register ++ codes " "))
+
+-- A line on an expected register, with a word, and digits after it.
+abbrev pub row_line : Expected → List ℕ → List ℕ → List ℕ
+row_line expected word digits = register_words expected ++ (word ++ (digits ++ codes "\n"))
+
+abbrev pub row_text : Row → List ℕ
+row_text row = row_line row.expected (state_word row.state) (state_digits row.state)
+
+abbrev pub verdict_text : Bool → List ℕ
+verdict_text true = codes "verdict match\n"
+verdict_text false = codes "verdict differ\n"
+
+-- The report: its heading, a line for each expected register, and the verdict.
+abbrev pub report_text : Verdict → List ℕ
+report_text verdict =
+    heading_text verdict.events verdict.locality verdict.entries verdict.aggregate
+    ++ (flat_map row_text verdict.rows ++ verdict_text (matches verdict))

@@ -1,0 +1,178 @@
+-- The verdict on a firmware log, a measurement list and expected registers. All of this is this project's choice. What events and
+-- entries make of the registers is defined with them, in boot_log and ima_list.
+use Rattle.std.specs.Prelude.{◌≡◌, ℕ, ◌&&◌, nat_lt, Bool, true, false, if◌then◌else◌, List, [], ◌∷◌, length, map, codes, bytes_eq, Option, Some, None, option_map, Ok, Err}
+use Rattle.std.specs.List.{list_all}
+use Rattle.pcr_banks.specs.declared.alg.Alg.{Alg}
+use Rattle.pcr_banks.specs.declared.banks.Banks.{Banks}
+use Rattle.pcr_banks.specs.declared.sets.AlgSet.{AlgSet}
+use Rattle.pcr_banks.specs.Hashing.{hash_of, same_alg}
+use Rattle.pcr_banks.specs.Digests.{alg_of, bytes_of, digest_of}
+use Rattle.pcr_banks.specs.Sets.{has_alg}
+use Rattle.pcr_banks.specs.Registers.{register_count, extended_by_all, value_at}
+use Rattle.boot_log.specs.declared.fault.LogFault.{LogFault}
+use Rattle.boot_log.specs.declared.fault.LogFault.TheVariants as logs
+use Rattle.boot_log.specs.declared.header.Row.{Row as TableRow}
+use Rattle.boot_log.specs.Spelling.{LogEvent, IsLog, algs_in}
+use Rattle.boot_log.specs.Reading.{log_fault}
+use Rattle.boot_log.specs.Replaying.{firmware_value, startup_locality}
+use Rattle.ima_list.specs.declared.fault.ListFault.{ListFault}
+use Rattle.ima_list.specs.declared.fault.ListFault.TheVariants as lists
+use Rattle.ima_list.specs.declared.replaying.ReplayFault.{ReplayFault}
+use Rattle.ima_list.specs.ListEntry.{ListEntry}
+use Rattle.ima_list.specs.Spelling.{IsReading}
+use Rattle.ima_list.specs.Digesting.{is_violation}
+use Rattle.ima_list.specs.Fields.{FileFields, fields_of}
+use Rattle.ima_list.specs.Aggregates.{aggregated, joined_values}
+use Rattle.ima_list.specs.Replaying.{digests_of, AreGenuine, IsReplayFault}
+use Rattle.boot_verdict.specs.declared.expected.Expected.{Expected}
+use Rattle.boot_verdict.specs.declared.report.Row.{Row}
+use Rattle.boot_verdict.specs.declared.report.State.{State}
+use Rattle.boot_verdict.specs.declared.report.State.TheVariants.{Match, Differ, Absent}
+use Rattle.boot_verdict.specs.declared.report.Aggregate.{Aggregate}
+use Rattle.boot_verdict.specs.declared.report.Aggregate.TheVariants.{Good, Wrong, NoBank, Missing}
+use Rattle.boot_verdict.specs.declared.report.Report.{Report}
+use Rattle.boot_verdict.specs.declared.verifier.VerifyFault.{VerifyFault}
+use Rattle.boot_verdict.specs.declared.verifier.VerifyFault.TheVariants as faults
+
+-- ---- registers
+
+-- A register of a bank after the log's events; none where the log has no such bank, or there is no register of this number.
+abbrev pub booted_value : AlgSet → List LogEvent → Alg → ℕ → Option (List ℕ)
+booted_value algs events alg register =
+    if has_alg algs alg && nat_lt register register_count then Some (firmware_value events alg register) else None
+
+-- The same after the list's entries.
+abbrev pub final_value : AlgSet → List LogEvent → List ListEntry → Alg → ℕ → Option (List ℕ)
+final_value algs events entries alg register =
+    option_map (λ value. extended_by_all alg value (digests_of entries alg register)) (booted_value algs events alg register)
+
+-- Whether this value of its register is the expected one.
+abbrev pub is_value : Expected → List ℕ → Bool
+is_value expected value = same_alg (alg_of expected.value) expected.alg && bytes_eq (bytes_of expected.value) value
+
+-- What is said of an expected register that has this value, or is absent.
+abbrev pub state_for : Expected → Option (List ℕ) → State
+state_for expected None = Absent
+state_for expected (Some value) = if is_value expected value then Match else Differ (digest_of expected.alg value)
+
+-- The row of an expected register.
+abbrev pub row_on : AlgSet → List LogEvent → List ListEntry → Expected → Row
+row_on algs events entries expected =
+    record { expected = expected; state = state_for expected (final_value algs events entries expected.alg expected.register) }
+
+-- ---- boot aggregate
+
+-- The file digest that the list's first entry states, where it is a measurement of the path `boot_aggregate`.
+abbrev pub aggregate_in : Option FileFields → Option (Alg × List ℕ)
+aggregate_in None = None
+aggregate_in (Some fields) = if bytes_eq fields.path (codes "boot_aggregate") then Some (fields.alg, fields.digest) else None
+
+abbrev pub stated_aggregate : List ListEntry → Option (Alg × List ℕ)
+stated_aggregate [] = None
+stated_aggregate (first ∷ entries) = if is_violation first then None else aggregate_in (fields_of first)
+
+-- The boot aggregate of the log's registers.
+abbrev pub booted_aggregate : AlgSet → List LogEvent → Alg → Option (List ℕ)
+booted_aggregate algs events alg = option_map (hash_of alg) (joined_values (booted_value algs events alg) (aggregated alg))
+
+abbrev pub compared : List ℕ → Option (List ℕ) → Aggregate
+compared stated None = NoBank
+compared stated (Some value) = if bytes_eq stated value then Good else Wrong
+
+abbrev pub aggregate_of : AlgSet → List LogEvent → Option (Alg × List ℕ) → Aggregate
+aggregate_of algs events None = Missing
+aggregate_of algs events (Some stated) = compared stated.1 (booted_aggregate algs events stated.0)
+
+-- ---- the verdict
+
+pub record Verdict : Type 0 where
+  pub events : ℕ
+  pub locality : ℕ
+  pub entries : ℕ
+  pub aggregate : Aggregate
+  pub rows : List Row
+
+-- The verdict on the events of a log with these algorithms, the entries of a list, and expected registers.
+abbrev pub verdict_on : AlgSet → List LogEvent → List ListEntry → List Expected → Verdict
+verdict_on algs events entries expected = record {
+  events = length events;
+  locality = startup_locality events;
+  entries = length entries;
+  aggregate = aggregate_of algs events (stated_aggregate entries);
+  rows = map (row_on algs events entries) expected;
+}
+
+abbrev pub is_good : Aggregate → Bool
+is_good Good = true
+is_good Wrong = false
+is_good NoBank = false
+is_good Missing = false
+
+abbrev pub state_matches : State → Bool
+state_matches Match = true
+state_matches (Differ value) = false
+state_matches Absent = false
+
+abbrev pub is_match : Row → Bool
+is_match row = state_matches row.state
+
+-- The verdict is 'match': the boot aggregate is good, and each expected register has its value.
+abbrev pub matches : Verdict → Bool
+matches verdict = is_good verdict.aggregate && list_all is_match verdict.rows
+
+-- The bytes are a log and a list, each entry is genuine, and this is the verdict on them.
+pub record IsVerdict (log list : List ℕ) (expected : List Expected) (verdict : Verdict) : Type 0 where
+  pub table : List TableRow
+  pub events : List LogEvent
+  pub entries : List ListEntry
+  pub log_is : IsLog log table events
+  pub list_is : IsReading list (Ok entries)
+  pub genuine : AreGenuine entries
+  pub verdict_is : verdict ≡ verdict_on (algs_in table) events entries expected
+
+-- ---- why there is no verdict
+
+-- The bytes are a firmware event log.
+pub record IsSomeLog (log : List ℕ) : Type 0 where
+  pub table : List TableRow
+  pub events : List LogEvent
+  pub log_is : IsLog log table events
+
+-- The bytes are a list, and this fault is that of its entries.
+pub record IsForged (list : List ℕ) (fault : ReplayFault) : Type 0 where
+  pub entries : List ListEntry
+  pub list_is : IsReading list (Ok entries)
+  pub first : IsReplayFault entries fault
+
+-- Why there is no verdict: the first of these that holds, the log before the list, and the list before its entries; or memory ran out.
+abbrev pub IsVerifyFault : List ℕ → List ℕ → VerifyFault → Type 0
+IsVerifyFault log list (faults.Log fault) = log_fault log ≡ Some fault
+IsVerifyFault log list (faults.List fault) = IsSomeLog log × IsReading list (Err fault)
+IsVerifyFault log list (faults.Replay fault) = IsSomeLog log × IsForged list fault
+IsVerifyFault log list faults.Memory = Unit {0}
+
+-- That memory ran out is one fault, wherever it ran out.
+abbrev pub fault_of_log : LogFault → VerifyFault
+fault_of_log logs.Memory = faults.Memory
+fault_of_log fault = faults.Log fault
+
+abbrev pub fault_of_list : ListFault → VerifyFault
+fault_of_list lists.Memory = faults.Memory
+fault_of_list fault = faults.List fault
+
+-- ---- what contracts see of a report
+
+abbrev pub verdict_of : Report → Verdict
+verdict_of report = record {
+  events = report.events;
+  locality = report.locality;
+  entries = report.entries;
+  aggregate = report.aggregate;
+  rows = report.rows.items;
+}
+
+-- ---- what contracts see of the steps of the verifier
+
+-- The row of an expected register, over these banks.
+abbrev pub row_of : Banks → Expected → Row
+row_of banks expected = record { expected = expected; state = state_for expected (value_at banks expected.alg expected.register) }

@@ -1,0 +1,73 @@
+//! What the verifier says of a log, a list and expected registers.
+
+ghost use Rattle.std.specs.Prelude.{◌≡◌};
+ghost use Rattle.std.specs.List.{list_all};
+ghost use Rattle.boot_verdict.specs.Verdicts.{is_match, matches, verdict_of};
+
+use crate::expected::Expected;
+use pcr_banks::Digest;
+
+/// How a register compares with what is expected of it.
+#[derive(Clone, Copy, Debug, PartialEq, Eq)]
+pub enum State {
+    /// It has the expected value.
+    Match,
+    /// It has this value, which is another one.
+    Differ(Digest),
+    /// The log has no such bank, or there is no such register.
+    Absent,
+}
+
+/// An expected register, and how it compares.
+#[derive(Clone, Copy, Debug, PartialEq, Eq)]
+pub struct Row {
+    /// What is expected.
+    pub expected: Expected,
+    /// How the register compares.
+    pub state: State,
+}
+
+/// What the list says of the registers that the firmware left: its first entry is to be a measurement of the path
+/// `boot_aggregate`, with the hash of the first registers.
+#[derive(Clone, Copy, Debug, PartialEq, Eq)]
+pub enum Aggregate {
+    /// The first entry states the boot aggregate of the log's registers.
+    Good,
+    /// It states another digest, and the log has a bank of its algorithm.
+    Wrong,
+    /// It states a digest by an algorithm of which the log has no bank.
+    NoBank,
+    /// The list is empty, or its first entry states no boot aggregate.
+    Missing,
+}
+
+/// The report on a firmware event log, a measurement list and expected registers.
+#[derive(Debug, Drop)]
+pub struct Report {
+    /// How many events the log has after its header.
+    pub events: usize,
+    /// The locality from which the TPM was started.
+    pub locality: u8,
+    /// How many entries the list has.
+    pub entries: usize,
+    /// What the list says of the log's registers.
+    pub aggregate: Aggregate,
+    /// The expected registers, in their order.
+    pub rows: Vec<Row>,
+}
+
+impl Report {
+    /// Whether the boot aggregate is good, and each expected register has its value.
+    pub fn matches(&self) -> bool
+        ensures { result ≡ matches (verdict_of self.now) }
+    {
+        matches!(self.aggregate, Aggregate::Good) && all_match(&self.rows)
+    }
+}
+
+// Whether each expected register has its value.
+fn all_match(rows: &[Row]) -> bool
+    ensures { result ≡ list_all is_match rows.now }
+{
+    rows.iter().all(|row| matches!(row.state, State::Match))
+}

@@ -1,0 +1,59 @@
+//! The lines of registers.
+
+ghost use Rattle.pcr_banks.specs.Digests.{alg_of, bytes_of};
+ghost use Rattle.byte_streams.specs.Streams.{Sends};
+ghost use Rattle.boot_verdict.specs.RegisterTexts.{register_line, register_change, bank_text, registers_text};
+
+use byte_streams::{Failed, Sink, send_pieces};
+use itoa::Buffer;
+use pcr_banks::{Alg, Banks, Digest, REGISTERS};
+
+fn write_register_line<S: Sink>(register: u32, value: &Digest, sink: &mut S) -> Result<(), Failed>
+    ensures { Sends (S.state sink.old) (S.state sink.new) result (register_line (alg_of value.now) register (bytes_of value.now)) }
+{
+    let mut digits = [0; 128];
+    let count = value.hex_into(&mut digits);
+    let mut number = Buffer::new();
+    let register = number.format(register).as_bytes();
+    let name = value.alg().name().as_bytes();
+    send_pieces(&[name, b" ", register, b" ", &digits[..count], b"\n"], sink)
+}
+
+fn write_register<S: Sink>(
+    now: &Banks,
+    start: &Banks,
+    alg: Alg,
+    register: u32,
+    sink: &mut S,
+) -> Result<(), Failed>
+    ensures { Sends (S.state sink.old) (S.state sink.new) result (register_change now.now start.now alg register) }
+{
+    match (now.read(alg, register), start.read(alg, register)) {
+        (None, _) => Ok(()),
+        (Some(value), Some(before)) if value == before => Ok(()),
+        (Some(value), _) => write_register_line(register, &value, sink),
+    }
+}
+
+fn write_bank<S: Sink>(now: &Banks, start: &Banks, alg: Alg, sink: &mut S) -> Result<(), Failed>
+    ensures { Sends (S.state sink.old) (S.state sink.new) result (bank_text now.now start.now alg) }
+{
+    for register in 0..REGISTERS {
+        write_register(now, start, alg, register, sink)?;
+    }
+    Ok(())
+}
+
+/// Writes a register line for each register whose value in `now` is not that in `start`, or whose bank `start` lacks:
+/// the banks in the order of algorithms, the registers rising.
+///
+/// A line is the algorithm's name, the register in decimal and the value in lower case hexadecimal, separated by spaces,
+/// with a line feed at the end. After `Err` the sink took a prefix of the text.
+pub fn write_registers<S: Sink>(now: &Banks, start: &Banks, sink: &mut S) -> Result<(), Failed>
+    ensures { Sends (S.state sink.old) (S.state sink.new) result (registers_text now.now start.now) }
+{
+    for alg in &Alg::ALL {
+        write_bank(now, start, *alg, sink)?;
+    }
+    Ok(())
+}

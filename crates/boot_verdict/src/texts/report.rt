@@ -1,0 +1,113 @@
+//! The lines of a report.
+
+ghost use Rattle.std.specs.Prelude.{◌≡◌, flat_map};
+ghost use Rattle.byte_streams.specs.Streams.{Sends};
+ghost use Rattle.boot_verdict.specs.Verdicts.{verdict_of};
+ghost use Rattle.boot_verdict.specs.ReportTexts.{aggregate_word, heading_text, register_words, report_text, row_line, row_text, verdict_text};
+
+use crate::expected::Expected;
+use crate::report::{Aggregate, Report, Row, State};
+use byte_streams::{Failed, Sink, send, send_pieces};
+use itoa::Buffer;
+use pcr_banks::MOST_DIGITS;
+
+/// Writes a report: a line with the number of events and the locality, one with the number of entries, one with the state of
+/// the boot aggregate, one for each expected register, and the verdict.
+///
+/// `sha256 4 match` says that the register has the expected value, `sha256 4 differ` that it has the value that follows, in
+/// lower case hexadecimal, and `sha1 4 absent` that the log has no such bank, or there is no such register. After `Err` the sink took a prefix of the text.
+pub fn write_report<S: Sink>(report: &Report, sink: &mut S) -> Result<(), Failed>
+    ensures { Sends (S.state sink.old) (S.state sink.new) result (report_text (verdict_of report.now)) }
+{
+    write_heading(report, sink)?;
+    write_rows(&report.rows, sink)?;
+    send(verdict_line(report.matches()), sink)
+}
+
+fn write_heading<S: Sink>(report: &Report, sink: &mut S) -> Result<(), Failed>
+    ensures { Sends (S.state sink.old) (S.state sink.new) result
+        (heading_text report.now.events report.now.locality report.now.entries report.now.aggregate) }
+{
+    let mut events = Buffer::new();
+    let mut locality = Buffer::new();
+    let mut entries = Buffer::new();
+    let pieces: [&[u8]; 9] = [
+        b"events ",
+        events.format(report.events).as_bytes(),
+        b" locality ",
+        locality.format(report.locality).as_bytes(),
+        b"\nentries ",
+        entries.format(report.entries).as_bytes(),
+        b"\nboot_aggregate ",
+        aggregate_word(report.aggregate).as_bytes(),
+        b"\n",
+    ];
+    send_pieces(&pieces, sink)
+}
+
+fn aggregate_word(aggregate: Aggregate) -> &'static str
+    ensures { result.now ≡ aggregate_word aggregate }
+{
+    match aggregate {
+        Aggregate::Good => "good",
+        Aggregate::Wrong => "wrong",
+        Aggregate::NoBank => "nobank",
+        Aggregate::Missing => "missing",
+    }
+}
+
+fn write_rows<S: Sink>(rows: &[Row], sink: &mut S) -> Result<(), Failed>
+    ensures { Sends (S.state sink.old) (S.state sink.new) result (flat_map row_text rows.now) }
+{
+    for row in rows {
+        write_row(row, sink)?;
+    }
+    Ok(())
+}
+
+fn write_row<S: Sink>(row: &Row, sink: &mut S) -> Result<(), Failed>
+    ensures { Sends (S.state sink.old) (S.state sink.new) result (row_text row.now) }
+{
+    match row.state {
+        State::Match => write_line(&row.expected, "match", b"", sink),
+        State::Differ(value) => {
+            let mut digits = [0; MOST_DIGITS];
+            let count = value.hex_into(&mut digits);
+            write_line(&row.expected, "differ ", &digits[..count], sink)
+        }
+        State::Absent => write_line(&row.expected, "absent", b"", sink),
+    }
+}
+
+// The line of an expected register: a word on it, and digits after the word.
+fn write_line<S: Sink>(
+    expected: &Expected,
+    word: &str,
+    digits: &[u8],
+    sink: &mut S,
+) -> Result<(), Failed>
+    ensures { Sends (S.state sink.old) (S.state sink.new) result (row_line expected.now word.now digits.now) }
+{
+    write_register_words(expected, sink)?;
+    send_pieces(&[word.as_bytes(), digits, b"\n"], sink)
+}
+
+// What a line on an expected register begins with.
+fn write_register_words<S: Sink>(expected: &Expected, sink: &mut S) -> Result<(), Failed>
+    ensures { Sends (S.state sink.old) (S.state sink.new) result (register_words expected.now) }
+{
+    let mut number = Buffer::new();
+    let name = expected.alg.name().as_bytes();
+    let register = number.format(expected.register).as_bytes();
+    send_pieces(&[name, b" ", register, b" "], sink)
+}
+
+fn verdict_line(is_match: bool) -> &'static [u8]
+    ensures { result.now ≡ verdict_text is_match }
+{
+    if is_match {
+        b"verdict match\n"
+    } else {
+        b"verdict differ\n"
+    }
+}

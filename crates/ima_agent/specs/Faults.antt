@@ -1,0 +1,47 @@
+-- What the faults of the parts are to the program. That memory ran out is one fault, wherever it ran out. All of this is this project's
+-- choice.
+use Rattle.std.specs.Prelude.{ℕ}
+use Rattle.boot_log.specs.declared.fault.LogFault.{LogFault}
+use Rattle.boot_log.specs.declared.fault.LogFault.TheVariants as logs
+use Rattle.ima_list.specs.declared.fault.ListFault.{ListFault}
+use Rattle.ima_list.specs.declared.fault.ListFault.TheVariants as lists
+use Rattle.measure_book.specs.declared.fault.BookFault.{BookFault}
+use Rattle.measure_book.specs.declared.fault.BookFault.TheVariants as books
+use Rattle.hash_workers.specs.declared.fault.AgentFault.{AgentFault}
+use Rattle.hash_workers.specs.declared.fault.AgentFault.TheVariants as agents
+use Rattle.boot_verdict.specs.declared.expected.ExpectFault.{ExpectFault}
+use Rattle.boot_verdict.specs.declared.expected.ExpectFault.TheVariants as expects
+use Rattle.boot_verdict.specs.declared.verifier.VerifyFault.{VerifyFault}
+use Rattle.boot_verdict.specs.declared.verifier.VerifyFault.TheVariants as verdicts
+use Rattle.ima_agent.specs.declared.fault.RunFault.{RunFault}
+use Rattle.ima_agent.specs.declared.fault.RunFault.TheVariants as runs
+
+abbrev pub fault_of_log : LogFault → RunFault
+fault_of_log logs.Memory = runs.Memory
+fault_of_log fault = runs.Log fault
+
+abbrev pub fault_of_list : ListFault → RunFault
+fault_of_list lists.Memory = runs.Memory
+fault_of_list fault = runs.List fault
+
+abbrev pub fault_of_expected : ExpectFault → RunFault
+fault_of_expected expects.Memory = runs.Memory
+fault_of_expected fault = runs.Expect fault
+
+abbrev pub fault_of_verdict : VerifyFault → RunFault
+fault_of_verdict (verdicts.Log fault) = fault_of_log fault
+fault_of_verdict (verdicts.List fault) = fault_of_list fault
+fault_of_verdict (verdicts.Replay fault) = runs.Replay fault
+fault_of_verdict verdicts.Memory = runs.Memory
+
+-- A wrong number of workers is one of the command line.
+abbrev pub fault_of_agent : AgentFault → RunFault
+fault_of_agent agents.Workers = runs.Usage
+fault_of_agent (agents.Book fault) = runs.Book fault
+fault_of_agent (agents.Gather fault) = runs.Gather fault
+fault_of_agent agents.Memory = runs.Memory
+
+-- The file of this number was refused for this cause.
+abbrev pub fault_of_job : ℕ → BookFault → RunFault
+fault_of_job job books.Memory = runs.Memory
+fault_of_job job fault = runs.Outcome job fault

@@ -1,0 +1,134 @@
+-- Files, measured into the registers of a log. All of this is this project's choice.
+use Rattle.std.specs.Prelude.{◌≡◌, ℕ, ◌<◌, ◌⊎◌, List, map, flat_map, slice_get, Option, Some, None}
+use Rattle.pcr_banks.specs.declared.alg.Alg.{Alg}
+use Rattle.pcr_banks.specs.declared.banks.Banks.{Banks}
+use Rattle.pcr_banks.specs.Registers.{IsReset}
+use Rattle.boot_log.specs.declared.fault.LogFault.{LogFault}
+use Rattle.boot_log.specs.declared.header.Row.{Row}
+use Rattle.boot_log.specs.Spelling.{LogEvent, IsLog, algs_in}
+use Rattle.boot_log.specs.Reading.{log_fault}
+use Rattle.boot_log.specs.Replaying.{IsFirmware, startup_locality}
+use Rattle.ima_list.specs.declared.template.Template.{Template}
+use Rattle.ima_list.specs.Lines.{line_of}
+use Rattle.measure_book.specs.declared.origin.Origin.{Origin}
+use Rattle.measure_book.specs.declared.fault.BookFault.{BookFault}
+use Rattle.measure_book.specs.Operations.{BookOp, BookOutcome, refused}
+use Rattle.measure_book.specs.Books.{BookState, IsBook, exported}
+use Rattle.hash_workers.specs.declared.job.Job.{Job}
+use Rattle.hash_workers.specs.declared.job.Job.TheVariants as jobs
+use Rattle.hash_workers.specs.declared.fault.AgentFault.{AgentFault}
+use Rattle.hash_workers.specs.Jobs.{operations_of}
+use Rattle.hash_workers.specs.Batches.{IsBatch}
+use Rattle.hash_workers.specs.Faults.{IsFaultOf}
+use Rattle.boot_verdict.specs.RegisterTexts.{registers_text}
+use Rattle.ima_agent.specs.declared.fault.RunFault.{RunFault}
+use Rattle.ima_agent.specs.declared.fault.RunFault.TheVariants as runs
+use Rattle.ima_agent.specs.declared.plan.Print.{Print}
+use Rattle.ima_agent.specs.declared.plan.Print.TheVariants.{Ascii, Binary, Registers}
+use Rattle.ima_agent.specs.Faults.{fault_of_log, fault_of_agent, fault_of_job}
+use Rattle.ima_agent.specs.Loading.{IsInputFault}
+
+-- ---- what is measured
+
+-- The path of a job that is a file.
+abbrev pub path_of : Job → Option (List ℕ)
+path_of (jobs.File path content) = Some path.items
+path_of (jobs.Violation path) = None
+path_of (jobs.Read alg register) = None
+
+-- The jobs are files, with these names as their paths, in their order.
+abbrev pub AreFiles : List (List ℕ) → List Job → Type 0
+AreFiles names jobs' = map path_of jobs' ≡ map Some names
+
+-- No job was refused.
+abbrev pub AreAllDone : List BookOutcome → Type 0
+AreAllDone outcomes = (job : ℕ) (fault : BookFault) → slice_get outcomes job ≡ Some (refused fault) → ⊥
+
+-- The operations were recorded by the workers in this book, and each is done.
+pub record HasMeasured (origin : Origin) (ops : List BookOp) (workers : ℕ) (book : BookState) : Type 0 where
+  pub outcomes : List BookOutcome
+  pub by : List ℕ
+  pub batch : IsBatch origin ops workers book outcomes by
+  pub done : AreAllDone outcomes
+
+-- What is printed of a book: its list as text or binary, or the registers that differ from these.
+abbrev pub printed : Print → Banks → BookState → List ℕ
+printed Ascii reset book = flat_map line_of book.entries
+printed Binary reset book = exported book
+printed Registers reset book = registers_text book.banks reset
+
+-- What is shown is printed of a book that starts with the registers that a log makes, and in which the files of these names are
+-- measured.
+pub record ShowsMeasured (alg : Alg) (template : Template) (workers limit : ℕ) (print : Print) (names : List (List ℕ)) (shown : List ℕ) :
+    Type 0 where
+  pub log : List ℕ
+  pub table : List Row
+  pub events : List LogEvent
+  pub reset : Banks
+  pub origin : Origin
+  pub files : List Job
+  pub book : BookState
+  pub log_is : IsLog log table events
+  pub reset_is : IsReset (algs_in table) (startup_locality events) reset
+  pub starts : IsFirmware (algs_in table) events origin.start
+  pub alg_is : origin.alg ≡ alg
+  pub template_is : origin.template ≡ template
+  pub limit_is : origin.limit ≡ limit
+  pub files_are : AreFiles names files
+  pub measured : HasMeasured origin (operations_of alg files) workers book
+  pub text_is : shown ≡ printed print reset book
+
+-- ---- why nothing is shown
+
+-- The bytes are no log, and this is their first fault.
+pub record IsNotLog (fault : RunFault) : Type 0 where
+  pub bytes : List ℕ
+  pub first : LogFault
+  pub first_is : log_fault bytes ≡ Some first
+  pub says : fault ≡ fault_of_log first
+
+-- The file of one of these names was not had.
+pub record IsFileFault (names : List (List ℕ)) (fault : RunFault) : Type 0 where
+  pub index : ℕ
+  pub name : List ℕ
+  pub has : slice_get names index ≡ Some name
+  pub cause : IsInputFault name fault
+
+-- The first job that was refused is the one of this number, for this cause.
+pub record IsFirstRefused (outcomes : List BookOutcome) (job : ℕ) (fault : BookFault) : Type 0 where
+  pub is_refused : slice_get outcomes job ≡ Some (refused fault)
+  pub first : (earlier : ℕ) (cause : BookFault) → earlier < job → slice_get outcomes earlier ≡ Some (refused cause) → ⊥
+
+-- The operations were recorded by the workers in a book, and the first that it refused has this fault.
+pub record IsRefusedJob (origin : Origin) (ops : List BookOp) (workers : ℕ) (fault : RunFault) : Type 0 where
+  pub book : BookState
+  pub outcomes : List BookOutcome
+  pub by : List ℕ
+  pub job : ℕ
+  pub cause : BookFault
+  pub batch : IsBatch origin ops workers book outcomes by
+  pub first : IsFirstRefused outcomes job cause
+  pub says : fault ≡ fault_of_job job cause
+
+-- The workers gave no book.
+pub record IsNoBatch (origin : Origin) (workers : ℕ) (fault : RunFault) : Type 0 where
+  pub first : AgentFault
+  pub first_is : IsFaultOf workers origin first
+  pub says : fault ≡ fault_of_agent first
+
+-- Why the operations are not all recorded.
+abbrev pub IsRecordingFault : Origin → List BookOp → ℕ → RunFault → Type 0
+IsRecordingFault origin ops workers fault = IsNoBatch origin workers fault ⊎ IsRefusedJob origin ops workers fault
+
+-- The same, for some operations.
+pub record IsNotRecorded (fault : RunFault) : Type 0 where
+  pub origin : Origin
+  pub ops : List BookOp
+  pub workers : ℕ
+  pub cause : IsRecordingFault origin ops workers fault
+
+-- Why nothing is shown of a measurement of files of these names: the log or a file was not had, the log is none, the files were not
+-- all recorded, or memory ran out.
+abbrev pub IsMeasuringFault : List ℕ → List (List ℕ) → RunFault → Type 0
+IsMeasuringFault log names fault =
+    IsInputFault log fault ⊎ IsNotLog fault ⊎ IsFileFault names fault ⊎ IsNotRecorded fault ⊎ (fault ≡ runs.Memory)

@@ -1,0 +1,37 @@
+-- What the words of the command line ask for. All of this is this project's choice.
+use Rattle.std.specs.Prelude.{◌≡◌, ℕ, ◌≤◌, ◌<◌, ◌^◌, ◌⊎◌, List, [], ◌∷◌, codes, String, string_bytes, vec_len}
+use Rattle.std.specs.Global.{Global}
+use Rattle.ima_agent.specs.declared.plan.Plan.{Plan}
+use Rattle.ima_agent.specs.declared.plan.Plan.TheVariants.{Registers, Measure, Verify, Show, Help}
+use Rattle.ima_agent.specs.declared.fault.RunFault.{RunFault}
+use Rattle.ima_agent.specs.declared.fault.RunFault.TheVariants as runs
+
+-- A measurement has 1 to 8 workers, a limit of at least one record, and fewer than 2^32 files.
+abbrev pub IsWithinRanges : Plan → Type 0
+IsWithinRanges Registers = Unit {0}
+IsWithinRanges (Measure alg template workers limit print log files) =
+    (1 ≤ workers) × (workers ≤ 8) × (1 ≤ limit) × (vec_len files < 2 ^ 32)
+IsWithinRanges (Verify log list expected) = Unit {0}
+IsWithinRanges (Show list) = Unit {0}
+IsWithinRanges (Help text) = Unit {0}
+
+-- The command with this name is asked for; help has no command of its own.
+abbrev pub IsOfCommand : List ℕ → Plan → Type 0
+IsOfCommand command Registers = ⊥
+IsOfCommand command (Measure alg template workers limit print log files) = command ≡ codes "measure"
+IsOfCommand command (Verify log list expected) = command ≡ codes "verify"
+IsOfCommand command (Show list) = command ≡ codes "show"
+IsOfCommand command (Help text) = Unit {0}
+
+-- No words ask for the registers of standard input; else the first word is the command.
+abbrev pub IsAskedBy : List (String Global) → Plan → Type 0
+IsAskedBy [] plan = plan ≡ Registers
+IsAskedBy (word ∷ words) plan = IsOfCommand (string_bytes word) plan
+
+-- The words are not those of a command, or memory ran out.
+abbrev pub IsWordsFault : RunFault → Type 0
+IsWordsFault fault = (fault ≡ runs.Usage) ⊎ (fault ≡ runs.Memory)
+
+-- Help is asked for.
+abbrev pub IsHelp : Plan → Type 0
+IsHelp plan = (text : String Global) × (plan ≡ Help text)

@@ -1,0 +1,62 @@
+-- The registers of a log and the entries of a list, as the program shows them. All of this is this project's choice.
+use Rattle.std.specs.Prelude.{◌≡◌, ℕ, ◌⊎◌, List, flat_map, Option, Some, Result, Ok, Err, IsErr}
+use Rattle.hex.specs.Hex.{decode_of}
+use Rattle.pcr_banks.specs.declared.banks.Banks.{Banks}
+use Rattle.pcr_banks.specs.Registers.{IsReset}
+use Rattle.boot_log.specs.declared.fault.LogFault.{LogFault}
+use Rattle.boot_log.specs.declared.header.Row.{Row}
+use Rattle.boot_log.specs.Spelling.{LogEvent, IsLog, algs_in}
+use Rattle.boot_log.specs.Reading.{log_fault}
+use Rattle.boot_log.specs.Replaying.{IsFirmware, startup_locality}
+use Rattle.ima_list.specs.declared.fault.ListFault.{ListFault}
+use Rattle.ima_list.specs.ListEntry.{ListEntry}
+use Rattle.ima_list.specs.Spelling.{IsReading}
+use Rattle.ima_list.specs.Lines.{line_of}
+use Rattle.boot_verdict.specs.RegisterTexts.{registers_text}
+use Rattle.ima_agent.specs.declared.fault.RunFault.{RunFault}
+use Rattle.ima_agent.specs.declared.fault.RunFault.TheVariants as runs
+use Rattle.ima_agent.specs.Faults.{fault_of_log, fault_of_list}
+use Rattle.ima_agent.specs.Hexadecimal.{without_white_space}
+
+-- The text is a firmware event log in hexadecimal, and what is shown are the registers that differ from their reset
+-- values after its events.
+pub record ShowsRegisters (text shown : List ℕ) : Type 0 where
+  pub bytes : List ℕ
+  pub table : List Row
+  pub events : List LogEvent
+  pub start : Banks
+  pub now : Banks
+  pub decoded : decode_of (without_white_space text) ≡ Ok bytes
+  pub log : IsLog bytes table events
+  pub reset : IsReset (algs_in table) (startup_locality events) start
+  pub firmware : IsFirmware (algs_in table) events now
+  pub text_is : shown ≡ registers_text now start
+
+-- The text is hexadecimal, and its bytes have this first fault of a log.
+pub record IsNoLog (text : List ℕ) (fault : RunFault) : Type 0 where
+  pub bytes : List ℕ
+  pub decoded : decode_of (without_white_space text) ≡ Ok bytes
+  pub first : LogFault
+  pub first_is : log_fault bytes ≡ Some first
+  pub says : fault ≡ fault_of_log first
+
+-- Why no registers are shown: the text is not hexadecimal, or its bytes are no log; or memory ran out.
+abbrev pub IsRefusedFor : List ℕ → RunFault → Type 0
+IsRefusedFor text fault =
+    ((fault ≡ runs.NotHex) × IsErr (decode_of (without_white_space text))) ⊎ IsNoLog text fault ⊎ (fault ≡ runs.Memory)
+
+-- The bytes are a measurement list, and what is shown are the lines of its entries.
+pub record ShowsList (bytes shown : List ℕ) : Type 0 where
+  pub entries : List ListEntry
+  pub reading : IsReading bytes (Ok entries)
+  pub text_is : shown ≡ flat_map line_of entries
+
+-- The bytes read as this fault of a list.
+pub record IsNoList (bytes : List ℕ) (fault : RunFault) : Type 0 where
+  pub first : ListFault
+  pub reading : IsReading bytes (Err first)
+  pub says : fault ≡ fault_of_list first
+
+-- Why no list is shown: the bytes are no list, or memory ran out.
+abbrev pub IsNoListFor : List ℕ → RunFault → Type 0
+IsNoListFor bytes fault = IsNoList bytes fault ⊎ (fault ≡ runs.Memory)

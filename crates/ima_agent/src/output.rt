@@ -1,0 +1,30 @@
+//! What the program writes where nothing is refused.
+
+ghost use Rattle.std.specs.Prelude.{◌≡◌};
+
+/// A whole output, before its first byte is written.
+#[derive(Debug, Drop)]
+pub(crate) struct Output {
+    /// The text, or a binary list.
+    pub text: Vec<u8>,
+    /// The exit status once it is written.
+    pub status: u8,
+}
+
+impl Output {
+    /// The output of a command that is done.
+    pub fn done(text: Vec<u8>) -> Self
+        ensures { (result.text ≡ text) × (result.status ≡ 0) }
+    {
+        Output { text, status: DONE }
+    }
+}
+
+/// The exit status where all went well.
+pub(crate) const DONE: u8 = 0;
+
+/// The exit status of a report that does not match.
+pub(crate) const DIFFERS: u8 = 1;
+
+/// The exit status where the sink failed.
+pub(crate) const FAILED: u8 = 3;

@@ -1,0 +1,68 @@
+//! The registers of a log and the entries of a list, as text.
+
+ghost use Rattle.std.specs.Prelude.{◌≡◌, ◌⊎◌, ℕ, List, codes, flat_map, IfOk, IfErr};
+ghost use Rattle.ima_list.specs.Lines.{line_of};
+ghost use Rattle.ima_agent.specs.Loading.{IsInputFault};
+ghost use Rattle.ima_agent.specs.Showing.{IsNoListFor, IsRefusedFor, ShowsList, ShowsRegisters};
+
+use crate::fault::RunFault;
+use crate::files::Files;
+use crate::hexadecimal::{HexFault, decode_hexadecimal};
+use crate::inputs::loaded;
+use boot_log::read_log;
+use boot_verdict::write_registers;
+use byte_streams::{Failed, VecSink};
+use ima_list::{Entry, read_list};
+use std::alloc::{AllocError, Global};
+
+/// The registers that differ from their reset values after the log on standard input, which is in hexadecimal.
+pub(crate) fn shown_registers<F: Files>(alloc: Global, files: &mut F) -> Result<Vec<u8>, RunFault>
+    ensures shown { IfOk result (λ shown. (text : List ℕ) × ShowsRegisters text shown.items) }
+    ensures fault { IfErr result (λ fault. IsInputFault (codes "-") fault ⊎ ((text : List ℕ) × IsRefusedFor text fault)) }
+{
+    let text = loaded(alloc, files, None)?;
+    registers_in(alloc, &text)
+}
+
+/// The lines of the entries of the list in the file of this name.
+pub(crate) fn shown_list<F: Files>(
+    alloc: Global,
+    files: &mut F,
+    list: &str,
+) -> Result<Vec<u8>, RunFault>
+    ensures shown { IfOk result (λ shown. (bytes : List ℕ) × ShowsList bytes shown.items) }
+    ensures fault { IfErr result (λ fault. IsInputFault list.now fault ⊎ ((bytes : List ℕ) × IsNoListFor bytes fault)) }
+{
+    let bytes = loaded(alloc, files, Some(list))?;
+    let entries = read_list(alloc, &bytes)?;
+    Ok(lines(alloc, &entries)?)
+}
+
+// The registers of a log in hexadecimal that differ from their reset values.
+fn registers_in(alloc: Global, text: &[u8]) -> Result<Vec<u8>, RunFault>
+    ensures shown { IfOk result (λ shown. ShowsRegisters text.now shown.items) }
+    ensures refused { IfErr result (IsRefusedFor text.now) }
+{
+    let bytes = match decode_hexadecimal(alloc, text) {
+        Ok(bytes) => bytes,
+        Err(HexFault::NotHex) => return Err(RunFault::NotHex),
+        Err(HexFault::Memory) => return Err(RunFault::Memory),
+    };
+    let log = read_log(alloc, &bytes)?;
+    let mut shown = VecSink::new(Vec::new(alloc));
+    match write_registers(&log.registers(), &log.reset_registers(), &mut shown) {
+        Ok(()) => Ok(shown.into_bytes()),
+        Err(Failed) => Err(RunFault::Memory),
+    }
+}
+
+/// The lines of the entries, one after another.
+pub(crate) fn lines(alloc: Global, entries: &[Entry]) -> Result<Vec<u8>, AllocError>
+    ensures { IfOk result (λ text. text.items ≡ flat_map line_of entries.now) }
+{
+    let mut text = Vec::new(alloc);
+    for entry in entries {
+        entry.line(&mut text)?;
+    }
+    Ok(text)
+}
