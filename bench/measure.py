@@ -1,0 +1,215 @@
+"""Times the program's commands over made inputs of two sizes, checks each answer, and prints how the times grow.
+
+Words: the repository's folder, an empty folder for inputs and outputs, and the number of runs of which the median is taken.
+"""
+
+import hashlib
+import random
+import statistics
+import subprocess
+import sys
+import time
+from pathlib import Path
+
+import inputs
+
+MOST_BYTES = 64 * 1024 * 1024
+MOST_SECONDS = 300
+START_CALLS = 41
+START_LIMIT = 0.050
+
+ROOT, FOLDER = (Path(word).resolve() for word in sys.argv[1:3])
+RUNS = int(sys.argv[3])
+AGENT = ROOT / "ima-agent"
+PROGRAM = ROOT / "crates/ima_agent_program/out/ima_agent_program"
+NO_INPUT = "empty.list"
+OUTPUT = FOLDER / "output"
+
+complaints = []
+
+
+def store(name, data):
+    """Writes an input of the program, which takes at most 64 MiB."""
+    assert len(data) <= MOST_BYTES, name
+    (FOLDER / name).write_bytes(data)
+    return name
+
+
+def timed(words, stdin=NO_INPUT):
+    """The time of one call, its status, and what it wrote."""
+    with open(FOLDER / stdin, "rb") as source, open(OUTPUT, "wb") as sink:
+        start = time.perf_counter()
+        try:
+            status = subprocess.run(words, stdin=source, stdout=sink, cwd=FOLDER, timeout=MOST_SECONDS).returncode
+        except subprocess.TimeoutExpired:
+            status = None
+        seconds = time.perf_counter() - start
+    return seconds, status, OUTPUT.read_bytes()
+
+
+def in_order(text):
+    return text
+
+
+def in_any_order(text):
+    """The text's lines, sorted but for the first one, which is the boot aggregate's: workers come in any order."""
+    first, *others = text.splitlines() or [b""]
+    return [first, *sorted(others)]
+
+
+def complain(words, status, text):
+    last = (text.splitlines() or [b""])[-1][:80].decode(errors="replace")
+    called = " ".join(map(str, words[:4])) or "no words"
+    complaints.append(f"{called}: status {status}, {len(text)} bytes, of which the last line is '{last}'")
+
+
+def median_time(words, wanted, stdin=NO_INPUT, compared=in_order):
+    """The median time of RUNS calls after one that is not counted; nothing where an answer is not the one that is wanted."""
+    wanted = compared(wanted)
+    times = []
+    for _ in range(1 + RUNS):
+        seconds, status, text = timed([AGENT, *words], stdin)
+        if status != 0 or compared(text) != wanted:
+            complain(words, status, text)
+            return None
+        times.append(seconds)
+    return statistics.median(times[1:])
+
+
+def median_of_tools(*commands):
+    """The median time of commands of the system, one after another."""
+    times = [sum(timed(command)[0] for command in commands) for _ in range(1 + RUNS)]
+    return statistics.median(times[1:])
+
+
+def print_growth(what, unit, sizes, times):
+    """Prints the times at both sizes, and by how much they grow."""
+    name = f"{what:<28}{sizes[0]:>7,} and {sizes[1]:>7,} {unit:<8}"
+    if None in times:
+        print(f"{name}   wrong", flush=True)
+        return
+    by_time, by_size = times[1] / times[0], sizes[1] / sizes[0]
+    print(f"{name}{times[0]:9.3f} s{times[1]:9.3f} s{by_time:8.2f}{by_size:8.2f}{by_time / by_size:8.2f}", flush=True)
+
+
+def print_ratio(what, seconds, others):
+    if seconds is not None and others is not None:
+        print(f"{what:<90}{seconds / others:8.2f}")
+
+
+def small_log():
+    """A log of SHA-256 alone, and its registers, which the list is then to extend."""
+    return inputs.make_log(["sha256"], 24)
+
+
+def report_of_match(entries):
+    return (
+        f"events 24 locality 3\nentries {entries}\nboot_aggregate good\n"
+        + "".join(f"sha256 {register} match\n" for register in range(24))
+        + "verdict match\n"
+    ).encode()
+
+
+def lists():
+    """`verify` and `show` of made lists."""
+    sizes = (40_000, 400_000)
+    verified, shown = [], []
+    for entries in sizes:
+        log, registers = small_log()
+        spelling, text = inputs.make_list(registers, inputs.made_measurements(entries - 1))
+        names = store("made.log", log), store("made.list", spelling), store("expected.txt", registers.lines())
+        verified.append(median_time(["verify", *names], report_of_match(entries)))
+        shown.append(median_time(["show", "made.list"], text))
+    print_growth("verify", "entries", sizes, verified)
+    print_growth("show", "entries", sizes, shown)
+    hashed = median_of_tools(["sha1sum", "made.list"], ["sha256sum", "made.list"])
+    copied = median_of_tools(["cat", "made.list"])
+    return [
+        (f"verify of {sizes[1]:,} entries, to sha1sum and sha256sum of the list", verified[1], hashed),
+        (f"show of {sizes[1]:,} entries, to cat of the list", shown[1], copied),
+    ]
+
+
+def logs():
+    """The registers of made logs of two banks, which come in hexadecimal on standard input."""
+    sizes = (20_000, 200_000)
+    algs = ["sha1", "sha256"]
+    reset = inputs.Registers(algs, locality=3)
+    times = []
+    for events in sizes:
+        log, registers = inputs.make_log(algs, events)
+        store("log.hex", inputs.hexadecimal(log))
+        times.append(median_time([], registers.lines(reset), stdin="log.hex"))
+    print_growth("registers of a log", "events", sizes, times)
+    return []
+
+
+def measured(what, workers, sizes, contents):
+    """The times of `measure` by so many workers, of the first files of `contents`, which has the hash of each name's file."""
+    log, _ = small_log()
+    store("made.log", log)
+    times = []
+    for count in sizes:
+        names = list(contents)[:count]
+        _, registers = small_log()
+        _, text = inputs.make_list(registers, [(name.encode(), contents[name]) for name in names])
+        words = ["measure", "--workers", str(workers), "made.log", *names]
+        times.append(median_time(words, text, compared=in_order if workers == 1 else in_any_order))
+    print_growth(what, "files", sizes, times)
+    return times[1]
+
+
+def made_files(count, size):
+    """Makes so many files of `size` random bytes, and gives the hash of each name's file."""
+    source = random.Random(size)
+    contents = {}
+    for k in range(count):
+        data = source.randbytes(size)
+        contents[store(f"file-{size}-{k:05}", data)] = hashlib.sha256(data).digest()
+    return contents
+
+
+def files():
+    """`measure` of files of 1 MiB by one worker and by four, and of many small ones."""
+    contents = made_files(256, 1024 * 1024)
+    by_one = measured("measure 1 MiB, 1 worker", 1, (64, 256), contents)
+    by_four = measured("measure 1 MiB, 4 workers", 4, (64, 256), contents)
+    hashed = median_of_tools(["sha256sum", *contents])
+    measured("measure 1 KiB, 1 worker", 1, (400, 4_000), made_files(4_000, 1024))
+    return [
+        ("measure of 256 files of 1 MiB by 1 worker, to the same by 4 workers", by_one, by_four),
+        ("measure of 256 files of 1 MiB by 1 worker, to sha256sum of the files", by_one, hashed),
+    ]
+
+
+def starts():
+    """What a start of the script takes above one of the program itself, when all is built."""
+    words = ["show", NO_INPUT]
+    times = {AGENT: [], PROGRAM: []}
+    for _ in range(START_CALLS):
+        for called, taken in times.items():
+            seconds, status, text = timed([called, *words])
+            taken.append(seconds)
+            if status != 0 or text:
+                complain([called.name, *words], status, text)
+                return
+    above = statistics.median(times[AGENT]) - statistics.median(times[PROGRAM])
+    print(f"{'a start of ./ima-agent, above one of the program itself, in milliseconds':<90}{above * 1000:8.2f}")
+    if above > START_LIMIT:
+        complaints.append(f"a start of ./ima-agent takes more than {START_LIMIT * 1000:.0f} ms above the program's")
+
+
+def main():
+    print(f"runs      {RUNS} for each time, which is their median\n")
+    print(f"{'':<48}{'small':>11}{'large':>11}{'times':>8}{'sizes':>8}{'growth':>8}", flush=True)
+    ratios = [*lists(), *logs(), *files()]
+    print(f"\n{'':<90}{'ratio':>8}")
+    for ratio in ratios:
+        print_ratio(*ratio)
+    starts()
+    for complaint in complaints:
+        print(f"bench/run: wrong: {complaint}", file=sys.stderr)
+    sys.exit(1 if complaints else 0)
+
+
+main()
