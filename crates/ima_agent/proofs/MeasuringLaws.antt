@@ -34,9 +34,9 @@ one_more_done given i outcome receipt within is so before = λ earlier cause bel
       let same : earlier ≡ i = omega arith in
       let here = at_map book_outcome_of given i outcome (slice_get_read given (length given) i outcome refl within is) in
       let one = same_Some (book_outcome_of outcome) (refused cause)
-        (sym here ∙ ap (slice_get (map book_outcome_of given)) (sym same) ∙ has) in
+      (sym here ∙ ap (slice_get (map book_outcome_of given)) (sym same) ∙ has) in
       done_is_not_refused outcome receipt cause so one
-  ]
+]
 
 pub all_done : (given : List Outcome) (i : ℕ) → length given ≤ i → AreDoneBefore given i → AreAllDone (map book_outcome_of given)
 all_done given i all before = λ job fault has.
@@ -58,6 +58,6 @@ pub as_many_files : (names : List (String Global)) (files : List Job) → AreFil
 as_many_files names files are small =
     let one : length files ≡ length (map path_of files) = sym (length-map files path_of) in
     let two : length (map Some (map string_bytes names)) ≡ length names =
-      length-map (map string_bytes names) Some ∙ length-map names string_bytes in
+    length-map (map string_bytes names) Some ∙ length-map names string_bytes in
     let same : length files ≡ length names = one ∙ ap length are ∙ two in
     rw same small

@@ -1,5 +1,6 @@
 //! Worked examples, and devices to run them on.
 
+mod commands;
 mod devices;
 mod expected;
 mod inputs;

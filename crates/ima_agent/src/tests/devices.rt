@@ -28,21 +28,17 @@ impl<'a> Files for StandardInput<'a> {
     }
 }
 
-/// One file, and no standard input.
+/// Files with these names and these bytes, and no standard input.
 #[derive(Drop)]
-pub struct OneFile<'a> {
-    pub name: &'a str,
-    pub bytes: &'a [u8],
-}
+pub struct NamedFiles<'a>(pub &'a [(&'a str, &'a [u8])]);
 
-impl<'a> Files for OneFile<'a> {
+impl<'a> Files for NamedFiles<'a> {
     type Src = SliceSource<'a>;
 
     fn source(&mut self, name: Option<&str>) -> Result<SliceSource<'a>, Failed> {
-        match name {
-            Some(name) if name == self.name => Ok(SliceSource::new(self.bytes)),
-            _ => Err(Failed),
-        }
+        let name = name.ok_or(Failed)?;
+        let file = self.0.iter().find(|file| file.0 == name).ok_or(Failed)?;
+        Ok(SliceSource::new(file.1))
     }
 }
 
@@ -195,6 +191,16 @@ pub fn words_of(alloc: Global, words: &[&str]) -> Result<Vec<String>, AllocError
         }
         Ok(owned)
     })
+}
+
+/// What the program answers and writes for these words over these files; once more where an allocation was refused.
+pub fn answered(
+    rt: &(impl Threads + Wait + Sync + AllocGlobal),
+    words: &[&str],
+    files: &[(&str, &[u8])],
+) -> Result<(u8, Vec<u8>), AllocError> {
+    let words = words_of(rt.alloc(), words)?;
+    Ok(ran_over(rt, &words, &mut NamedFiles(files)))
 }
 
 /// What the program answers and writes for this standard input; once more where an allocation was refused.

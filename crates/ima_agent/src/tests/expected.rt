@@ -1,7 +1,8 @@
 //! Expected registers, read from text.
 
 use super::devices::{once_more, text_of};
-use crate::{ExpectFault, Expected, read_expected, write_registers};
+use super::loading::loaded;
+use crate::{ExpectFault, Expected, LoadFault, read_expected, write_registers};
 use byte_streams::{Failed, VecSink};
 use pcr_banks::{Alg, AlgSet, Banks, Digest};
 use std::alloc::Global;
@@ -16,13 +17,25 @@ fn expected_of(alloc: Global, parts: &[&str]) -> Result<Vec<Expected>, ExpectFau
     once_more(|| read_expected(alloc, text.as_bytes()))
 }
 
-/// No text, lines that are no register lines, and a register twice.
+/// No text, a register of 24, a register twice; and inputs at the limit and past it.
 #[test]
-fn expected_lines_and_load_limit_of_lines(rt: HostRuntime) -> Result<(), Fail> {
+fn expected_lines_and_load_limit(rt: HostRuntime) -> Result<(), Fail> {
     let alloc = rt.alloc();
     assert_eq!(rt; expected_of(alloc, &[])?.len(), 0);
+    let fault = expected_of(alloc, &["sha256 24 ", DIGITS]).err();
+    assert_eq!(rt; fault, Some(ExpectFault::BadLine { line: 1 }));
+    let twice = &["sha256 10 ", DIGITS, "\nsha256 10 ", DIGITS, "\n"];
+    let fault = ExpectFault::DoubleLine { line: 2 };
+    assert_eq!(rt; expected_of(alloc, twice).err(), Some(fault));
+    assert_eq!(rt; loaded(alloc, b"abcde", 4).err(), Some(LoadFault::TooLong));
+    assert_eq!(rt; loaded(alloc, b"abcd", 4)?.as_slice(), b"abcd".as_slice());
+    Ok(())
+}
+
+/// Lines that are no register lines, and the number of the line.
+#[test]
+fn lines_of_no_register(rt: HostRuntime) -> Result<(), Fail> {
     for (front, back, fault) in [
-        ("sha256 24 ", "", ExpectFault::BadLine { line: 1 }),
         ("sha256 04 ", "", ExpectFault::BadLine { line: 1 }),
         ("sha256 +4 ", "", ExpectFault::BadLine { line: 1 }),
         ("sha256  4 ", "", ExpectFault::BadLine { line: 1 }),
@@ -39,12 +52,9 @@ fn expected_lines_and_load_limit_of_lines(rt: HostRuntime) -> Result<(), Fail> {
         ("\n\r\nx\nsha256 4 ", "", ExpectFault::BadLine { line: 3 }),
         ("sha256 4 ", "\n\nx", ExpectFault::BadLine { line: 3 }),
     ] {
-        let answer = expected_of(alloc, &[front, DIGITS, back]);
+        let answer = expected_of(rt.alloc(), &[front, DIGITS, back]);
         assert_eq!(rt; answer.err(), Some(fault), "{front}..{back}");
     }
-    let twice = &["sha256 10 ", DIGITS, "\nsha256 10 ", DIGITS, "\n"];
-    let fault = ExpectFault::DoubleLine { line: 2 };
-    assert_eq!(rt; expected_of(alloc, twice).err(), Some(fault));
     Ok(())
 }
 

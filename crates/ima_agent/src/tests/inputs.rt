@@ -1,6 +1,6 @@
 //! Inputs of a megabyte and more, and inputs that are nearly right.
 
-use super::devices::{OneFile, joined, once_more, ran, ran_over, words_of};
+use super::devices::{answered, joined, once_more, ran, ran_over, words_of};
 use super::logs::{EVENT, EXTENDED_LINE, HEADER};
 use super::show::{MEASUREMENT, MEASUREMENT_LINE};
 use crate::Files;
@@ -93,27 +93,16 @@ fn list_of_many_bytes(rt: HostRuntime) -> Result<(), Fail> {
 /// A name is taken to the byte, with the spaces at either end.
 #[test]
 fn names_with_spaces(rt: HostRuntime) -> Result<(), Fail> {
-    let alloc = rt.alloc();
     for (name, line) in [
         (" x", b"failed: read  x\n".as_slice()),
         ("x ", b"failed: read x \n"),
         (" x ", b"failed: read  x \n"),
     ] {
-        let words = words_of(alloc, &["show", name])?;
-        let mut other = OneFile {
-            name: "x",
-            bytes: MEASUREMENT,
-        };
-        let (status, output) = ran_over(&rt, &words, &mut other);
-        assert_eq!(rt; status, 3);
-        assert_eq!(rt; output.as_slice(), line);
-        let mut same = OneFile {
-            name,
-            bytes: MEASUREMENT,
-        };
-        let (status, output) = ran_over(&rt, &words, &mut same);
-        assert_eq!(rt; status, 0);
-        assert_eq!(rt; output.as_slice(), MEASUREMENT_LINE);
+        for (held, status, output) in [("x", 3, line), (name, 0, MEASUREMENT_LINE)] {
+            let answer = answered(&rt, &["show", name], &[(held, MEASUREMENT)])?;
+            assert_eq!(rt; answer.0, status);
+            assert_eq!(rt; answer.1.as_slice(), output);
+        }
     }
     Ok(())
 }

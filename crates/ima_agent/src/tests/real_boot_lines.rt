@@ -1,6 +1,6 @@
 //! The measurement list of a real boot as lines of text.
 
-use super::devices::{OneFile, ran_over, words_of};
+use super::devices::answered;
 use super::real_boot_list::list_bytes;
 use std::test::Fail;
 
@@ -25,12 +25,7 @@ const SHOWN_LINE: &[u8] = b"10 fa6b82ad7e00492fa118047c04a9c08dd307cc4b ima-ng \
 fn real_boot_lines(rt: HostRuntime) -> Result<(), Fail> {
     let alloc = rt.alloc();
     let list = list_bytes(alloc)?;
-    let words = words_of(alloc, &["show", "ima.list"])?;
-    let mut files = OneFile {
-        name: "ima.list",
-        bytes: &list,
-    };
-    let (status, output) = ran_over(&rt, &words, &mut files);
+    let (status, output) = answered(&rt, &["show", "ima.list"], &[("ima.list", &list)])?;
     assert_eq!(rt; status, 0);
     let (before, rest) = ASCII.split_at(SHA512_PLACE);
     let after = rest.strip_prefix(SHA512_LINE).ok_or("no line")?;

@@ -1,11 +1,8 @@
 //! The verdict on a real boot.
 
-use super::devices::{bytes_of, once_more};
+use super::devices::{answered, bytes_of};
 use super::real_boot::FIRMWARE_LOG;
 use super::real_boot_list::list_bytes;
-use super::verdicts::text_of;
-use crate::{VerifyFault, read_expected, verify};
-use ima_list::ReplayFault;
 use std::test::Fail;
 
 /// `samples/real-boot/expected.txt`: the registers that the TPM had after the list.
@@ -41,20 +38,27 @@ sha256 23 0000000000000000000000000000000000000000000000000000000000000000
 fn real_boot_verdict(rt: HostRuntime) -> Result<(), Fail> {
     let alloc = rt.alloc();
     let log = bytes_of(alloc, &[FIRMWARE_LOG])?;
-    let mut list = list_bytes(alloc)?;
-    let expected = once_more(|| read_expected(alloc, EXPECTED.as_bytes()))?;
-    assert_eq!(rt; expected.len(), 24);
-    let report = once_more(|| verify(alloc, &log, &list, &expected))?;
-    assert!(rt; report.matches());
-    let text = text_of(alloc, &report)?;
+    let list = list_bytes(alloc)?;
+    let mut changed = list_bytes(alloc)?;
+    let place = changed.len().checked_sub(2).ok_or("no path")?;
+    *changed.get_mut(place).ok_or("no path")? ^= 1;
+    let files = [
+        ("log", log.as_slice()),
+        ("list", list.as_slice()),
+        ("changed", changed.as_slice()),
+        ("expected", EXPECTED.as_bytes()),
+    ];
+    let (status, report) = answered(&rt, &["verify", "log", "list", "expected"], &files)?;
+    assert_eq!(rt; status, 0);
     let front = b"events 24 locality 0\nentries 99\nboot_aggregate good\nsha256 0 match\n";
-    assert!(rt; text.starts_with(front));
-    assert!(rt; text.ends_with(b"sha256 23 match\nverdict match\n"));
-    let place = list.len().checked_sub(2).ok_or("no path")?;
-    let byte = list.get_mut(place).ok_or("no path")?;
-    *byte ^= 1;
-    let refused = once_more(|| verify(alloc, &log, &list, &expected)).err();
-    let fault = ReplayFault::BadTemplateDigest { entry: 98 };
-    assert_eq!(rt; refused, Some(VerifyFault::Replay(fault)));
+    assert!(rt; report.starts_with(front));
+    assert!(rt; report.ends_with(b"sha256 23 match\nverdict match\n"));
+    assert_eq!(rt; report.split(|byte| *byte == b'\n').count(), 29);
+    let answer = answered(&rt, &["verify", "log", "changed", "expected"], &files)?;
+    assert_eq!(rt; answer.0, 2);
+    assert_eq!(rt;
+        answer.1.as_slice(),
+        b"refused: replay fault 1 at entry 98\n".as_slice()
+    );
     Ok(())
 }

@@ -1,23 +1,21 @@
 //! Lists and files that show nothing.
 
-use super::devices::{OneFile, StandardInput, ran_over, words_of};
+use super::devices::answered;
 use super::show::MEASUREMENT;
 use std::test::Fail;
 
 /// An empty list is shown, one that is cut short and a file that cannot be opened are refused.
 #[test]
 fn replay_and_fields_shown(rt: HostRuntime) -> Result<(), Fail> {
-    let alloc = rt.alloc();
-    let words = words_of(alloc, &["show", "x"])?;
     for (bytes, status, line) in [
         (b"".as_slice(), 0, b"".as_slice()),
         (&MEASUREMENT[..93], 2, b"refused: list fault 1 at entry 0\n"),
     ] {
-        let answer = ran_over(&rt, &words, &mut OneFile { name: "x", bytes });
+        let answer = answered(&rt, &["show", "x"], &[("x", bytes)])?;
         assert_eq!(rt; answer.0, status);
         assert_eq!(rt; answer.1.as_slice(), line);
     }
-    let answer = ran_over(&rt, &words, &mut StandardInput(MEASUREMENT));
+    let answer = answered(&rt, &["show", "x"], &[])?;
     assert_eq!(rt; answer.0, 3);
     assert_eq!(rt; answer.1.as_slice(), b"failed: read x\n".as_slice());
     Ok(())

@@ -1,11 +1,8 @@
 //! The program's words `show LIST` over files in memory.
 
-use super::devices::{OneFile, ShortSink, StandardInput, joined, ran_over, words_of};
+use super::devices::{NamedFiles, ShortSink, StandardInput, answered, joined, ran_over, words_of};
 use crate::run;
-use std::alloc::AllocError;
-use std::sync::Wait;
 use std::test::Fail;
-use std::thread::Threads;
 
 /// The entry of `/bin/sh`, measured into PCR 10 with the SHA-256 of `abc`, in the template `ima-ng`.
 pub const MEASUREMENT: &[u8] = b"\x0a\x00\x00\x00\
@@ -36,24 +33,14 @@ const IMA_PART: &[u8] = b"\x03\0\0\0ima\
     \x01\x01\x01\x01\x01\x01\x01\x01\x01\x01\x01\x01\x01\x01\x01\x01\x01\x01\x01\x01\
     \0\x01\0\0";
 
-/// What the program answers and writes for these words, where the file `x` holds these bytes.
-fn answered(
-    rt: &(impl Threads + Wait + Sync + AllocGlobal),
-    words: &[&str],
-    bytes: &[u8],
-) -> Result<(u8, Vec<u8>), AllocError> {
-    let words = words_of(rt.alloc(), words)?;
-    Ok(ran_over(rt, &words, &mut OneFile { name: "x", bytes }))
-}
-
 #[test]
-fn measure_prints_registers_shown_list(rt: HostRuntime) -> Result<(), Fail> {
+fn lists_that_are_shown(rt: HostRuntime) -> Result<(), Fail> {
     let alloc = rt.alloc();
-    let (status, output) = answered(&rt, &["show", "x"], MEASUREMENT)?;
+    let (status, output) = answered(&rt, &["show", "x"], &[("x", MEASUREMENT)])?;
     assert_eq!(rt; status, 0);
     assert_eq!(rt; output.as_slice(), MEASUREMENT_LINE);
     let twice = joined(alloc, &[MEASUREMENT, MEASUREMENT])?;
-    let (status, output) = answered(&rt, &["show", "x"], &twice)?;
+    let (status, output) = answered(&rt, &["show", "x"], &[("x", &twice)])?;
     assert_eq!(rt; status, 0);
     let lines = joined(alloc, &[MEASUREMENT_LINE, MEASUREMENT_LINE])?;
     assert_eq!(rt; output.as_slice(), lines.as_slice());
@@ -63,7 +50,7 @@ fn measure_prints_registers_shown_list(rt: HostRuntime) -> Result<(), Fail> {
         ("", b"failed: read \n"),
         ("-", b"failed: read -\n"),
     ] {
-        let (status, output) = answered(&rt, &["show", name], MEASUREMENT)?;
+        let (status, output) = answered(&rt, &["show", name], &[("x", MEASUREMENT)])?;
         assert_eq!(rt; status, 3);
         assert_eq!(rt; output.as_slice(), line);
     }
@@ -92,7 +79,7 @@ fn lists_that_are_refused(rt: HostRuntime) -> Result<(), Fail> {
         ([MEASUREMENT, &long], b"refused: list fault 3 at entry 1\n"),
     ] {
         let bytes = joined(alloc, &parts)?;
-        let (status, output) = answered(&rt, &["show", "x"], &bytes)?;
+        let (status, output) = answered(&rt, &["show", "x"], &[("x", &bytes)])?;
         assert_eq!(rt; status, 2);
         assert_eq!(rt; output.as_slice(), line);
     }
@@ -110,12 +97,19 @@ fn other_words_are_refused(rt: HostRuntime) -> Result<(), Fail> {
         &["show ", "x"],
         &["", "x"],
         &["x", "show"],
+        &["show", "-x"],
+        &["show", "--list", "x"],
         &["verify"],
+        &["verify", "x", "x"],
+        &["verify", "x", "x", "x", "x"],
+        &["help"],
+        &["--version"],
+        &["--"],
         &["x"],
         &[""],
         &["-"],
     ] {
-        let (status, output) = answered(&rt, words, MEASUREMENT)?;
+        let (status, output) = answered(&rt, words, &[("x", MEASUREMENT)])?;
         assert_eq!(rt; status, 2);
         assert_eq!(rt; output.as_slice(), b"refused: command line\n".as_slice());
     }
@@ -127,11 +121,7 @@ fn other_words_are_refused(rt: HostRuntime) -> Result<(), Fail> {
 fn dash_is_a_file(rt: HostRuntime) -> Result<(), Fail> {
     let alloc = rt.alloc();
     let words = words_of(alloc, &["show", "-"])?;
-    let mut file = OneFile {
-        name: "-",
-        bytes: MEASUREMENT,
-    };
-    let (status, output) = ran_over(&rt, &words, &mut file);
+    let (status, output) = answered(&rt, &["show", "-"], &[("-", MEASUREMENT)])?;
     assert_eq!(rt; status, 0);
     assert_eq!(rt; output.as_slice(), MEASUREMENT_LINE);
     let (status, output) = ran_over(&rt, &words, &mut StandardInput(MEASUREMENT));
@@ -145,15 +135,12 @@ fn dash_is_a_file(rt: HostRuntime) -> Result<(), Fail> {
 fn a_failing_sink_ends_the_lines(rt: HostRuntime) -> Result<(), Fail> {
     let alloc = rt.alloc();
     let words = words_of(alloc, &["show", "x"])?;
-    let mut file = OneFile {
-        name: "x",
-        bytes: MEASUREMENT,
-    };
+    let files = [("x", MEASUREMENT)];
     let mut sink = ShortSink::new(9);
-    let mut status = run(&rt, alloc, &words, &mut file, &mut sink);
+    let mut status = run(&rt, alloc, &words, &mut NamedFiles(&files), &mut sink);
     if sink.bytes().starts_with(b"failed: m") {
         sink = ShortSink::new(9);
-        status = run(&rt, alloc, &words, &mut file, &mut sink);
+        status = run(&rt, alloc, &words, &mut NamedFiles(&files), &mut sink);
     }
     assert_eq!(rt; status, 3);
     assert_eq!(rt; sink.bytes(), &MEASUREMENT_LINE[..9]);

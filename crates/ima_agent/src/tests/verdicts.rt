@@ -1,9 +1,9 @@
 //! Reports on logs, lists and expected registers.
 
-use super::devices::{bytes_of, once_more};
-use super::logs::{EVENT, HEADER};
+use super::devices::{answered, bytes_of, once_more};
+use super::logs::{EVENT, EXTENDED_LINE, HEADER};
 use super::show::{MEASUREMENT, VIOLATION};
-use crate::{Aggregate, Expected, Report, State, VerifyFault, verify, write_report};
+use crate::{Aggregate, Expected, Report, State, VerifyFault, verify};
 use boot_log::{LogFault, read_log};
 use byte_streams::{Failed, VecSink};
 use ima_list::{Entry, ListFault, ReplayFault, Template, boot_aggregate, write_entry};
@@ -20,15 +20,6 @@ fn report_on(
     expected: &[Expected],
 ) -> Result<Report, VerifyFault> {
     once_more(|| verify(alloc, log, list, expected))
-}
-
-/// The text of a report.
-pub fn text_of(alloc: Global, report: &Report) -> Result<Vec<u8>, Failed> {
-    once_more(|| {
-        let mut sink = VecSink::new(Vec::new(alloc));
-        write_report(report, &mut sink)?;
-        Ok(sink.into_bytes())
-    })
 }
 
 /// The registers after a header and one event.
@@ -62,49 +53,50 @@ fn list_of(alloc: Global, book: &Book) -> Result<Vec<u8>, Failed> {
     })
 }
 
-/// A register that matches, one that differs, and one of a bank that the log does not have; the first alone matches.
-#[test]
-fn report_with_each_state(rt: HostRuntime) -> Result<(), Fail> {
-    let alloc = rt.alloc();
+/// The expected registers: one that matches, one that differs, and one of a bank that the log does not have.
+pub const EXPECTED: &str = "\
+sha256 10 d54d476b0532a0a009e48de651cd01544e8d093d584ca3dbb93dd0f1b69b7cc4
+sha256 0 ffffffffffffffffffffffffffffffffffffffffffffffffffffffffffffffff
+sha1 10 0000000000000000000000000000000000000000
+";
+
+/// The log of one event, and the list of a book over it.
+pub fn log_and_list(alloc: Global) -> Result<(Vec<u8>, Vec<u8>), Fail> {
     let log = bytes_of(alloc, &[HEADER, EVENT])?;
     let start = registers_of(alloc, &log)?;
     let book = once_more(|| book_of(alloc, start))?;
     let list = list_of(alloc, &book)?;
-    let value = book.banks().read(Alg::Sha256, 10).ok_or("no register")?;
-    let expected = [
-        (Alg::Sha256, 10, value),
-        (Alg::Sha256, 0, Digest::ones(Alg::Sha256)),
-        (Alg::Sha1, 10, Digest::zero(Alg::Sha1)),
-    ]
-    .map(|(alg, register, value)| Expected {
-        alg,
-        register,
-        value,
-    });
-    let report = report_on(alloc, &log, &list, &expected)?;
-    assert!(rt; !report.matches());
-    assert_eq!(rt;
-        text_of(alloc, &report)?.as_slice(),
-        b"events 1 locality 0\n\
-        entries 3\n\
-        boot_aggregate good\n\
-        sha256 10 match\n\
-        sha256 0 differ 0000000000000000000000000000000000000000000000000000000000000000\n\
-        sha1 10 absent\n\
-        verdict differ\n"
-            .as_slice()
-    );
-    let report = report_on(alloc, &log, &list, &expected[..1])?;
-    assert!(rt; report.matches());
-    assert_eq!(rt;
-        text_of(alloc, &report)?.as_slice(),
-        b"events 1 locality 0\n\
-        entries 3\n\
-        boot_aggregate good\n\
-        sha256 10 match\n\
-        verdict match\n"
-            .as_slice()
-    );
+    Ok((log, list))
+}
+
+/// A row of each state, and the first row alone.
+#[test]
+fn report_with_each_state(rt: HostRuntime) -> Result<(), Fail> {
+    let (log, list) = log_and_list(rt.alloc())?;
+    let (first, _) = EXPECTED.split_once('\n').ok_or("no line")?;
+    for (expected, status, rows) in [
+        (
+            EXPECTED,
+            1,
+            b"sha256 10 match\n\
+            sha256 0 differ 0000000000000000000000000000000000000000000000000000000000000000\n\
+            sha1 10 absent\n\
+            verdict differ\n"
+                .as_slice(),
+        ),
+        (first, 0, b"sha256 10 match\nverdict match\n"),
+    ] {
+        let files = [
+            ("log", log.as_slice()),
+            ("list", list.as_slice()),
+            ("expected", expected.as_bytes()),
+        ];
+        let answer = answered(&rt, &["verify", "log", "list", "expected"], &files)?;
+        assert_eq!(rt; answer.0, status);
+        let heading = b"events 1 locality 0\nentries 3\nboot_aggregate good\n";
+        let written = answer.1.strip_prefix(heading).ok_or("no heading")?;
+        assert!(rt; written == rows);
+    }
     Ok(())
 }
 
@@ -113,15 +105,15 @@ fn report_with_each_state(rt: HostRuntime) -> Result<(), Fail> {
 fn report_on_empty_list(rt: HostRuntime) -> Result<(), Fail> {
     let alloc = rt.alloc();
     let log = bytes_of(alloc, &[HEADER, EVENT])?;
-    let value = hash(Alg::Sha256, &[0; 64]);
-    let expected = [4, 24].map(|register| Expected {
-        alg: Alg::Sha256,
-        register,
-        value,
-    });
-    let report = report_on(alloc, &log, b"", &expected[..1])?;
+    let files = [
+        ("log", log.as_slice()),
+        ("list", b""),
+        ("expected", EXTENDED_LINE),
+    ];
+    let answer = answered(&rt, &["verify", "log", "list", "expected"], &files)?;
+    assert_eq!(rt; answer.0, 1);
     assert_eq!(rt;
-        text_of(alloc, &report)?.as_slice(),
+        answer.1.as_slice(),
         b"events 1 locality 0\n\
         entries 0\n\
         boot_aggregate missing\n\
@@ -129,7 +121,12 @@ fn report_on_empty_list(rt: HostRuntime) -> Result<(), Fail> {
         verdict differ\n"
             .as_slice()
     );
-    let report = report_on(alloc, &log, b"", &expected)?;
+    let expected = Expected {
+        alg: Alg::Sha256,
+        register: 24,
+        value: hash(Alg::Sha256, &[0; 64]),
+    };
+    let report = report_on(alloc, &log, b"", &[expected])?;
     let row = report.rows.last().ok_or("no row")?;
     assert_eq!(rt; row.state, State::Absent);
     Ok(())

@@ -7,7 +7,7 @@ pub returns-in_err-content-clause-fault : goal.returns-in_err-content-clause-fau
 returns-in_err-content-clause-fault g c =
     let p = err_from_is_err_and c.from_residual.result c.from_residual.ensures.1 in
     rw (p.1, p.2) (file_not_had c.args.names.now c.loop-name.name-index c.name-item.result c.in_err-content.field-0.0 c.loop-name-test.true
-      c.name-item.is (rw (← c.deref.ensures) c.in_err-content.ensures.fault))
+    c.name-item.is (rw (← c.deref.ensures) c.in_err-content.ensures.fault))
 
 pub returns-in_err-path-clause-fault : goal.returns-in_err-path-clause-fault
 returns-in_err-path-clause-fault g c =

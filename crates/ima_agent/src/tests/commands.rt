@@ -1,0 +1,217 @@
+//! Words of the command line, and what the program answers to them.
+
+use super::devices::{answered, bytes_of};
+use super::logs::HEADER;
+use super::verdicts::{EXPECTED, log_and_list};
+use std::sync::Wait;
+use std::test::Fail;
+use std::thread::Threads;
+
+/// The value of PCR 10 after the boot aggregate of registers at reset and the measurement of `abc` as `/bin/sh`.
+const SHELL_LINE: &[u8] =
+    b"sha256 10 5fcef84d490a160058b8f1b7e33abea9f2df325f2b7ccb294d1d28f3459db9d5\n";
+
+/// The entries of a log that leaves the registers at reset, and of a file `f` that has `abc`.
+const TWO_LINES: &[u8] = b"\
+10 6bdad7efa602f84ca31ffe3f11ff7c476e25dcdd ima-ng \
+sha256:7b6436b0c98f62380866d9432c2af0ee08ce16a171bda6951aecd95ee1307d61 boot_aggregate\n\
+10 34e13111fbec9d50d71128958c8977cc06238f8a ima-ng \
+sha256:ba7816bf8f01cfea414140de5dae2223b00361a396177a9cb410ff61f20015ad f\n";
+
+/// The registers after one file.
+#[test]
+fn measure_prints_registers(rt: HostRuntime) -> Result<(), Fail> {
+    let log = bytes_of(rt.alloc(), &[HEADER])?;
+    let files = [("L", log.as_slice()), ("/bin/sh", b"abc")];
+    let words = [
+        "measure",
+        "--workers=1",
+        "--print=registers",
+        "L",
+        "/bin/sh",
+    ];
+    let (status, output) = answered(&rt, &words, &files)?;
+    assert_eq!(rt; status, 0);
+    assert_eq!(rt; output.as_slice(), SHELL_LINE);
+    let (status, output) = answered(&rt, &["measure", "x"], &files)?;
+    assert_eq!(rt; status, 3);
+    assert_eq!(rt; output.as_slice(), b"failed: read x\n".as_slice());
+    Ok(())
+}
+
+/// Words in the ranges and out of them, and what the book refuses.
+#[test]
+fn command_lines(rt: HostRuntime) -> Result<(), Fail> {
+    let log = bytes_of(rt.alloc(), &[HEADER])?;
+    let files = [
+        ("L", log.as_slice()),
+        ("f", b"abc"),
+        ("none", b""),
+        ("x", b"x"),
+    ];
+    for (words, status, line) in [
+        (
+            ["measure", "--workers", "9", "L"].as_slice(),
+            2,
+            b"refused: command line\n".as_slice(),
+        ),
+        (
+            &["measure", "--workers", "0", "L"],
+            2,
+            b"refused: command line\n",
+        ),
+        (
+            &["measure", "--limit", "0", "L"],
+            2,
+            b"refused: command line\n",
+        ),
+        (
+            &["measure", "--print", "ASCII", "L"],
+            2,
+            b"refused: command line\n",
+        ),
+        (
+            &["measure", "--alg", "sha512", "L"],
+            2,
+            b"refused: command line\n",
+        ),
+        (&["measure"], 2, b"refused: command line\n"),
+        (
+            &["measure", "--template", "ima", "L"],
+            2,
+            b"refused: book fault 1\n",
+        ),
+        (
+            &["measure", "--template", "ima", "L", "y"],
+            3,
+            b"failed: read y\n",
+        ),
+        (
+            &["measure", "--alg", "sha384", "L"],
+            2,
+            b"refused: book fault 2\n",
+        ),
+        (
+            &["measure", "--limit", "1", "L", "f"],
+            2,
+            b"refused: job 0 book fault 7\n",
+        ),
+        (&["measure", "--workers", "1", "L", "f", "f"], 0, TWO_LINES),
+        (
+            &["measure", "none"],
+            2,
+            b"refused: log fault 1 at event 0\n",
+        ),
+        (&["show"], 2, b"refused: command line\n"),
+        (
+            &["verify", "none", "none", "x"],
+            2,
+            b"refused: expected fault 1 at line 1\n",
+        ),
+        (
+            &["verify", "none", "none", "none"],
+            2,
+            b"refused: log fault 1 at event 0\n",
+        ),
+        (
+            &["verify", "L", "x", "none"],
+            2,
+            b"refused: list fault 1 at entry 0\n",
+        ),
+        (
+            &["verify", "L", "y", "x"],
+            2,
+            b"refused: expected fault 1 at line 1\n",
+        ),
+        (&["verify", "L", "y", "none"], 3, b"failed: read y\n"),
+    ] {
+        let answer = answered(&rt, words, &files)?;
+        assert_eq!(rt; answer.0, status);
+        assert_eq!(rt; answer.1.as_slice(), line);
+    }
+    Ok(())
+}
+
+/// A list whose last entry is not genuine.
+#[test]
+fn command_lines_of_a_forged_list(rt: HostRuntime) -> Result<(), Fail> {
+    let (log, mut list) = log_and_list(rt.alloc())?;
+    *list.last_mut().ok_or("no byte")? = 1;
+    let files = [
+        ("log", log.as_slice()),
+        ("list", list.as_slice()),
+        ("expected", EXPECTED.as_bytes()),
+    ];
+    let answer = answered(&rt, &["verify", "log", "list", "expected"], &files)?;
+    assert_eq!(rt; answer.0, 2);
+    assert_eq!(rt;
+        answer.1.as_slice(),
+        b"refused: replay fault 1 at entry 2\n".as_slice()
+    );
+    Ok(())
+}
+
+/// Help is asked for in each of these ways, of the program or of a command.
+#[test]
+fn command_lines_of_help(rt: HostRuntime) -> Result<(), Fail> {
+    for words in [
+        ["--help"].as_slice(),
+        &["-h"],
+        &["measure", "--help"],
+        &["verify", "--help"],
+        &["show", "-h"],
+    ] {
+        let (status, output) = answered(&rt, words, &[])?;
+        assert_eq!(rt; status, 0);
+        assert!(rt; !output.is_empty());
+    }
+    Ok(())
+}
+
+/// The output of `measure` with this word for what is printed.
+fn measured(
+    rt: &(impl Threads + Wait + Sync + AllocGlobal),
+    print: &str,
+    files: &[(&str, &[u8])],
+) -> Result<Vec<u8>, Fail> {
+    let words = ["measure", "--workers", "1", "--print", print, "L", "f", "g"];
+    let (status, output) = answered(rt, &words, files)?;
+    match status {
+        0 => Ok(output),
+        _ => Err("not measured".into()),
+    }
+}
+
+/// A list that is exported can be shown, and verified with the registers that it makes.
+#[test]
+fn measured_list_is_verified(rt: HostRuntime) -> Result<(), Fail> {
+    let log = bytes_of(rt.alloc(), &[HEADER])?;
+    let files = [("L", log.as_slice()), ("f", b"abc"), ("g", b"")];
+    let list = measured(&rt, "binary", &files)?;
+    let registers = measured(&rt, "registers", &files)?;
+    let files = [
+        ("L", log.as_slice()),
+        ("list", list.as_slice()),
+        ("registers", registers.as_slice()),
+    ];
+    let (status, lines) = answered(&rt, &["show", "list"], &files)?;
+    assert_eq!(rt; status, 0);
+    assert!(rt; lines.starts_with(TWO_LINES));
+    assert_eq!(rt; lines.split(|byte| *byte == b'\n').count(), 4);
+    let (status, report) = answered(&rt, &["verify", "L", "list", "registers"], &files)?;
+    assert_eq!(rt; status, 0);
+    assert!(rt; report.ends_with(b"sha256 10 match\nverdict match\n"));
+    Ok(())
+}
+
+/// The list of the opening alone is one entry of 101 bytes.
+#[test]
+fn opening_is_exported(rt: HostRuntime) -> Result<(), Fail> {
+    let log = bytes_of(rt.alloc(), &[HEADER])?;
+    let words = ["measure", "--print", "binary", "L"];
+    let (status, list) = answered(&rt, &words, &[("L", log.as_slice())])?;
+    assert_eq!(rt; status, 0);
+    assert_eq!(rt; list.len(), 101);
+    assert!(rt; list.ends_with(b"boot_aggregate\0"));
+    Ok(())
+}
