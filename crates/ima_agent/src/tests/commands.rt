@@ -39,6 +39,84 @@ fn measure_prints_registers(rt: HostRuntime) -> Result<(), Fail> {
     Ok(())
 }
 
+/// Words, and the status and the output that they get.
+static COMMANDS: [(&[&str], u8, &[u8]); 18] = [
+    (
+        &["measure", "--workers", "9", "L"],
+        2,
+        b"refused: command line\n",
+    ),
+    (
+        &["measure", "--workers", "0", "L"],
+        2,
+        b"refused: command line\n",
+    ),
+    (
+        &["measure", "--limit", "0", "L"],
+        2,
+        b"refused: command line\n",
+    ),
+    (
+        &["measure", "--print", "ASCII", "L"],
+        2,
+        b"refused: command line\n",
+    ),
+    (
+        &["measure", "--alg", "sha512", "L"],
+        2,
+        b"refused: command line\n",
+    ),
+    (&["measure"], 2, b"refused: command line\n"),
+    (
+        &["measure", "--template", "ima", "L"],
+        2,
+        b"refused: book fault 1\n",
+    ),
+    (
+        &["measure", "--template", "ima", "L", "y"],
+        3,
+        b"failed: read y\n",
+    ),
+    (
+        &["measure", "--alg", "sha384", "L"],
+        2,
+        b"refused: book fault 2\n",
+    ),
+    (
+        &["measure", "--limit", "1", "L", "f"],
+        2,
+        b"refused: job 0 book fault 7\n",
+    ),
+    (&["measure", "--workers", "1", "L", "f", "f"], 0, TWO_LINES),
+    (
+        &["measure", "none"],
+        2,
+        b"refused: log fault 1 at event 0\n",
+    ),
+    (&["show"], 2, b"refused: command line\n"),
+    (
+        &["verify", "none", "none", "x"],
+        2,
+        b"refused: expected fault 1 at line 1\n",
+    ),
+    (
+        &["verify", "none", "none", "none"],
+        2,
+        b"refused: log fault 1 at event 0\n",
+    ),
+    (
+        &["verify", "L", "x", "none"],
+        2,
+        b"refused: list fault 1 at entry 0\n",
+    ),
+    (
+        &["verify", "L", "y", "x"],
+        2,
+        b"refused: expected fault 1 at line 1\n",
+    ),
+    (&["verify", "L", "y", "none"], 3, b"failed: read y\n"),
+];
+
 /// Words in the ranges and out of them, and what the book refuses.
 #[test]
 fn command_lines(rt: HostRuntime) -> Result<(), Fail> {
@@ -49,85 +127,10 @@ fn command_lines(rt: HostRuntime) -> Result<(), Fail> {
         ("none", b""),
         ("x", b"x"),
     ];
-    for (words, status, line) in [
-        (
-            ["measure", "--workers", "9", "L"].as_slice(),
-            2,
-            b"refused: command line\n".as_slice(),
-        ),
-        (
-            &["measure", "--workers", "0", "L"],
-            2,
-            b"refused: command line\n",
-        ),
-        (
-            &["measure", "--limit", "0", "L"],
-            2,
-            b"refused: command line\n",
-        ),
-        (
-            &["measure", "--print", "ASCII", "L"],
-            2,
-            b"refused: command line\n",
-        ),
-        (
-            &["measure", "--alg", "sha512", "L"],
-            2,
-            b"refused: command line\n",
-        ),
-        (&["measure"], 2, b"refused: command line\n"),
-        (
-            &["measure", "--template", "ima", "L"],
-            2,
-            b"refused: book fault 1\n",
-        ),
-        (
-            &["measure", "--template", "ima", "L", "y"],
-            3,
-            b"failed: read y\n",
-        ),
-        (
-            &["measure", "--alg", "sha384", "L"],
-            2,
-            b"refused: book fault 2\n",
-        ),
-        (
-            &["measure", "--limit", "1", "L", "f"],
-            2,
-            b"refused: job 0 book fault 7\n",
-        ),
-        (&["measure", "--workers", "1", "L", "f", "f"], 0, TWO_LINES),
-        (
-            &["measure", "none"],
-            2,
-            b"refused: log fault 1 at event 0\n",
-        ),
-        (&["show"], 2, b"refused: command line\n"),
-        (
-            &["verify", "none", "none", "x"],
-            2,
-            b"refused: expected fault 1 at line 1\n",
-        ),
-        (
-            &["verify", "none", "none", "none"],
-            2,
-            b"refused: log fault 1 at event 0\n",
-        ),
-        (
-            &["verify", "L", "x", "none"],
-            2,
-            b"refused: list fault 1 at entry 0\n",
-        ),
-        (
-            &["verify", "L", "y", "x"],
-            2,
-            b"refused: expected fault 1 at line 1\n",
-        ),
-        (&["verify", "L", "y", "none"], 3, b"failed: read y\n"),
-    ] {
+    for (words, status, line) in &COMMANDS {
         let answer = answered(&rt, words, &files)?;
-        assert_eq!(rt; answer.0, status);
-        assert_eq!(rt; answer.1.as_slice(), line);
+        assert_eq!(rt; answer.0, *status);
+        assert_eq!(rt; answer.1.as_slice(), *line);
     }
     Ok(())
 }
