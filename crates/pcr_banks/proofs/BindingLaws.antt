@@ -10,7 +10,7 @@ use Rattle.std.proofs.Math.Seq.{append_snoc}
 use Rattle.pcr_banks.specs.declared.alg.Alg.{Alg}
 use Rattle.pcr_banks.specs.Hashing.{hash_of, size_of}
 use Rattle.pcr_banks.specs.Registers.{extended_value, extended_by_all}
-use Rattle.pcr_banks.specs.Binding.{Preimage, IsExtendInput, ExtendsBreakHash}
+use Rattle.pcr_banks.specs.Binding.{Collision, Preimage, IsExtendInput, ExtendsBreakHash}
 use Rattle.pcr_banks.proofs.HashLaws.{hash_size}
 
 -- ---- lists from their end
@@ -25,6 +25,24 @@ grown P more before (x ∷ after) here =
 pub from_the_end : {A : Type 0} (P : List A → Type 0) → P [] → ((before : List A) (last : A) → P before → P (before ++ last ∷ []))
     → (xs : List A) → P xs
 from_the_end P none more xs = grown P more [] xs none
+
+-- ---- bytes of another kind
+
+-- A collision of bytes of two kinds is one of bytes of each two kinds that these are of too; so with a preimage.
+pub collision_of : (alg : Alg) (P Q R S : List ℕ → Type 0) → ((bytes : List ℕ) → P bytes → R bytes)
+    → ((bytes : List ℕ) → Q bytes → S bytes) → Collision alg P Q → Collision alg R S
+collision_of alg P Q R S first second hit = record {
+  first = hit.first;
+  second = hit.second;
+  first_kind = first hit.first hit.first_kind;
+  second_kind = second hit.second hit.second_kind;
+  different = hit.different;
+  one_hash = hit.one_hash;
+}
+
+pub preimage_of : (alg : Alg) (P R : List ℕ → Type 0) (value : List ℕ) → ((bytes : List ℕ) → P bytes → R bytes)
+    → Preimage alg P value → Preimage alg R value
+preimage_of alg P R value kind hit = record { bytes = hit.bytes; kind = kind hit.bytes hit.kind; hash_is = hit.hash_is }
 
 -- ---- the extends of a register
 
@@ -77,50 +95,39 @@ earlier_break : (alg : Alg) (value other : List ℕ) (digests others : List (Lis
     → ExtendsBreakHash alg value digests other others
     → ExtendsBreakHash alg value (digests ++ digest ∷ []) other (others ++ last ∷ [])
 earlier_break alg value other digests others digest last breaks =
+    let first = earlier_input alg value digests digest in
+    let second = earlier_input alg other others last in
     elim breaks [
-      | inl hit ↦ inl (record {
-        first = hit.first;
-        second = hit.second;
-        first_kind = earlier_input alg value digests digest hit.first hit.first_kind;
-        second_kind = earlier_input alg other others last hit.second hit.second_kind;
-        different = hit.different;
-        one_hash = hit.one_hash;
-      })
+      | inl hit ↦ inl (collision_of alg (IsExtendInput alg value digests) (IsExtendInput alg other others) (IsExtendInput alg value
+          (digests ++ digest ∷ [])) (IsExtendInput alg other (others ++ last ∷ [])) first second hit)
       | inr start ↦ elim start [
         | inl longer ↦ inr (inl (
           omega (arith, longer.0, one_more digests digest, one_more others last),
-          record {
-            bytes = longer.1.bytes;
-            kind = earlier_input alg value digests digest longer.1.bytes longer.1.kind;
-            hash_is = longer.1.hash_is;
-          },
+          preimage_of alg (IsExtendInput alg value digests) (IsExtendInput alg value (digests ++ digest ∷ [])) other first longer.1,
         ))
         | inr shorter ↦ inr (inr (
           omega (arith, shorter.0, one_more digests digest, one_more others last),
-          record {
-            bytes = shorter.1.bytes;
-            kind = earlier_input alg other others last shorter.1.bytes shorter.1.kind;
-            hash_is = shorter.1.hash_is;
-          },
+          preimage_of alg (IsExtendInput alg other others) (IsExtendInput alg other (others ++ last ∷ [])) value second shorter.1,
         ))
       ]
     ]
 
 -- Two byte strings whose fronts are of one length have the same front and the same rest.
-parts_of_joined : (first second front other : List ℕ) → length first ≡ length second → first ++ front ≡ second ++ other
-    → (first ≡ second) × (front ≡ other)
-parts_of_joined [] [] front other sized same = (refl, same)
-parts_of_joined [] (byte ∷ second) front other sized same = absurd (omega arith)
-parts_of_joined (byte ∷ first) [] front other sized same = absurd (omega arith)
-parts_of_joined (byte ∷ first) (first_byte ∷ second) front other sized same =
-    let rest = parts_of_joined first second front other (omega arith) cc in
-    let heads : byte ≡ first_byte = cc in
-    (cc, rest.1)
+parts_of_joined : (first second rest other : List ℕ) → length first ≡ length second → first ++ rest ≡ second ++ other
+    → (first ≡ second) × (rest ≡ other)
+parts_of_joined [] [] rest other sized same = (refl, same)
+parts_of_joined [] (byte ∷ second) rest other sized same = absurd (omega arith)
+parts_of_joined (byte ∷ first) [] rest other sized same = absurd (omega arith)
+parts_of_joined (byte ∷ first) (other_byte ∷ second) rest other sized same =
+    let further = parts_of_joined first second rest other (omega arith) cc in
+    let here : byte ≡ other_byte = cc in
+    (cc, further.1)
 
 module _ (alg : Alg) (value other : List ℕ) (value_sized : length value ≡ size_of alg) (other_sized : length other ≡ size_of alg) where
   -- Extends by these digests and by others that give one value are the same, or break the hash.
   abbrev Tells : List (List ℕ) → List (List ℕ) → Type 0
-  Tells digests others = extended_by_all alg value digests ≡ extended_by_all alg other others → AreSameOrBreakHash alg value digests other others
+  Tells digests others =
+      extended_by_all alg value digests ≡ extended_by_all alg other others → AreSameOrBreakHash alg value digests other others
 
   told_by_none : (others : List (List ℕ)) → Tells [] others
   told_by_none = from_the_end (Tells []) (λ same. inl (same, refl)) (λ before last known same.
