@@ -4,7 +4,10 @@ use Rattle.pcr_banks.specs.declared.alg.Alg.{Alg}
 use Rattle.pcr_banks.specs.Hashing.{hash_of}
 use Rattle.pcr_banks.specs.Registers.{extended_by_all}
 
--- ---- bytes that break a hash; a statement that such bytes are there says of which kind they are
+-- ---- bytes that break a hash
+
+-- There are more byte strings than hashes, so that some two have one hash says nothing. Hence each of these two records has
+-- the kind of its bytes as a parameter.
 
 -- Two different byte strings with one hash, the first of one kind and the second of another.
 pub record Collision (alg : Alg) (IsFirst IsSecond : List ℕ → Type 0) : Type 0 where
@@ -23,7 +26,7 @@ pub record Preimage (alg : Alg) (IsKind : List ℕ → Type 0) (value : List ℕ
 
 -- ---- the extends of a register
 
--- These bytes are what one of the extends from a value by digests hashes: the value so far, followed by a digest.
+-- Of the extends from a value by digests, one hashes these bytes: the value so far, followed by a digest.
 pub record IsExtendInput (alg : Alg) (value : List ℕ) (digests : List (List ℕ)) (bytes : List ℕ) : Type 0 where
   pub before : List (List ℕ)
   pub digest : List ℕ
@@ -31,8 +34,9 @@ pub record IsExtendInput (alg : Alg) (value : List ℕ) (digests : List (List �
   pub parts : digests ≡ before ++ digest ∷ after
   pub joined : bytes ≡ extended_by_all alg value before ++ digest
 
--- What the extends from one value by digests, and from another by others, hash has a collision of the ones with the others;
--- or, only where one list is longer, what that one's extends hash has a preimage of the value from which the other starts.
+-- Two runs of extends, from a value by digests and from another value by others, break the hash: what the one hashes and
+-- what the other hashes has a collision; or, only where one list is longer, what its extends hash has a preimage of the value
+-- from which the other run starts.
 abbrev pub ExtendsBreakHash : Alg → List ℕ → List (List ℕ) → List ℕ → List (List ℕ) → Type 0
 ExtendsBreakHash alg value digests other others =
     Collision alg (IsExtendInput alg value digests) (IsExtendInput alg other others)

@@ -46,10 +46,10 @@ pub fn register_has_the_size_of_a_hash(banks: &Banks, alg: Alg, register: u32)
 }
 
 /// What the value of a register tells. Where extends from one value by digests, and extends from another by others, end in
-/// one value, they started at the same value and had the same digests, in order; or what they hashed breaks the hash. In
-/// that case there are two different byte strings with one hash, each the value and the digest of an extend, one of the
-/// first extends and the other of the second; or, only where one list of digests is longer, one of its extends hashed to
-/// the value from which the other started.
+/// one value, they started at the same value and had the same digests, in order; or they break the hash. Then there are two
+/// different byte strings with one hash, each the value and the digest of an extend, the one of the first extends and the
+/// other of the second; or, only where one list of digests is longer, one of its extends hashed to the value from which the
+/// other started.
 pub fn value_tells_extends()
     ensures { (alg : Alg) (value other : List ℕ) (digests others : List (List ℕ)) → length value ≡ size_of alg
         → length other ≡ size_of alg → extended_by_all alg value digests ≡ extended_by_all alg other others
