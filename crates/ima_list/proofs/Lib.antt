@@ -5,3 +5,4 @@ pub mod ReplayLaws
 pub mod FieldsLaws
 pub mod AggregateLaws
 pub mod LineLaws
+pub mod BindingLaws

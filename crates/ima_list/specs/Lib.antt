@@ -10,5 +10,6 @@ pub mod Lines
 pub mod Aggregates
 pub mod Entries
 pub mod Writing
+pub mod Binding
 pub use Rattle.byte_streams.specs.Streams
 pub use Rattle.byte_streams.specs.Memory

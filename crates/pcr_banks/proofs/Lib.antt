@@ -4,3 +4,4 @@ pub mod OptionLaws
 pub mod ExtendLaws
 pub mod HashLaws
 pub mod BankLaws
+pub mod BindingLaws

@@ -3,3 +3,4 @@ pub mod Digests
 pub mod Sets
 pub mod Registers
 pub mod Hashers
+pub mod Binding
