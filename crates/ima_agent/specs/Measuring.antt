@@ -13,7 +13,7 @@ use Rattle.ima_list.specs.Lines.{line_of}
 use Rattle.measure_book.specs.declared.origin.Origin.{Origin}
 use Rattle.measure_book.specs.declared.fault.BookFault.{BookFault}
 use Rattle.measure_book.specs.Operations.{BookOp, BookOutcome, refused}
-use Rattle.measure_book.specs.Books.{BookState, IsBook, exported}
+use Rattle.measure_book.specs.Books.{BookState, exported}
 use Rattle.hash_workers.specs.declared.job.Job.{Job}
 use Rattle.hash_workers.specs.declared.job.Job.TheVariants as jobs
 use Rattle.hash_workers.specs.declared.fault.AgentFault.{AgentFault}

@@ -1,10 +1,9 @@
 //! Files, measured into the registers of a log.
 
-ghost use Rattle.std.specs.Prelude.{◌≡◌, ◌<◌, ◌^◌, length, map, vec_len, string_bytes, IfOk, IfErr, IfSome, IfNone, Some};
+ghost use Rattle.std.specs.Prelude.{◌≡◌, ◌<◌, ◌^◌, length, map, string_bytes, IfOk, IfErr, IfSome, IfNone};
 ghost use Rattle.measure_book.specs.Operations.{book_outcome_of};
 ghost use Rattle.hash_workers.specs.Jobs.{operations_of};
 ghost use Rattle.ima_agent.specs.Measuring.{AreAllDone, AreFiles, HasMeasured, IsFileFault, IsFirstRefused, IsMeasuringFault, IsRecordingFault, ShowsMeasured, printed};
-ghost use Rattle.ima_agent.specs.Faults.{fault_of_job};
 
 use crate::fault::RunFault;
 use crate::files::Files;
