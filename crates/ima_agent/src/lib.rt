@@ -29,6 +29,3 @@ pub use program::{exit_code, run};
 pub use system::{Input, ReadSource, SystemFiles, WriteSink};
 pub use texts::{status_of, write_fault};
 pub use words::read_words;
-
-#[cfg(test)]
-mod tests;

@@ -26,6 +26,3 @@ pub use reading::read_list;
 pub use replaying::{ReplayFault, replay};
 pub use template::{EntryFault, Template};
 pub use writing::{send_entry, write_entry};
-
-#[cfg(test)]
-mod tests;

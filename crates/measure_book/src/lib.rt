@@ -19,6 +19,3 @@ pub use fault::BookFault;
 pub use gathers::{GatherFault, gather};
 pub use op::{Answer, Op, Outcome, Receipt, Record};
 pub use origin::Origin;
-
-#[cfg(test)]
-mod tests;

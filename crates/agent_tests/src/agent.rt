@@ -1,0 +1,19 @@
+//! Worked examples, and devices to run them on.
+
+mod commands;
+mod devices;
+mod expected;
+mod inputs;
+mod loading;
+mod logs;
+mod program;
+mod real_boot;
+mod real_boot_book;
+mod real_boot_lines;
+mod real_boot_list;
+mod real_boot_verdict;
+mod replaying;
+mod show;
+mod system;
+mod texts;
+mod verdicts;

@@ -1,0 +1,247 @@
+//! Files and sinks in memory.
+
+ghost use Rattle.std.specs.Prelude.{None};
+
+use boot_log::LogFault;
+use byte_streams::{Failed, Sink, SliceSource, VecSink};
+use hex::FromHexError;
+use ima_agent::{ExpectFault, Files, LoadFault, VerifyFault, run};
+use ima_list::ListFault;
+use measure_book::BookFault;
+use std::alloc::{AllocError, Global};
+use std::sync::Wait;
+use std::test::Fail;
+use std::thread::Threads;
+
+/// Standard input, and no other file.
+#[derive(Drop)]
+pub struct StandardInput<'a>(pub &'a [u8]);
+
+impl<'a> Files for StandardInput<'a> {
+    type Src = SliceSource<'a>;
+
+    fn source(&mut self, name: Option<&str>) -> Result<SliceSource<'a>, Failed> {
+        match name {
+            None => Ok(SliceSource::new(self.0)),
+            Some(_) => Err(Failed),
+        }
+    }
+}
+
+/// Files with these names and these bytes, and no standard input.
+#[derive(Drop)]
+pub struct NamedFiles<'a>(pub &'a [(&'a str, &'a [u8])]);
+
+impl<'a> Files for NamedFiles<'a> {
+    type Src = SliceSource<'a>;
+
+    fn source(&mut self, name: Option<&str>) -> Result<SliceSource<'a>, Failed> {
+        let name = name.ok_or(Failed)?;
+        let file = self.0.iter().find(|file| file.0 == name).ok_or(Failed)?;
+        Ok(SliceSource::new(file.1))
+    }
+}
+
+/// How many bytes a short sink takes at most.
+const MOST: usize = 16;
+
+/// A sink that takes one byte a write, and fails once it has as many bytes as it has room for.
+#[derive(Drop)]
+pub struct ShortSink {
+    bytes: [u8; MOST],
+    count: usize,
+    room: usize,
+    failures: u64,
+}
+
+impl ShortSink {
+    pub fn new(room: usize) -> Self {
+        ShortSink {
+            bytes: [0; MOST],
+            count: 0,
+            room,
+            failures: 0,
+        }
+    }
+
+    pub fn bytes(&self) -> &[u8] {
+        self.bytes.get(..self.count).unwrap_or(&[])
+    }
+
+    pub fn failures(&self) -> u64 {
+        self.failures
+    }
+}
+
+impl Sink for ShortSink {
+    ghost state = { λ sink. record { taken = None; failures = sink.failures } };
+
+    fn write(&mut self, bytes: &[u8]) -> Result<usize, Failed> {
+        let Some(first) = bytes.first() else {
+            return Ok(0);
+        };
+        if self.count >= self.room || self.count >= self.bytes.len() {
+            self.failures = self.failures.saturating_add(1);
+            return Err(Failed);
+        }
+        self.bytes[self.count] = *first;
+        self.count += 1;
+        Ok(1)
+    }
+}
+
+/// A fault that may say that an allocation was refused.
+pub trait Refusal: Drop {
+    fn is_refusal(&self) -> bool;
+}
+
+impl Refusal for AllocError {
+    fn is_refusal(&self) -> bool {
+        true
+    }
+}
+
+impl Refusal for Failed {
+    fn is_refusal(&self) -> bool {
+        true
+    }
+}
+
+impl Refusal for LoadFault {
+    fn is_refusal(&self) -> bool {
+        *self == LoadFault::Memory
+    }
+}
+
+impl Refusal for FromHexError {
+    fn is_refusal(&self) -> bool {
+        matches!(self, FromHexError::OutOfMemory)
+    }
+}
+
+impl Refusal for LogFault {
+    fn is_refusal(&self) -> bool {
+        *self == LogFault::Memory
+    }
+}
+
+impl Refusal for ListFault {
+    fn is_refusal(&self) -> bool {
+        *self == ListFault::Memory
+    }
+}
+
+impl Refusal for ExpectFault {
+    fn is_refusal(&self) -> bool {
+        *self == ExpectFault::Memory
+    }
+}
+
+impl Refusal for VerifyFault {
+    fn is_refusal(&self) -> bool {
+        *self == VerifyFault::Memory
+    }
+}
+
+impl Refusal for BookFault {
+    fn is_refusal(&self) -> bool {
+        *self == BookFault::Memory
+    }
+}
+
+/// What the attempt answers; where it says that an allocation was refused, what it answers once more.
+pub fn once_more<T: Drop, E: Refusal, F: Fn() -> Result<T, E>>(attempt: F) -> Result<T, E>
+    requires { F.IsAlwaysCallable attempt }
+{
+    let first = attempt();
+    match &first {
+        Err(fault) if fault.is_refusal() => attempt(),
+        _ => first,
+    }
+}
+
+/// The parts joined.
+pub fn joined(alloc: Global, parts: &[&[u8]]) -> Result<Vec<u8>, AllocError> {
+    once_more(|| parts.concat(alloc))
+}
+
+/// The texts joined.
+pub fn text_of(alloc: Global, parts: &[&str]) -> Result<String, AllocError> {
+    once_more(|| {
+        let mut text = String::new(alloc);
+        for part in parts {
+            text.push_str(part)?;
+        }
+        Ok(text)
+    })
+}
+
+/// The bytes that hexadecimal texts spell, joined; white space does not count.
+pub fn bytes_of(alloc: Global, parts: &[&str]) -> Result<Vec<u8>, Fail> {
+    let text = text_of(alloc, parts)?;
+    let digits = once_more(|| {
+        let mut digits = Vec::with_capacity(alloc, text.len())?;
+        for byte in text.bytes() {
+            if !byte.is_ascii_whitespace() {
+                digits.push(byte)?;
+            }
+        }
+        Ok::<Vec<u8>, AllocError>(digits)
+    })?;
+    Ok(once_more(|| hex::decode(alloc, &digits))?)
+}
+
+/// The words of a command.
+pub fn words_of(alloc: Global, words: &[&str]) -> Result<Vec<String>, AllocError> {
+    once_more(|| {
+        let mut owned = Vec::new(alloc);
+        for word in words {
+            owned.push(String::from_str(alloc, word)?)?;
+        }
+        Ok(owned)
+    })
+}
+
+/// What the program answers and writes for these words over these files; once more where an allocation was refused.
+pub fn answered(
+    rt: &(impl Threads + Wait + Sync + AllocGlobal),
+    words: &[&str],
+    files: &[(&str, &[u8])],
+) -> Result<(u8, Vec<u8>), AllocError> {
+    let words = words_of(rt.alloc(), words)?;
+    Ok(ran_over(rt, &words, &mut NamedFiles(files)))
+}
+
+/// What the program answers and writes for this standard input; once more where an allocation was refused.
+pub fn ran(
+    rt: &(impl Threads + Wait + Sync + AllocGlobal),
+    words: &[String],
+    input: &[u8],
+) -> (u8, Vec<u8>) {
+    ran_over(rt, words, &mut StandardInput(input))
+}
+
+/// What the program answers and writes over these files; once more where an allocation was refused, which shows as the
+/// status 3 without the whole line of an input that could not be taken.
+pub fn ran_over<R: Threads + Wait + Sync + AllocGlobal, F: Files>(
+    rt: &R,
+    words: &[String],
+    files: &mut F,
+) -> (u8, Vec<u8>) {
+    let first = ran_once(rt, words, files);
+    let told = first.1.starts_with(b"failed: read ") && first.1.ends_with(b"\n");
+    if first.0 == 3 && !told {
+        return ran_once(rt, words, files);
+    }
+    first
+}
+
+fn ran_once<R: Threads + Wait + Sync + AllocGlobal, F: Files>(
+    rt: &R,
+    words: &[String],
+    files: &mut F,
+) -> (u8, Vec<u8>) {
+    let mut sink = VecSink::new(Vec::new(rt.alloc()));
+    let status = run(rt, rt.alloc(), words, files, &mut sink);
+    (status, sink.into_bytes())
+}

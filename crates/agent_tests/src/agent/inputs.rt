@@ -1,0 +1,108 @@
+//! Inputs of a megabyte and more, and inputs that are nearly right.
+
+use super::devices::{answered, joined, once_more, ran, ran_over, words_of};
+use super::logs::{EVENT, EXTENDED_LINE, HEADER};
+use super::show::{MEASUREMENT, MEASUREMENT_LINE};
+use byte_streams::{Failed, SliceSource};
+use ima_agent::Files;
+use std::test::Fail;
+
+/// More bytes than a mebibyte has.
+const MANY: usize = 1_500_000;
+
+/// White space before a log, over a mebibyte of it.
+#[test]
+fn hexadecimal_text_of_many_bytes(rt: HostRuntime) -> Result<(), Fail> {
+    let alloc = rt.alloc();
+    let space = once_more(|| vec![in alloc; b' '; MANY])?;
+    let input = joined(
+        alloc,
+        &[&space, HEADER.as_bytes(), &space, EVENT.as_bytes()],
+    )?;
+    let (status, output) = ran(&rt, &[], &input);
+    assert_eq!(rt; status, 0);
+    assert_eq!(rt; output.as_slice(), EXTENDED_LINE);
+    Ok(())
+}
+
+/// A NUL is no white space, wherever it stands.
+#[test]
+fn nul_is_not_hexadecimal(rt: HostRuntime) -> Result<(), Fail> {
+    let alloc = rt.alloc();
+    let (header, event) = (HEADER.as_bytes(), EVENT.as_bytes());
+    for parts in [
+        [b"\0".as_slice(), header, event],
+        [header, b"\0", event],
+        [header, event, b"\0"],
+    ] {
+        let input = joined(alloc, &parts)?;
+        let (status, output) = ran(&rt, &[], &input);
+        assert_eq!(rt; status, 2);
+        assert_eq!(rt; output.as_slice(), b"refused: not hexadecimal\n".as_slice());
+    }
+    Ok(())
+}
+
+/// A file that can be taken once.
+#[derive(Drop)]
+struct OnceOnly<'a> {
+    bytes: &'a [u8],
+    taken: bool,
+}
+
+impl<'a> Files for OnceOnly<'a> {
+    type Src = SliceSource<'a>;
+
+    fn source(&mut self, _name: Option<&str>) -> Result<SliceSource<'a>, Failed> {
+        if self.taken {
+            return Err(Failed);
+        }
+        self.taken = true;
+        Ok(SliceSource::new(self.bytes))
+    }
+}
+
+/// Sixteen thousand entries, in a file that can be taken once.
+#[test]
+fn list_of_many_bytes(rt: HostRuntime) -> Result<(), Fail> {
+    const COUNT: usize = 16_000;
+    let alloc = rt.alloc();
+    let bytes = once_more(|| {
+        let mut bytes = Vec::with_capacity(alloc, COUNT * MEASUREMENT.len())?;
+        for _ in 0..COUNT {
+            bytes.extend_from_slice(MEASUREMENT)?;
+        }
+        Ok::<Vec<u8>, std::alloc::AllocError>(bytes)
+    })?;
+    let words = words_of(alloc, &["show", "x"])?;
+    let mut files = OnceOnly {
+        bytes: &bytes,
+        taken: false,
+    };
+    let (mut status, mut output) = ran_over(&rt, &words, &mut files);
+    if status == 3 {
+        files.taken = false;
+        (status, output) = ran_over(&rt, &words, &mut files);
+    }
+    assert_eq!(rt; status, 0);
+    assert_eq!(rt; output.len(), COUNT * MEASUREMENT_LINE.len());
+    assert!(rt; output.starts_with(MEASUREMENT_LINE) && output.ends_with(MEASUREMENT_LINE));
+    Ok(())
+}
+
+/// A name is taken to the byte, with the spaces at either end.
+#[test]
+fn names_with_spaces(rt: HostRuntime) -> Result<(), Fail> {
+    for (name, line) in [
+        (" x", b"failed: read  x\n".as_slice()),
+        ("x ", b"failed: read x \n"),
+        (" x ", b"failed: read  x \n"),
+    ] {
+        for (held, status, output) in [("x", 3, line), (name, 0, MEASUREMENT_LINE)] {
+            let answer = answered(&rt, &["show", name], &[(held, MEASUREMENT)])?;
+            assert_eq!(rt; answer.0, status);
+            assert_eq!(rt; answer.1.as_slice(), output);
+        }
+    }
+    Ok(())
+}

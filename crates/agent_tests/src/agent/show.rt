@@ -1,0 +1,149 @@
+//! The program's words `show LIST` over files in memory.
+
+use super::devices::{NamedFiles, ShortSink, StandardInput, answered, joined, ran_over, words_of};
+use ima_agent::run;
+use std::test::Fail;
+
+/// The entry of `/bin/sh`, measured into PCR 10 with the SHA-256 of `abc`, in the template `ima-ng`.
+pub const MEASUREMENT: &[u8] = b"\x0a\x00\x00\x00\
+    \x83\xfd\xff\x31\x51\x75\x58\x71\x57\xed\x3a\xa6\x04\xe7\xf9\xec\x63\xca\x0b\x42\
+    \x06\x00\x00\x00ima-ng\
+    \x38\x00\x00\x00\
+    \x28\x00\x00\x00sha256:\x00\
+    \xba\x78\x16\xbf\x8f\x01\xcf\xea\x41\x41\x40\xde\x5d\xae\x22\x23\
+    \xb0\x03\x61\xa3\x96\x17\x7a\x9c\xb4\x10\xff\x61\xf2\x00\x15\xad\
+    \x08\x00\x00\x00/bin/sh\x00";
+
+/// Its line.
+pub const MEASUREMENT_LINE: &[u8] = b"10 83fdff315175587157ed3aa604e7f9ec63ca0b42 ima-ng \
+    sha256:ba7816bf8f01cfea414140de5dae2223b00361a396177a9cb410ff61f20015ad /bin/sh\n";
+
+/// The entry of a violation of `/etc/x` in PCR 10, in the template `ima-ng` with SHA-256.
+pub const VIOLATION: &[u8] = b"\x0a\x00\x00\x00\
+    \x00\x00\x00\x00\x00\x00\x00\x00\x00\x00\x00\x00\x00\x00\x00\x00\x00\x00\x00\x00\
+    \x06\x00\x00\x00ima-ng\
+    \x37\x00\x00\x00\
+    \x28\x00\x00\x00sha256:\x00\
+    \x00\x00\x00\x00\x00\x00\x00\x00\x00\x00\x00\x00\x00\x00\x00\x00\
+    \x00\x00\x00\x00\x00\x00\x00\x00\x00\x00\x00\x00\x00\x00\x00\x00\
+    \x07\x00\x00\x00/etc/x\x00";
+
+/// What comes after the digest in an entry of the template `ima` whose path is said to have 256 bytes.
+const IMA_PART: &[u8] = b"\x03\0\0\0ima\
+    \x01\x01\x01\x01\x01\x01\x01\x01\x01\x01\x01\x01\x01\x01\x01\x01\x01\x01\x01\x01\
+    \0\x01\0\0";
+
+#[test]
+fn lists_that_are_shown(rt: HostRuntime) -> Result<(), Fail> {
+    let alloc = rt.alloc();
+    let (status, output) = answered(&rt, &["show", "x"], &[("x", MEASUREMENT)])?;
+    assert_eq!(rt; status, 0);
+    assert_eq!(rt; output.as_slice(), MEASUREMENT_LINE);
+    let twice = joined(alloc, &[MEASUREMENT, MEASUREMENT])?;
+    let (status, output) = answered(&rt, &["show", "x"], &[("x", &twice)])?;
+    assert_eq!(rt; status, 0);
+    let lines = joined(alloc, &[MEASUREMENT_LINE, MEASUREMENT_LINE])?;
+    assert_eq!(rt; output.as_slice(), lines.as_slice());
+    for (name, line) in [
+        ("y", b"failed: read y\n".as_slice()),
+        ("X", b"failed: read X\n"),
+        ("", b"failed: read \n"),
+        ("-", b"failed: read -\n"),
+    ] {
+        let (status, output) = answered(&rt, &["show", name], &[("x", MEASUREMENT)])?;
+        assert_eq!(rt; status, 3);
+        assert_eq!(rt; output.as_slice(), line);
+    }
+    Ok(())
+}
+
+/// A fault is one line: no entry before it is shown.
+#[test]
+fn lists_that_are_refused(rt: HostRuntime) -> Result<(), Fail> {
+    let alloc = rt.alloc();
+    let cut = joined(alloc, &[&MEASUREMENT[..93]])?;
+    let register = joined(alloc, &[b"\x18", &MEASUREMENT[1..]])?;
+    let long = joined(alloc, &[&MEASUREMENT[..24], IMA_PART])?;
+    for (parts, line) in [
+        (
+            [cut.as_slice(), b""],
+            b"refused: list fault 1 at entry 0\n".as_slice(),
+        ),
+        ([&register, b""], b"refused: list fault 2 at entry 0\n"),
+        ([&long, b""], b"refused: list fault 3 at entry 0\n"),
+        ([MEASUREMENT, &cut], b"refused: list fault 1 at entry 1\n"),
+        (
+            [MEASUREMENT, &register],
+            b"refused: list fault 2 at entry 1\n",
+        ),
+        ([MEASUREMENT, &long], b"refused: list fault 3 at entry 1\n"),
+    ] {
+        let bytes = joined(alloc, &parts)?;
+        let (status, output) = answered(&rt, &["show", "x"], &[("x", &bytes)])?;
+        assert_eq!(rt; status, 2);
+        assert_eq!(rt; output.as_slice(), line);
+    }
+    Ok(())
+}
+
+#[test]
+fn other_words_are_refused(rt: HostRuntime) -> Result<(), Fail> {
+    let alloc = rt.alloc();
+    for words in [
+        ["show"].as_slice(),
+        &["show", "x", "x"],
+        &["list", "x"],
+        &["Show", "x"],
+        &["show ", "x"],
+        &["", "x"],
+        &["x", "show"],
+        &["show", "-x"],
+        &["show", "--list", "x"],
+        &["verify"],
+        &["verify", "x", "x"],
+        &["verify", "x", "x", "x", "x"],
+        &["help"],
+        &["--version"],
+        &["--"],
+        &["x"],
+        &[""],
+        &["-"],
+    ] {
+        let (status, output) = answered(&rt, words, &[("x", MEASUREMENT)])?;
+        assert_eq!(rt; status, 2);
+        assert_eq!(rt; output.as_slice(), b"refused: command line\n".as_slice());
+    }
+    Ok(())
+}
+
+/// The name `-` is that of a file, never standard input.
+#[test]
+fn dash_is_a_file(rt: HostRuntime) -> Result<(), Fail> {
+    let alloc = rt.alloc();
+    let words = words_of(alloc, &["show", "-"])?;
+    let (status, output) = answered(&rt, &["show", "-"], &[("-", MEASUREMENT)])?;
+    assert_eq!(rt; status, 0);
+    assert_eq!(rt; output.as_slice(), MEASUREMENT_LINE);
+    let (status, output) = ran_over(&rt, &words, &mut StandardInput(MEASUREMENT));
+    assert_eq!(rt; status, 3);
+    assert_eq!(rt; output.as_slice(), b"failed: read -\n".as_slice());
+    Ok(())
+}
+
+/// The program runs once more where an allocation was refused: then what it wrote begins as the line of that fault.
+#[test]
+fn a_failing_sink_ends_the_lines(rt: HostRuntime) -> Result<(), Fail> {
+    let alloc = rt.alloc();
+    let words = words_of(alloc, &["show", "x"])?;
+    let files = [("x", MEASUREMENT)];
+    let mut sink = ShortSink::new(9);
+    let mut status = run(&rt, alloc, &words, &mut NamedFiles(&files), &mut sink);
+    if sink.bytes().starts_with(b"failed: m") {
+        sink = ShortSink::new(9);
+        status = run(&rt, alloc, &words, &mut NamedFiles(&files), &mut sink);
+    }
+    assert_eq!(rt; status, 3);
+    assert_eq!(rt; sink.bytes(), &MEASUREMENT_LINE[..9]);
+    assert_eq!(rt; sink.failures(), 1);
+    Ok(())
+}

@@ -1,0 +1,190 @@
+//! Reports on logs, lists and expected registers.
+
+use super::devices::{answered, bytes_of, once_more};
+use super::logs::{EVENT, EXTENDED_LINE, HEADER};
+use super::show::{MEASUREMENT, VIOLATION};
+use boot_log::{LogFault, read_log};
+use byte_streams::{Failed, VecSink};
+use ima_agent::{Aggregate, Expected, Report, State, VerifyFault, verify};
+use ima_list::{Entry, ListFault, ReplayFault, Template, boot_aggregate, write_entry};
+use measure_book::{Book, BookFault, Op, Origin};
+use pcr_banks::{Alg, Banks, Digest, hash};
+use std::alloc::{AllocError, Global};
+use std::test::Fail;
+
+/// The report; once more where an allocation was refused.
+fn report_on(
+    alloc: Global,
+    log: &[u8],
+    list: &[u8],
+    expected: &[Expected],
+) -> Result<Report, VerifyFault> {
+    once_more(|| verify(alloc, log, list, expected))
+}
+
+/// The registers after a header and one event.
+fn registers_of(alloc: Global, log: &[u8]) -> Result<Banks, LogFault> {
+    once_more(|| Ok(read_log(alloc, log)?.registers()))
+}
+
+/// A book over these registers in which a file was measured, again, and with other content.
+fn book_of(alloc: Global, start: Banks) -> Result<Book, BookFault> {
+    let origin = Origin {
+        start,
+        template: Template::ImaNg,
+        alg: Alg::Sha256,
+        limit: 100,
+    };
+    let mut book = Book::open(alloc, origin)?;
+    for content in [b"abc".as_slice(), b"abc", b""] {
+        let path = Vec::from_slice(alloc, b"/bin/sh")?;
+        let digest = hash(Alg::Sha256, content);
+        book.apply(&Op::Measure { path, digest })?;
+    }
+    Ok(book)
+}
+
+/// The list of a book.
+fn list_of(alloc: Global, book: &Book) -> Result<Vec<u8>, Failed> {
+    once_more(|| {
+        let mut sink = VecSink::new(Vec::new(alloc));
+        book.export(&mut sink).map_err(|_| Failed)?;
+        Ok(sink.into_bytes())
+    })
+}
+
+/// The expected registers: one that matches, one that differs, and one of a bank that the log does not have.
+pub const EXPECTED: &str = "\
+sha256 10 d54d476b0532a0a009e48de651cd01544e8d093d584ca3dbb93dd0f1b69b7cc4
+sha256 0 ffffffffffffffffffffffffffffffffffffffffffffffffffffffffffffffff
+sha1 10 0000000000000000000000000000000000000000
+";
+
+/// The log of one event, and the list of a book over it.
+pub fn log_and_list(alloc: Global) -> Result<(Vec<u8>, Vec<u8>), Fail> {
+    let log = bytes_of(alloc, &[HEADER, EVENT])?;
+    let start = registers_of(alloc, &log)?;
+    let book = once_more(|| book_of(alloc, start))?;
+    let list = list_of(alloc, &book)?;
+    Ok((log, list))
+}
+
+/// A row of each state, and the first row alone.
+#[test]
+fn report_with_each_state(rt: HostRuntime) -> Result<(), Fail> {
+    let (log, list) = log_and_list(rt.alloc())?;
+    let (first, _) = EXPECTED.split_once('\n').ok_or("no line")?;
+    for (expected, status, rows) in [
+        (
+            EXPECTED,
+            1,
+            b"sha256 10 match\n\
+            sha256 0 differ 0000000000000000000000000000000000000000000000000000000000000000\n\
+            sha1 10 absent\n\
+            verdict differ\n"
+                .as_slice(),
+        ),
+        (first, 0, b"sha256 10 match\nverdict match\n"),
+    ] {
+        let files = [
+            ("log", log.as_slice()),
+            ("list", list.as_slice()),
+            ("expected", expected.as_bytes()),
+        ];
+        let answer = answered(&rt, &["verify", "log", "list", "expected"], &files)?;
+        assert_eq!(rt; answer.0, status);
+        let heading = b"events 1 locality 0\nentries 3\nboot_aggregate good\n";
+        let written = answer.1.strip_prefix(heading).ok_or("no heading")?;
+        assert!(rt; written == rows);
+    }
+    Ok(())
+}
+
+/// An empty list, and a register of 24, which there is not.
+#[test]
+fn report_on_empty_list(rt: HostRuntime) -> Result<(), Fail> {
+    let alloc = rt.alloc();
+    let log = bytes_of(alloc, &[HEADER, EVENT])?;
+    let files = [
+        ("log", log.as_slice()),
+        ("list", b""),
+        ("expected", EXTENDED_LINE),
+    ];
+    let answer = answered(&rt, &["verify", "log", "list", "expected"], &files)?;
+    assert_eq!(rt; answer.0, 1);
+    assert_eq!(rt;
+        answer.1.as_slice(),
+        b"events 1 locality 0\n\
+        entries 0\n\
+        boot_aggregate missing\n\
+        sha256 4 match\n\
+        verdict differ\n"
+            .as_slice()
+    );
+    let expected = Expected {
+        alg: Alg::Sha256,
+        register: 24,
+        value: hash(Alg::Sha256, &[0; 64]),
+    };
+    let report = report_on(alloc, &log, b"", &[expected])?;
+    let row = report.rows.last().ok_or("no row")?;
+    assert_eq!(rt; row.state, State::Absent);
+    Ok(())
+}
+
+/// The spelling of an entry with this path and this digest.
+fn first_entry(alloc: Global, path: &[u8], digest: &Digest) -> Result<Vec<u8>, AllocError> {
+    let mut bytes = Vec::new(alloc);
+    if Template::ImaNg.check(digest.alg(), path).is_err() {
+        return Ok(bytes);
+    }
+    let entry = Entry::measurement(alloc, 10, Template::ImaNg, digest, path)?;
+    write_entry(&entry, &mut bytes)?;
+    Ok(bytes)
+}
+
+/// What the first entry says of the log's registers.
+#[test]
+fn aggregates_of_first_entries(rt: HostRuntime) -> Result<(), Fail> {
+    let alloc = rt.alloc();
+    let log = bytes_of(alloc, &[HEADER, EVENT])?;
+    let start = registers_of(alloc, &log)?;
+    let good = boot_aggregate(&start, Alg::Sha256).ok_or("no bank")?;
+    let none = Digest::zero(Alg::Sha384);
+    for (path, digest, aggregate) in [
+        (b"boot_aggregate".as_slice(), good, Aggregate::Good),
+        (b"boot_aggregate", hash(Alg::Sha256, b""), Aggregate::Wrong),
+        (b"boot_aggregate", none, Aggregate::NoBank),
+        (b"boot_aggregat", good, Aggregate::Missing),
+    ] {
+        let list = once_more(|| first_entry(alloc, path, &digest))?;
+        let report = report_on(alloc, &log, &list, &[])?;
+        assert_eq!(rt; report.aggregate, aggregate);
+        assert_eq!(rt; report.matches(), aggregate == Aggregate::Good);
+    }
+    let report = report_on(alloc, &log, VIOLATION, &[])?;
+    assert_eq!(rt; report.aggregate, Aggregate::Missing);
+    Ok(())
+}
+
+/// The log's fault comes before the list's, and the list's before that of its entries.
+#[test]
+fn verdict_faults_in_order(rt: HostRuntime) -> Result<(), Fail> {
+    let alloc = rt.alloc();
+    let log = bytes_of(alloc, &[HEADER, EVENT])?;
+    let mut forged = once_more(|| Vec::from_slice(alloc, MEASUREMENT))?;
+    let last = forged.last_mut().ok_or("no byte")?;
+    *last = 1;
+    let no_log = VerifyFault::Log(LogFault::Truncated { event: 0 });
+    let no_list = VerifyFault::List(ListFault::Truncated { entry: 0 });
+    let not_genuine = VerifyFault::Replay(ReplayFault::BadTemplateDigest { entry: 0 });
+    for (log, list, fault) in [
+        (b"".as_slice(), b"".as_slice(), no_log),
+        (b"", b"\x0a", no_log),
+        (&log, b"\x0a", no_list),
+        (&log, &forged, not_genuine),
+    ] {
+        assert_eq!(rt; report_on(alloc, log, list, &[]).err(), Some(fault));
+    }
+    Ok(())
+}

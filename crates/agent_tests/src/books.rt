@@ -1,0 +1,131 @@
+//! Worked examples, and what they are made of.
+
+mod books;
+mod exports;
+mod gathering;
+mod memory;
+mod refusals;
+mod values;
+
+use ima_list::Template;
+use measure_book::{Answer, Book, BookFault, Op, Origin, Outcome, Receipt};
+use pcr_banks::{Alg, AlgSet, Banks, Digest, hash};
+use std::alloc::{AllocError, Global};
+
+/// The entry of `/bin/sh`, measured into PCR 10 with the SHA-256 of `abc`, in the template `ima-ng`.
+const MEASUREMENT: &[u8] = b"\x0a\x00\x00\x00\
+    \x83\xfd\xff\x31\x51\x75\x58\x71\x57\xed\x3a\xa6\x04\xe7\xf9\xec\x63\xca\x0b\x42\
+    \x06\x00\x00\x00ima-ng\
+    \x38\x00\x00\x00\
+    \x28\x00\x00\x00sha256:\x00\
+    \xba\x78\x16\xbf\x8f\x01\xcf\xea\x41\x41\x40\xde\x5d\xae\x22\x23\
+    \xb0\x03\x61\xa3\x96\x17\x7a\x9c\xb4\x10\xff\x61\xf2\x00\x15\xad\
+    \x08\x00\x00\x00/bin/sh\x00";
+
+/// The entry of a violation of `/etc/x` in PCR 10, in the template `ima-ng` with SHA-256.
+const VIOLATION: &[u8] = b"\x0a\x00\x00\x00\
+    \x00\x00\x00\x00\x00\x00\x00\x00\x00\x00\x00\x00\x00\x00\x00\x00\x00\x00\x00\x00\
+    \x06\x00\x00\x00ima-ng\
+    \x37\x00\x00\x00\
+    \x28\x00\x00\x00sha256:\x00\
+    \x00\x00\x00\x00\x00\x00\x00\x00\x00\x00\x00\x00\x00\x00\x00\x00\
+    \x00\x00\x00\x00\x00\x00\x00\x00\x00\x00\x00\x00\x00\x00\x00\x00\
+    \x07\x00\x00\x00/etc/x\x00";
+
+/// Banks of SHA-256 alone, after a start from locality 0.
+fn start() -> Banks {
+    Banks::new(AlgSet::empty().with(Alg::Sha256), 0)
+}
+
+/// An origin with these banks, the template `ima-ng` and SHA-256.
+fn origin(limit: u32) -> Origin {
+    Origin {
+        start: start(),
+        template: Template::ImaNg,
+        alg: Alg::Sha256,
+        limit,
+    }
+}
+
+/// The SHA-256 of these bytes.
+fn sha256(bytes: &[u8]) -> Digest {
+    hash(Alg::Sha256, bytes)
+}
+
+/// The bytes in a vector; once more where an allocation was refused.
+fn copied(alloc: Global, bytes: &[u8]) -> Result<Vec<u8>, AllocError> {
+    Vec::from_slice(alloc, bytes).or_else(|_| Vec::from_slice(alloc, bytes))
+}
+
+/// The parts joined; once more where an allocation was refused.
+fn joined(alloc: Global, parts: &[&[u8]]) -> Result<Vec<u8>, AllocError> {
+    parts.concat(alloc).or_else(|_| parts.concat(alloc))
+}
+
+/// The value of a register of SHA-256 after an extend.
+fn extended(alloc: Global, old: &[u8], digest: &[u8]) -> Result<Digest, AllocError> {
+    Ok(sha256(&joined(alloc, &[old, digest])?))
+}
+
+fn measure(alloc: Global, path: &[u8], digest: Digest) -> Result<Op, AllocError> {
+    let path = copied(alloc, path)?;
+    Ok(Op::Measure { path, digest })
+}
+
+fn violation(alloc: Global, path: &[u8]) -> Result<Op, AllocError> {
+    let path = copied(alloc, path)?;
+    Ok(Op::Violation { path })
+}
+
+fn read(alg: Alg, register: u32) -> Op {
+    Op::Read { alg, register }
+}
+
+fn receipt(place: u32, op: Op, answer: Answer) -> Receipt {
+    Receipt { place, op, answer }
+}
+
+/// Opens a book; once more where an allocation was refused.
+fn opened(alloc: Global, origin: Origin) -> Result<Book, BookFault> {
+    match Book::open(alloc, origin) {
+        Err(BookFault::Memory) => Book::open(alloc, origin),
+        answer => answer,
+    }
+}
+
+/// Does an operation; once more where an allocation was refused, after which the book is as it was.
+fn applied(book: &mut Book, op: &Op) -> Result<Receipt, BookFault> {
+    match book.apply(op) {
+        Err(BookFault::Memory) => book.apply(op),
+        answer => answer,
+    }
+}
+
+/// Opens a book and runs the operations on it; on another book once more where an allocation was refused. The outcomes
+/// take the place of those that are there.
+fn run_on_new(
+    alloc: Global,
+    origin: Origin,
+    ops: &[Op],
+    outcomes: &mut Vec<Outcome>,
+) -> Result<Book, BookFault> {
+    let mut book = opened(alloc, origin)?;
+    if let Ok(first) = book.run(ops) {
+        if !first.contains(&Outcome::Refused(BookFault::Memory)) {
+            *outcomes = first;
+            return Ok(book);
+        }
+    }
+    let mut book = opened(alloc, origin)?;
+    *outcomes = book.run(ops)?;
+    Ok(book)
+}
+
+/// The operations of the first worked example: `/bin/sh` is measured twice with the content `abc`, and once empty.
+fn three_measurements(alloc: Global) -> Result<[Op; 3], AllocError> {
+    Ok([
+        measure(alloc, b"/bin/sh", sha256(b"abc"))?,
+        measure(alloc, b"/bin/sh", sha256(b"abc"))?,
+        measure(alloc, b"/bin/sh", sha256(b""))?,
+    ])
+}

@@ -1,0 +1,199 @@
+//! Operations that are done, and what they are answered.
+
+use super::exports::{ShortSink, spellings};
+use super::{
+    MEASUREMENT, VIOLATION, applied, copied, extended, measure, opened, origin, read, receipt,
+    run_on_new, sha256, start, three_measurements, violation,
+};
+use ima_list::{Entry, write_entry};
+use measure_book::laws::{
+    fronts_are_histories, operations_have_one_answer, reads_are_replays, runs_go_on,
+};
+use measure_book::{Answer, BookFault, ExportFault, Outcome, Record};
+use pcr_banks::{Alg, Digest};
+use std::alloc::{AllocError, Global};
+use std::test::Fail;
+
+/// An entry's spelling; once more where an allocation was refused.
+fn spelling_of(alloc: Global, entry: &Entry) -> Result<Vec<u8>, AllocError> {
+    let mut bytes = Vec::new(alloc);
+    if write_entry(entry, &mut bytes).is_err() {
+        write_entry(entry, &mut bytes)?;
+    }
+    Ok(bytes)
+}
+
+#[test]
+fn three_operations(rt: HostRuntime) -> Result<(), Fail> {
+    let alloc = rt.alloc();
+    let mut outcomes = Vec::new(alloc);
+    let ops = three_measurements(alloc)?;
+    let book = run_on_new(alloc, origin(100), &ops, &mut outcomes)?;
+    assert_eq!(rt; outcomes.len(), 3);
+    for (place, content, answer) in [
+        (1, b"abc".as_slice(), Answer::Added(1)),
+        (2, b"abc", Answer::Known(1)),
+        (3, b"", Answer::Added(2)),
+    ] {
+        let op = measure(alloc, b"/bin/sh", sha256(content))?;
+        let outcome = outcomes.get(place as usize - 1).ok_or("no outcome")?;
+        assert_eq!(rt; *outcome, Outcome::Done(receipt(place, op, answer)));
+    }
+    assert_eq!(rt; book.records().len(), 4);
+    assert_eq!(rt; book.entries().len(), 3);
+    assert_eq!(rt; *book.origin(), origin(100));
+    let opening = Record {
+        op: measure(alloc, b"boot_aggregate", sha256(&[0; 320]))?,
+        answer: Answer::Added(0),
+    };
+    assert_eq!(rt; book.records()[0], opening);
+    let last = Record {
+        op: measure(alloc, b"/bin/sh", sha256(b""))?,
+        answer: Answer::Added(2),
+    };
+    let newest = book.records().last().ok_or("no record")?;
+    assert_eq!(rt; *newest, last);
+    assert_eq!(rt;
+        spelling_of(alloc, &book.entries()[1])?.as_slice(),
+        MEASUREMENT
+    );
+    let mut value = Digest::zero(Alg::Sha256);
+    for entry in book.entries() {
+        value = extended(alloc, value.bytes(), sha256(entry.payload()).bytes())?;
+    }
+    assert_eq!(rt; book.banks().read(Alg::Sha256, 10), Some(value));
+    Ok(())
+}
+
+#[test]
+fn violation_then_measure(rt: HostRuntime) -> Result<(), Fail> {
+    let alloc = rt.alloc();
+    let mut book = opened(alloc, origin(100))?;
+    let before = book.banks().read(Alg::Sha256, 10).ok_or("no bank")?;
+    let op = violation(alloc, b"/etc/x")?;
+    let first = applied(&mut book, &op)?;
+    assert_eq!(rt;
+        first,
+        receipt(1, violation(alloc, b"/etc/x")?, Answer::Added(1))
+    );
+    let added = book.entries().last().ok_or("no entry")?;
+    assert_eq!(rt; spelling_of(alloc, added)?.as_slice(), VIOLATION);
+    let after = extended(alloc, before.bytes(), &[0xFF; 32])?;
+    assert_eq!(rt; book.banks().read(Alg::Sha256, 10), Some(after));
+    let zeros = measure(alloc, b"/etc/x", Digest::zero(Alg::Sha256))?;
+    assert_eq!(rt; applied(&mut book, &zeros)?.answer, Answer::Added(2));
+    assert_eq!(rt; applied(&mut book, &op)?.answer, Answer::Added(3));
+    assert_eq!(rt; applied(&mut book, &zeros)?.answer, Answer::Known(2));
+    assert_eq!(rt; book.entries().len(), 4);
+    Ok(())
+}
+
+#[test]
+fn run_with_refusal_between(rt: HostRuntime) -> Result<(), Fail> {
+    let alloc = rt.alloc();
+    let ops = [
+        measure(alloc, b"/bin/sh", sha256(b"abc"))?,
+        violation(alloc, b"/etc/\0x")?,
+        read(Alg::Sha256, 10),
+    ];
+    let mut outcomes = Vec::new(alloc);
+    let mut book = run_on_new(alloc, origin(100), &ops, &mut outcomes)?;
+    let value = book.banks().read(Alg::Sha256, 10).ok_or("no bank")?;
+    assert_eq!(rt; outcomes.len(), 3);
+    let first = measure(alloc, b"/bin/sh", sha256(b"abc"))?;
+    let added = Outcome::Done(receipt(1, first, Answer::Added(1)));
+    assert_eq!(rt; outcomes[0], added);
+    assert_eq!(rt; outcomes[1], Outcome::Refused(BookFault::NulInPath));
+    let seen = Outcome::Done(receipt(2, read(Alg::Sha256, 10), Answer::Value(value)));
+    assert_eq!(rt; outcomes[2], seen);
+    assert_eq!(rt; book.records().len(), 3);
+    assert_eq!(rt; book.entries().len(), 2);
+    let aggregate = measure(alloc, b"boot_aggregate", sha256(&[0; 320]))?;
+    let known = applied(&mut book, &aggregate)?;
+    assert_eq!(rt; (known.place, known.answer), (3, Answer::Known(0)));
+    let long = [b'a'; 4096];
+    for (path, answer) in [
+        (b"".as_slice(), Ok(Answer::Added(2))),
+        (&long[..4095], Ok(Answer::Added(3))),
+        (&long, Err(BookFault::PathTooLong)),
+    ] {
+        let op = measure(alloc, path, sha256(b"abc"))?;
+        let done = applied(&mut book, &op).map(|receipt| receipt.answer);
+        assert_eq!(rt; done, answer);
+    }
+    let zero = applied(&mut book, &read(Alg::Sha256, 0))?;
+    assert_eq!(rt; zero.answer, Answer::Value(Digest::zero(Alg::Sha256)));
+    let text = spellings(alloc, book.entries())?;
+    let mut sink = ShortSink::new();
+    assert_eq!(rt; book.export(&mut sink), Err(ExportFault::Sink));
+    assert_eq!(rt; sink.failures, 1);
+    assert_eq!(rt; sink.bytes().len(), 100);
+    assert!(rt; text.starts_with(sink.bytes()));
+    Ok(())
+}
+
+/// A read is answered the register as it stands, and not as it stood when the book was opened.
+#[test]
+fn reads_follow_the_entries(rt: HostRuntime) -> Result<(), Fail> {
+    let alloc = rt.alloc();
+    let mut book = opened(alloc, origin(100))?;
+    let mut value = extended(alloc, &[0; 32], sha256(book.entries()[0].payload()).bytes())?;
+    for path in [b"/a".as_slice(), b"/b", b"/c"] {
+        let answer = applied(&mut book, &read(Alg::Sha256, 10))?.answer;
+        assert_eq!(rt; answer, Answer::Value(value));
+        let op = measure(alloc, path, sha256(path))?;
+        let answer = applied(&mut book, &op)?.answer;
+        let Answer::Added(place) = answer else {
+            assert!(rt; false, "{path:?}");
+            continue;
+        };
+        let entry = book.entries().get(place as usize).ok_or("no entry")?;
+        value = extended(alloc, value.bytes(), sha256(entry.payload()).bytes())?;
+    }
+    for register in 0..24 {
+        let expected = match register {
+            10 => Some(value),
+            _ => start().read(Alg::Sha256, register),
+        };
+        assert_eq!(rt; book.banks().read(Alg::Sha256, register), expected);
+    }
+    Ok(())
+}
+
+/// Two hundred paths, each measured twice: the second time each is known at its place.
+#[test]
+fn many_files_are_known_again(rt: HostRuntime) -> Result<(), Fail> {
+    let alloc = rt.alloc();
+    let mut book = opened(alloc, origin(401))?;
+    for known in [false, true] {
+        for number in 0..200u32 {
+            let path = match format!(in alloc; "/f/{number}") {
+                Ok(path) => path,
+                Err(_) => format!(in alloc; "/f/{number}")?,
+            };
+            let op = measure(alloc, path.as_bytes(), sha256(b"abc"))?;
+            let expected = if known {
+                Answer::Known(number + 1)
+            } else {
+                Answer::Added(number + 1)
+            };
+            assert_eq!(rt; applied(&mut book, &op)?.answer, expected);
+        }
+    }
+    assert_eq!(rt; book.records().len(), 401);
+    assert_eq!(rt; book.entries().len(), 201);
+    assert_eq!(rt;
+        applied(&mut book, &read(Alg::Sha256, 0)).err(),
+        Some(BookFault::Full)
+    );
+    Ok(())
+}
+
+/// The laws take nothing and do nothing.
+#[test]
+fn laws_of_histories() {
+    operations_have_one_answer();
+    fronts_are_histories();
+    reads_are_replays();
+    runs_go_on();
+}

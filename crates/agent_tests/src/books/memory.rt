@@ -1,0 +1,106 @@
+//! Calls that find memory, and calls that do not.
+
+use super::{measure, opened, origin, read, sha256, three_measurements, violation};
+use measure_book::{Answer, Book, BookFault, Outcome};
+use pcr_banks::Alg;
+use std::test::Fail;
+
+/// Wants all its memory: each call is made once.
+#[test]
+fn ample_memory_opens(rt: HostRuntime) -> Result<(), Fail> {
+    let book = Book::open(rt.alloc(), origin(1))?;
+    assert_eq!(rt; book.records().len(), 1);
+    assert_eq!(rt; book.entries().len(), 1);
+    Ok(())
+}
+
+/// Wants all its memory: each call is made once.
+#[test]
+fn ample_memory_applies(rt: HostRuntime) -> Result<(), Fail> {
+    let alloc = rt.alloc();
+    let mut book = Book::open(alloc, origin(100))?;
+    let measured = measure(alloc, b"/bin/sh", sha256(b"abc"))?;
+    let violated = violation(alloc, b"/bin/sh")?;
+    assert_eq!(rt; book.apply(&measured)?.answer, Answer::Added(1));
+    assert_eq!(rt; book.apply(&measured)?.answer, Answer::Known(1));
+    assert_eq!(rt; book.apply(&violated)?.answer, Answer::Added(2));
+    let value = book.banks().read(Alg::Sha256, 10).ok_or("no bank")?;
+    let answer = book.apply(&read(Alg::Sha256, 10))?.answer;
+    assert_eq!(rt; answer, Answer::Value(value));
+    Ok(())
+}
+
+/// Wants all its memory: each call is made once.
+#[test]
+fn ample_memory_runs(rt: HostRuntime) -> Result<(), Fail> {
+    let alloc = rt.alloc();
+    let mut book = Book::open(alloc, origin(100))?;
+    let outcomes = book.run(&three_measurements(alloc)?)?;
+    assert_eq!(rt; outcomes.len(), 3);
+    assert!(rt;
+        outcomes
+            .iter()
+            .all(|outcome| matches!(outcome, Outcome::Done(_)))
+    );
+    assert_eq!(rt; book.run(&[])?.len(), 0);
+    Ok(())
+}
+
+/// After a refused allocation the book is as it was, and the same operation is then done.
+#[test]
+fn refused_memory_changes_nothing(rt: HostRuntime) -> Result<(), Fail> {
+    let alloc = rt.alloc();
+    let mut book = opened(alloc, origin(100))?;
+    for (op, answer) in [
+        (
+            measure(alloc, b"/bin/sh", sha256(b"abc"))?,
+            Answer::Added(1),
+        ),
+        (
+            measure(alloc, b"/bin/sh", sha256(b"abc"))?,
+            Answer::Known(1),
+        ),
+        (violation(alloc, b"/bin/sh")?, Answer::Added(2)),
+        (
+            read(Alg::Sha256, 23),
+            Answer::Value(pcr_banks::Digest::zero(Alg::Sha256)),
+        ),
+    ] {
+        let records = book.records().len();
+        let entries = book.entries().len();
+        let banks = *book.banks();
+        let done = match book.apply(&op) {
+            Err(BookFault::Memory) => {
+                assert_eq!(rt; book.records().len(), records);
+                assert_eq!(rt; book.entries().len(), entries);
+                assert_eq!(rt; *book.banks(), banks);
+                book.apply(&op)?
+            }
+            done => done?,
+        };
+        assert_eq!(rt; done.answer, answer);
+        assert_eq!(rt; book.records().len(), records + 1);
+    }
+    Ok(())
+}
+
+/// Where the outcomes find no memory, no operation is done.
+#[test]
+fn run_without_memory_does_nothing(rt: HostRuntime) -> Result<(), Fail> {
+    let alloc = rt.alloc();
+    let mut book = opened(alloc, origin(100))?;
+    let ops = three_measurements(alloc)?;
+    let outcomes = match book.run(&ops) {
+        Ok(outcomes) => outcomes,
+        Err(_) => {
+            assert_eq!(rt; book.records().len(), 1);
+            book.run(&ops)?
+        }
+    };
+    assert_eq!(rt; outcomes.len(), 3);
+    let done = outcomes
+        .iter()
+        .filter(|outcome| matches!(outcome, Outcome::Done(_)));
+    assert_eq!(rt; book.records().len(), 1 + done.count());
+    Ok(())
+}

@@ -1,0 +1,19 @@
+//! The laws do nothing, or only read.
+
+use super::MEASUREMENT;
+use ima_list::laws;
+use pcr_banks::{Alg, AlgSet, Banks};
+
+#[test]
+fn laws_do_nothing() {
+    laws::no_spelling_begins_another();
+    laws::list_has_one_reading(MEASUREMENT);
+    laws::spellings_read_back();
+    laws::checked_entries_are_entries();
+    laws::ima_hashes_276_bytes();
+    laws::replay_goes_on();
+    laws::value_tells_extensions();
+    laws::value_tells_extensions_alone();
+    laws::banks_tell_extensions(&Banks::new(AlgSet::empty(), 0), Alg::Sha256, 10);
+    laws::extensions_tell_genuine_digests();
+}

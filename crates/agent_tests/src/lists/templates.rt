@@ -1,0 +1,122 @@
+//! Templates, and why they have no entry.
+
+use super::{MEASUREMENT, PAYLOAD_PLACE, filled_hash, words_of};
+use ima_list::{EntryFault, Template};
+use pcr_banks::{Alg, hash};
+use std::test::Fail;
+
+#[test]
+fn template_names(rt: HostRuntime) {
+    assert_eq!(rt; Template::Ima.name(), "ima");
+    assert_eq!(rt; Template::ImaNg.name(), "ima-ng");
+}
+
+/// A path of 255 or 4,095 bytes is the longest that is taken, and an empty one is taken.
+#[test]
+fn paths_up_to_a_length(rt: HostRuntime) {
+    let path = [b'a'; 4_096];
+    for (template, alg, length, answer) in [
+        (Template::Ima, Alg::Sha1, 0, Ok(())),
+        (Template::Ima, Alg::Sha1, 255, Ok(())),
+        (Template::Ima, Alg::Sha1, 256, Err(EntryFault::PathTooLong)),
+        (Template::ImaNg, Alg::Sha1, 0, Ok(())),
+        (Template::ImaNg, Alg::Sha256, 256, Ok(())),
+        (Template::ImaNg, Alg::Sha384, 4_095, Ok(())),
+        (
+            Template::ImaNg,
+            Alg::Sha256,
+            4_096,
+            Err(EntryFault::PathTooLong),
+        ),
+    ] {
+        assert_eq!(rt;
+            template.check(alg, &path[..length]),
+            answer,
+            "{length} bytes"
+        );
+    }
+}
+
+/// A wrong algorithm counts before a NUL, and a NUL before a path that is too long.
+#[test]
+fn template_faults_in_order(rt: HostRuntime) {
+    let long = [b'a'; 4_096];
+    let mut long_with_nul = long;
+    long_with_nul[4_095] = 0;
+    for (template, alg, path, fault) in [
+        (
+            Template::Ima,
+            Alg::Sha256,
+            b"/".as_slice(),
+            EntryFault::WrongHash,
+        ),
+        (
+            Template::Ima,
+            Alg::Sha384,
+            &long_with_nul,
+            EntryFault::WrongHash,
+        ),
+        (Template::Ima, Alg::Sha256, b"\0", EntryFault::WrongHash),
+        (Template::Ima, Alg::Sha384, &long, EntryFault::WrongHash),
+        (Template::Ima, Alg::Sha1, b"\0", EntryFault::NulInPath),
+        (Template::Ima, Alg::Sha1, b"a\0", EntryFault::NulInPath),
+        (
+            Template::Ima,
+            Alg::Sha1,
+            &long_with_nul,
+            EntryFault::NulInPath,
+        ),
+        (Template::Ima, Alg::Sha1, &long, EntryFault::PathTooLong),
+        (Template::ImaNg, Alg::Sha256, b"\0/", EntryFault::NulInPath),
+        (
+            Template::ImaNg,
+            Alg::Sha256,
+            &long_with_nul,
+            EntryFault::NulInPath,
+        ),
+        (Template::ImaNg, Alg::Sha1, &long, EntryFault::PathTooLong),
+    ] {
+        assert_eq!(rt; template.check(alg, path), Err(fault));
+    }
+}
+
+#[test]
+fn ima_takes_sha1_alone(rt: HostRuntime) {
+    for alg in Alg::ALL {
+        assert_eq!(rt; Template::Ima.check(alg, b"/").is_ok(), alg == Alg::Sha1);
+        assert_eq!(rt; Template::ImaNg.check(alg, b"/"), Ok(()));
+    }
+}
+
+/// Digests of measurements, by each algorithm: for the template `ima` of the file's digest and the path that is filled to
+/// 256 bytes, for `ima-ng` of the payload. They take no memory.
+#[test]
+fn digests_of_measurements(rt: HostRuntime) -> Result<(), Fail> {
+    let sha1 = hash(Alg::Sha1, b"abc");
+    let sha256 = hash(Alg::Sha256, b"abc");
+    Template::Ima.check(sha1.alg(), b"/bin/sh")?;
+    Template::ImaNg.check(sha256.alg(), b"/bin/sh")?;
+    for by in Alg::ALL {
+        let answer = Template::Ima.digest_of(by, &sha1, b"/bin/sh");
+        assert_eq!(rt; answer, filled_hash(by, &sha1, b"/bin/sh", &[0; 249]));
+        let answer = Template::ImaNg.digest_of(by, &sha256, b"/bin/sh");
+        assert_eq!(rt; answer, hash(by, &MEASUREMENT[PAYLOAD_PLACE..]));
+    }
+    Ok(())
+}
+
+#[test]
+fn template_faults_in_words(rt: HostRuntime) -> Result<(), Fail> {
+    for (fault, words) in [
+        (
+            EntryFault::WrongHash,
+            "the template takes no digest of this algorithm",
+        ),
+        (EntryFault::NulInPath, "the path has a NUL"),
+        (EntryFault::PathTooLong, "the path is too long"),
+    ] {
+        let text = words_of(rt.alloc(), fault)?;
+        assert_eq!(rt; text.as_str(), words);
+    }
+    Ok(())
+}
