@@ -4,7 +4,4 @@
 #![tactic(auto)]
 
 mod fields;
-#[cfg(test)]
-mod tests;
-
 pub use fields::{part_at, sized_at, u8_at, u16_at, u32_at};

@@ -11,6 +11,3 @@ mod streams;
 pub use memory::{SliceSource, VecSink};
 pub use sending::{send, send_pieces};
 pub use streams::{Failed, Sink, Source};
-
-#[cfg(test)]
-mod tests;

@@ -15,6 +15,3 @@ pub use banks::{Banks, REGISTERS};
 pub use digest::{Digest, MOST_DIGITS};
 pub use hashing::{Hasher, hash};
 pub use sets::{AlgSet, PerBank};
-
-#[cfg(test)]
-mod tests;

@@ -1,4 +1,6 @@
-use super::*;
+//! Fields at the front of bytes.
+
+use byte_fields::*;
 
 #[test]
 fn numbers_are_little_endian(rt: HostRuntime) -> Result<(), u8> {

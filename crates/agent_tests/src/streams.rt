@@ -2,7 +2,7 @@
 
 ghost use Rattle.std.specs.Prelude.{None};
 
-use crate::{Failed, Sink, SliceSource, Source, VecSink, send, send_pieces};
+use byte_streams::{Failed, Sink, SliceSource, Source, VecSink, send, send_pieces};
 use std::test::Fail;
 
 /// How many bytes a short sink takes at most.

@@ -1,4 +1,6 @@
-use super::*;
+//! Algorithms, digests and banks of registers.
+
+use pcr_banks::*;
 use std::test::Fail;
 
 const SHA256_OF_NOTHING: &[u8] =
