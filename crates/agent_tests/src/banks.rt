@@ -198,11 +198,3 @@ fn extend_changes_one_register(rt: HostRuntime) {
         }
     }
 }
-
-#[test]
-fn extend_by_no_digest_changes_nothing(rt: HostRuntime) {
-    let start = Banks::new(AlgSet::empty().with(Alg::Sha1), 0);
-    let mut banks = start;
-    banks.extend(10, &PerBank::empty().with(Digest::ones(Alg::Sha384)));
-    assert_eq!(rt; banks, start);
-}

@@ -4,4 +4,5 @@
 #![tactic(auto)]
 
 mod fields;
+
 pub use fields::{part_at, sized_at, u8_at, u16_at, u32_at};

@@ -5,7 +5,6 @@ ghost use Rattle.std.specs.Io.KnownBytes.{ReadConsumes, WriteAppends};
 ghost use Rattle.byte_streams.specs.Streams.{failures_after};
 ghost use Rattle.ima_agent.specs.System.{reader_of, writer_of, reads_failed, writes_failed, read_source_state, write_sink_state, runtime_of, is_file, remaining_bytes};
 
-
 use crate::files::Files;
 use byte_streams::{Failed, Sink, Source};
 use std::fs::File;

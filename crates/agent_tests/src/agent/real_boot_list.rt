@@ -1,9 +1,8 @@
 //! The measurement list of a real boot, and PCR 10 as the TPM had it after the list.
 
 use super::devices::{bytes_of, once_more};
-use super::real_boot::FIRMWARE_LOG;
 use boot_log::{BootLog, LogFault, read_log};
-use ima_list::{Entry, ListFault, boot_aggregate, read_list, replay, write_entry};
+use ima_list::{Entry, ListFault, read_list, write_entry};
 use pcr_banks::{Alg, AlgSet, Banks, Digest};
 use std::alloc::{AllocError, Global};
 use std::test::Fail;
@@ -61,31 +60,6 @@ fn real_boot_list(rt: HostRuntime) -> Result<(), Fail> {
         banks.read(Alg::Sha256, 10),
         Digest::from_hex(Alg::Sha256, REGISTER)
     );
-    Ok(())
-}
-
-/// The list is replayed from the registers that the firmware left; its first entry is the aggregate of these.
-#[test]
-fn real_boot_replay(rt: HostRuntime) -> Result<(), Fail> {
-    let alloc = rt.alloc();
-    let log = bytes_of(alloc, &[FIRMWARE_LOG])?;
-    let registers = log_of(alloc, &log)?.registers();
-    let entries = entries_of(alloc, &list_bytes(alloc)?)?;
-    let banks = replay(registers, &entries)?;
-    assert_eq!(rt;
-        banks.read(Alg::Sha256, 10),
-        Digest::from_hex(Alg::Sha256, REGISTER)
-    );
-    for register in [0, 7, 9, 23] {
-        assert_eq!(rt;
-            banks.read(Alg::Sha256, register),
-            registers.read(Alg::Sha256, register)
-        );
-    }
-    let first = entries.first().ok_or("no entry")?;
-    let fields = first.fields().ok_or("no fields")?;
-    assert_eq!(rt; fields.path, b"boot_aggregate".as_slice());
-    assert_eq!(rt; Some(fields.file), boot_aggregate(&registers, Alg::Sha256));
     Ok(())
 }
 

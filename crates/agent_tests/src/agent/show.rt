@@ -1,7 +1,6 @@
 //! The program's words `show LIST` over files in memory.
 
-use super::devices::{NamedFiles, ShortSink, StandardInput, answered, joined, ran_over, words_of};
-use ima_agent::run;
+use super::devices::{StandardInput, answered, joined, ran_over, words_of};
 use std::test::Fail;
 
 /// The entry of `/bin/sh`, measured into PCR 10 with the SHA-256 of `abc`, in the template `ima-ng`.
@@ -127,23 +126,5 @@ fn dash_is_a_file(rt: HostRuntime) -> Result<(), Fail> {
     let (status, output) = ran_over(&rt, &words, &mut StandardInput(MEASUREMENT));
     assert_eq!(rt; status, 3);
     assert_eq!(rt; output.as_slice(), b"failed: read -\n".as_slice());
-    Ok(())
-}
-
-/// The program runs once more where an allocation was refused: then what it wrote begins as the line of that fault.
-#[test]
-fn a_failing_sink_ends_the_lines(rt: HostRuntime) -> Result<(), Fail> {
-    let alloc = rt.alloc();
-    let words = words_of(alloc, &["show", "x"])?;
-    let files = [("x", MEASUREMENT)];
-    let mut sink = ShortSink::new(9);
-    let mut status = run(&rt, alloc, &words, &mut NamedFiles(&files), &mut sink);
-    if sink.bytes().starts_with(b"failed: m") {
-        sink = ShortSink::new(9);
-        status = run(&rt, alloc, &words, &mut NamedFiles(&files), &mut sink);
-    }
-    assert_eq!(rt; status, 3);
-    assert_eq!(rt; sink.bytes(), &MEASUREMENT_LINE[..9]);
-    assert_eq!(rt; sink.failures(), 1);
     Ok(())
 }

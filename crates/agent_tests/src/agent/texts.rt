@@ -3,8 +3,9 @@
 use super::devices::{once_more, text_of};
 use boot_log::LogFault;
 use byte_streams::{Failed, VecSink};
-use ima_agent::{RunFault, status_of, write_fault, write_registers};
-use ima_list::ListFault;
+use ima_agent::{ExpectFault, RunFault, status_of, write_fault, write_registers};
+use ima_list::{ListFault, ReplayFault};
+use measure_book::{BookFault, GatherFault};
 use pcr_banks::{Alg, AlgSet, Banks, Digest, PerBank};
 use std::alloc::Global;
 use std::test::Fail;
@@ -121,6 +122,45 @@ fn fault_lines_and_statuses(rt: HostRuntime) -> Result<(), Fail> {
             b"failed: read x\n",
             3,
         ),
+        (
+            RunFault::Replay(ReplayFault::BadTemplateDigest { entry: 7 }),
+            b"refused: replay fault 1 at entry 7\n",
+            2,
+        ),
+        (
+            RunFault::Expect(ExpectFault::DoubleLine { line: 2 }),
+            b"refused: expected fault 2 at line 2\n",
+            2,
+        ),
+        (
+            RunFault::Book(BookFault::NoBank),
+            b"refused: book fault 2\n",
+            2,
+        ),
+        (
+            RunFault::Outcome {
+                job: 4_294_967_294,
+                fault: BookFault::Full,
+            },
+            b"refused: job 4294967294 book fault 7\n",
+            2,
+        ),
+        (
+            RunFault::Gather(GatherFault::Unnamed { place: 2 }),
+            b"failed: gather fault 5\n",
+            3,
+        ),
+        (
+            RunFault::Expect(ExpectFault::Memory),
+            b"failed: memory\n",
+            3,
+        ),
+        (RunFault::Book(BookFault::Memory), b"failed: memory\n", 3),
+        (
+            RunFault::Gather(GatherFault::Memory),
+            b"failed: memory\n",
+            3,
+        ),
         (RunFault::Memory, b"failed: memory\n", 3),
     ] {
         assert_eq!(rt; line_of(alloc, &fault)?.as_slice(), line);
@@ -147,27 +187,5 @@ fn registers_that_differ(rt: HostRuntime) -> Result<(), Fail> {
     assert_eq!(rt; lines, 24);
     assert!(rt; text.starts_with(b"sha1 0 0000000000000000000000000000000000000000\nsha1 1 "));
     assert!(rt; lines_of(alloc, &start, &start)?.is_empty());
-    Ok(())
-}
-
-/// The banks stand in the order of algorithms.
-#[test]
-fn registers_of_all_banks(rt: HostRuntime) -> Result<(), Fail> {
-    let alloc = rt.alloc();
-    let algs = Alg::ALL
-        .iter()
-        .fold(AlgSet::empty(), |algs, alg| algs.with(*alg));
-    let start = Banks::new(algs, 0);
-    let none = Banks::new(AlgSet::empty(), 0);
-    let text = lines_of(alloc, &start, &none)?;
-    let mut lines = text.split(|byte| *byte == b'\n');
-    for alg in Alg::ALL {
-        for _ in 0..24 {
-            let line = lines.next().ok_or("a line")?;
-            assert!(rt; line.starts_with(alg.name().as_bytes()));
-        }
-    }
-    assert_eq!(rt; lines.next(), Some(b"".as_slice()));
-    assert_eq!(rt; lines.next(), None);
     Ok(())
 }

@@ -2,11 +2,11 @@
 
 use super::devices::{answered, bytes_of, once_more};
 use super::logs::{EVENT, EXTENDED_LINE, HEADER};
-use super::show::{MEASUREMENT, VIOLATION};
+use super::show::VIOLATION;
 use boot_log::{LogFault, read_log};
 use byte_streams::{Failed, VecSink};
 use ima_agent::{Aggregate, Expected, Report, State, VerifyFault, verify};
-use ima_list::{Entry, ListFault, ReplayFault, Template, boot_aggregate, write_entry};
+use ima_list::{Entry, Template, boot_aggregate, write_entry};
 use measure_book::{Book, BookFault, Op, Origin};
 use pcr_banks::{Alg, Banks, Digest, hash};
 use std::alloc::{AllocError, Global};
@@ -164,27 +164,5 @@ fn aggregates_of_first_entries(rt: HostRuntime) -> Result<(), Fail> {
     }
     let report = report_on(alloc, &log, VIOLATION, &[])?;
     assert_eq!(rt; report.aggregate, Aggregate::Missing);
-    Ok(())
-}
-
-/// The log's fault comes before the list's, and the list's before that of its entries.
-#[test]
-fn verdict_faults_in_order(rt: HostRuntime) -> Result<(), Fail> {
-    let alloc = rt.alloc();
-    let log = bytes_of(alloc, &[HEADER, EVENT])?;
-    let mut forged = once_more(|| Vec::from_slice(alloc, MEASUREMENT))?;
-    let last = forged.last_mut().ok_or("no byte")?;
-    *last = 1;
-    let no_log = VerifyFault::Log(LogFault::Truncated { event: 0 });
-    let no_list = VerifyFault::List(ListFault::Truncated { entry: 0 });
-    let not_genuine = VerifyFault::Replay(ReplayFault::BadTemplateDigest { entry: 0 });
-    for (log, list, fault) in [
-        (b"".as_slice(), b"".as_slice(), no_log),
-        (b"", b"\x0a", no_log),
-        (&log, b"\x0a", no_list),
-        (&log, &forged, not_genuine),
-    ] {
-        assert_eq!(rt; report_on(alloc, log, list, &[]).err(), Some(fault));
-    }
     Ok(())
 }

@@ -2,8 +2,8 @@
 
 use super::exports::{ShortSink, spellings};
 use super::{
-    MEASUREMENT, VIOLATION, applied, copied, extended, measure, opened, origin, read, receipt,
-    run_on_new, sha256, start, three_measurements, violation,
+    MEASUREMENT, VIOLATION, applied, extended, measure, opened, origin, read, receipt, run_on_new,
+    sha256, three_measurements, violation,
 };
 use ima_list::{Entry, write_entry};
 use measure_book::laws::{
@@ -129,34 +129,6 @@ fn run_with_refusal_between(rt: HostRuntime) -> Result<(), Fail> {
     assert_eq!(rt; sink.failures, 1);
     assert_eq!(rt; sink.bytes().len(), 100);
     assert!(rt; text.starts_with(sink.bytes()));
-    Ok(())
-}
-
-/// A read is answered the register as it stands, and not as it stood when the book was opened.
-#[test]
-fn reads_follow_the_entries(rt: HostRuntime) -> Result<(), Fail> {
-    let alloc = rt.alloc();
-    let mut book = opened(alloc, origin(100))?;
-    let mut value = extended(alloc, &[0; 32], sha256(book.entries()[0].payload()).bytes())?;
-    for path in [b"/a".as_slice(), b"/b", b"/c"] {
-        let answer = applied(&mut book, &read(Alg::Sha256, 10))?.answer;
-        assert_eq!(rt; answer, Answer::Value(value));
-        let op = measure(alloc, path, sha256(path))?;
-        let answer = applied(&mut book, &op)?.answer;
-        let Answer::Added(place) = answer else {
-            assert!(rt; false, "{path:?}");
-            continue;
-        };
-        let entry = book.entries().get(place as usize).ok_or("no entry")?;
-        value = extended(alloc, value.bytes(), sha256(entry.payload()).bytes())?;
-    }
-    for register in 0..24 {
-        let expected = match register {
-            10 => Some(value),
-            _ => start().read(Alg::Sha256, register),
-        };
-        assert_eq!(rt; book.banks().read(Alg::Sha256, register), expected);
-    }
     Ok(())
 }
 

@@ -2,7 +2,7 @@
 
 ghost use Rattle.std.specs.Prelude.{None};
 
-use super::{copied, opened, origin, run_on_new, start, three_measurements};
+use super::{origin, run_on_new, start, three_measurements};
 use ima_list::{
     Entry, Failed, ListFault, ReplayFault, Sink, VecSink, read_list, replay, write_entry,
 };
@@ -126,23 +126,6 @@ fn export_stops_where_the_sink_fails(rt: HostRuntime) -> Result<(), Fail> {
     assert_eq!(rt; sink.failures, 1);
     assert_eq!(rt; sink.bytes().len(), ROOM);
     assert!(rt; text.starts_with(sink.bytes()));
-    Ok(())
-}
-
-/// What the sink had before stays at the front.
-#[test]
-fn export_after_other_bytes(rt: HostRuntime) -> Result<(), Fail> {
-    let alloc = rt.alloc();
-    let book = opened(alloc, origin(1))?;
-    let mut room = copied(alloc, b"before")?;
-    if room.reserve(4096).is_err() {
-        room.reserve(4096)?;
-    }
-    let mut sink = VecSink::new(room);
-    book.export(&mut sink)?;
-    let bytes = sink.into_bytes();
-    let text = bytes.strip_prefix(b"before".as_slice()).ok_or("no front")?;
-    assert_eq!(rt; text, spellings(alloc, book.entries())?.as_slice());
     Ok(())
 }
 

@@ -83,24 +83,3 @@ fn refused_memory_changes_nothing(rt: HostRuntime) -> Result<(), Fail> {
     }
     Ok(())
 }
-
-/// Where the outcomes find no memory, no operation is done.
-#[test]
-fn run_without_memory_does_nothing(rt: HostRuntime) -> Result<(), Fail> {
-    let alloc = rt.alloc();
-    let mut book = opened(alloc, origin(100))?;
-    let ops = three_measurements(alloc)?;
-    let outcomes = match book.run(&ops) {
-        Ok(outcomes) => outcomes,
-        Err(_) => {
-            assert_eq!(rt; book.records().len(), 1);
-            book.run(&ops)?
-        }
-    };
-    assert_eq!(rt; outcomes.len(), 3);
-    let done = outcomes
-        .iter()
-        .filter(|outcome| matches!(outcome, Outcome::Done(_)));
-    assert_eq!(rt; book.records().len(), 1 + done.count());
-    Ok(())
-}

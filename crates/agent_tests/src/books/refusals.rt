@@ -3,7 +3,7 @@
 use super::{applied, measure, opened, origin, read, sha256, violation};
 use ima_list::Template;
 use measure_book::{Answer, Book, BookFault, Origin};
-use pcr_banks::{Alg, AlgSet, Banks, hash};
+use pcr_banks::{Alg, hash};
 use std::test::Fail;
 
 #[test]
@@ -68,38 +68,4 @@ fn books_that_are_not_opened(rt: HostRuntime) {
     ] {
         assert_eq!(rt; Book::open(alloc, other).err(), Some(fault));
     }
-}
-
-/// A book of the template `ima` takes paths of 255 bytes, and digests of SHA-1.
-#[test]
-fn book_of_the_original_template(rt: HostRuntime) -> Result<(), Fail> {
-    let alloc = rt.alloc();
-    let start = Banks::new(AlgSet::empty().with(Alg::Sha1).with(Alg::Sha256), 0);
-    let mut book = opened(
-        alloc,
-        Origin {
-            start,
-            ..ima_origin(Alg::Sha1, 100)
-        },
-    )?;
-    let path = [b'a'; 256];
-    let short = measure(alloc, &path[..255], hash(Alg::Sha1, b"abc"))?;
-    assert_eq!(rt; applied(&mut book, &short)?.answer, Answer::Added(1));
-    assert_eq!(rt; applied(&mut book, &short)?.answer, Answer::Known(1));
-    for (op, fault) in [
-        (
-            measure(alloc, &path, hash(Alg::Sha1, b"abc"))?,
-            BookFault::PathTooLong,
-        ),
-        (violation(alloc, &path)?, BookFault::PathTooLong),
-        (measure(alloc, &path, sha256(b"abc"))?, BookFault::WrongHash),
-    ] {
-        assert_eq!(rt; book.apply(&op).err(), Some(fault));
-    }
-    assert!(rt;
-        book.entries()
-            .iter()
-            .all(|entry| entry.name() == b"ima".as_slice())
-    );
-    Ok(())
 }

@@ -1,8 +1,8 @@
 //! Operations, records, receipts and outcomes that are compared, and faults in words.
 
-use super::{measure, read, receipt, sha256, violation};
-use measure_book::{Answer, BookFault, Op, Outcome, Record};
-use pcr_banks::{Alg, Digest, hash};
+use super::{measure, read, sha256, violation};
+use measure_book::{BookFault, Op};
+use pcr_banks::{Alg, hash};
 use std::alloc::{AllocError, Global};
 use std::test::Fail;
 
@@ -18,49 +18,6 @@ fn ops(alloc: Global) -> Result<[Op; 9], AllocError> {
         read(Alg::Sha1, 10),
         read(Alg::Sha256, 11),
     ])
-}
-
-/// Two operations are the same only where kind, path and digest, or algorithm and register are.
-#[test]
-fn operations_compared(rt: HostRuntime) -> Result<(), Fail> {
-    let first = ops(rt.alloc())?;
-    let second = ops(rt.alloc())?;
-    for (i, op) in first.iter().enumerate() {
-        for (k, other) in second.iter().enumerate() {
-            assert_eq!(rt; op == other, i == k, "{i} {k}");
-        }
-    }
-    Ok(())
-}
-
-#[test]
-fn receipts_compared(rt: HostRuntime) {
-    let answers = [
-        Answer::Added(1),
-        Answer::Known(1),
-        Answer::Added(2),
-        Answer::Value(Digest::zero(Alg::Sha256)),
-        Answer::Value(Digest::ones(Alg::Sha256)),
-    ];
-    let op = || read(Alg::Sha256, 10);
-    for (i, answer) in answers.into_iter().enumerate() {
-        for (k, other) in answers.into_iter().enumerate() {
-            let record = Record { op: op(), answer };
-            assert_eq!(rt;
-                record
-                    == Record {
-                        op: op(),
-                        answer: other
-                    },
-                i == k
-            );
-            let done = Outcome::Done(receipt(1, op(), answer));
-            assert_eq!(rt; done == Outcome::Done(receipt(1, op(), other)), i == k);
-            assert!(rt; done != Outcome::Done(receipt(2, op(), other)));
-            assert!(rt; done != Outcome::Refused(BookFault::Full));
-        }
-    }
-    assert!(rt; Outcome::Refused(BookFault::Full) != Outcome::Refused(BookFault::Memory));
 }
 
 #[test]

@@ -1,8 +1,8 @@
 //! What payloads tell of files.
 
-use super::{MEASUREMENT, PAYLOAD_LENGTH, entry_of, ima_entry, joined, line_of};
+use super::{MEASUREMENT, PAYLOAD_LENGTH, entry_of, joined};
 use ima_list::{Entry, Fields};
-use pcr_banks::{Alg, Digest, hash};
+use pcr_banks::{Alg, hash};
 use std::alloc::{AllocError, Global};
 use std::test::Fail;
 
@@ -82,49 +82,5 @@ fn fields_by_each_algorithm(rt: HostRuntime) -> Result<(), Fail> {
         let path = b"/bin/sh";
         assert_eq!(rt; entry.fields(), Some(Fields { file, path }));
     }
-    Ok(())
-}
-
-/// A field n-ng of a NUL alone is an empty path: the line then ends in a space.
-#[test]
-fn empty_path(rt: HostRuntime) -> Result<(), Fail> {
-    let alloc = rt.alloc();
-    let file = hash(Alg::Sha256, b"abc");
-    let entry = entry_with(alloc, 49, FRONT, file.bytes(), b"\x01\0\0\0\0")?;
-    let path = b"";
-    assert_eq!(rt; entry.fields(), Some(Fields { file, path }));
-    let line = line_of(alloc, &entry)?;
-    assert!(rt; line.ends_with(b"ff61f20015ad \n"));
-    Ok(())
-}
-
-/// A path of the template `ima` has no NUL after it, and a path that has any is no field.
-#[test]
-fn fields_of_the_template_ima(rt: HostRuntime) -> Result<(), Fail> {
-    let alloc = rt.alloc();
-    let file = Digest::Sha1([1; 20]);
-    for (length, path) in [(b"\0\0\0\0", b"".as_slice()), (b"\x03\0\0\0", b"a b")] {
-        let entry = entry_of(alloc, &ima_entry(alloc, length, path)?)?;
-        assert_eq!(rt; entry.fields(), Some(Fields { file, path }));
-    }
-    for (length, path) in [
-        (b"\x01\0\0\0", b"\0".as_slice()),
-        (b"\x03\0\0\0", b"\0ab"),
-        (b"\x03\0\0\0", b"a\0b"),
-        (b"\x03\0\0\0", b"ab\0"),
-    ] {
-        let entry = entry_of(alloc, &ima_entry(alloc, length, path)?)?;
-        assert_eq!(rt; entry.fields(), None, "{path:?}");
-    }
-    Ok(())
-}
-
-/// The payload that these examples change is that of the entry.
-#[test]
-fn payload_of_parts(rt: HostRuntime) -> Result<(), Fail> {
-    let alloc = rt.alloc();
-    let file = hash(Alg::Sha256, b"abc");
-    let entry = entry_with(alloc, 56, FRONT, file.bytes(), PATH)?;
-    assert_eq!(rt; entry, entry_of(alloc, MEASUREMENT)?);
     Ok(())
 }

@@ -2,8 +2,8 @@
 
 use super::sending::assert_sent_byte_by_byte;
 use super::{
-    EMPTY_ENTRY, MEASUREMENT, NAME_END, PAYLOAD_LENGTH, REGISTER_PLACE, VIOLATION, append_entry,
-    entry_of, ima_entry, joined, list_of, measurement_with, spelling_of, violated, words_of,
+    EMPTY_ENTRY, MEASUREMENT, NAME_END, PAYLOAD_LENGTH, REGISTER_PLACE, VIOLATION, entry_of,
+    ima_entry, joined, list_of, measurement_with, spelling_of, violated, words_of,
 };
 use ima_list::{ListFault, Template, read_list};
 use pcr_banks::Alg;
@@ -65,27 +65,6 @@ fn assert_nul_kept(rt: &impl Abort, alloc: Global) -> Result<(), Fail> {
     Ok(())
 }
 
-/// All entries are read in their order, each with its own register.
-#[test]
-fn several_entries(rt: HostRuntime) -> Result<(), Fail> {
-    let alloc = rt.alloc();
-    let other = measurement_with(alloc, REGISTER_PLACE, 23)?;
-    let bytes = joined(alloc, &[VIOLATION, MEASUREMENT, EMPTY_ENTRY, &other])?;
-    let entries = list_of(alloc, &bytes)?;
-    assert_eq!(rt; entries.len(), 4);
-    let mut written = Vec::new(alloc);
-    for (entry, spelling) in entries
-        .iter()
-        .zip([VIOLATION, MEASUREMENT, EMPTY_ENTRY, &other])
-    {
-        assert_eq!(rt; *entry, entry_of(alloc, spelling)?);
-        append_entry(entry, &mut written)?;
-    }
-    assert_eq!(rt; entries[3].register(), 23);
-    assert_eq!(rt; written.as_slice(), bytes.as_slice());
-    Ok(())
-}
-
 /// A fault takes no memory: none is asked for before the first entry is whole.
 #[test]
 fn faults_of_the_first_entry(rt: HostRuntime) -> Result<(), Fail> {
@@ -137,27 +116,6 @@ fn paths_of_the_template_ima(rt: HostRuntime) -> Result<(), Fail> {
     let bytes = joined(alloc, &[MEASUREMENT, &long])?;
     let fault = ListFault::NameTooLong { entry: 1 };
     assert_eq!(rt; list_of(alloc, &bytes).err(), Some(fault));
-    Ok(())
-}
-
-/// Holds with any one allocation refused too: the call then says so, and the same call again reads the list.
-#[test]
-fn list_read_after_a_refused_allocation(rt: HostRuntime) -> Result<(), Fail> {
-    let alloc = rt.alloc();
-    let bytes = joined(
-        alloc,
-        &[MEASUREMENT, VIOLATION, MEASUREMENT, VIOLATION, MEASUREMENT],
-    )?;
-    if let Err(fault) = read_list(alloc, &bytes) {
-        assert_eq!(rt; fault, ListFault::Memory);
-    }
-    let entries = list_of(alloc, &bytes)?;
-    assert_eq!(rt; entries.len(), 5);
-    let mut written = Vec::new(alloc);
-    for entry in entries.iter() {
-        append_entry(entry, &mut written)?;
-    }
-    assert_eq!(rt; written.as_slice(), bytes.as_slice());
     Ok(())
 }
 

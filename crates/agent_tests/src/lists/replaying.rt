@@ -1,8 +1,8 @@
 //! Lists replayed into registers.
 
 use super::{
-    DIGEST_PLACE, EMPTY_ENTRY, MEASUREMENT, PAYLOAD_LENGTH, PAYLOAD_PLACE, REGISTER_PLACE,
-    VIOLATION, entry_of, joined, list_of, measurement_with, words_of,
+    DIGEST_PLACE, MEASUREMENT, PAYLOAD_LENGTH, PAYLOAD_PLACE, VIOLATION, entry_of, joined, list_of,
+    measurement_with, words_of,
 };
 use ima_list::{Fields, ReplayFault, boot_aggregate, replay};
 use pcr_banks::{Alg, AlgSet, Banks, REGISTERS, hash};
@@ -89,12 +89,6 @@ fn assert_empty_path(rt: &impl Abort, alloc: Global) -> Result<(), Fail> {
     Ok(())
 }
 
-/// An empty list changes nothing.
-#[test]
-fn replay_of_no_entries(rt: HostRuntime) {
-    assert_eq!(rt; replay(start(), &[]), Ok(start()));
-}
-
 /// The first entry is named whose digest is neither its own nor that of a violation.
 #[test]
 fn first_forged_entry_is_named(rt: HostRuntime) -> Result<(), Fail> {
@@ -113,27 +107,6 @@ fn first_forged_entry_is_named(rt: HostRuntime) -> Result<(), Fail> {
         let fault = ReplayFault::BadTemplateDigest { entry };
         assert_eq!(rt; replay(start(), &entries), Err(fault));
     }
-    Ok(())
-}
-
-/// The replay of two lists joined is that of the second from the registers of the first.
-#[test]
-fn replay_of_lists_joined(rt: HostRuntime) -> Result<(), Fail> {
-    let alloc = rt.alloc();
-    let other = measurement_with(alloc, REGISTER_PLACE, 23)?;
-    let first = joined(alloc, &[MEASUREMENT, &other, VIOLATION])?;
-    let second = joined(alloc, &[EMPTY_ENTRY, &other, MEASUREMENT])?;
-    let both = list_of(alloc, &joined(alloc, &[&first, &second])?)?;
-    let start = Banks::new(AlgSet::empty().with(Alg::Sha1).with(Alg::Sha384), 3);
-    let middle = replay(start, &list_of(alloc, &first)?)?;
-    let after = replay(middle, &list_of(alloc, &second)?)?;
-    assert_eq!(rt; replay(start, &both), Ok(after));
-    assert!(rt; start != middle);
-    assert!(rt; middle != after);
-    let part = hash(Alg::Sha384, &MEASUREMENT[PAYLOAD_PLACE..]);
-    let once = hash(Alg::Sha384, &joined(alloc, &[&[0; 48], part.bytes()])?);
-    let twice = hash(Alg::Sha384, &joined(alloc, &[once.bytes(), part.bytes()])?);
-    assert_eq!(rt; after.read(Alg::Sha384, 23), Some(twice));
     Ok(())
 }
 

@@ -5,12 +5,6 @@ use ima_list::{EntryFault, Template};
 use pcr_banks::{Alg, hash};
 use std::test::Fail;
 
-#[test]
-fn template_names(rt: HostRuntime) {
-    assert_eq!(rt; Template::Ima.name(), "ima");
-    assert_eq!(rt; Template::ImaNg.name(), "ima-ng");
-}
-
 /// A path of 255 or 4,095 bytes is the longest that is taken, and an empty one is taken.
 #[test]
 fn paths_up_to_a_length(rt: HostRuntime) {
@@ -77,14 +71,6 @@ fn template_faults_in_order(rt: HostRuntime) {
         (Template::ImaNg, Alg::Sha1, &long, EntryFault::PathTooLong),
     ] {
         assert_eq!(rt; template.check(alg, path), Err(fault));
-    }
-}
-
-#[test]
-fn ima_takes_sha1_alone(rt: HostRuntime) {
-    for alg in Alg::ALL {
-        assert_eq!(rt; Template::Ima.check(alg, b"/").is_ok(), alg == Alg::Sha1);
-        assert_eq!(rt; Template::ImaNg.check(alg, b"/"), Ok(()));
     }
 }
 
