@@ -12,6 +12,7 @@ mod real_boot_book;
 mod real_boot_lines;
 mod real_boot_list;
 mod real_boot_verdict;
+mod replaying;
 mod show;
 mod system;
 mod texts;
