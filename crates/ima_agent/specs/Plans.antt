@@ -1,5 +1,6 @@
 -- What the words of the command line ask for. All of this is this project's choice.
-use Rattle.std.specs.Prelude.{◌≡◌, ℕ, ◌≤◌, ◌<◌, ◌^◌, ◌⊎◌, List, [], ◌∷◌, codes, String, string_bytes, vec_len}
+use Rattle.std.specs.Prelude.{◌≡◌, ℕ, ◌≤◌, ◌<◌, ◌^◌, ◌⊎◌, ◌||◌, Bool, IsTrue, List, [], ◌∷◌, bytes_eq, codes, String, string_bytes, vec_len}
+use Rattle.std.specs.List.{list_any}
 use Rattle.std.specs.Global.{Global}
 use Rattle.ima_agent.specs.declared.plan.Plan.{Plan}
 use Rattle.ima_agent.specs.declared.plan.Plan.TheVariants.{Registers, Measure, Verify, Show, Help}
@@ -15,23 +16,31 @@ IsWithinRanges (Verify log list expected) = Unit {0}
 IsWithinRanges (Show list) = Unit {0}
 IsWithinRanges (Help text) = Unit {0}
 
--- The command with this name is asked for; help has no command of its own.
+-- The command with this name is asked for.
 abbrev pub IsOfCommand : List ℕ → Plan → Type 0
 IsOfCommand command Registers = ⊥
 IsOfCommand command (Measure alg template workers limit print log files) = command ≡ codes "measure"
 IsOfCommand command (Verify log list expected) = command ≡ codes "verify"
 IsOfCommand command (Show list) = command ≡ codes "show"
-IsOfCommand command (Help text) = Unit {0}
+IsOfCommand command (Help text) = ⊥
 
--- No words ask for the registers of standard input; else the first word is the command.
-abbrev pub IsAskedBy : List (String Global) → Plan → Type 0
-IsAskedBy [] plan = plan ≡ Registers
-IsAskedBy (word ∷ words) plan = IsOfCommand (string_bytes word) plan
+-- The word asks for help.
+abbrev pub asks_help : List ℕ → Bool
+asks_help word = bytes_eq word (codes "--help") || bytes_eq word (codes "-h")
 
--- The words are not those of a command, or memory ran out.
-abbrev pub IsWordsFault : RunFault → Type 0
-IsWordsFault fault = (fault ≡ runs.Usage) ⊎ (fault ≡ runs.Memory)
+-- Some word asks for help.
+abbrev pub HasHelpWord : List (String Global) → Type 0
+HasHelpWord words = IsTrue (list_any (λ word. asks_help (string_bytes word)) words)
 
 -- Help is asked for.
 abbrev pub IsHelp : Plan → Type 0
 IsHelp plan = (text : String Global) × (plan ≡ Help text)
+
+-- No words ask for the registers of standard input; of others, one asks for help, or the first is the command.
+abbrev pub IsAskedBy : List (String Global) → Plan → Type 0
+IsAskedBy [] plan = plan ≡ Registers
+IsAskedBy (word ∷ words) plan = IsOfCommand (string_bytes word) plan ⊎ (HasHelpWord (word ∷ words) × IsHelp plan)
+
+-- The words are not those of a command, or memory ran out.
+abbrev pub IsWordsFault : RunFault → Type 0
+IsWordsFault fault = (fault ≡ runs.Usage) ⊎ (fault ≡ runs.Memory)

@@ -15,17 +15,21 @@ use Rattle.ima_agent.specs.Loading.{IsInputFault}
 abbrev pub verdict_status : Verdict → ℕ
 verdict_status verdict = if matches verdict then 0 else 1
 
--- What is shown is the report on a log, a list and the registers that a text states, with the status of its verdict.
+-- What is shown is the report on this log, this list and these expected registers, with the status of its verdict.
+pub record IsReportOn (log list : List ℕ) (expected : List Expected) (shown : List ℕ) (status : ℕ) : Type 0 where
+  pub verdict : Verdict
+  pub verdict_is : IsVerdict log list expected verdict
+  pub text_is : shown ≡ report_text verdict
+  pub status_is : status ≡ verdict_status verdict
+
+-- What is shown is the report on a log, a list and the registers that a text states.
 pub record ShowsReport (shown : List ℕ) (status : ℕ) : Type 0 where
   pub log : List ℕ
   pub list : List ℕ
   pub text : List ℕ
   pub expected : List Expected
-  pub verdict : Verdict
   pub expected_is : IsExpectedText text expected
-  pub verdict_is : IsVerdict log list expected verdict
-  pub text_is : shown ≡ report_text verdict
-  pub status_is : status ≡ verdict_status verdict
+  pub report : IsReportOn log list expected shown status
 
 -- The text states no expected registers, and this is the fault of its first line that is wrong.
 pub record IsNotExpected (fault : RunFault) : Type 0 where
@@ -34,13 +38,15 @@ pub record IsNotExpected (fault : RunFault) : Type 0 where
   pub first_is : HasFirstFault text first
   pub says : fault ≡ fault_of_expected first
 
--- There is no verdict on the log and the list, and this is the first cause.
+-- There is no verdict on this log and this list, and this is the first cause; or memory ran out.
+abbrev pub IsNoVerdictOn : List ℕ → List ℕ → RunFault → Type 0
+IsNoVerdictOn log list fault = ((first : VerifyFault) × IsVerifyFault log list first × (fault ≡ fault_of_verdict first)) ⊎ (fault ≡ runs.Memory)
+
+-- The same, of some log and list.
 pub record IsNoVerdict (fault : RunFault) : Type 0 where
   pub log : List ℕ
   pub list : List ℕ
-  pub first : VerifyFault
-  pub first_is : IsVerifyFault log list first
-  pub says : fault ≡ fault_of_verdict first
+  pub cause : IsNoVerdictOn log list fault
 
 -- Why there is no report on the files of these names: one was not had, the text states no expected registers, there is no verdict, or
 -- memory ran out.

@@ -3,13 +3,13 @@
 ghost use Rattle.std.specs.Prelude.{◌≡◌, IfOk, IfErr};
 ghost use Rattle.boot_verdict.specs.Verdicts.{verdict_of};
 ghost use Rattle.boot_verdict.specs.ReportTexts.{report_text};
-ghost use Rattle.ima_agent.specs.Verifying.{IsReportFault, ShowsReport};
+ghost use Rattle.ima_agent.specs.Verifying.{IsNoVerdictOn, IsReportFault, IsReportOn, ShowsReport};
 
 use crate::fault::RunFault;
 use crate::files::Files;
 use crate::inputs::loaded;
 use crate::output::{DIFFERS, DONE, Output};
-use boot_verdict::{Report, read_expected, verify, write_report};
+use boot_verdict::{Expected, Report, read_expected, verify, write_report};
 use byte_streams::{Failed, VecSink};
 use std::alloc::{AllocError, Global};
 
@@ -29,7 +29,20 @@ pub(crate) fn verified<F: Files>(
     let text = loaded(alloc, files, Some(expected))?;
     let expected = read_expected(alloc, &text)?;
     let list = loaded(alloc, files, Some(list))?;
-    let report = verify(alloc, &log, &list, &expected)?;
+    report_on(alloc, &log, &list, &expected)
+}
+
+// The report on these bytes and these expected registers, and the status of its verdict.
+fn report_on(
+    alloc: Global,
+    log: &[u8],
+    list: &[u8],
+    expected: &[Expected],
+) -> Result<Output, RunFault>
+    ensures shown { IfOk result (λ output. IsReportOn log.now list.now expected.now output.text.items output.status) }
+    ensures fault { IfErr result (IsNoVerdictOn log.now list.now) }
+{
+    let report = verify(alloc, log, list, expected)?;
     let status = if report.matches() { DONE } else { DIFFERS };
     Ok(Output {
         text: text_of(alloc, &report)?,

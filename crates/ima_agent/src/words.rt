@@ -1,7 +1,8 @@
 //! The words of the command line.
 
-ghost use Rattle.std.specs.Prelude.{◌≡◌, [], Ok, codes, IfOk, IfErr};
-ghost use Rattle.ima_agent.specs.Plans.{IsAskedBy, IsHelp, IsOfCommand, IsWithinRanges, IsWordsFault};
+ghost use Rattle.std.specs.Prelude.{◌≡◌, [], Ok, codes, string_bytes, IfOk, IfErr};
+ghost use Rattle.ima_agent.specs.Plans.{HasHelpWord, IsAskedBy, IsHelp, IsOfCommand, IsWithinRanges, IsWordsFault, asks_help};
+ghost use Rattle.std.specs.List.{list_any};
 ghost use Rattle.ima_agent.specs.declared.plan.Plan.TheVariants.{Registers};
 
 use crate::fault::RunFault;
@@ -40,7 +41,7 @@ pub fn read_words(alloc: Global, words: &[String]) -> Result<Plan, RunFault>
     };
     match commands(alloc)?.try_get_matches_from(words) {
         Ok(matches) => plan_of(alloc, command, &matches),
-        Err(error) => help_of(alloc, &error),
+        Err(error) => help_of(alloc, words, &error),
     }
 }
 
@@ -138,13 +139,24 @@ fn names_of(alloc: Global, words: &[&str]) -> Result<Vec<String>, AllocError> {
     Ok(names)
 }
 
+// Whether some word asks for help.
+fn has_help_word(words: &[String]) -> bool
+    ensures { result ≡ list_any (λ word. asks_help (string_bytes word)) words.now }
+{
+    words
+        .iter()
+        .any(|word| word.as_str() == "--help" || word.as_str() == "-h")
+}
+
 // The help, where it was asked for; else the words are wrong, or memory ran out.
-fn help_of(alloc: Global, error: &Error) -> Result<Plan, RunFault>
-    ensures asked { IfOk result (λ plan. IsHelp plan) }
+fn help_of(alloc: Global, words: &[String], error: &Error) -> Result<Plan, RunFault>
+    ensures asked { IfOk result (λ plan. HasHelpWord words.now × IsHelp plan) }
     ensures refused { IfErr result IsWordsFault }
 {
     match error.kind() {
-        ErrorKind::DisplayHelp => Ok(Plan::Help(format!(in alloc; "{error}")?)),
+        ErrorKind::DisplayHelp if has_help_word(words) => {
+            Ok(Plan::Help(format!(in alloc; "{error}")?))
+        }
         ErrorKind::OutOfMemory => Err(RunFault::Memory),
         _ => Err(RunFault::Usage),
     }

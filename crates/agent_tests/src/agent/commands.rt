@@ -11,6 +11,11 @@ use std::thread::Threads;
 const SHELL_LINE: &[u8] =
     b"sha256 10 5fcef84d490a160058b8f1b7e33abea9f2df325f2b7ccb294d1d28f3459db9d5\n";
 
+/// The entry of a log that leaves the registers at reset.
+const FIRST_LINE: &[u8] = b"\
+10 6bdad7efa602f84ca31ffe3f11ff7c476e25dcdd ima-ng \
+sha256:7b6436b0c98f62380866d9432c2af0ee08ce16a171bda6951aecd95ee1307d61 boot_aggregate\n";
+
 /// The entries of a log that leaves the registers at reset, and of a file `f` that has `abc`.
 const TWO_LINES: &[u8] = b"\
 10 6bdad7efa602f84ca31ffe3f11ff7c476e25dcdd ima-ng \
@@ -40,7 +45,7 @@ fn measure_prints_registers(rt: HostRuntime) -> Result<(), Fail> {
 }
 
 /// Words, and the status and the output that they get.
-static COMMANDS: [(&[&str], u8, &[u8]); 18] = [
+static COMMANDS: [(&[&str], u8, &[u8]); 28] = [
     (
         &["measure", "--workers", "9", "L"],
         2,
@@ -88,6 +93,36 @@ static COMMANDS: [(&[&str], u8, &[u8]); 18] = [
         b"refused: job 0 book fault 7\n",
     ),
     (&["measure", "--workers", "1", "L", "f", "f"], 0, TWO_LINES),
+    (&["measure", "L", "--workers", "1", "f"], 0, TWO_LINES),
+    (&["measure", "--workers=1", "--", "L", "f"], 0, TWO_LINES),
+    (
+        &["measure", "--workers", "8", "--limit", "4294967295", "L"],
+        0,
+        FIRST_LINE,
+    ),
+    (
+        &["measure", "--limit", "4294967296", "L"],
+        2,
+        b"refused: command line\n",
+    ),
+    (
+        &["measure", "--workers", "2", "--workers", "3", "L"],
+        2,
+        b"refused: command line\n",
+    ),
+    (
+        &["measure", "--limit", "2", "--workers", "1", "L", "f", "f"],
+        2,
+        b"refused: job 1 book fault 7\n",
+    ),
+    (
+        &["measure", "--template", "ima", "--alg", "sha1", "L"],
+        2,
+        b"refused: book fault 2\n",
+    ),
+    (&["measure", "-"], 3, b"failed: read -\n"),
+    (&["verify", "-", "L", "L"], 3, b"failed: read -\n"),
+    (&["show", "-hx"], 2, b"refused: command line\n"),
     (
         &["measure", "none"],
         2,
