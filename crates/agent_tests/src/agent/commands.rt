@@ -2,7 +2,9 @@
 
 use super::devices::{answered, bytes_of};
 use super::logs::HEADER;
+use super::show::{MEASUREMENT, MEASUREMENT_LINE};
 use super::verdicts::{EXPECTED, log_and_list};
+use std::process::Abort;
 use std::sync::Wait;
 use std::test::Fail;
 use std::thread::Threads;
@@ -23,29 +25,43 @@ sha256:7b6436b0c98f62380866d9432c2af0ee08ce16a171bda6951aecd95ee1307d61 boot_agg
 10 34e13111fbec9d50d71128958c8977cc06238f8a ima-ng \
 sha256:ba7816bf8f01cfea414140de5dae2223b00361a396177a9cb410ff61f20015ad f\n";
 
-/// The registers after one file.
+/// Words, and the status and the output that they get: the registers after one file, a log that cannot be taken, and a list.
+static PRINTS: [(&[&str], u8, &[u8]); 3] = [
+    (
+        &[
+            "measure",
+            "--workers",
+            "1",
+            "--print",
+            "registers",
+            "L",
+            "/bin/sh",
+        ],
+        0,
+        SHELL_LINE,
+    ),
+    (&["measure", "x"], 3, b"failed: read x\n"),
+    (&["show", "list"], 0, MEASUREMENT_LINE),
+];
+
 #[test]
 fn measure_prints_registers(rt: HostRuntime) -> Result<(), Fail> {
     let log = bytes_of(rt.alloc(), &[HEADER])?;
-    let files = [("L", log.as_slice()), ("/bin/sh", b"abc")];
-    let words = [
-        "measure",
-        "--workers=1",
-        "--print=registers",
-        "L",
-        "/bin/sh",
+    let files = [
+        ("L", log.as_slice()),
+        ("/bin/sh", b"abc"),
+        ("list", MEASUREMENT),
     ];
-    let (status, output) = answered(&rt, &words, &files)?;
-    assert_eq!(rt; status, 0);
-    assert_eq!(rt; output.as_slice(), SHELL_LINE);
-    let (status, output) = answered(&rt, &["measure", "x"], &files)?;
-    assert_eq!(rt; status, 3);
-    assert_eq!(rt; output.as_slice(), b"failed: read x\n".as_slice());
-    Ok(())
+    assert_answers(&rt, &PRINTS, &files)
 }
 
 /// Words, and the status and the output that they get.
-static COMMANDS: [(&[&str], u8, &[u8]); 28] = [
+static COMMANDS: [(&[&str], u8, &[u8]); 29] = [
+    (
+        &["verify", "log", "forged", "expected"],
+        2,
+        b"refused: replay fault 1 at entry 2\n",
+    ),
     (
         &["measure", "--workers", "9", "L"],
         2,
@@ -152,56 +168,55 @@ static COMMANDS: [(&[&str], u8, &[u8]); 28] = [
     (&["verify", "L", "y", "none"], 3, b"failed: read y\n"),
 ];
 
-/// Words in the ranges and out of them, and what the book refuses.
-#[test]
-fn command_lines(rt: HostRuntime) -> Result<(), Fail> {
-    let log = bytes_of(rt.alloc(), &[HEADER])?;
-    let files = [
-        ("L", log.as_slice()),
-        ("f", b"abc"),
-        ("none", b""),
-        ("x", b"x"),
-    ];
-    for (words, status, line) in &COMMANDS {
-        let answer = answered(&rt, words, &files)?;
-        assert_eq!(rt; answer.0, *status);
-        assert_eq!(rt; answer.1.as_slice(), *line);
+/// Each way to ask for help.
+static HELPS: [&[&str]; 5] = [
+    &["--help"],
+    &["-h"],
+    &["measure", "--help"],
+    &["verify", "--help"],
+    &["show", "-h"],
+];
+
+/// The program answers the words of each line so.
+fn assert_answers(
+    rt: &(impl Threads + Wait + Sync + AllocGlobal + Abort),
+    lines: &[(&[&str], u8, &[u8])],
+    files: &[(&str, &[u8])],
+) -> Result<(), Fail> {
+    for (words, status, text) in lines {
+        let (code, output) = answered(rt, words, files)?;
+        assert_eq!(rt; code, *status);
+        assert_eq!(rt; output.as_slice(), *text);
     }
     Ok(())
 }
 
-/// A list whose last entry is not genuine.
+/// Words in the ranges and out of them, what the book refuses, and a list whose last entry is not genuine. The list of the
+/// opening alone is one entry of 101 bytes. Help is asked for of the program or of a command.
 #[test]
-fn command_lines_of_a_forged_list(rt: HostRuntime) -> Result<(), Fail> {
+fn command_lines(rt: HostRuntime) -> Result<(), Fail> {
+    let header = bytes_of(rt.alloc(), &[HEADER])?;
     let (log, mut list) = log_and_list(rt.alloc())?;
     *list.last_mut().ok_or("no byte")? = 1;
     let files = [
+        ("L", header.as_slice()),
+        ("f", b"abc"),
+        ("none", b""),
+        ("x", b"x"),
         ("log", log.as_slice()),
-        ("list", list.as_slice()),
+        ("forged", list.as_slice()),
         ("expected", EXPECTED.as_bytes()),
     ];
-    let answer = answered(&rt, &["verify", "log", "list", "expected"], &files)?;
-    assert_eq!(rt; answer.0, 2);
-    assert_eq!(rt;
-        answer.1.as_slice(),
-        b"refused: replay fault 1 at entry 2\n".as_slice()
-    );
-    Ok(())
-}
-
-/// Help is asked for in each of these ways, of the program or of a command.
-#[test]
-fn command_lines_of_help(rt: HostRuntime) -> Result<(), Fail> {
-    for words in [
-        ["--help"].as_slice(),
-        &["-h"],
-        &["measure", "--help"],
-        &["verify", "--help"],
-        &["show", "-h"],
-    ] {
-        let (status, output) = answered(&rt, words, &[])?;
+    assert_answers(&rt, &COMMANDS, &files)?;
+    let words = ["measure", "--print", "binary", "L"];
+    let (status, list) = answered(&rt, &words, &files)?;
+    assert_eq!(rt; status, 0);
+    assert_eq!(rt; list.len(), 101);
+    assert!(rt; list.ends_with(b"boot_aggregate\0"));
+    for words in &HELPS {
+        let (status, help) = answered(&rt, words, &files)?;
         assert_eq!(rt; status, 0);
-        assert!(rt; !output.is_empty());
+        assert!(rt; !help.is_empty());
     }
     Ok(())
 }
@@ -239,17 +254,5 @@ fn measured_list_is_verified(rt: HostRuntime) -> Result<(), Fail> {
     let (status, report) = answered(&rt, &["verify", "L", "list", "registers"], &files)?;
     assert_eq!(rt; status, 0);
     assert!(rt; report.ends_with(b"sha256 10 match\nverdict match\n"));
-    Ok(())
-}
-
-/// The list of the opening alone is one entry of 101 bytes.
-#[test]
-fn opening_is_exported(rt: HostRuntime) -> Result<(), Fail> {
-    let log = bytes_of(rt.alloc(), &[HEADER])?;
-    let words = ["measure", "--print", "binary", "L"];
-    let (status, list) = answered(&rt, &words, &[("L", log.as_slice())])?;
-    assert_eq!(rt; status, 0);
-    assert_eq!(rt; list.len(), 101);
-    assert!(rt; list.ends_with(b"boot_aggregate\0"));
     Ok(())
 }
