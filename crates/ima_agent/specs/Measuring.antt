@@ -57,11 +57,10 @@ printed Ascii reset book = flat_map line_of book.entries
 printed Binary reset book = exported book
 printed Registers reset book = registers_text book.banks reset
 
--- What is shown is printed of a book that starts with the registers that a log makes, and in which the files of these names are
+-- What is shown is printed of a book that starts with the registers that this log makes, and in which the files of these names are
 -- measured.
-pub record ShowsMeasured (alg : Alg) (template : Template) (workers limit : ℕ) (print : Print) (names : List (List ℕ)) (shown : List ℕ) :
-    Type 0 where
-  pub log : List ℕ
+pub record ShowsMeasured (log : List ℕ) (alg : Alg) (template : Template) (workers limit : ℕ) (print : Print) (names : List (List ℕ))
+    (shown : List ℕ) : Type 0 where
   pub table : List Row
   pub events : List LogEvent
   pub reset : Banks
@@ -81,8 +80,7 @@ pub record ShowsMeasured (alg : Alg) (template : Template) (workers limit : ℕ)
 -- ---- why nothing is shown
 
 -- The bytes are no log, and this is their first fault.
-pub record IsNotLog (fault : RunFault) : Type 0 where
-  pub bytes : List ℕ
+pub record IsNotLog (bytes : List ℕ) (fault : RunFault) : Type 0 where
   pub first : LogFault
   pub first_is : log_fault bytes ≡ Some first
   pub says : fault ≡ fault_of_log first
@@ -127,8 +125,7 @@ pub record IsNotRecorded (fault : RunFault) : Type 0 where
   pub workers : ℕ
   pub cause : IsRecordingFault origin ops workers fault
 
--- Why nothing is shown of a measurement of files of these names: the log or a file was not had, the log is none, the files were not
--- all recorded, or memory ran out.
+-- Why nothing is shown of a measurement of files of these names over this log: it is none, a file was not had, the files were not all
+-- recorded, or memory ran out.
 abbrev pub IsMeasuringFault : List ℕ → List (List ℕ) → RunFault → Type 0
-IsMeasuringFault log names fault =
-    IsInputFault log fault ⊎ IsNotLog fault ⊎ IsFileFault names fault ⊎ IsNotRecorded fault ⊎ (fault ≡ runs.Memory)
+IsMeasuringFault log names fault = IsNotLog log fault ⊎ IsFileFault names fault ⊎ IsNotRecorded fault ⊎ (fault ≡ runs.Memory)

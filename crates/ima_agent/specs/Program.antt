@@ -20,7 +20,7 @@ use Rattle.ima_agent.specs.FaultTexts.{fault_line, fault_status}
 abbrev pub IsOutputFor : Plan → List ℕ → ℕ → Type 0
 IsOutputFor Registers shown status = ((text : List ℕ) × ShowsRegisters text shown) × (status ≡ 0)
 IsOutputFor (Measure alg template workers limit print log files) shown status =
-    ShowsMeasured alg template workers limit print (map string_bytes files.items) shown × (status ≡ 0)
+    ((bytes : List ℕ) × ShowsMeasured bytes alg template workers limit print (map string_bytes files.items) shown) × (status ≡ 0)
 IsOutputFor (Verify log list expected) shown status = ShowsReport shown status
 IsOutputFor (Show list) shown status = ((bytes : List ℕ) × ShowsList bytes shown) × (status ≡ 0)
 IsOutputFor (Help text) shown status = (shown ≡ string_bytes text) × (status ≡ 0)
@@ -29,7 +29,7 @@ IsOutputFor (Help text) shown status = (shown ≡ string_bytes text) × (status 
 abbrev pub IsFaultOf : Plan → RunFault → Type 0
 IsFaultOf Registers fault = IsInputFault (codes "-") fault ⊎ ((text : List ℕ) × IsRefusedFor text fault)
 IsFaultOf (Measure alg template workers limit print log files) fault =
-    IsMeasuringFault (string_bytes log) (map string_bytes files.items) fault
+    IsInputFault (string_bytes log) fault ⊎ ((bytes : List ℕ) × IsMeasuringFault bytes (map string_bytes files.items) fault)
 IsFaultOf (Verify log list expected) fault = IsReportFault (string_bytes log) (string_bytes list) (string_bytes expected) fault
 IsFaultOf (Show list) fault = IsInputFault (string_bytes list) fault ⊎ ((bytes : List ℕ) × IsNoListFor bytes fault)
 IsFaultOf (Help text) fault = ⊥

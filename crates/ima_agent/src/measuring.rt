@@ -1,8 +1,9 @@
 //! Files, measured into the registers of a log.
 
-ghost use Rattle.std.specs.Prelude.{◌≡◌, ◌<◌, ◌^◌, length, map, string_bytes, IfOk, IfErr, IfSome, IfNone};
+ghost use Rattle.std.specs.Prelude.{◌≡◌, ◌<◌, ◌⊎◌, ◌^◌, ℕ, List, length, map, string_bytes, IfOk, IfErr, IfSome, IfNone};
 ghost use Rattle.measure_book.specs.Operations.{book_outcome_of};
 ghost use Rattle.hash_workers.specs.Jobs.{operations_of};
+ghost use Rattle.ima_agent.specs.Loading.{IsInputFault};
 ghost use Rattle.ima_agent.specs.Measuring.{AreAllDone, AreFiles, HasMeasured, IsFileFault, IsFirstRefused, IsMeasuringFault, IsRecordingFault, ShowsMeasured, printed};
 
 use crate::fault::RunFault;
@@ -49,12 +50,29 @@ pub(crate) fn measured<R: Threads + Wait + Sync, F: Files>(
     asked: Measuring,
 ) -> Result<Vec<u8>, RunFault>
     requires small { length asked.files.now < 2 ^ 32 }
-    ensures shown { IfOk result (λ shown. ShowsMeasured asked.entry.alg asked.entry.template asked.entry.workers asked.entry.limit
-        asked.entry.print (map string_bytes asked.entry.files.now) shown.items) }
-    ensures fault { IfErr result (IsMeasuringFault asked.entry.log.now (map string_bytes asked.entry.files.now)) }
+    ensures shown { IfOk result (λ shown. (bytes : List ℕ) × ShowsMeasured bytes asked.entry.alg asked.entry.template
+        asked.entry.workers asked.entry.limit asked.entry.print (map string_bytes asked.entry.files.now) shown.items) }
+    ensures fault { IfErr result (λ fault. IsInputFault asked.entry.log.now fault
+        ⊎ ((bytes : List ℕ) × IsMeasuringFault bytes (map string_bytes asked.entry.files.now) fault)) }
 {
-    let bytes = loaded(alloc, files, Some(asked.log))?;
-    let log = read_log(alloc, &bytes)?;
+    let log = loaded(alloc, files, Some(asked.log))?;
+    measured_over(rt, alloc, files, &log, asked)
+}
+
+// The same over the log of these bytes.
+fn measured_over<R: Threads + Wait + Sync, F: Files>(
+    rt: &R,
+    alloc: Global,
+    files: &mut F,
+    log: &[u8],
+    asked: Measuring,
+) -> Result<Vec<u8>, RunFault>
+    requires small { length asked.files.now < 2 ^ 32 }
+    ensures shown { IfOk result (λ shown. ShowsMeasured log.now asked.entry.alg asked.entry.template asked.entry.workers
+        asked.entry.limit asked.entry.print (map string_bytes asked.entry.files.now) shown.items) }
+    ensures fault { IfErr result (IsMeasuringFault log.now (map string_bytes asked.entry.files.now)) }
+{
+    let log = read_log(alloc, log)?;
     let jobs = jobs_of(alloc, files, asked.files)?;
     let origin = Origin {
         start: log.registers(),
