@@ -1,6 +1,6 @@
 //! The words of the command line.
 
-ghost use Rattle.std.specs.Prelude.{◌≡◌, [], Ok, codes, string_bytes, IfOk, IfErr};
+ghost use Rattle.std.specs.Prelude.{◌≡◌, ◌⊎◌, [], Ok, codes, string_bytes, IfOk, IfErr};
 ghost use Rattle.ima_agent.specs.Plans.{HasHelpWord, IsAskedBy, IsHelp, IsOfCommand, IsWithinRanges, IsWordsFault, asks_help};
 ghost use Rattle.std.specs.List.{list_any};
 ghost use Rattle.ima_agent.specs.declared.plan.Plan.TheVariants.{Registers};
@@ -36,9 +36,17 @@ pub fn read_words(alloc: Global, words: &[String]) -> Result<Plan, RunFault>
     // No words ask for the registers of standard input.
     ensures none { words.now ≡ [] → result ≡ Ok Registers }
 {
-    let Some(command) = words.first() else {
-        return Ok(Plan::Registers);
-    };
+    match words.first() {
+        None => Ok(Plan::Registers),
+        Some(command) => plan_in(alloc, words, command),
+    }
+}
+
+// The command of this name that the words give, or the help that they ask for.
+fn plan_in(alloc: Global, words: &[String], command: &str) -> Result<Plan, RunFault>
+    ensures asked { IfOk result (λ plan. (IsOfCommand command.now plan ⊎ (HasHelpWord words.now × IsHelp plan)) × IsWithinRanges plan) }
+    ensures refused { IfErr result IsWordsFault }
+{
     match commands(alloc)?.try_get_matches_from(words) {
         Ok(matches) => plan_of(alloc, command, &matches),
         Err(error) => help_of(alloc, words, &error),
@@ -165,6 +173,7 @@ fn help_of(alloc: Global, words: &[String], error: &Error) -> Result<Plan, RunFa
 // The commands, as clap reads them.
 fn commands<'a>(alloc: Global) -> Result<Command<'a>, AllocError> {
     Command::new(alloc, "ima-agent")
+        .bin_name("ima-agent")?
         .about(
             "Replays firmware event logs and IMA measurement lists, measures files, and compares registers.",
         )
@@ -224,7 +233,7 @@ fn verify_command<'a>(alloc: Global) -> Result<Command<'a>, AllocError> {
         .arg(input(
             alloc,
             "EXPECTED",
-            "Expected registers, a line each: algorithm, register and value in hexadecimal",
+            "Expected registers, at most 64 MiB, a line each: algorithm, register and value in hexadecimal",
         ))
 }
 
