@@ -1,6 +1,6 @@
 //! The program's inputs, loaded whole.
 
-ghost use Rattle.std.specs.Prelude.{◌≡◌, ◌≤◌, ◌⊎◌, codes, vec_len, is_some, IfOk, IfErr, IfSome, OnOk};
+ghost use Rattle.std.specs.Prelude.{◌≡◌, ◌≤◌, ◌⊎◌, codes, vec_len, IfOk, IfErr, IfSome, OnOk};
 ghost use Rattle.std.specs.Option.{option_map_or};
 ghost use Rattle.ima_agent.specs.Loading.{input_limit, IsInputFault, IsLoadFaultOf, IsNotRead, IsTooLong};
 ghost use Rattle.ima_agent.specs.declared.fault.RunFault.{RunFault};

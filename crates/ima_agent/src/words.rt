@@ -172,8 +172,23 @@ fn help_of(alloc: Global, words: &[String], error: &Error) -> Result<Plan, RunFa
 
 // The commands, as clap reads them.
 fn commands<'a>(alloc: Global) -> Result<Command<'a>, AllocError> {
+    let program = program(alloc).bin_name("ima-agent")?;
+    let program = with_command(program, measure_command(alloc))?;
+    let program = with_command(program, verify_command(alloc))?;
+    with_command(program, show_command(alloc))
+}
+
+// The program with one command more, if that could be made.
+fn with_command<'a>(
+    program: Command<'a>,
+    command: Result<Command<'a>, AllocError>,
+) -> Result<Command<'a>, AllocError> {
+    program.subcommand(command?)
+}
+
+// The program, without its commands.
+fn program<'a>(alloc: Global) -> Command<'a> {
     Command::new(alloc, "ima-agent")
-        .bin_name("ima-agent")?
         .about(
             "Replays firmware event logs and IMA measurement lists, measures files, and compares registers.",
         )
@@ -183,9 +198,6 @@ fn commands<'a>(alloc: Global) -> Result<Command<'a>, AllocError> {
         .no_binary_name(true)
         .disable_help_subcommand(true)
         .subcommand_required(true)
-        .subcommand(measure_command(alloc)?)?
-        .subcommand(verify_command(alloc)?)?
-        .subcommand(show_command(alloc)?)
 }
 
 fn measure_command<'a>(alloc: Global) -> Result<Command<'a>, AllocError> {
@@ -193,34 +205,24 @@ fn measure_command<'a>(alloc: Global) -> Result<Command<'a>, AllocError> {
         .about(
             "Measures files in their order into the registers that a firmware event log makes, and prints what that gives",
         )
-        .arg(choice(
-            alloc,
-            "alg",
-            "A",
-            "sha256",
-            ALGS.as_slice(),
-            "Hash algorithm of the files' digests",
-        ))?
-        .arg(choice(
-            alloc,
-            "template",
-            "T",
-            "ima-ng",
-            TEMPLATES.as_slice(),
-            "Template of the list's entries",
-        ))?
-        .arg(workers_option(alloc))?
-        .arg(limit_option(alloc))?
-        .arg(choice(
-            alloc,
-            "print",
-            "P",
-            "ascii",
-            PRINTS.as_slice(),
-            "What to print: the list as text, the binary list, or the registers that differ from reset",
-        ))?
-        .arg(input(alloc, "LOG", "Firmware event log, binary, at most 64 MiB"))?
-        .arg(files_argument(alloc))
+        .args(measure_arguments(alloc)?)
+}
+
+// The options and the inputs of `measure`.
+fn measure_arguments<'a>(alloc: Global) -> Result<Vec<Arg<'a>>, AllocError> {
+    let algs = "Hash algorithm of the files' digests";
+    let templates = "Template of the list's entries";
+    let prints =
+        "What to print: the list as text, the binary list, or the registers that differ from reset";
+    Ok(vec![in alloc;
+        choice(alloc, "alg", "A", "sha256", &ALGS, algs),
+        choice(alloc, "template", "T", "ima-ng", &TEMPLATES, templates),
+        workers_option(alloc),
+        limit_option(alloc),
+        choice(alloc, "print", "P", "ascii", &PRINTS, prints),
+        input(alloc, "LOG", "Firmware event log, binary, at most 64 MiB"),
+        files_argument(alloc),
+    ]?)
 }
 
 fn verify_command<'a>(alloc: Global) -> Result<Command<'a>, AllocError> {
@@ -269,7 +271,7 @@ fn workers_option<'a>(alloc: Global) -> Arg<'a> {
     Arg::new(alloc, "workers")
         .long("workers")
         .value_name("N")
-        .value_parser(value_parser!(usize).range(1..=8))
+        .value_parser(value_parser!(usize).range(1..=MOST_WORKERS as i64))
         .default_value("2")
         .help("How many workers hash files at once, 1 to 8")
 }

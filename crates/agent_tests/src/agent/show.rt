@@ -87,7 +87,6 @@ fn lists_that_are_refused(rt: HostRuntime) -> Result<(), Fail> {
 
 #[test]
 fn other_words_are_refused(rt: HostRuntime) -> Result<(), Fail> {
-    let alloc = rt.alloc();
     for words in [
         ["show"].as_slice(),
         &["show", "x", "x"],

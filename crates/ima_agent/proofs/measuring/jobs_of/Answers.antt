@@ -1,4 +1,4 @@
-use Rattle.std.proofs.Common.{refl, inl, inr}
+use Rattle.std.proofs.Common.{refl, inr}
 use Rattle.std.proofs.lemmas.Result.{err_from_is_err_and}
 use Rattle.ima_agent.proofs.MeasuringLaws.{file_not_had}
 use Rattle.ima_agent.proofs.measuring.jobs_of.Goals as goal
