@@ -13,7 +13,7 @@ use Rattle.measure_book.specs.Operations.{done, refused, book_outcome_of, book_r
 use Rattle.hash_workers.specs.declared.job.Job.{Job}
 use Rattle.hash_workers.proofs.CutLaws.{at_map, map_at}
 use Rattle.ima_agent.specs.declared.fault.RunFault.{RunFault}
-use Rattle.ima_agent.specs.Loading.{IsInputFault}
+use Rattle.ima_agent.specs.Loading.{Inputs, IsInputFault}
 use Rattle.ima_agent.specs.Measuring.{AreAllDone, AreFiles, IsFileFault, path_of}
 
 -- No outcome before this one is a refusal.
@@ -44,20 +44,21 @@ all_done given i all before = λ job fault has.
     let within = slice_get_within given job from.0 from.1 in
     before job fault (omega arith) has
 
-pub file_not_had : (names : List (String Global)) (i : ℕ) (name : String Global) (fault : RunFault) → i < length names
-    → name ≡ get_or names i name → IsInputFault (string_bytes name) fault → IsFileFault (map string_bytes names) fault
-file_not_had names i name fault within is cause = record {
+pub file_not_had : (inputs : Inputs) (names : List (String Global)) (i : ℕ) (name : String Global) (fault : RunFault) → i < length names
+    → name ≡ get_or names i name → IsInputFault inputs (Some (string_bytes name)) fault
+    → IsFileFault inputs (map string_bytes names) fault
+file_not_had inputs names i name fault within is cause = record {
   index = i;
   name = string_bytes name;
   has = at_map string_bytes names i name (slice_get_read names (length names) i name refl within is);
   cause = cause;
 }
 
-pub as_many_files : (names : List (String Global)) (files : List Job) → AreFiles (map string_bytes names) files → length names < 2 ^ 32
-    → length files < 2 ^ 32
-as_many_files names files are small =
+pub as_many_files : (inputs : Inputs) (names : List (String Global)) (files : List Job) → AreFiles inputs (map string_bytes names) files
+    → length names < 2 ^ 32 → length files < 2 ^ 32
+as_many_files inputs names files are small =
     let one : length files ≡ length (map path_of files) = sym (length-map files path_of) in
     let two : length (map Some (map string_bytes names)) ≡ length names =
     length-map (map string_bytes names) Some ∙ length-map names string_bytes in
-    let same : length files ≡ length names = one ∙ ap length are ∙ two in
+    let same : length files ≡ length names = one ∙ ap length are.names_are ∙ two in
     rw same small

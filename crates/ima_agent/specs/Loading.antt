@@ -1,5 +1,5 @@
 -- What loading takes from a source, and why an input is not loaded.
-use Rattle.std.specs.Prelude.{◌≡◌, ℕ, ◌+◌, ◌<◌, ◌⊎◌, List, length, Option, None, Some, ⊤, Result, Ok, Err, String, string_bytes}
+use Rattle.std.specs.Prelude.{◌≡◌, ℕ, ◌+◌, ◌<◌, ◌⊎◌, List, length, codes, Option, None, Some, ⊤, Result, Ok, Err, IfSome, String, string_bytes}
 use Rattle.std.specs.Global.{Global}
 use Rattle.std.specs.Io.KnownBytes.{Consumes}
 use Rattle.byte_streams.specs.Streams.{SourceState, failures_after}
@@ -32,6 +32,27 @@ LosesMoreThan count (Some left) (Some rest) = count + length rest < length left
 abbrev pub input_limit : ℕ
 input_limit = 67108864
 
+-- What inputs hold: all bytes of the file of a name, or of standard input where there is no name, where they are told.
+abbrev pub Inputs : Type 0
+Inputs = Option (List ℕ) → Option (List ℕ)
+
+-- These are all bytes of the input of this name, where they are told.
+abbrev pub Holds : Inputs → Option (List ℕ) → List ℕ → Type 0
+Holds inputs name bytes = IfSome (inputs name) (λ all. bytes ≡ all)
+
+-- The input of this name has more bytes than an input may have, where its bytes are told.
+abbrev pub HoldsTooMuch : Inputs → Option (List ℕ) → Type 0
+HoldsTooMuch inputs name = IfSome (inputs name) (λ all. input_limit < length all)
+
+-- The source gives these bytes, where they are told.
+abbrev pub GivesAll : Option (List ℕ) → SourceState → Type 0
+GivesAll told source = IfSome told (λ all. source.remaining ≡ Some all)
+
+-- What an input is called: standard input is `-`.
+abbrev pub input_name : Option (List ℕ) → List ℕ
+input_name None = codes "-"
+input_name (Some name) = name
+
 -- The fault says that the input of this name has too many bytes.
 pub record IsTooLong (name : List ℕ) (fault : RunFault) : Type 0 where
   pub input : String Global
@@ -48,10 +69,12 @@ pub record IsNotRead (name : List ℕ) (fault : RunFault) : Type 0 where
 -- source failed, once; or memory ran out. The fault names the input.
 abbrev pub IsLoadFaultOf : List ℕ → SourceState → SourceState → RunFault → Type 0
 IsLoadFaultOf name old new fault =
-    (IsTooLong name fault × LosesMoreThan input_limit old.remaining new.remaining × (new.failures ≡ old.failures))
+    (IsTooLong name fault × IfSome old.remaining (λ left. input_limit < length left)
+    × LosesMoreThan input_limit old.remaining new.remaining × (new.failures ≡ old.failures))
     ⊎ (IsNotRead name fault × (new.failures ≡ failures_after {A = ℕ} (Err fault) old.failures))
     ⊎ (fault ≡ runs.Memory)
 
--- Why an input of this name was not had: it has too many bytes, it could not be opened or failed, or memory ran out.
-abbrev pub IsInputFault : List ℕ → RunFault → Type 0
-IsInputFault name fault = IsTooLong name fault ⊎ IsNotRead name fault ⊎ (fault ≡ runs.Memory)
+-- Why the input of this name was not had: it has too many bytes, it could not be opened or failed, or memory ran out.
+abbrev pub IsInputFault : Inputs → Option (List ℕ) → RunFault → Type 0
+IsInputFault inputs name fault =
+    (IsTooLong (input_name name) fault × HoldsTooMuch inputs name) ⊎ IsNotRead (input_name name) fault ⊎ (fault ≡ runs.Memory)

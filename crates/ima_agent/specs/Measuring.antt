@@ -1,5 +1,5 @@
 -- Files, measured into the registers of a log. All of this is this project's choice.
-use Rattle.std.specs.Prelude.{◌≡◌, ℕ, ◌<◌, ◌⊎◌, List, map, flat_map, slice_get, Option, Some, None}
+use Rattle.std.specs.Prelude.{◌≡◌, ℕ, ◌<◌, ◌⊎◌, List, All, map, flat_map, slice_get, Option, Some, None}
 use Rattle.pcr_banks.specs.declared.alg.Alg.{Alg}
 use Rattle.pcr_banks.specs.declared.banks.Banks.{Banks}
 use Rattle.pcr_banks.specs.Registers.{IsReset}
@@ -22,11 +22,12 @@ use Rattle.hash_workers.specs.Batches.{IsBatch}
 use Rattle.hash_workers.specs.Faults.{IsFaultOf}
 use Rattle.boot_verdict.specs.RegisterTexts.{registers_text}
 use Rattle.ima_agent.specs.declared.fault.RunFault.{RunFault}
+use Rattle.ima_agent.specs.declared.measuring.Measuring.{Measuring}
 use Rattle.ima_agent.specs.declared.fault.RunFault.TheVariants as runs
 use Rattle.ima_agent.specs.declared.plan.Print.{Print}
 use Rattle.ima_agent.specs.declared.plan.Print.TheVariants.{Ascii, Binary, Registers}
 use Rattle.ima_agent.specs.Faults.{fault_of_log, fault_of_agent, fault_of_job}
-use Rattle.ima_agent.specs.Loading.{IsInputFault}
+use Rattle.ima_agent.specs.Loading.{Inputs, Holds, IsInputFault}
 
 -- ---- what is measured
 
@@ -36,9 +37,16 @@ path_of (jobs.File path content) = Some path.items
 path_of (jobs.Violation path) = None
 path_of (jobs.Read alg register) = None
 
--- The jobs are files, with these names as their paths, in their order.
-abbrev pub AreFiles : List (List ℕ) → List Job → Type 0
-AreFiles names jobs' = map path_of jobs' ≡ map Some names
+-- The job is a file, whose content are all bytes of the input that its path names.
+abbrev pub HasItsContent : Inputs → Job → Type 0
+HasItsContent inputs (jobs.File path content) = Holds inputs (Some path.items) content.items
+HasItsContent inputs (jobs.Violation path) = ⊥
+HasItsContent inputs (jobs.Read alg register) = ⊥
+
+-- The jobs are the files of these names, in their order, each with its content.
+pub record AreFiles (inputs : Inputs) (names : List (List ℕ)) (jobs' : List Job) : Type 0 where
+  pub names_are : map path_of jobs' ≡ map Some names
+  pub contents : All (HasItsContent inputs) jobs'
 
 -- No job was refused.
 abbrev pub AreAllDone : List BookOutcome → Type 0
@@ -57,24 +65,42 @@ printed Ascii reset book = flat_map line_of book.entries
 printed Binary reset book = exported book
 printed Registers reset book = registers_text book.banks reset
 
+-- How files are measured: the algorithm of their digests, the template of their entries, the number of workers and the greatest number
+-- of records.
+pub record Manner : Type 0 where
+  pub alg : Alg
+  pub template : Template
+  pub workers : ℕ
+  pub limit : ℕ
+
+-- The manner that is asked for.
+abbrev pub manner_of : Measuring → Manner
+manner_of asked = record { alg = asked.alg; template = asked.template; workers = asked.workers; limit = asked.limit }
+
+-- The files of these names are to be measured in this manner, into a book of this origin, which starts with the registers that the
+-- events of this log make.
+pub record IsSetOut (inputs : Inputs) (log : List ℕ) (manner : Manner) (names : List (List ℕ)) (table : List Row)
+    (events : List LogEvent) (origin : Origin) (files : List Job) : Type 0 where
+  pub log_is : IsLog log table events
+  pub starts : IsFirmware (algs_in table) events origin.start
+  pub alg_is : origin.alg ≡ manner.alg
+  pub template_is : origin.template ≡ manner.template
+  pub limit_is : origin.limit ≡ manner.limit
+  pub files_are : AreFiles inputs names files
+
 -- What is shown is printed of a book that starts with the registers that this log makes, and in which the files of these names are
 -- measured.
-pub record ShowsMeasured (log : List ℕ) (alg : Alg) (template : Template) (workers limit : ℕ) (print : Print) (names : List (List ℕ))
-    (shown : List ℕ) : Type 0 where
+pub record ShowsMeasured (inputs : Inputs) (log : List ℕ) (manner : Manner) (print : Print) (names : List (List ℕ)) (shown : List ℕ)
+    : Type 0 where
   pub table : List Row
   pub events : List LogEvent
   pub reset : Banks
   pub origin : Origin
   pub files : List Job
   pub book : BookState
-  pub log_is : IsLog log table events
+  pub set_out : IsSetOut inputs log manner names table events origin files
   pub reset_is : IsReset (algs_in table) (startup_locality events) reset
-  pub starts : IsFirmware (algs_in table) events origin.start
-  pub alg_is : origin.alg ≡ alg
-  pub template_is : origin.template ≡ template
-  pub limit_is : origin.limit ≡ limit
-  pub files_are : AreFiles names files
-  pub measured : HasMeasured origin (operations_of alg files) workers book
+  pub measured : HasMeasured origin (operations_of manner.alg files) manner.workers book
   pub text_is : shown ≡ printed print reset book
 
 -- ---- why nothing is shown
@@ -86,11 +112,11 @@ pub record IsNotLog (bytes : List ℕ) (fault : RunFault) : Type 0 where
   pub says : fault ≡ fault_of_log first
 
 -- The file of one of these names was not had.
-pub record IsFileFault (names : List (List ℕ)) (fault : RunFault) : Type 0 where
+pub record IsFileFault (inputs : Inputs) (names : List (List ℕ)) (fault : RunFault) : Type 0 where
   pub index : ℕ
   pub name : List ℕ
   pub has : slice_get names index ≡ Some name
-  pub cause : IsInputFault name fault
+  pub cause : IsInputFault inputs (Some name) fault
 
 -- The first job that was refused is the one of this number, for this cause.
 pub record IsFirstRefused (outcomes : List BookOutcome) (job : ℕ) (fault : BookFault) : Type 0 where
@@ -118,14 +144,17 @@ pub record IsNoBatch (origin : Origin) (workers : ℕ) (fault : RunFault) : Type
 abbrev pub IsRecordingFault : Origin → List BookOp → ℕ → RunFault → Type 0
 IsRecordingFault origin ops workers fault = IsNoBatch origin workers fault ⊎ IsRefusedJob origin ops workers fault
 
--- The same, for some operations.
-pub record IsNotRecorded (fault : RunFault) : Type 0 where
+-- The files of these names were to be measured so over this log, and were not all recorded.
+pub record IsNotRecorded (inputs : Inputs) (log : List ℕ) (manner : Manner) (names : List (List ℕ)) (fault : RunFault) : Type 0 where
+  pub table : List Row
+  pub events : List LogEvent
   pub origin : Origin
-  pub ops : List BookOp
-  pub workers : ℕ
-  pub cause : IsRecordingFault origin ops workers fault
+  pub files : List Job
+  pub set_out : IsSetOut inputs log manner names table events origin files
+  pub cause : IsRecordingFault origin (operations_of manner.alg files) manner.workers fault
 
--- Why nothing is shown of a measurement of files of these names over this log: it is none, a file was not had, the files were not all
--- recorded, or memory ran out.
-abbrev pub IsMeasuringFault : List ℕ → List (List ℕ) → RunFault → Type 0
-IsMeasuringFault log names fault = IsNotLog log fault ⊎ IsFileFault names fault ⊎ IsNotRecorded fault ⊎ (fault ≡ runs.Memory)
+-- Why nothing is shown of a measurement of the files of these names over this log: it is none, a file was not had, the files were not
+-- all recorded, or memory ran out.
+abbrev pub IsMeasuringFault : Inputs → List ℕ → Manner → List (List ℕ) → RunFault → Type 0
+IsMeasuringFault inputs log manner names fault =
+    IsNotLog log fault ⊎ IsFileFault inputs names fault ⊎ IsNotRecorded inputs log manner names fault ⊎ (fault ≡ runs.Memory)

@@ -1,5 +1,5 @@
 -- What the program answers. All of this is this project's choice.
-use Rattle.std.specs.Prelude.{◌≡◌, ℕ, ◌⊎◌, List, codes, map, string_bytes, Result, Ok, Err, String}
+use Rattle.std.specs.Prelude.{◌≡◌, ℕ, ◌⊎◌, List, map, string_bytes, Option, None, Some, Result, Ok, Err, String}
 use Rattle.std.specs.Global.{Global, Vec}
 use Rattle.byte_streams.specs.declared.streams.Failed.{Failed}
 use Rattle.byte_streams.specs.Streams.{SinkState, Sends}
@@ -7,7 +7,7 @@ use Rattle.ima_agent.specs.declared.fault.RunFault.{RunFault}
 use Rattle.ima_agent.specs.declared.fault.RunFault.TheVariants as runs
 use Rattle.ima_agent.specs.declared.plan.Plan.{Plan}
 use Rattle.ima_agent.specs.declared.plan.Plan.TheVariants.{Registers, Measure, Verify, Show, Help}
-use Rattle.ima_agent.specs.Loading.{IsInputFault}
+use Rattle.ima_agent.specs.Loading.{Inputs, Holds, IsInputFault}
 use Rattle.ima_agent.specs.Showing.{IsNoListFor, IsRefusedFor, ShowsList, ShowsRegisters}
 use Rattle.ima_agent.specs.Measuring.{IsMeasuringFault, ShowsMeasured}
 use Rattle.ima_agent.specs.Verifying.{IsReportFault, ShowsReport}
@@ -16,23 +16,37 @@ use Rattle.ima_agent.specs.FaultTexts.{fault_line, fault_status}
 
 -- ---- what is asked for
 
--- What is written is what is asked for, of some inputs, and this is the exit status.
-abbrev pub IsOutputFor : Plan → List ℕ → ℕ → Type 0
-IsOutputFor Registers shown status = ((text : List ℕ) × ShowsRegisters text shown) × (status ≡ 0)
-IsOutputFor (Measure alg template workers limit print log files) shown status =
-    ((bytes : List ℕ) × ShowsMeasured bytes alg template workers limit print (map string_bytes files.items) shown) × (status ≡ 0)
-IsOutputFor (Verify log list expected) shown status = ShowsReport shown status
-IsOutputFor (Show list) shown status = ((bytes : List ℕ) × ShowsList bytes shown) × (status ≡ 0)
-IsOutputFor (Help text) shown status = (shown ≡ string_bytes text) × (status ≡ 0)
+-- This holds of the bytes of the input of this name: of some bytes, where its own are not told.
+abbrev pub OfInput : Inputs → Option (List ℕ) → (List ℕ → Type 0) → Type 0
+OfInput inputs name P = (bytes : List ℕ) × Holds inputs name bytes × P bytes
 
--- A fault that may come of what is asked for, with some inputs.
-abbrev pub IsFaultOf : Plan → RunFault → Type 0
-IsFaultOf Registers fault = IsInputFault (codes "-") fault ⊎ ((text : List ℕ) × IsRefusedFor text fault)
-IsFaultOf (Measure alg template workers limit print log files) fault =
-    IsInputFault (string_bytes log) fault ⊎ ((bytes : List ℕ) × IsMeasuringFault bytes (map string_bytes files.items) fault)
-IsFaultOf (Verify log list expected) fault = IsReportFault (string_bytes log) (string_bytes list) (string_bytes expected) fault
-IsFaultOf (Show list) fault = IsInputFault (string_bytes list) fault ⊎ ((bytes : List ℕ) × IsNoListFor bytes fault)
-IsFaultOf (Help text) fault = ⊥
+-- What is written is what is asked for, of these inputs, and this is the exit status.
+abbrev pub IsOutputFor : Inputs → Plan → List ℕ → ℕ → Type 0
+IsOutputFor inputs Registers shown status = OfInput inputs None (λ text. ShowsRegisters text shown) × (status ≡ 0)
+IsOutputFor inputs (Measure alg template workers limit print log files) shown status =
+    OfInput inputs (Some (string_bytes log)) (λ bytes.
+    ShowsMeasured inputs bytes (record { alg = alg; template = template; workers = workers; limit = limit }) print
+    (map string_bytes files.items) shown)
+    × (status ≡ 0)
+IsOutputFor inputs (Verify log list expected) shown status =
+    ShowsReport inputs (string_bytes log) (string_bytes list) (string_bytes expected) shown status
+IsOutputFor inputs (Show list) shown status = OfInput inputs (Some (string_bytes list)) (λ bytes. ShowsList bytes shown) × (status ≡ 0)
+IsOutputFor inputs (Help text) shown status = (shown ≡ string_bytes text) × (status ≡ 0)
+
+-- A fault that may come of what is asked for, with these inputs.
+abbrev pub IsFaultOf : Inputs → Plan → RunFault → Type 0
+IsFaultOf inputs Registers fault = IsInputFault inputs None fault ⊎ OfInput inputs None (λ text. IsRefusedFor text fault)
+IsFaultOf inputs (Measure alg template workers limit print log files) fault =
+    IsInputFault inputs (Some (string_bytes log)) fault
+    ⊎ OfInput inputs (Some (string_bytes log)) (λ bytes.
+    IsMeasuringFault inputs bytes (record { alg = alg; template = template; workers = workers; limit = limit })
+    (map string_bytes files.items) fault)
+IsFaultOf inputs (Verify log list expected) fault =
+    IsReportFault inputs (string_bytes log) (string_bytes list) (string_bytes expected) fault
+IsFaultOf inputs (Show list) fault =
+    IsInputFault inputs (Some (string_bytes list)) fault
+    ⊎ OfInput inputs (Some (string_bytes list)) (λ bytes. IsNoListFor bytes fault)
+IsFaultOf inputs (Help text) fault = ⊥
 
 -- ---- words
 
@@ -42,29 +56,29 @@ pub record IsPlanOf (words : List (String Global)) (plan : Plan) : Type 0 where
   pub within : IsWithinRanges plan
 
 -- What is written is what the words ask for.
-pub record ShowsFor (words : List (String Global)) (shown : List ℕ) (status : ℕ) : Type 0 where
+pub record ShowsFor (inputs : Inputs) (words : List (String Global)) (shown : List ℕ) (status : ℕ) : Type 0 where
   pub plan : Plan
   pub plan_is : IsPlanOf words plan
-  pub output : IsOutputFor plan shown status
+  pub output : IsOutputFor inputs plan shown status
 
 -- A fault that may come of what the words ask for.
-pub record IsFaultOfPlan (words : List (String Global)) (fault : RunFault) : Type 0 where
+pub record IsFaultOfPlan (inputs : Inputs) (words : List (String Global)) (fault : RunFault) : Type 0 where
   pub plan : Plan
   pub plan_is : IsPlanOf words plan
-  pub cause : IsFaultOf plan fault
+  pub cause : IsFaultOf inputs plan fault
 
 -- Why the words get no output: they ask for nothing, or what they ask for has this fault.
-abbrev pub IsFaultFor : List (String Global) → RunFault → Type 0
-IsFaultFor words fault = IsWordsFault fault ⊎ IsFaultOfPlan words fault
+abbrev pub IsFaultFor : Inputs → List (String Global) → RunFault → Type 0
+IsFaultFor inputs words fault = IsWordsFault fault ⊎ IsFaultOfPlan inputs words fault
 
 -- ---- answers
 
 -- The text is what is to be written for the words, and this is the status where the sink takes it all: what they ask for, or a fault's
 -- line and its status.
-abbrev pub IsOutput : List (String Global) → List ℕ → ℕ → Type 0
-IsOutput words text status =
-    ShowsFor words text status
-    ⊎ ((fault : RunFault) × IsFaultFor words fault × (text ≡ fault_line fault) × (status ≡ fault_status fault))
+abbrev pub IsOutput : Inputs → List (String Global) → List ℕ → ℕ → Type 0
+IsOutput inputs words text status =
+    ShowsFor inputs words text status
+    ⊎ ((fault : RunFault) × IsFaultFor inputs words fault × (text ≡ fault_line fault) × (status ≡ fault_status fault))
 
 -- The status of an output that was sent; 3 where the sink failed.
 abbrev pub status_after : {A E : Type 0} → Result A E → ℕ → ℕ
@@ -81,6 +95,6 @@ pub record Answers (IsAsked : List ℕ → ℕ → Type 0) (answer : ℕ) (old n
   pub answer_is : answer ≡ status_after sent status
 
 -- The output where the words could not be had, as where memory ran out; else that of the words.
-abbrev pub IsOutputOf : {E : Type 0} → Result (Vec (String Global)) E → List ℕ → ℕ → Type 0
-IsOutputOf (Ok words) text status = IsOutput words.items text status
-IsOutputOf (Err fault) text status = (text ≡ fault_line runs.Memory) × (status ≡ fault_status runs.Memory)
+abbrev pub IsOutputOf : {E : Type 0} → Inputs → Result (Vec (String Global)) E → List ℕ → ℕ → Type 0
+IsOutputOf inputs (Ok words) text status = IsOutput inputs words.items text status
+IsOutputOf inputs (Err fault) text status = (text ≡ fault_line runs.Memory) × (status ≡ fault_status runs.Memory)

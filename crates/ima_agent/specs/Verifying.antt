@@ -1,5 +1,5 @@
 -- The report on a log, a list and expected registers, as the program writes it. All of this is this project's choice.
-use Rattle.std.specs.Prelude.{◌≡◌, ℕ, ◌⊎◌, if◌then◌else◌, List}
+use Rattle.std.specs.Prelude.{◌≡◌, ℕ, ◌⊎◌, if◌then◌else◌, List, Some}
 use Rattle.boot_verdict.specs.declared.expected.Expected.{Expected}
 use Rattle.boot_verdict.specs.declared.expected.ExpectFault.{ExpectFault}
 use Rattle.boot_verdict.specs.declared.verifier.VerifyFault.{VerifyFault}
@@ -9,7 +9,7 @@ use Rattle.boot_verdict.specs.ReportTexts.{report_text}
 use Rattle.ima_agent.specs.declared.fault.RunFault.{RunFault}
 use Rattle.ima_agent.specs.declared.fault.RunFault.TheVariants as runs
 use Rattle.ima_agent.specs.Faults.{fault_of_expected, fault_of_verdict}
-use Rattle.ima_agent.specs.Loading.{IsInputFault}
+use Rattle.ima_agent.specs.Loading.{Inputs, Holds, IsInputFault}
 
 -- The exit status of a verdict: 0 where all matches, else 1.
 abbrev pub verdict_status : Verdict → ℕ
@@ -22,18 +22,22 @@ pub record IsReportOn (log list : List ℕ) (expected : List Expected) (shown : 
   pub text_is : shown ≡ report_text verdict
   pub status_is : status ≡ verdict_status verdict
 
--- What is shown is the report on a log, a list and the registers that a text states.
-pub record ShowsReport (shown : List ℕ) (status : ℕ) : Type 0 where
+-- What is shown is the report on the log and the list of these names, and on the registers that the text of this name states.
+pub record ShowsReport (inputs : Inputs) (log_name list_name text_name : List ℕ) (shown : List ℕ) (status : ℕ) : Type 0 where
   pub log : List ℕ
   pub list : List ℕ
   pub text : List ℕ
   pub expected : List Expected
+  pub log_held : Holds inputs (Some log_name) log
+  pub list_held : Holds inputs (Some list_name) list
+  pub text_held : Holds inputs (Some text_name) text
   pub expected_is : IsExpectedText text expected
   pub report : IsReportOn log list expected shown status
 
--- The text states no expected registers, and this is the fault of its first line that is wrong.
-pub record IsNotExpected (fault : RunFault) : Type 0 where
+-- The text of this name states no expected registers, and this is the fault of its first line that is wrong.
+pub record IsNotExpected (inputs : Inputs) (name : List ℕ) (fault : RunFault) : Type 0 where
   pub text : List ℕ
+  pub text_held : Holds inputs (Some name) text
   pub first : ExpectFault
   pub first_is : HasFirstFault text first
   pub says : fault ≡ fault_of_expected first
@@ -42,15 +46,17 @@ pub record IsNotExpected (fault : RunFault) : Type 0 where
 abbrev pub IsNoVerdictOn : List ℕ → List ℕ → RunFault → Type 0
 IsNoVerdictOn log list fault = ((first : VerifyFault) × IsVerifyFault log list first × (fault ≡ fault_of_verdict first)) ⊎ (fault ≡ runs.Memory)
 
--- The same, of some log and list.
-pub record IsNoVerdict (fault : RunFault) : Type 0 where
+-- The same, of the log and the list of these names.
+pub record IsNoVerdict (inputs : Inputs) (log_name list_name : List ℕ) (fault : RunFault) : Type 0 where
   pub log : List ℕ
   pub list : List ℕ
+  pub log_held : Holds inputs (Some log_name) log
+  pub list_held : Holds inputs (Some list_name) list
   pub cause : IsNoVerdictOn log list fault
 
 -- Why there is no report on the files of these names: one was not had, the text states no expected registers, there is no verdict, or
 -- memory ran out.
-abbrev pub IsReportFault : List ℕ → List ℕ → List ℕ → RunFault → Type 0
-IsReportFault log list expected fault =
-    IsInputFault log fault ⊎ IsInputFault list fault ⊎ IsInputFault expected fault
-    ⊎ IsNotExpected fault ⊎ IsNoVerdict fault ⊎ (fault ≡ runs.Memory)
+abbrev pub IsReportFault : Inputs → List ℕ → List ℕ → List ℕ → RunFault → Type 0
+IsReportFault inputs log list text fault =
+    IsInputFault inputs (Some log) fault ⊎ IsInputFault inputs (Some list) fault ⊎ IsInputFault inputs (Some text) fault
+    ⊎ IsNotExpected inputs text fault ⊎ IsNoVerdict inputs log list fault ⊎ (fault ≡ runs.Memory)

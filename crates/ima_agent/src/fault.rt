@@ -16,28 +16,28 @@ use thiserror::Error;
 #[derive(Debug, Drop, Error)]
 pub enum RunFault {
     /// The words are not those of a command.
-    #[error("command line")]
+    #[error("the words are not those of a command")]
     Usage,
     /// A text is not hexadecimal.
-    #[error("not hexadecimal")]
+    #[error("the text is not hexadecimal")]
     NotHex,
     /// An input is not a firmware event log.
-    #[error("log: {0}")]
+    #[error("not a firmware event log: {0}")]
     Log(LogFault),
     /// An input is not a measurement list.
-    #[error("list: {0}")]
+    #[error("not a measurement list: {0}")]
     List(ListFault),
     /// An entry of the list is not genuine.
-    #[error("replay: {0}")]
+    #[error("the list is not genuine: {0}")]
     Replay(ReplayFault),
     /// An input does not state expected registers.
-    #[error("expected registers: {0}")]
+    #[error("no expected registers: {0}")]
     Expect(ExpectFault),
     /// No book was opened for the files.
-    #[error("book: {0}")]
+    #[error("no book is opened: {0}")]
     Book(BookFault),
     /// The file of this number was refused; files count from 0.
-    #[error("job {job}: {fault}")]
+    #[error("file {job} is refused: {fault}")]
     Outcome {
         /// The number of the file.
         job: u32,
@@ -45,16 +45,16 @@ pub enum RunFault {
         fault: BookFault,
     },
     /// The input of this name has more bytes than the program takes.
-    #[error("too long {0}")]
+    #[error("{0} is longer than 64 MiB")]
     TooLong(String),
     /// The input of this name could not be opened, or failed while it was read.
-    #[error("read {0}")]
+    #[error("cannot read {0}")]
     Read(String),
     /// What the workers got does not account for the book's records.
-    #[error("gather: {0}")]
+    #[error("the outcomes are not those of the book: {0}")]
     Gather(GatherFault),
     /// The program is out of memory.
-    #[error("memory")]
+    #[error("out of memory")]
     Memory,
 }
 

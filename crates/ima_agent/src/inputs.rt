@@ -1,8 +1,7 @@
 //! The program's inputs, loaded whole.
 
-ghost use Rattle.std.specs.Prelude.{◌≡◌, ◌≤◌, ◌⊎◌, codes, vec_len, IfOk, IfErr, IfSome, OnOk};
-ghost use Rattle.std.specs.Option.{option_map_or};
-ghost use Rattle.ima_agent.specs.Loading.{input_limit, IsInputFault, IsLoadFaultOf, IsNotRead, IsTooLong};
+ghost use Rattle.std.specs.Prelude.{◌≡◌, ◌≤◌, ◌⊎◌, option_map, vec_len, IfOk, IfErr, IfSome};
+ghost use Rattle.ima_agent.specs.Loading.{input_limit, Holds, IsInputFault, IsLoadFaultOf, IsNotRead, IsTooLong};
 ghost use Rattle.ima_agent.specs.declared.fault.RunFault.{RunFault};
 
 use crate::fault::RunFault;
@@ -24,8 +23,10 @@ pub(crate) fn loaded<F: Files>(
     files: &mut F,
     name: Option<&str>,
 ) -> Result<Vec<u8>, RunFault>
+    ensures all { IfOk result (λ bytes. Holds (F.told files.old) (option_map (λ name. name.now) name.entry) bytes.items) }
     ensures within { IfOk result (λ bytes. vec_len bytes ≤ input_limit) }
-    ensures fault { IfErr result (IsInputFault (option_map_or (λ name. name.now) name.entry (codes "-"))) }
+    ensures fault { IfErr result (IsInputFault (F.told files.old) (option_map (λ name. name.now) name.entry)) }
+    ensures told { F.told files.new ≡ F.told files.old }
 {
     let input = name.unwrap_or(STANDARD_INPUT);
     match files.source(name) {

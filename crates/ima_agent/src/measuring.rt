@@ -1,10 +1,11 @@
 //! Files, measured into the registers of a log.
 
-ghost use Rattle.std.specs.Prelude.{◌≡◌, ◌<◌, ◌⊎◌, ◌^◌, ℕ, List, length, map, string_bytes, IfOk, IfErr, IfSome, IfNone};
+ghost use Rattle.std.specs.Prelude.{◌≡◌, ◌<◌, ◌⊎◌, ◌^◌, length, map, string_bytes, vec_len, Some, IfOk, IfErr, IfSome, IfNone};
 ghost use Rattle.measure_book.specs.Operations.{book_outcome_of};
 ghost use Rattle.hash_workers.specs.Jobs.{operations_of};
 ghost use Rattle.ima_agent.specs.Loading.{IsInputFault};
-ghost use Rattle.ima_agent.specs.Measuring.{AreAllDone, AreFiles, HasMeasured, IsFileFault, IsFirstRefused, IsMeasuringFault, IsRecordingFault, ShowsMeasured, printed};
+ghost use Rattle.ima_agent.specs.Measuring.{AreAllDone, AreFiles, HasMeasured, IsFileFault, IsFirstRefused, IsMeasuringFault, IsRecordingFault, ShowsMeasured, manner_of, printed};
+ghost use Rattle.ima_agent.specs.Program.{OfInput};
 
 use crate::fault::RunFault;
 use crate::files::Files;
@@ -50,10 +51,11 @@ pub(crate) fn measured<R: Threads + Wait + Sync, F: Files>(
     asked: Measuring,
 ) -> Result<Vec<u8>, RunFault>
     requires small { length asked.files.now < 2 ^ 32 }
-    ensures shown { IfOk result (λ shown. (bytes : List ℕ) × ShowsMeasured bytes asked.entry.alg asked.entry.template
-        asked.entry.workers asked.entry.limit asked.entry.print (map string_bytes asked.entry.files.now) shown.items) }
-    ensures fault { IfErr result (λ fault. IsInputFault asked.entry.log.now fault
-        ⊎ ((bytes : List ℕ) × IsMeasuringFault bytes (map string_bytes asked.entry.files.now) fault)) }
+    ensures shown { IfOk result (λ shown. OfInput (F.told files.old) (Some asked.entry.log.now) (λ bytes.
+        ShowsMeasured (F.told files.old) bytes (manner_of asked.entry) asked.entry.print (map string_bytes asked.entry.files.now) shown.items)) }
+    ensures fault { IfErr result (λ fault. IsInputFault (F.told files.old) (Some asked.entry.log.now) fault
+        ⊎ OfInput (F.told files.old) (Some asked.entry.log.now) (λ bytes.
+        IsMeasuringFault (F.told files.old) bytes (manner_of asked.entry) (map string_bytes asked.entry.files.now) fault)) }
 {
     let log = loaded(alloc, files, Some(asked.log))?;
     measured_over(rt, alloc, files, &log, asked)
@@ -68,9 +70,9 @@ fn measured_over<R: Threads + Wait + Sync, F: Files>(
     asked: Measuring,
 ) -> Result<Vec<u8>, RunFault>
     requires small { length asked.files.now < 2 ^ 32 }
-    ensures shown { IfOk result (λ shown. ShowsMeasured log.now asked.entry.alg asked.entry.template asked.entry.workers
-        asked.entry.limit asked.entry.print (map string_bytes asked.entry.files.now) shown.items) }
-    ensures fault { IfErr result (IsMeasuringFault log.now (map string_bytes asked.entry.files.now)) }
+    ensures shown { IfOk result (λ shown. ShowsMeasured (F.told files.old) log.now (manner_of asked.entry) asked.entry.print
+        (map string_bytes asked.entry.files.now) shown.items) }
+    ensures fault { IfErr result (IsMeasuringFault (F.told files.old) log.now (manner_of asked.entry) (map string_bytes asked.entry.files.now)) }
 {
     let log = read_log(alloc, log)?;
     let jobs = jobs_of(alloc, files, asked.files)?;
@@ -80,14 +82,14 @@ fn measured_over<R: Threads + Wait + Sync, F: Files>(
         alg: asked.alg,
         limit: asked.limit,
     };
-    let book = recorded(rt, alloc, origin, &jobs, asked.workers)?;
+    let book = recorded(rt, alloc, origin, jobs, asked.workers)?;
     Ok(printed(alloc, asked.print, &book, &log.reset_registers())?)
 }
 
 // The files of these names, loaded in their order.
 fn jobs_of<F: Files>(alloc: Global, files: &mut F, names: &[String]) -> Result<Vec<Job>, RunFault>
-    ensures jobs { IfOk result (λ jobs. AreFiles (map string_bytes names.now) jobs.items) }
-    ensures fault { IfErr result (IsFileFault (map string_bytes names.now)) }
+    ensures jobs { IfOk result (λ jobs. AreFiles (F.told files.old) (map string_bytes names.now) jobs.items) }
+    ensures fault { IfErr result (IsFileFault (F.told files.old) (map string_bytes names.now)) }
 {
     let mut jobs = Vec::new(alloc);
     for name in names {
@@ -98,19 +100,19 @@ fn jobs_of<F: Files>(alloc: Global, files: &mut F, names: &[String]) -> Result<V
     Ok(jobs)
 }
 
-// The book in which the jobs are recorded, each of them done.
+// The book in which the jobs are recorded, each of them done. The files' contents are given up here.
 fn recorded<R: Threads + Wait + Sync>(
     rt: &R,
     alloc: Global,
     origin: Origin,
-    jobs: &[Job],
+    jobs: Vec<Job>,
     workers: usize,
 ) -> Result<Book, RunFault>
-    requires small { length jobs.now < 2 ^ 32 }
-    ensures book { IfOk result (HasMeasured origin (operations_of origin.alg jobs.now) workers) }
-    ensures fault { IfErr result (IsRecordingFault origin (operations_of origin.alg jobs.now) workers) }
+    requires small { vec_len jobs < 2 ^ 32 }
+    ensures book { IfOk result (HasMeasured origin (operations_of origin.alg jobs.items) workers) }
+    ensures fault { IfErr result (IsRecordingFault origin (operations_of origin.alg jobs.items) workers) }
 {
-    let batch = measure_files(rt, alloc, origin, jobs, workers, &NoGate)?;
+    let batch = measure_files(rt, alloc, origin, &jobs, workers, &NoGate)?;
     match first_refused(&batch.outcomes) {
         None => Ok(batch.book),
         Some((_, BookFault::Memory)) => Err(RunFault::Memory),

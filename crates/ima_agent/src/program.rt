@@ -31,7 +31,7 @@ pub fn exit_code<R: Threads + Wait + Sync, F: Files, S: Sink>(
     files: &mut F,
     sink: &mut S,
 ) -> ExitCode
-    ensures { Answers (IsOutputOf words) (exit_status result) (S.state sink.old) (S.state sink.new) }
+    ensures { Answers (IsOutputOf (F.told files.old) words) (exit_status result) (S.state sink.old) (S.state sink.new) }
 {
     match words {
         Ok(words) => ExitCode::from(run(rt, alloc, &words, files, sink)),
@@ -56,7 +56,7 @@ pub fn run<R: Threads + Wait + Sync, F: Files, S: Sink>(
     files: &mut F,
     sink: &mut S,
 ) -> u8
-    ensures { Answers (IsOutput words.now) result (S.state sink.old) (S.state sink.new) }
+    ensures { Answers (IsOutput (F.told files.old) words.now) result (S.state sink.old) (S.state sink.new) }
 {
     match output_of(rt, alloc, words, files) {
         Ok(output) => match send(&output.text, sink) {
@@ -84,8 +84,8 @@ fn output_of<R: Threads + Wait + Sync, F: Files>(
     words: &[String],
     files: &mut F,
 ) -> Result<Output, RunFault>
-    ensures shown { IfOk result (λ output. ShowsFor words.now output.text.items output.status) }
-    ensures fault { IfErr result (IsFaultFor words.now) }
+    ensures shown { IfOk result (λ output. ShowsFor (F.told files.old) words.now output.text.items output.status) }
+    ensures fault { IfErr result (IsFaultFor (F.told files.old) words.now) }
 {
     let plan = read_words(alloc, words)?;
     output_for(rt, alloc, plan, files)
@@ -99,8 +99,8 @@ fn output_for<R: Threads + Wait + Sync, F: Files>(
     files: &mut F,
 ) -> Result<Output, RunFault>
     requires within { IsWithinRanges plan }
-    ensures shown { IfOk result (λ output. IsOutputFor plan output.text.items output.status) }
-    ensures fault { IfErr result (IsFaultOf plan) }
+    ensures shown { IfOk result (λ output. IsOutputFor (F.told files.old) plan output.text.items output.status) }
+    ensures fault { IfErr result (IsFaultOf (F.told files.old) plan) }
 {
     match plan {
         Plan::Registers => Ok(Output::done(shown_registers(alloc, files)?)),

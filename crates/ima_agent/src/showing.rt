@@ -1,8 +1,9 @@
 //! The registers of a log and the entries of a list, as text.
 
-ghost use Rattle.std.specs.Prelude.{◌≡◌, ◌⊎◌, ℕ, List, codes, flat_map, IfOk, IfErr};
+ghost use Rattle.std.specs.Prelude.{◌≡◌, ◌⊎◌, flat_map, None, Some, IfOk, IfErr};
 ghost use Rattle.ima_list.specs.Lines.{line_of};
 ghost use Rattle.ima_agent.specs.Loading.{IsInputFault};
+ghost use Rattle.ima_agent.specs.Program.{OfInput};
 ghost use Rattle.ima_agent.specs.Showing.{IsNoListFor, IsRefusedFor, ShowsList, ShowsRegisters};
 
 use crate::fault::RunFault;
@@ -17,8 +18,9 @@ use std::alloc::{AllocError, Global};
 
 /// The registers that differ from their reset values after the log on standard input, which is in hexadecimal.
 pub(crate) fn shown_registers<F: Files>(alloc: Global, files: &mut F) -> Result<Vec<u8>, RunFault>
-    ensures shown { IfOk result (λ shown. (text : List ℕ) × ShowsRegisters text shown.items) }
-    ensures fault { IfErr result (λ fault. IsInputFault (codes "-") fault ⊎ ((text : List ℕ) × IsRefusedFor text fault)) }
+    ensures shown { IfOk result (λ shown. OfInput (F.told files.old) None (λ text. ShowsRegisters text shown.items)) }
+    ensures fault { IfErr result (λ fault. IsInputFault (F.told files.old) None fault
+        ⊎ OfInput (F.told files.old) None (λ text. IsRefusedFor text fault)) }
 {
     let text = loaded(alloc, files, None)?;
     registers_in(alloc, &text)
@@ -30,8 +32,9 @@ pub(crate) fn shown_list<F: Files>(
     files: &mut F,
     list: &str,
 ) -> Result<Vec<u8>, RunFault>
-    ensures shown { IfOk result (λ shown. (bytes : List ℕ) × ShowsList bytes shown.items) }
-    ensures fault { IfErr result (λ fault. IsInputFault list.now fault ⊎ ((bytes : List ℕ) × IsNoListFor bytes fault)) }
+    ensures shown { IfOk result (λ shown. OfInput (F.told files.old) (Some list.now) (λ bytes. ShowsList bytes shown.items)) }
+    ensures fault { IfErr result (λ fault. IsInputFault (F.told files.old) (Some list.now) fault
+        ⊎ OfInput (F.told files.old) (Some list.now) (λ bytes. IsNoListFor bytes fault)) }
 {
     let bytes = loaded(alloc, files, Some(list))?;
     let entries = read_list(alloc, &bytes)?;

@@ -3,6 +3,7 @@
 ghost use Rattle.std.specs.Prelude.{◌≡◌, ◌<◌, ◌≤◌, length, None, is_some, IfOk, IsNone, IsOk};
 ghost use Rattle.std.specs.Io.KnownBytes.{ReadConsumes, WriteAppends};
 ghost use Rattle.byte_streams.specs.Streams.{failures_after};
+ghost use Rattle.ima_agent.specs.Loading.{GivesAll};
 ghost use Rattle.ima_agent.specs.System.{reader_of, writer_of, reads_failed, writes_failed, read_source_state, write_sink_state, runtime_of, is_file, remaining_bytes};
 
 use crate::files::Files;
@@ -136,11 +137,15 @@ impl<'a, R: FileSystem + io::Input> SystemFiles<'a, R> {
 impl<R: FileSystem + io::Input> Files for SystemFiles<'_, R> {
     type Src = ReadSource<Input<R::File, R::Reader>>;
 
+    // What a file holds is not told.
+    ghost told = { λ _ _. None };
+
     /// Opens the file of this name, or standard input.
     fn source(&mut self, name: Option<&str>) -> Result<Self::Src, Failed>
         ensures origin { IfOk result (λ source. is_file (reader_of source) ≡ is_some name.entry) }
         ensures standard_input { IsNone name.entry → IsOk result }
         ensures failures { IfOk result (λ source. reads_failed source ≡ 0) }
+        ensures gives { IfOk result (λ source. GivesAll None (read_source_state source)) }
     {
         let input = match name {
             None => Input::StandardInput(self.runtime.reader()),

@@ -22,8 +22,8 @@ pub(crate) fn verified<F: Files>(
     list: &str,
     expected: &str,
 ) -> Result<Output, RunFault>
-    ensures shown { IfOk result (λ output. ShowsReport output.text.items output.status) }
-    ensures fault { IfErr result (IsReportFault log.now list.now expected.now) }
+    ensures shown { IfOk result (λ output. ShowsReport (F.told files.old) log.now list.now expected.now output.text.items output.status) }
+    ensures fault { IfErr result (IsReportFault (F.told files.old) log.now list.now expected.now) }
 {
     let log = loaded(alloc, files, Some(log))?;
     let text = loaded(alloc, files, Some(expected))?;

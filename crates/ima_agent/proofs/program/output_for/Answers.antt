@@ -1,0 +1,7 @@
+use Rattle.std.proofs.lemmas.Result.{err_from_is_err_and}
+use Rattle.ima_agent.proofs.program.output_for.Goals as goal
+
+pub returns-in_err-shown_list-in-Show-clause-fault : goal.returns-in_err-shown_list-in-Show-clause-fault
+returns-in_err-shown_list-in-Show-clause-fault g c =
+    let p = err_from_is_err_and c.from_residual-in_err-shown_list-in-Show.result c.from_residual-in_err-shown_list-in-Show.ensures.1 in
+    rw (p.1, p.2, c.in-Show.is, ← c.deref-in-Show.ensures) c.in_err-shown_list-in-Show.ensures.fault
