@@ -1,6 +1,7 @@
 //! Files and sinks in memory.
 
 ghost use Rattle.std.specs.Prelude.{None};
+ghost use Rattle.agent_tests.specs.Devices.{bytes_of_standard_input};
 
 use boot_log::LogFault;
 use byte_streams::{Failed, Sink, SliceSource, VecSink};
@@ -19,6 +20,8 @@ pub struct StandardInput<'a>(pub &'a [u8]);
 
 impl<'a> Files for StandardInput<'a> {
     type Src = SliceSource<'a>;
+
+    ghost told = { λ input. bytes_of_standard_input input.0.now };
 
     fn source(&mut self, name: Option<&str>) -> Result<SliceSource<'a>, Failed> {
         match name {
