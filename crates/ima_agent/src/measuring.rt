@@ -9,11 +9,11 @@ ghost use Rattle.ima_agent.specs.Measuring.{AreAllDone, AreFiles, HasMeasured, I
 use crate::fault::RunFault;
 use crate::files::Files;
 use crate::inputs::loaded;
-use crate::plan::Print;
 use crate::showing::lines;
 use boot_log::read_log;
 use boot_verdict::write_registers;
 use byte_streams::VecSink;
+use command_line::Print;
 use hash_workers::{Job, NoGate, measure_files};
 use ima_list::Template;
 use measure_book::{Book, BookFault, Origin, Outcome};
