@@ -1,6 +1,8 @@
 -- What the faults of the parts are to the program. That memory ran out is one fault, wherever it ran out. All of this is this project's
 -- choice.
-use Rattle.std.specs.Prelude.{ℕ}
+use Rattle.std.specs.Prelude.{◌≡◌, ℕ, ◌⊎◌}
+use Rattle.command_line.specs.declared.fault.WordsFault.{WordsFault}
+use Rattle.command_line.specs.declared.fault.WordsFault.TheVariants as words
 use Rattle.boot_log.specs.declared.fault.LogFault.{LogFault}
 use Rattle.boot_log.specs.declared.fault.LogFault.TheVariants as logs
 use Rattle.ima_list.specs.declared.fault.ListFault.{ListFault}
@@ -15,6 +17,10 @@ use Rattle.boot_verdict.specs.declared.verifier.VerifyFault.{VerifyFault}
 use Rattle.boot_verdict.specs.declared.verifier.VerifyFault.TheVariants as verdicts
 use Rattle.ima_agent.specs.declared.fault.RunFault.{RunFault}
 use Rattle.ima_agent.specs.declared.fault.RunFault.TheVariants as runs
+
+abbrev pub fault_of_words : WordsFault → RunFault
+fault_of_words words.Usage = runs.Usage
+fault_of_words words.Memory = runs.Memory
 
 abbrev pub fault_of_log : LogFault → RunFault
 fault_of_log logs.Memory = runs.Memory
@@ -45,3 +51,7 @@ fault_of_agent agents.Memory = runs.Memory
 abbrev pub fault_of_job : ℕ → BookFault → RunFault
 fault_of_job job books.Memory = runs.Memory
 fault_of_job job fault = runs.Outcome job fault
+
+-- The words are not those of a command, or memory ran out.
+abbrev pub IsWordsFault : RunFault → Type 0
+IsWordsFault fault = (fault ≡ runs.Usage) ⊎ (fault ≡ runs.Memory)

@@ -2,7 +2,6 @@ pub mod Hexadecimal
 pub mod Loading
 pub mod Faults
 pub mod FaultTexts
-pub mod Plans
 pub mod Showing
 pub mod Verifying
 pub mod Measuring

@@ -24,8 +24,8 @@ use Rattle.boot_verdict.specs.RegisterTexts.{registers_text}
 use Rattle.ima_agent.specs.declared.fault.RunFault.{RunFault}
 use Rattle.ima_agent.specs.declared.measuring.Measuring.{Measuring}
 use Rattle.ima_agent.specs.declared.fault.RunFault.TheVariants as runs
-use Rattle.ima_agent.specs.declared.plan.Print.{Print}
-use Rattle.ima_agent.specs.declared.plan.Print.TheVariants.{Ascii, Binary, Registers}
+use Rattle.command_line.specs.declared.plan.Print.{Print}
+use Rattle.command_line.specs.declared.plan.Print.TheVariants.{Ascii, Binary, Registers}
 use Rattle.ima_agent.specs.Faults.{fault_of_log, fault_of_agent, fault_of_job}
 use Rattle.ima_agent.specs.Loading.{Inputs, Holds, IsInputFault}
 

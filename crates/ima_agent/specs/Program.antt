@@ -5,13 +5,14 @@ use Rattle.byte_streams.specs.declared.streams.Failed.{Failed}
 use Rattle.byte_streams.specs.Streams.{SinkState, Sends}
 use Rattle.ima_agent.specs.declared.fault.RunFault.{RunFault}
 use Rattle.ima_agent.specs.declared.fault.RunFault.TheVariants as runs
-use Rattle.ima_agent.specs.declared.plan.Plan.{Plan}
-use Rattle.ima_agent.specs.declared.plan.Plan.TheVariants.{Registers, Measure, Verify, Show, Help}
+use Rattle.command_line.specs.declared.plan.Plan.{Plan}
+use Rattle.command_line.specs.declared.plan.Plan.TheVariants.{Registers, Measure, Verify, Show, Help}
 use Rattle.ima_agent.specs.Loading.{Inputs, Holds, IsInputFault}
 use Rattle.ima_agent.specs.Showing.{IsNoListFor, IsRefusedFor, ShowsList, ShowsRegisters}
 use Rattle.ima_agent.specs.Measuring.{IsMeasuringFault, ShowsMeasured}
 use Rattle.ima_agent.specs.Verifying.{IsReportFault, ShowsReport}
-use Rattle.ima_agent.specs.Plans.{IsAskedBy, IsWithinRanges, IsWordsFault}
+use Rattle.command_line.specs.Plans.{IsAskedBy, IsWithinRanges}
+use Rattle.ima_agent.specs.Faults.{IsWordsFault}
 use Rattle.ima_agent.specs.FaultTexts.{fault_line, fault_status}
 
 -- ---- what is asked for

@@ -1,11 +1,12 @@
 //! Why the program did not do what it was asked for.
 
 ghost use Rattle.std.specs.Prelude.{◌≡◌};
-ghost use Rattle.ima_agent.specs.Faults.{fault_of_agent, fault_of_expected, fault_of_list, fault_of_log, fault_of_verdict};
+ghost use Rattle.ima_agent.specs.Faults.{fault_of_agent, fault_of_expected, fault_of_list, fault_of_log, fault_of_verdict, fault_of_words};
 ghost use Rattle.ima_agent.specs.declared.fault.RunFault.TheVariants.{Memory};
 
 use boot_log::LogFault;
 use boot_verdict::{ExpectFault, VerifyFault};
+use command_line::WordsFault;
 use hash_workers::AgentFault;
 use ima_list::{ListFault, ReplayFault};
 use measure_book::{BookFault, GatherFault};
@@ -56,6 +57,17 @@ pub enum RunFault {
     /// The program is out of memory.
     #[error("out of memory")]
     Memory,
+}
+
+impl From<WordsFault> for RunFault {
+    ghost from_gives = { λ words_fault fault. fault ≡ fault_of_words words_fault };
+
+    fn from(fault: WordsFault) -> Self {
+        match fault {
+            WordsFault::Usage => RunFault::Usage,
+            WordsFault::Memory => RunFault::Memory,
+        }
+    }
 }
 
 impl From<LogFault> for RunFault {

@@ -1,5 +1,5 @@
-//! The agent as a library: loading, the command line, the program, and its files and streams. The verdict and its texts are
-//! handed on from `boot_verdict`.
+//! The agent as a library: loading, the program, and its files and streams. What words ask for is handed on from `command_line`,
+//! the verdict and its texts from `boot_verdict`.
 #![tactic(auto)]
 
 mod fault;
@@ -9,7 +9,6 @@ mod inputs;
 mod loading;
 mod measuring;
 mod output;
-mod plan;
 mod program;
 mod showing;
 mod system;
@@ -21,10 +20,10 @@ pub use boot_verdict::{
     Aggregate, ExpectFault, Expected, Report, Row, State, VerifyFault, read_expected, verify,
     write_registers, write_report,
 };
+pub use command_line::{Plan, Print};
 pub use fault::RunFault;
 pub use files::Files;
 pub use loading::{LoadFault, load};
-pub use plan::{Plan, Print};
 pub use program::{exit_code, run};
 pub use system::{Input, ReadSource, SystemFiles, WriteSink};
 pub use texts::{status_of, write_fault};

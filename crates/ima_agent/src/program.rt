@@ -3,19 +3,19 @@
 ghost use Rattle.std.specs.Prelude.{◌≡◌, IfOk, IfErr};
 ghost use Rattle.std.specs.Process.{exit_status};
 ghost use Rattle.ima_agent.specs.FaultTexts.{fault_line, fault_status};
-ghost use Rattle.ima_agent.specs.Plans.{IsWithinRanges};
+ghost use Rattle.command_line.specs.Plans.{IsWithinRanges};
 ghost use Rattle.ima_agent.specs.Program.{Answers, IsFaultFor, IsFaultOf, IsOutput, IsOutputFor, IsOutputOf, ShowsFor};
 
 use crate::fault::RunFault;
 use crate::files::Files;
 use crate::measuring::{Measuring, measured};
 use crate::output::{FAILED, Output};
-use crate::plan::Plan;
 use crate::showing::{shown_list, shown_registers};
 use crate::texts::{status_of, write_fault};
 use crate::verifying::verified;
 use crate::words::read_words;
 use byte_streams::{Failed, Sink, send};
+use command_line::Plan;
 use std::alloc::Global;
 use std::io;
 use std::process::ExitCode;

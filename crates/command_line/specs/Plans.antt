@@ -2,10 +2,8 @@
 use Rattle.std.specs.Prelude.{◌≡◌, ℕ, ◌≤◌, ◌<◌, ◌^◌, ◌⊎◌, ◌||◌, Bool, IsTrue, List, [], ◌∷◌, bytes_eq, codes, String, string_bytes, vec_len}
 use Rattle.std.specs.List.{list_any}
 use Rattle.std.specs.Global.{Global}
-use Rattle.ima_agent.specs.declared.plan.Plan.{Plan}
-use Rattle.ima_agent.specs.declared.plan.Plan.TheVariants.{Registers, Measure, Verify, Show, Help}
-use Rattle.ima_agent.specs.declared.fault.RunFault.{RunFault}
-use Rattle.ima_agent.specs.declared.fault.RunFault.TheVariants as runs
+use Rattle.command_line.specs.declared.plan.Plan.{Plan}
+use Rattle.command_line.specs.declared.plan.Plan.TheVariants.{Registers, Measure, Verify, Show, Help}
 
 -- A measurement has 1 to 8 workers, a limit of at least one record, and fewer than 2^32 files.
 abbrev pub IsWithinRanges : Plan → Type 0
@@ -40,7 +38,3 @@ IsHelp plan = (text : String Global) × (plan ≡ Help text)
 abbrev pub IsAskedBy : List (String Global) → Plan → Type 0
 IsAskedBy [] plan = plan ≡ Registers
 IsAskedBy (word ∷ words) plan = IsOfCommand (string_bytes word) plan ⊎ (HasHelpWord (word ∷ words) × IsHelp plan)
-
--- The words are not those of a command, or memory ran out.
-abbrev pub IsWordsFault : RunFault → Type 0
-IsWordsFault fault = (fault ≡ runs.Usage) ⊎ (fault ≡ runs.Memory)

@@ -1,0 +1,10 @@
+//! The command line: what its words ask for.
+#![tactic(auto)]
+
+mod fault;
+mod plan;
+mod words;
+
+pub use fault::WordsFault;
+pub use plan::{Plan, Print};
+pub use words::read_words;
