@@ -17,7 +17,7 @@ use Rattle.hex.proofs.HexLemmas.{decode_of-ok}
 use Rattle.boot_verdict.specs.declared.expected.Expected.{Expected}
 use Rattle.boot_verdict.specs.declared.expected.ExpectFault.{ExpectFault}
 use Rattle.boot_verdict.specs.declared.expected.ExpectFault.TheVariants.{BadLine, DoubleLine, Memory}
-use Rattle.boot_verdict.specs.ExpectedTexts.{IsCutAt, IsRegisterLine, AreRegisterLines, AreExpected, IsExpectedText, IsLineFault, TakesLine, same_register, lines_left, cut_at_feeds, lines_of, without_return}
+use Rattle.boot_verdict.specs.ExpectedTexts.{BeginsWithRegister, IsCutAt, IsRegisterLine, AreRegisterLines, AreExpected, IsExpectedText, IsLineFault, SpellsAnother, TakesLine, same_register, lines_left, cut_at_feeds, lines_of, without_return}
 
 -- ---- a byte that a text lacks
 
@@ -250,19 +250,42 @@ left_within : (left : List ℕ) (rest : Option (Bor (List ℕ))) → IfSome rest
 left_within left None shorter = omega arith
 left_within left (Some rest) shorter = omega (arith, shorter)
 
+parts_more : (text : List ℕ) (before : List (List ℕ)) (line : List ℕ) (left rest : List (List ℕ)) → lines_of text ≡ before ++ left
+    → left ≡ line ∷ rest → lines_of text ≡ (before ++ line ∷ []) ++ rest
+parts_more text before line left rest parts first =
+    parts ∙ ap (λ (lines : List (List ℕ)). before ++ lines) first ∙ sym (append_assoc before (line ∷ []) rest)
+
 -- A line more is read.
 pub reads_more : (text line : List ℕ) (expected after : List Expected) (number : ℕ) (left : Bor (List ℕ)) (rest : Option (Bor (List ℕ)))
     → ReadsSome text expected number (Some left) → lines_of left.now ≡ line ∷ lines_left (option_map (λ r. r.now) rest)
     → IfSome rest (λ r. length r.now < length left.now) → TakesLine line expected after → ReadsSome text after (number + 1) rest
 reads_more text line expected after number left rest on first shorter takes = record {
   before = on.before ++ line ∷ [];
-  parts =
-      on.parts
-      ∙ ap (λ (lines : List (List ℕ)). on.before ++ lines) first
-      ∙ sym (append_assoc on.before (line ∷ []) (lines_left (option_map (λ r. r.now) rest)));
+  parts = parts_more text on.before line (lines_of left.now) (lines_left (option_map (λ r. r.now) rest)) on.parts first;
   are = are_more on.before line expected after on.are takes;
   count = length-append on.before (line ∷ []) ∙ ap (λ (n : ℕ). n + 1) on.count;
   within = omega (arith, on.within, left_within left.now rest shorter);
+}
+
+-- ---- a text that begins with lines that state registers
+
+another_more : (before : List (List ℕ)) (line : List ℕ) (expected : List Expected) (spells : SpellsAnother line expected)
+    → AreExpected before expected → AreExpected (before ++ line ∷ []) (expected ++ spells.0 ∷ [])
+another_more before [] expected spells are = absurd (line_has_space [] spells.0 (λ k lt. absurd (omega (arith, lt))) spells.1)
+another_more before (byte ∷ line) expected spells are =
+    are_more before (byte ∷ line) expected (expected ++ spells.0 ∷ []) are (spells.0, spells.1, spells.2, refl)
+
+-- The line after those that are read spells a register.
+pub begins_with_register : (text line : List ℕ) (expected : List Expected) (number : ℕ) (left : Bor (List ℕ)) (rest : Option (Bor (List ℕ)))
+    → ReadsSome text expected number (Some left) → lines_of left.now ≡ line ∷ lines_left (option_map (λ r. r.now) rest)
+    → SpellsAnother line expected → BeginsWithRegister text
+begins_with_register text line expected number left rest on first spells = record {
+  lines = on.before ++ line ∷ [];
+  after = lines_left (option_map (λ r. r.now) rest);
+  expected = expected ++ spells.0 ∷ [];
+  parts = parts_more text on.before line (lines_of left.now) (lines_left (option_map (λ r. r.now) rest)) on.parts first;
+  are = another_more on.before line expected spells on.are;
+  some = omega (arith, length-append expected (spells.0 ∷ []));
 }
 
 -- ---- a text that states registers has no faulty line

@@ -22,6 +22,7 @@ use Rattle.ima_list.specs.Replaying.{IsReplayed, digests_of}
 use Rattle.boot_verdict.specs.declared.expected.Expected.{Expected}
 use Rattle.boot_verdict.specs.declared.report.Aggregate.{Aggregate}
 use Rattle.boot_verdict.specs.declared.report.Row.{Row}
+use Rattle.boot_verdict.specs.declared.verifier.VerifyFault.TheVariants as faults
 use Rattle.boot_verdict.specs.Verdicts.{Verdict, verdict_on, IsVerifyFault, IsSomeLog, aggregate_of, compared, stated_aggregate, booted_aggregate, booted_value, fault_of_list, fault_of_log, final_value, row_of, row_on, state_for}
 
 -- ---- registers
@@ -127,6 +128,25 @@ log_first log list (logs.MissingDigest event) (inr first) = first
 log_first log list (logs.MissingDigest event) (inl e) = absurd cc
 log_first log list (logs.BadRegister event) (inr first) = first
 log_first log list (logs.BadRegister event) (inl e) = absurd cc
+
+-- The fault is that memory ran out only where it was that.
+pub log_memory : (fault : LogFault) → fault_of_log fault ≡ faults.Memory → fault ≡ logs.Memory
+log_memory logs.Memory e = refl
+log_memory (logs.Truncated event) e = absurd cc
+log_memory logs.NotCryptoAgile e = absurd cc
+log_memory logs.BadHeader e = absurd cc
+log_memory logs.DigestSize e = absurd cc
+log_memory logs.NoBank e = absurd cc
+log_memory (logs.UnknownAlg event) e = absurd cc
+log_memory (logs.DoubleDigest event) e = absurd cc
+log_memory (logs.MissingDigest event) e = absurd cc
+log_memory (logs.BadRegister event) e = absurd cc
+
+pub list_memory : (fault : ListFault) → fault_of_list fault ≡ faults.Memory → fault ≡ lists.Memory
+list_memory lists.Memory e = refl
+list_memory (lists.Truncated entry) e = absurd cc
+list_memory (lists.BadRegister entry) e = absurd cc
+list_memory (lists.NameTooLong entry) e = absurd cc
 
 pub list_first : (log list : List ℕ) (fault : ListFault) → IsSomeLog log → (fault ≡ lists.Memory) ⊎ IsReading list (Err fault)
     → IsVerifyFault log list (fault_of_list fault)

@@ -62,6 +62,15 @@ pub record AreExpected (lines : List (List ℕ)) (expected : List Expected) : Ty
 abbrev pub IsExpectedText : List ℕ → List Expected → Type 0
 IsExpectedText text expected = AreExpected (lines_of text) expected
 
+-- The text begins with lines that state registers, at least one.
+pub record BeginsWithRegister (text : List ℕ) : Type 0 where
+  pub lines : List (List ℕ)
+  pub after : List (List ℕ)
+  pub expected : List Expected
+  pub parts : lines_of text ≡ lines ++ after
+  pub are : AreExpected lines expected
+  pub some : 0 < length expected
+
 -- ---- faults
 
 -- What is wrong with the line of this number, after lines that spell the earlier registers: it is not empty and spells no
@@ -93,6 +102,10 @@ pub record IsCutAt (byte : ℕ) (text front rest : List ℕ) : Type 0 where
 abbrev pub lines_left : Option (List ℕ) → List (List ℕ)
 lines_left None = []
 lines_left (Some text) = lines_of text
+
+-- The line spells a register, and these are others.
+abbrev pub SpellsAnother : List ℕ → List Expected → Type 0
+SpellsAnother line earlier = (e : Expected) × IsRegisterLine line e × (list_any (λ x. same_register x e) earlier ≡ false)
 
 -- The registers after one line more.
 abbrev pub TakesLine : List ℕ → List Expected → List Expected → Type 0

@@ -1,6 +1,6 @@
 -- The verdict on a firmware log, a measurement list and expected registers. All of this is this project's choice. What events and
 -- entries make of the registers is defined with them, in boot_log and ima_list.
-use Rattle.std.specs.Prelude.{◌≡◌, ℕ, ◌&&◌, nat_lt, Bool, true, false, if◌then◌else◌, List, [], ◌∷◌, length, map, codes, bytes_eq, Option, Some, None, option_map, Ok, Err}
+use Rattle.std.specs.Prelude.{◌≡◌, ◌⊎◌, ℕ, ◌&&◌, nat_lt, Bool, true, false, if◌then◌else◌, List, [], ◌∷◌, length, map, codes, bytes_eq, Option, Some, None, option_map, Ok, Err}
 use Rattle.std.specs.List.{list_all}
 use Rattle.pcr_banks.specs.declared.alg.Alg.{Alg}
 use Rattle.pcr_banks.specs.declared.banks.Banks.{Banks}
@@ -12,14 +12,14 @@ use Rattle.pcr_banks.specs.Registers.{register_count, extended_by_all, value_at}
 use Rattle.boot_log.specs.declared.fault.LogFault.{LogFault}
 use Rattle.boot_log.specs.declared.fault.LogFault.TheVariants as logs
 use Rattle.boot_log.specs.declared.header.Row.{Row as TableRow}
-use Rattle.boot_log.specs.Spelling.{LogEvent, IsLog, algs_in}
+use Rattle.boot_log.specs.Spelling.{LogEvent, BeginsWithEvent, IsLog, algs_in}
 use Rattle.boot_log.specs.Reading.{log_fault}
 use Rattle.boot_log.specs.Replaying.{firmware_value, startup_locality}
 use Rattle.ima_list.specs.declared.fault.ListFault.{ListFault}
 use Rattle.ima_list.specs.declared.fault.ListFault.TheVariants as lists
 use Rattle.ima_list.specs.declared.replaying.ReplayFault.{ReplayFault}
 use Rattle.ima_list.specs.ListEntry.{ListEntry}
-use Rattle.ima_list.specs.Spelling.{IsReading}
+use Rattle.ima_list.specs.Spelling.{BeginsWithEntry, IsReading}
 use Rattle.ima_list.specs.Digesting.{is_violation}
 use Rattle.ima_list.specs.Fields.{FileFields, fields_of}
 use Rattle.ima_list.specs.Aggregates.{aggregated, joined_values}
@@ -143,6 +143,17 @@ pub record IsForged (list : List ℕ) (fault : ReplayFault) : Type 0 where
   pub entries : List ListEntry
   pub list_is : IsReading list (Ok entries)
   pub first : IsReplayFault entries fault
+
+-- The bytes are a list, and each of its entries is genuine.
+pub record IsGenuineList (list : List ℕ) : Type 0 where
+  pub entries : List ListEntry
+  pub list_is : IsReading list (Ok entries)
+  pub genuine : AreGenuine entries
+
+-- There is something to keep in memory: an event, at the front of the log; or, after a log, an entry, at the front of the list, or
+-- rows, after a list of genuine entries.
+abbrev pub HasSomethingToKeep : List ℕ → List ℕ → Type 0
+HasSomethingToKeep log list = BeginsWithEvent log ⊎ (IsSomeLog log × (BeginsWithEntry list ⊎ IsGenuineList list))
 
 -- Why there is no verdict: the first of these that holds, the log before the list, and the list before its entries; or memory ran out.
 abbrev pub IsVerifyFault : List ℕ → List ℕ → VerifyFault → Type 0

@@ -1,6 +1,6 @@
 //! Expected registers, read from text.
 
-ghost use Rattle.std.specs.Prelude.{◌≡◌, ◌<◌, ◌⊎◌, ℕ, List, ◌∷◌, length, decimal, option_map, IfSome, IfNone, IfOk, IfErr, OnOk};
+ghost use Rattle.std.specs.Prelude.{◌≡◌, ◌<◌, ◌⊎◌, ℕ, List, ◌∷◌, length, decimal, option_map, IfSome, IfNone, IfOk, IfErr, IsErrOf, OnOk};
 ghost use Rattle.std.specs.List.{list_any};
 ghost use Rattle.std.specs.Str.{bytes_eq};
 ghost use Rattle.std.specs.Str.Iter.{LacksByte};
@@ -8,7 +8,7 @@ ghost use Rattle.pcr_banks.specs.Registers.{register_count};
 ghost use Rattle.boot_verdict.specs.declared.expected.Expected.{Expected};
 ghost use Rattle.boot_verdict.specs.declared.expected.ExpectFault.TheVariants.{Memory};
 ghost use Rattle.boot_verdict.specs.ExpectFaults.{expect_fault_number, expect_fault_line};
-ghost use Rattle.boot_verdict.specs.ExpectedTexts.{IsCutAt, IsExpectedText, IsLineFault, IsRegisterLine, HasFirstFault, TakesLine, lines_left, lines_of, same_register, without_return};
+ghost use Rattle.boot_verdict.specs.ExpectedTexts.{BeginsWithRegister, IsCutAt, IsExpectedText, IsLineFault, IsRegisterLine, HasFirstFault, SpellsAnother, TakesLine, lines_left, lines_of, same_register, without_return};
 
 use itoa::Buffer;
 use memchr::memchr;
@@ -76,7 +76,8 @@ impl<T: Drop> From<AllocFailed<T>> for ExpectFault {
 /// value in hexadecimal digits of either case, with one space between two of them, as `sha256 4 f5a5..`.
 ///
 /// The last line feed may be missing, one carriage return at a line's end is dropped, and empty lines are skipped. The lines
-/// that [`crate::write_registers`] writes are of this form. A fault is that of the first line that is wrong.
+/// that [`crate::write_registers`] writes are of this form. A fault is that of the first line that is wrong;
+/// [`ExpectFault::Memory`] comes only where the first line that is not empty spells a register.
 pub fn read_expected(alloc: Global, text: &[u8]) -> Result<Vec<Expected>, ExpectFault>
     // What is read is what the text states.
     ensures found { IfOk result (λ expected. IsExpectedText text.now expected.items) }
@@ -85,6 +86,7 @@ pub fn read_expected(alloc: Global, text: &[u8]) -> Result<Vec<Expected>, Expect
         → IfErr result (λ fault. fault ≡ ExpectFault.Memory) }
     // Any other fault is that of the first line that is wrong.
     ensures fault { IfErr result (λ fault. (fault ≡ ExpectFault.Memory) ⊎ HasFirstFault text.now fault) }
+    ensures memory { IsErrOf result ExpectFault.Memory → BeginsWithRegister text.now }
 {
     let mut expected = Vec::new(alloc);
     let mut rest = Some(text);
@@ -102,6 +104,7 @@ pub fn read_expected(alloc: Global, text: &[u8]) -> Result<Vec<Expected>, Expect
 fn take_line(expected: &mut Vec<Expected>, number: usize, line: &[u8]) -> Result<(), ExpectFault>
     ensures taken { OnOk result (TakesLine line.now expected.old.items expected.new.items) }
     ensures fault { IfErr result (λ fault. (fault ≡ ExpectFault.Memory) ⊎ IsLineFault expected.old.items line.now number fault) }
+    ensures memory { IsErrOf result ExpectFault.Memory → SpellsAnother line.now expected.old.items }
 {
     if line.is_empty() {
         return Ok(());

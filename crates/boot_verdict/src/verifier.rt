@@ -1,6 +1,6 @@
 //! The verdict on a firmware event log, a measurement list and expected registers.
 
-ghost use Rattle.std.specs.Prelude.{◌≡◌, List, map, option_map, Ok, IfOk, IfErr};
+ghost use Rattle.std.specs.Prelude.{◌≡◌, List, map, option_map, Ok, IfOk, IfErr, IsErrOf};
 ghost use Rattle.pcr_banks.specs.declared.sets.AlgSet.{AlgSet};
 ghost use Rattle.pcr_banks.specs.Digests.{alg_of, bytes_of};
 ghost use Rattle.byte_fields.specs.Reading.{ReadsInMemory};
@@ -11,7 +11,7 @@ ghost use Rattle.ima_list.specs.ListEntry.{ListEntry};
 ghost use Rattle.ima_list.specs.Spelling.{IsReading};
 ghost use Rattle.ima_list.specs.Replaying.{AreGenuine};
 ghost use Rattle.boot_verdict.specs.declared.verifier.VerifyFault.TheVariants.{Memory, Replay};
-ghost use Rattle.boot_verdict.specs.Verdicts.{IsVerdict, IsVerifyFault, aggregate_of, compared, fault_of_list, fault_of_log, row_of, stated_aggregate, verdict_of, verdict_on};
+ghost use Rattle.boot_verdict.specs.Verdicts.{HasSomethingToKeep, IsVerdict, IsVerifyFault, aggregate_of, compared, fault_of_list, fault_of_log, row_of, stated_aggregate, verdict_of, verdict_on};
 
 use crate::expected::Expected;
 use crate::report::{Aggregate, Report, Row, State};
@@ -82,7 +82,9 @@ impl From<AllocError> for VerifyFault {
 /// Replays a firmware event log and then a measurement list, and compares the registers with the expected ones.
 ///
 /// The log is read first, then the list, and then it is replayed: an entry that is neither a violation nor has the template
-/// digest of its own bytes is refused. Each expected register is then compared, in their order.
+/// digest of its own bytes is refused. Each expected register is then compared, in their order. [`VerifyFault::Memory`]
+/// comes only where an event stands at the front of the log; or, after a log, an entry at the front of the list, or where all
+/// entries are genuine.
 pub fn verify(
     alloc: Global,
     log: &[u8],
@@ -97,6 +99,7 @@ pub fn verify(
         → ReadsInMemory VerifyFault.Memory verdict_of result (Ok (verdict_on (algs_in table) events entries expected.now)) }
     // Any other fault is the first cause.
     ensures fault { IfErr result (IsVerifyFault log.now list.now) }
+    ensures memory { IsErrOf result VerifyFault.Memory → HasSomethingToKeep log.now list.now }
 {
     let log = read_log(alloc, log)?;
     let entries = read_list(alloc, list)?;

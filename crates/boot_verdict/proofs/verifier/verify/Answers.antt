@@ -1,11 +1,15 @@
-use Rattle.std.proofs.Common.{List, length, refl, sym, ap, ◌∙◌, Ok, inl, inr, arith}
+use Rattle.std.proofs.Common.{List, length, refl, sym, ap, ◌∙◌, Ok, Err, inl, inr, arith}
 use Rattle.std.proofs.lemmas.List.{length-map}
 use Rattle.std.proofs.lemmas.Result.{err_from_is_err_and}
 use Rattle.pcr_banks.specs.declared.sets.AlgSet.{AlgSet}
+use Rattle.byte_fields.proofs.Steps.{fault_is}
+use Rattle.boot_log.specs.declared.fault.LogFault.{LogFault}
 use Rattle.boot_log.specs.Spelling.{LogEvent, algs_in, log_event_of}
 use Rattle.boot_log.specs.BootLog.{algs_of, events_of}
+use Rattle.ima_list.specs.declared.fault.ListFault.{ListFault}
+use Rattle.boot_verdict.specs.declared.verifier.VerifyFault.TheVariants.{Memory}
 use Rattle.boot_verdict.specs.Verdicts.{IsSomeLog, Verdict, fault_of_list, fault_of_log}
-use Rattle.boot_verdict.proofs.VerdictLaws.{list_first, log_first, ok_same, verdict_on_same, verdict_same}
+use Rattle.boot_verdict.proofs.VerdictLaws.{list_first, list_memory, log_first, log_memory, ok_same, verdict_on_same, verdict_same}
 use Rattle.boot_verdict.proofs.verifier.verify.Goals as goal
 
 pub returns-in_err-log-clause-only : goal.returns-in_err-log-clause-only
@@ -22,6 +26,14 @@ returns-in_err-log-clause-fault c =
     let p = err_from_is_err_and c.from_residual.result c.from_residual.ensures.1 in
     rw (p.1, p.2) (log_first c.args.log.now c.args.list.now c.in_err-log.field-0.0 c.in_err-log.ensures.fault)
 
+pub returns-in_err-log-clause-memory : goal.returns-in_err-log-clause-memory
+returns-in_err-log-clause-memory c =
+    let p = err_from_is_err_and c.from_residual.result c.from_residual.ensures.1 in
+    let fault = c.in_err-log.field-0.0 in
+    λ memory.
+    let same = log_memory fault (fault_is c.from_residual.result p.0 (fault_of_log fault) Memory p.1 p.2 memory) in
+    inl (c.in_err-log.ensures.memory (ap (λ (f : LogFault). Err f) same))
+
 pub returns-in_err-entries-clause-only : goal.returns-in_err-entries-clause-only
 returns-in_err-entries-clause-only c =
     let p = err_from_is_err_and c.from_residual-in_err-entries.result c.from_residual-in_err-entries.ensures.1 in
@@ -37,6 +49,16 @@ returns-in_err-entries-clause-fault c =
     let found = c.in_ok-log.ensures.found in
     let is : IsSomeLog c.args.log.now = record { table = found.0; events = events_of c.in_ok-log.log; log_is = found.1 } in
     rw (p.1, p.2) (list_first c.args.log.now c.args.list.now c.in_err-entries.field-0.0 is c.in_err-entries.ensures.fault)
+
+pub returns-in_err-entries-clause-memory : goal.returns-in_err-entries-clause-memory
+returns-in_err-entries-clause-memory c =
+    let p = err_from_is_err_and c.from_residual-in_err-entries.result c.from_residual-in_err-entries.ensures.1 in
+    let found = c.in_ok-log.ensures.found in
+    let is : IsSomeLog c.args.log.now = record { table = found.0; events = events_of c.in_ok-log.log; log_is = found.1 } in
+    let fault = c.in_err-entries.field-0.0 in
+    λ memory.
+    let same = list_memory fault (fault_is c.from_residual-in_err-entries.result p.0 (fault_of_list fault) Memory p.1 p.2 memory) in
+    inr (is, inl (c.in_err-entries.ensures.memory (ap (λ (f : ListFault). Err f) same)))
 
 pub returns-in_err-now-clause-only : goal.returns-in_err-now-clause-only
 returns-in_err-now-clause-only c =
@@ -62,6 +84,19 @@ pub returns-in_err-rows_on-clause-only : goal.returns-in_err-rows_on-clause-only
 returns-in_err-rows_on-clause-only c =
     let p = err_from_is_err_and c.from_residual-in_err-rows_on.result c.from_residual-in_err-rows_on.ensures.1 in
     λ table events entries log list genuine. rw (p.1, p.2) (inl refl)
+
+pub returns-in_err-rows_on-clause-memory : goal.returns-in_err-rows_on-clause-memory
+returns-in_err-rows_on-clause-memory c =
+    let found = c.in_ok-log.ensures.found in
+    λ memory.
+    inr (
+      record { table = found.0; events = events_of c.in_ok-log.log; log_is = found.1 },
+      inr (record {
+        entries = c.in_ok-entries.entries.items;
+        list_is = c.in_ok-entries.ensures.found;
+        genuine = rw c.deref.ensures.value at (c.in_ok-now.ensures.exact.0 refl);
+      }),
+    )
 
 pub returns-in_err-rows_on-clause-fault : goal.returns-in_err-rows_on-clause-fault
 returns-in_err-rows_on-clause-fault c =
