@@ -1,6 +1,6 @@
 -- What the words of the command line ask for. All of this is this project's choice.
-use Rattle.std.specs.Prelude.{◌≡◌, ℕ, ◌≤◌, ◌<◌, ◌^◌, ◌⊎◌, ◌||◌, Bool, IsTrue, List, [], ◌∷◌, bytes_eq, codes, String, string_bytes, vec_len}
-use Rattle.std.specs.List.{list_any}
+use Rattle.std.specs.Prelude.{◌≡◌, ℕ, ◌≤◌, ◌<◌, ◌^◌, ◌⊎◌, ◌||◌, ◌==◌, Bool, IsTrue, List, [], ◌∷◌, bytes_eq, codes, String, string_bytes, vec_len}
+use Rattle.std.specs.List.{list_any, starts_with}
 use Rattle.std.specs.Global.{Global}
 use Rattle.command_line.specs.declared.plan.Plan.{Plan}
 use Rattle.command_line.specs.declared.plan.Plan.TheVariants.{Registers, Measure, Verify, Show, Help}
@@ -22,9 +22,9 @@ IsOfCommand command (Verify log list expected) = command ≡ codes "verify"
 IsOfCommand command (Show list) = command ≡ codes "show"
 IsOfCommand command (Help text) = ⊥
 
--- The word asks for help.
+-- The word asks for help: it is `--help`, or short options of which the first is `-h`.
 abbrev pub asks_help : List ℕ → Bool
-asks_help word = bytes_eq word (codes "--help") || bytes_eq word (codes "-h")
+asks_help word = bytes_eq word (codes "--help") || starts_with (λ a b. a == b) word (codes "-h")
 
 -- Some word asks for help.
 abbrev pub HasHelpWord : List (String Global) → Type 0

@@ -7,4 +7,4 @@ mod words;
 
 pub use fault::WordsFault;
 pub use plan::{Plan, Print};
-pub use words::read_words;
+pub use words::{read_words, words_after_name};

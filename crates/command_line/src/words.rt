@@ -1,6 +1,8 @@
 //! The words of the command line.
 
-ghost use Rattle.std.specs.Prelude.{◌≡◌, ◌⊎◌, [], Ok, codes, string_bytes, IfOk};
+ghost use Rattle.std.specs.Prelude.{◌≡◌, ◌⊎◌, [], Ok, Some, codes, drop, map, string_bytes, IfOk};
+ghost use Rattle.clap.specs.Words.{first_value, found_of};
+ghost use Rattle.std.specs.Vec.Iter.{into_iter_items};
 ghost use Rattle.command_line.specs.Plans.{HasHelpWord, IsAskedBy, IsHelp, IsOfCommand, IsWithinRanges, asks_help};
 ghost use Rattle.std.specs.List.{list_any};
 ghost use Rattle.command_line.specs.declared.plan.Plan.TheVariants.{Registers};
@@ -12,6 +14,7 @@ use clap::{Arg, ArgAction, ArgMatches, Command, Error, value_parser};
 use ima_list::Template;
 use pcr_banks::Alg;
 use std::alloc::{AllocError, Global};
+use std::env::Args;
 
 /// The names of the algorithms that files are measured by.
 static ALGS: [&str; 3] = ["sha1", "sha256", "sha384"];
@@ -24,6 +27,14 @@ static PRINTS: [&str; 3] = ["ascii", "binary", "registers"];
 
 /// The greatest number of workers.
 const MOST_WORKERS: usize = 8;
+
+/// What the help of the program and of each command ends with.
+const STATUSES: &str = "\
+Exit status:
+  0  done; of verify: the expected registers and the list's boot aggregate match
+  1  of verify: an expected register or the boot aggregate does not match
+  2  the words or an input are refused
+  3  memory ran out, or a device failed";
 
 /// What the words of the command line ask for, the program's name left out. No words ask for the registers of the log on
 /// standard input; else the first word is the command.
@@ -39,6 +50,13 @@ pub fn read_words(alloc: Global, words: &[String]) -> Result<Plan, WordsFault>
         None => Ok(Plan::Registers),
         Some(command) => plan_in(alloc, words, command),
     }
+}
+
+/// The words after the first, which is the program's name.
+pub fn words_after_name(alloc: Global, words: Args) -> Result<Vec<String>, AllocError>
+    ensures { IfOk result (λ rest. rest.items ≡ drop 1 (into_iter_items words)) }
+{
+    words.skip(1).collect(alloc)
 }
 
 // The command of this name that the words give, or the help that they ask for.
@@ -116,18 +134,24 @@ fn print_named(name: &str) -> Result<Print, WordsFault> {
     }
 }
 
-// The word of this argument.
-fn text_of<'a>(matches: &ArgMatches<'a>, id: &str) -> Result<&'a str, WordsFault> {
+// The first word of this argument.
+fn text_of<'a>(matches: &ArgMatches<'a>, id: &str) -> Result<&'a str, WordsFault>
+    ensures { IfOk result (λ text. first_value (found_of matches.now) id.now ≡ Some text.now) }
+{
     matches.get_str(id).ok_or(WordsFault::Usage)
 }
 
-// A copy of the word of this argument.
-fn name_of(alloc: Global, matches: &ArgMatches, id: &str) -> Result<String, WordsFault> {
+// A copy of the first word of this argument.
+fn name_of(alloc: Global, matches: &ArgMatches, id: &str) -> Result<String, WordsFault>
+    ensures { IfOk result (λ name. first_value (found_of matches.now) id.now ≡ Some (string_bytes name)) }
+{
     Ok(String::from_str(alloc, text_of(matches, id)?)?)
 }
 
 // A copy of each word.
-fn names_of(alloc: Global, words: &[&str]) -> Result<Vec<String>, AllocError> {
+fn names_of(alloc: Global, words: &[&str]) -> Result<Vec<String>, AllocError>
+    ensures { IfOk result (λ names. map string_bytes names.items ≡ map (λ word. word.now) words.now) }
+{
     let mut names = Vec::new(alloc);
     for word in words {
         names.push(String::from_str(alloc, word)?)?;
@@ -135,13 +159,11 @@ fn names_of(alloc: Global, words: &[&str]) -> Result<Vec<String>, AllocError> {
     Ok(names)
 }
 
-// Whether some word asks for help.
+// Whether some word asks for help. A word that begins with `-h` is short options, of which the first is help.
 fn has_help_word(words: &[String]) -> bool
     ensures { result ≡ list_any (λ word. asks_help (string_bytes word)) words.now }
 {
-    words
-        .iter()
-        .any(|word| word.as_str() == "--help" || word.as_str() == "-h")
+    words.iter().any(|word| word.as_str() == "--help" || word.as_bytes().starts_with(b"-h"))
 }
 
 // The help, where it was asked for; else the words are wrong, or memory ran out.
@@ -177,11 +199,13 @@ fn with_command<'a>(
 fn program<'a>(alloc: Global) -> Command<'a> {
     Command::new(alloc, "ima-agent")
         .about(
-            "Replays firmware event logs and IMA measurement lists, measures files, and compares registers.",
+            "\
+Replays firmware event logs and IMA measurement lists, measures files, and compares registers.
+
+Without a command: reads a firmware event log in hexadecimal from standard input, at most 64 MiB,
+and prints the registers that differ from their reset values.",
         )
-        .after_help(
-            "Without a command: reads a firmware event log in hexadecimal from standard input, and prints the registers that differ from their reset values.",
-        )
+        .after_help(STATUSES)
         .no_binary_name(true)
         .disable_help_subcommand(true)
         .subcommand_required(true)
@@ -190,17 +214,19 @@ fn program<'a>(alloc: Global) -> Command<'a> {
 fn measure_command<'a>(alloc: Global) -> Result<Command<'a>, AllocError> {
     Command::new(alloc, "measure")
         .about(
-            "Measures files in their order into the registers that a firmware event log makes, and prints what that gives",
+            "Measures files into the registers that a firmware event log makes, and prints the result",
         )
+        .after_help(STATUSES)
         .args(measure_arguments(alloc)?)
 }
 
 // The options and the inputs of `measure`.
 fn measure_arguments<'a>(alloc: Global) -> Result<Vec<Arg<'a>>, AllocError> {
-    let algs = "Hash algorithm of the files' digests";
+    let algs = "Hash algorithm of the files' digests\n";
     let templates = "Template of the list's entries";
-    let prints =
-        "What to print: the list as text, the binary list, or the registers that differ from reset";
+    let prints = "\
+What to print: the list as text, the binary list, or the registers that
+differ from their reset values\n";
     Ok(vec![in alloc;
         choice(alloc, "alg", "A", "sha256", &ALGS, algs),
         choice(alloc, "template", "T", "ima-ng", &TEMPLATES, templates),
@@ -214,21 +240,24 @@ fn measure_arguments<'a>(alloc: Global) -> Result<Vec<Arg<'a>>, AllocError> {
 
 fn verify_command<'a>(alloc: Global) -> Result<Command<'a>, AllocError> {
     Command::new(alloc, "verify")
-        .about(
-            "Replays a firmware event log and a measurement list, and compares the registers with the expected ones; the status is 0 where they match, and 1 where they differ",
-        )
+        .about("Replays a firmware event log and a measurement list, and compares the registers")
+        .after_help(STATUSES)
         .arg(input(alloc, "LOG", "Firmware event log, binary, at most 64 MiB"))?
         .arg(input(alloc, "LIST", "Measurement list, binary, at most 64 MiB"))?
         .arg(input(
             alloc,
             "EXPECTED",
-            "Expected registers, at most 64 MiB, a line each: algorithm, register and value in hexadecimal",
+            "\
+Expected registers, at most 64 MiB, a line each: algorithm, register and value
+in hexadecimal. A file without a line compares no register: it matches whatever
+the registers are, if the list's boot aggregate does",
         ))
 }
 
 fn show_command<'a>(alloc: Global) -> Result<Command<'a>, AllocError> {
     Command::new(alloc, "show")
         .about("Prints the entries of a measurement list as text, one line each")
+        .after_help(STATUSES)
         .arg(input(alloc, "LIST", "Measurement list, binary, at most 64 MiB"))
 }
 
@@ -260,7 +289,11 @@ fn workers_option<'a>(alloc: Global) -> Arg<'a> {
         .value_name("N")
         .value_parser(value_parser!(usize).range(1..=MOST_WORKERS as i64))
         .default_value("2")
-        .help("How many workers hash files at once, 1 to 8")
+        .help(
+            "\
+How many workers hash files at once, 1 to 8. Only with 1 are files measured in
+their order, so that each run gives the same list and registers",
+        )
 }
 
 fn limit_option<'a>(alloc: Global) -> Arg<'a> {
@@ -269,7 +302,7 @@ fn limit_option<'a>(alloc: Global) -> Arg<'a> {
         .value_name("N")
         .value_parser(value_parser!(u32).range(1..))
         .default_value("100000")
-        .help("The greatest number of records, the opening's included, 1 to 4294967295")
+        .help("The greatest number of records, the opening's included, 1 to 4294967295\n")
 }
 
 fn files_argument<'a>(alloc: Global) -> Arg<'a> {

@@ -20,7 +20,7 @@ pub use boot_verdict::{
     Aggregate, ExpectFault, Expected, Report, Row, State, VerifyFault, read_expected, verify,
     write_registers, write_report,
 };
-pub use command_line::{Plan, Print};
+pub use command_line::{Plan, Print, words_after_name};
 pub use fault::RunFault;
 pub use files::Files;
 pub use loading::{LoadFault, load};

@@ -1,14 +1,14 @@
 //! The program `ima-agent`, which is `ima_agent::exit_code` over the system's files and streams.
 #![tactic(auto)]
 
-use ima_agent::{SystemFiles, WriteSink, exit_code};
+use ima_agent::{SystemFiles, WriteSink, exit_code, words_after_name};
 use std::process::ExitCode;
 use std::rt::Env;
 use std::{env, io};
 
 /// The words after the program's name; an error where memory runs out, or one is not UTF-8.
 fn words(rt: &(impl Env + AllocGlobal)) -> io::Result<Vec<String>> {
-    Ok(env::args(rt)?.skip(1).collect(rt.alloc())?)
+    Ok(words_after_name(rt.alloc(), env::args(rt)?)?)
 }
 
 fn main(rt: HostRuntime) -> ExitCode {
