@@ -15,11 +15,9 @@ use Rattle.measure_book.specs.Histories.{refusal_of, op_refusal}
 use Rattle.measure_book.specs.Groups as groups
 use Rattle.measure_book.specs.Groups.{groups_of, outcome_at, HasReceipt, AccountsForAll, IsNamed, SaysFull}
 use Rattle.measure_book.specs.Books.{BookState}
-use Rattle.hash_workers.specs.declared.work.Work.{Work}
 use Rattle.hash_workers.specs.Taking.{Took, HandsOutEach, RiseForEach}
 use Rattle.hash_workers.specs.Working.{IsOutcomeOfJob}
 use Rattle.hash_workers.specs.Scattering.{items_of, got_at, ArePairs, AreScattered}
-use Rattle.hash_workers.specs.Seats.{AreWorksOf, taken_of, outcomes_of}
 use Rattle.hash_workers.specs.Batches.{IsReceiptOfJob, IsRefusalOfJob, IsBatch}
 use Rattle.hash_workers.proofs.CutLaws.{map_at, at_map, list_at, at_list, within_at}
 
@@ -39,7 +37,7 @@ at_groups gs worker i =
     ∙ sym (ap (λ (o : Option (List Outcome)). option_map book_outcome_of (option_and_then (λ (xs : List Outcome). slice_get xs i) o))
     (slice_get-map items_of gs worker))
 
-in_groups : (gs : List (Vec Outcome Global)) (worker i : ℕ) (outcome : Outcome) → got_at (map items_of gs) worker i ≡ Some outcome
+pub in_groups : (gs : List (Vec Outcome Global)) (worker i : ℕ) (outcome : Outcome) → got_at (map items_of gs) worker i ≡ Some outcome
     → outcome_at (groups_of gs) worker i ≡ Some (book_outcome_of outcome)
 in_groups gs worker i outcome got = at_groups gs worker i ∙ ap (option_map book_outcome_of) got
 
@@ -48,7 +46,7 @@ mapped : (o : Option Outcome) (b : BookOutcome) → option_map book_outcome_of o
 mapped None b is = absurd (none-some b is)
 mapped (Some x) b is = (x, refl, same_Some (book_outcome_of x) b is)
 
-from_groups : (gs : List (Vec Outcome Global)) (worker i : ℕ) (b : BookOutcome) → outcome_at (groups_of gs) worker i ≡ Some b
+pub from_groups : (gs : List (Vec Outcome Global)) (worker i : ℕ) (b : BookOutcome) → outcome_at (groups_of gs) worker i ≡ Some b
     → (x : Outcome) × (got_at (map items_of gs) worker i ≡ Some x) × (book_outcome_of x ≡ b)
 from_groups gs worker i b has = mapped (got_at (map items_of gs) worker i) b (sym (at_groups gs worker i) ∙ has)
 
@@ -67,7 +65,7 @@ outcome_for takings gs worker i job pairs took =
     let here = within_at group.0 i (omega arith) in
     (here.0, at_list gs worker i group.0 here.0 group.1 here.1)
 
-job_for : {X : Type 0} (takings : List (List ℕ)) (gs : List (List X)) (worker i : ℕ) (x : X) → ArePairs takings gs
+pub job_for : {X : Type 0} (takings : List (List ℕ)) (gs : List (List X)) (worker i : ℕ) (x : X) → ArePairs takings gs
     → got_at gs worker i ≡ Some x
     → (job : ℕ) × Took takings worker i job
 job_for takings gs worker i x pairs got =
@@ -107,27 +105,6 @@ source_of count takings gs outcomes by job outcome hands pairs scattered size ha
       has = in_groups gs taken.worker taken.index got.0 got.1 ∙ ap (λ (b : BookOutcome). Some b) (ap book_outcome_of same ∙ from.2);
       by_is = placed.1;
     }
-
--- ---- what a worker says of its jobs
-
-of_job : (origin : Origin) (ops : List BookOp) (workers count : ℕ) (works : List Work) (takings : List (List ℕ))
-    (gs : List (Vec Outcome Global)) (worker i job : ℕ) (outcome : BookOutcome)
-    → AreWorksOf origin ops workers count works → takings ≡ map taken_of works → map items_of gs ≡ map outcomes_of works
-    → Took takings worker i job → outcome_at (groups_of gs) worker i ≡ Some outcome → IsOutcomeOfJob origin ops job outcome
-of_job origin ops workers count works takings gs worker i job outcome are takings_are groups_are took has =
-    let At : List (List ℕ) → Type 0 = λ ts. Took ts worker i job in
-    let taken = list_at (map taken_of works) worker i job (subst At takings_are took) in
-    let here = map_at taken_of works worker taken.0 taken.1 in
-    let got = from_groups gs worker i outcome has in
-    let Of : List (List Outcome) → Type 0 = λ xs. got_at xs worker i ≡ Some got.0 in
-    let group = list_at (map outcomes_of works) worker i got.0 (subst Of groups_are got.1) in
-    let there = map_at outcomes_of works worker group.0 group.1 in
-    let same : there.0 ≡ here.0 = same_Some there.0 here.0 (sym there.1 ∙ here.1) in
-    let For : List ℕ → Type 0 = λ xs. slice_get xs i ≡ Some job in
-    let To : List Outcome → Type 0 = λ xs. slice_get xs i ≡ Some got.0 in
-    let outcome_here : slice_get here.0.outcomes.items i ≡ Some got.0 = subst To (sym there.2 ∙ ap outcomes_of same) group.2 in
-    (are.each worker here.0 here.1).worked.each i job outcome (subst For (sym here.2) taken.2)
-    (at_map book_outcome_of here.0.outcomes.items i got.0 outcome_here ∙ ap (λ (b : BookOutcome). Some b) got.2)
 
 -- ---- refusals at the book's end
 
@@ -187,12 +164,12 @@ refused_op origin ops count job fault of not_memory full = elim of.becomes [
 ]
 
 -- All that is known once the outcomes are scattered.
-pub record IsSettled (origin : Origin) (ops : List BookOp) (workers : ℕ) (book : BookState) (works : List Work) (takings : List (List ℕ))
+pub record IsSettled (origin : Origin) (ops : List BookOp) (workers : ℕ) (book : BookState) (takings : List (List ℕ))
     (gs : List (Vec Outcome Global))
     (outcomes : List Outcome) (by : List ℕ) : Type 0 where
-  pub are : AreWorksOf origin ops workers (length ops) works
-  pub takings_are : takings ≡ map taken_of works
-  pub groups_are : map items_of gs ≡ map outcomes_of works
+  pub one_each : length takings ≡ workers
+  pub of_jobs : (worker i job : ℕ) (outcome : BookOutcome) → Took takings worker i job → outcome_at (groups_of gs) worker i ≡ Some outcome
+      → IsOutcomeOfJob origin ops job outcome
   pub hands : HandsOutEach (length ops) takings
   pub rises : RiseForEach takings
   pub pairs : ArePairs takings (map items_of gs)
@@ -201,11 +178,11 @@ pub record IsSettled (origin : Origin) (ops : List BookOp) (workers : ℕ) (book
   pub outcomes_len : length outcomes ≡ length ops
   pub by_len : length by ≡ length ops
 
-below_workers : (origin : Origin) (ops : List BookOp) (workers : ℕ) (book : BookState) (works : List Work) (takings : List (List ℕ))
+below_workers : (origin : Origin) (ops : List BookOp) (workers : ℕ) (book : BookState) (takings : List (List ℕ))
     (gs : List (Vec Outcome Global))
-    (outcomes : List Outcome) (by : List ℕ) (job worker : ℕ) → IsSettled origin ops workers book works takings gs outcomes by
+    (outcomes : List Outcome) (by : List ℕ) (job worker : ℕ) → IsSettled origin ops workers book takings gs outcomes by
     → slice_get by job ≡ Some worker → worker < workers
-below_workers origin ops workers book works takings gs outcomes by job worker s has =
+below_workers origin ops workers book takings gs outcomes by job worker s has =
     let within = slice_get_within by job worker has in
     let by_len = s.by_len in
     let taken = s.hands.each job (omega arith) in
@@ -214,26 +191,24 @@ below_workers origin ops workers book works takings gs outcomes by job worker s 
     let same : taken.worker ≡ worker = same_Some taken.worker worker (sym placed.1 ∙ has) in
     let list = list_at takings taken.worker taken.index job taken.took in
     let inside = slice_get_within takings taken.worker list.0 list.1 in
-    let lengths : length takings ≡ length works = ap length s.takings_are ∙ length-map works taken_of in
-    let one_each = s.are.one_each in
+    let one_each = s.one_each in
     omega arith
 
-source : (origin : Origin) (ops : List BookOp) (workers : ℕ) (book : BookState) (works : List Work) (takings : List (List ℕ))
+source : (origin : Origin) (ops : List BookOp) (workers : ℕ) (book : BookState) (takings : List (List ℕ))
     (gs : List (Vec Outcome Global))
     (outcomes : List Outcome) (by : List ℕ) (job : ℕ) (outcome : BookOutcome)
-    → IsSettled origin ops workers book works takings gs outcomes by
+    → IsSettled origin ops workers book takings gs outcomes by
     → slice_get (map book_outcome_of outcomes) job ≡ Some outcome → Source takings gs by job outcome
-source origin ops workers book works takings gs outcomes by job outcome s has =
+source origin ops workers book takings gs outcomes by job outcome s has =
     source_of (length ops) takings gs outcomes by job outcome s.hands s.pairs s.scattered s.outcomes_len has
 
-of_source : (origin : Origin) (ops : List BookOp) (workers : ℕ) (book : BookState) (works : List Work) (takings : List (List ℕ))
+of_source : (origin : Origin) (ops : List BookOp) (workers : ℕ) (book : BookState) (takings : List (List ℕ))
     (gs : List (Vec Outcome Global))
     (outcomes : List Outcome) (by : List ℕ) (job : ℕ) (outcome : BookOutcome)
-    → IsSettled origin ops workers book works takings gs outcomes by
+    → IsSettled origin ops workers book takings gs outcomes by
     → Source takings gs by job outcome → IsOutcomeOfJob origin ops job outcome
-of_source origin ops workers book works takings gs outcomes by job outcome s from =
-    of_job origin ops workers (length ops) works takings gs from.worker from.index job outcome s.are s.takings_are s.groups_are from.took
-    from.has
+of_source origin ops workers book takings gs outcomes by job outcome s from =
+    s.of_jobs from.worker from.index job outcome from.took from.has
 
 rise_by : (book : BookState) (origin : Origin) (takings : List (List ℕ)) (gs : List (Vec Outcome Global)) (worker i k first second : ℕ)
     (earlier later : BookReceipt)
@@ -251,24 +226,24 @@ rise_by book origin takings gs worker i k first second earlier later accounts ri
   ]
 ]
 
-pub batch_of : (origin : Origin) (ops : List BookOp) (workers : ℕ) (book : BookState) (works : List Work) (takings : List (List ℕ))
+pub batch_of : (origin : Origin) (ops : List BookOp) (workers : ℕ) (book : BookState) (takings : List (List ℕ))
     (gs : List (Vec Outcome Global))
-    (outcomes : List Outcome) (by : List ℕ) → IsSettled origin ops workers book works takings gs outcomes by
+    (outcomes : List Outcome) (by : List ℕ) → IsSettled origin ops workers book takings gs outcomes by
     → IsBatch origin ops workers book (map book_outcome_of outcomes) by
-batch_of origin ops workers book works takings gs outcomes by s = record {
+batch_of origin ops workers book takings gs outcomes by s = record {
   origin_is = s.accounts.origin_is;
   outcomes_of_all = length-map outcomes book_outcome_of ∙ s.outcomes_len;
   workers_of_all = s.by_len;
-  worker_below = λ job worker has. below_workers origin ops workers book works takings gs outcomes by job worker s has;
+  worker_below = λ job worker has. below_workers origin ops workers book takings gs outcomes by job worker s has;
   receipts = λ job receipt has.
-      let from = source origin ops workers book works takings gs outcomes by job (done receipt) s has in
-      done_op origin ops job receipt (of_source origin ops workers book works takings gs outcomes by job (done receipt) s from);
+      let from = source origin ops workers book takings gs outcomes by job (done receipt) s has in
+      done_op origin ops job receipt (of_source origin ops workers book takings gs outcomes by job (done receipt) s from);
   names = λ job receipt has.
-      let from = source origin ops workers book works takings gs outcomes by job (done receipt) s has in
+      let from = source origin ops workers book takings gs outcomes by job (done receipt) s has in
       s.accounts.names.each from.worker from.index receipt from.has;
   apart = λ job other receipt another has also same.
-      let from = source origin ops workers book works takings gs outcomes by job (done receipt) s has in
-      let there = source origin ops workers book works takings gs outcomes by other (done another) s also in
+      let from = source origin ops workers book takings gs outcomes by job (done receipt) s has in
+      let there = source origin ops workers book takings gs outcomes by other (done another) s also in
       let one = same_source book origin gs from.worker there.worker from.index there.index receipt another s.accounts from.has there.has
       same in
       let At : ℕ → Type 0 = λ w. Took takings w from.index job in
@@ -286,8 +261,8 @@ batch_of origin ops workers book works takings gs outcomes by s = record {
         place_is = named.place_is;
       };
   rise = λ worker first second earlier later order by_first by_second has also.
-      let from = source origin ops workers book works takings gs outcomes by first (done earlier) s has in
-      let there = source origin ops workers book works takings gs outcomes by second (done later) s also in
+      let from = source origin ops workers book takings gs outcomes by first (done earlier) s has in
+      let there = source origin ops workers book takings gs outcomes by second (done later) s also in
       let one : from.worker ≡ there.worker = same_Some from.worker there.worker (sym from.by_is ∙ by_first ∙ sym by_second ∙ there.by_is)
       in
       let At : ℕ → Type 0 = λ w. Took takings w from.index first in
@@ -295,9 +270,9 @@ batch_of origin ops workers book works takings gs outcomes by s = record {
       rise_by book origin takings gs there.worker from.index there.index first second earlier later s.accounts s.rises order
       (subst At one from.took) there.took (subst Of one from.has) there.has;
   refusals = λ job fault has not_memory.
-      let from = source origin ops workers book works takings gs outcomes by job (refused fault) s has in
+      let from = source origin ops workers book takings gs outcomes by job (refused fault) s has in
       let Says : BookFault → Type 0 = λ f. outcome_at (groups_of gs) from.worker from.index ≡ Some (refused f) in
-      refused_op origin ops (length book.records) job fault (of_source origin ops workers book works takings gs outcomes by job
+      refused_op origin ops (length book.records) job fault (of_source origin ops workers book takings gs outcomes by job
       (refused fault) s from) not_memory
       (λ full. s.accounts.full (record { group = from.worker; index = from.index; stands = subst Says full from.has }) ∙ ap
       (λ (o : Origin). o.limit) s.accounts.origin_is);

@@ -67,12 +67,12 @@ work_of origin ops workers count worker cuts cut result work known is same works
 
 -- ---- cuts
 
-whole_of : (workers count worker : ℕ) (taken : List ℕ) (end : End) → IsEnd workers count worker taken end → end ≢ OutOfMemory
-    → end ≢ ForeignBook
+whole_of : (origin : Origin) (workers count worker : ℕ) (taken : List ℕ) (end : End) → IsEnd origin workers count worker taken end
+    → end ≢ OutOfMemory → end ≢ ForeignBook
     → IsWholeCut workers count worker taken
-whole_of workers count worker taken NoneLeft ends not_memory not_foreign = ends
-whole_of workers count worker taken OutOfMemory ends not_memory not_foreign = absurd (not_memory refl)
-whole_of workers count worker taken ForeignBook ends not_memory not_foreign = absurd (not_foreign refl)
+whole_of origin workers count worker taken NoneLeft ends not_memory not_foreign = ends
+whole_of origin workers count worker taken OutOfMemory ends not_memory not_foreign = absurd (not_memory refl)
+whole_of origin workers count worker taken ForeignBook ends not_memory not_foreign = absurd (not_foreign refl)
 
 -- The work that a job was taken in.
 work_at : (works : List Work) (worker i job : ℕ) → Took (map taken_of works) worker i job
@@ -119,7 +119,7 @@ cuts_hand_out origin ops workers count works some are not_memory not_foreign = r
       let here = within_at works (job % workers) (omega arith) in
       let within = slice_get_within works (job % workers) here.0 here.1 in
       let known = are.each (job % workers) here.0 here.1 in
-      let whole = whole_of workers count (job % workers) here.0.taken.items here.0.end known.ends
+      let whole = whole_of origin workers count (job % workers) here.0.taken.items here.0.end known.ends
       (not_memory.each (job % workers) here.0 within here.1) (not_foreign.each (job % workers) here.0 within here.1) in
       let took = taken_by workers count (job % workers) (job / workers) here.0.taken.items some known.follows whole (omega arith) in
       record {
@@ -169,21 +169,6 @@ works_pair origin ops workers count works are = record {
 }
 
 -- ---- the same of what the code shows
-
-no_end_of : (works shown : List Work) (end : End) → shown ≡ works → HasNoEnd shown end (length shown) → HasNoEnd works end (length works)
-no_end_of works shown end is none = let At : List Work → Type 0 = λ ws. HasNoEnd ws end (length ws) in subst At is none
-
-pub hands_of : (origin : Origin) (ops : List BookOp) (workers count n : ℕ) (works first second : List Work) (takings : List (List ℕ))
-    → 0 < workers → n ≡ count
-    → AreWorksOf origin ops workers count works → first ≡ works → HasNoEnd first OutOfMemory (length first) → second ≡ works
-    → HasNoEnd second ForeignBook (length second)
-    → takings ≡ map taken_of works → HandsOutEach n takings
-hands_of origin ops workers count n works first second takings some size are first_is not_memory second_is not_foreign is =
-    let At : List (List ℕ) → Type 0 = λ ts. HandsOutEach n ts in
-    let Of : ℕ → Type 0 = λ m. HandsOutEach m (map taken_of works) in
-    subst At (sym is) (subst Of (sym size)
-    (cuts_hand_out origin ops workers count works some are (no_end_of works first OutOfMemory first_is not_memory)
-    (no_end_of works second ForeignBook second_is not_foreign)))
 
 pub rises_of : (origin : Origin) (ops : List BookOp) (workers count : ℕ) (works : List Work) (takings : List (List ℕ)) → 0 < workers
     → AreWorksOf origin ops workers count works

@@ -4,3 +4,4 @@ pub mod EndLaws
 pub mod CutLaws
 pub mod BatchLaws
 pub mod FaultLaws
+pub mod SettlingLaws

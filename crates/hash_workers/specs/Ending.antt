@@ -83,8 +83,14 @@ StopsFor origin told now_told NoneLeft = ⊥
 StopsFor origin told now_told OutOfMemory = now_told ≡ told
 StopsFor origin told now_told ForeignBook = IsForeign origin told now_told
 
--- Why a worker takes no more jobs: none is left only where it took all of its cut.
-abbrev pub IsEnd : ℕ → ℕ → ℕ → List ℕ → End → Type 0
-IsEnd workers count worker taken NoneLeft = IsWholeCut workers count worker taken
-IsEnd workers count worker taken OutOfMemory = Unit {0}
-IsEnd workers count worker taken ForeignBook = Unit {0}
+-- A book of another origin.
+pub record IsFound (origin : Origin) : Type 0 where
+  pub book : BookState
+  pub other : book.origin ≢ origin
+
+-- Why a worker takes no more jobs: none is left only where it took all of its cut, and it found a book of another origin
+-- only where it says so.
+abbrev pub IsEnd : Origin → ℕ → ℕ → ℕ → List ℕ → End → Type 0
+IsEnd origin workers count worker taken NoneLeft = IsWholeCut workers count worker taken
+IsEnd origin workers count worker taken OutOfMemory = Unit {0}
+IsEnd origin workers count worker taken ForeignBook = IsFound origin

@@ -32,10 +32,3 @@ IsFaultOf workers origin agents.Workers = IsNumberOfWorkers workers → ⊥
 IsFaultOf workers origin (agents.Book fault) = IsNumberOfWorkers workers × (open_refusal_of origin ≡ Some fault)
 IsFaultOf workers origin (agents.Gather fault) = MayBegin workers origin × (fault ≢ gathers.Memory)
 IsFaultOf workers origin agents.Memory = MayBegin workers origin
-
--- Where a fault may still stand once a book is opened.
-abbrev pub IsLateFault : AgentFault → Type 0
-IsLateFault agents.Workers = ⊥
-IsLateFault (agents.Book fault) = ⊥
-IsLateFault (agents.Gather fault) = fault ≢ gathers.Memory
-IsLateFault agents.Memory = Unit {0}

@@ -5,4 +5,5 @@ pub mod Working
 pub mod Ending
 pub mod Seats
 pub mod Scattering
+pub mod Settling
 pub mod Batches

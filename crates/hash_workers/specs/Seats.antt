@@ -20,7 +20,7 @@ pub record IsCutOf (workers count worker : ℕ) (cut : Cut) : Type 0 where
 pub record IsWorkOf (origin : Origin) (ops : List BookOp) (workers count worker : ℕ) (work : Work) : Type 0 where
   pub follows : FollowsCut workers count worker work.taken.items
   pub worked : IsWorked origin ops work.taken.items (map book_outcome_of work.outcomes.items)
-  pub ends : IsEnd workers count worker work.taken.items work.end
+  pub ends : IsEnd origin workers count worker work.taken.items work.end
 
 -- Each worker did its work.
 pub record AreWorksOf (origin : Origin) (ops : List BookOp) (workers count : ℕ) (works : List Work) : Type 0 where

@@ -1,23 +1,23 @@
 //! Jobs that workers do at once, and what becomes of each.
 
-ghost use Rattle.std.specs.Prelude.{◌≡◌, ◌↔◌, ◌<◌, ◌≤◌, ◌^◌, length, map, vec_len, Some, Err, IfOk, IfErr, MatchResult};
+ghost use Rattle.std.specs.Prelude.{◌≡◌, ◌↔◌, ◌<◌, ◌≤◌, ◌^◌, length, map, Some, Err, IfOk, IfErr, IsTrue, MatchResult};
 ghost use Rattle.measure_book.specs.declared.fault.BookFault.{BookFault};
+ghost use Rattle.measure_book.specs.declared.gathers.GatherFault.{GatherFault};
 ghost use Rattle.measure_book.specs.Operations.{book_outcome_of};
 ghost use Rattle.measure_book.specs.Histories.{open_refusal_of};
 ghost use Rattle.hash_workers.specs.Jobs.{operations_of};
-ghost use Rattle.hash_workers.specs.Faults.{IsFaultOf, IsLateFault, IsNumberOfWorkers, MayBegin};
-ghost use Rattle.hash_workers.specs.Seats.{AreWorksOf, outcomes_of, taken_of};
-ghost use Rattle.hash_workers.specs.Scattering.{items_of};
+ghost use Rattle.hash_workers.specs.Faults.{IsFaultOf, IsNumberOfWorkers, MayBegin};
+ghost use Rattle.hash_workers.specs.Settling.{IsAllWork, IsCauseAmong, IsUnsettled, outcomes_by_worker};
 ghost use Rattle.hash_workers.specs.Batches.{IsBatch};
 
-use crate::fan::{fan_out, has_end};
+use crate::fan::fan_out;
 use crate::fault::AgentFault;
 use crate::gate::Gate;
 use crate::job::Job;
 use crate::scatter::scatter;
-use crate::work::{End, Work};
+use crate::work::AllWork;
 use measure_book::{Book, BookFault, GatherFault, Origin, Outcome, gather};
-use std::alloc::{AllocError, Global};
+use std::alloc::Global;
 use std::sync::Wait;
 use std::thread::Threads;
 
@@ -64,67 +64,49 @@ pub fn measure_files<R: Threads + Wait + Sync, G: Gate + Sync>(
     // Where the number is right and something is against opening a book, this is the fault.
     ensures book { (fault : BookFault) → IsNumberOfWorkers workers → open_refusal_of origin ≡ Some fault
         → result ≡ Err (AgentFault.Book fault) }
+    // `Gather` names the first cause against some book and what the workers got.
+    ensures gather { (cause : GatherFault) → result ≡ Err (AgentFault.Gather cause)
+        → IsCauseAmong workers origin (operations_of origin.alg jobs.now) cause }
 {
     if workers == 0 || workers > MOST_WORKERS {
         return Err(AgentFault::Workers);
     }
     let book = Book::open(alloc, origin)?;
     let (book, works) = fan_out(rt, alloc, book, &origin, jobs, workers, gate)?;
-    settle(alloc, book, &origin, jobs, workers, works)
+    let all = AllWork::of(alloc, works, jobs.len())?;
+    settle(alloc, book, &origin, jobs, workers, all)
 }
 
-// Settles what the workers did with the book, and puts their outcomes in the order of the jobs.
+// Settles what all workers did with the book, and puts their outcomes in the order of the jobs. The call's own lists are
+// handed in, so no cause is found before there was memory for them.
 fn settle(
     alloc: Global,
     book: Book,
     origin: &Origin,
     jobs: &[Job],
     workers: usize,
-    works: Vec<Work>,
+    all: AllWork,
 ) -> Result<Batch, AgentFault>
-    requires small { length jobs.now < 2 ^ 32 }
     requires number { IsNumberOfWorkers workers }
-    requires works { AreWorksOf origin.now (operations_of origin.now.alg jobs.now) workers (length jobs.now) works.items }
+    requires all { IsAllWork origin.now (operations_of origin.now.alg jobs.now) workers all }
     ensures batch { IfOk result (λ batch. IsBatch origin.now (operations_of origin.now.alg jobs.now) workers
         batch.book (map book_outcome_of batch.outcomes.items) batch.by.items) }
-    ensures fault { IfErr result IsLateFault }
+    // The fault is that of the first cause against this book and what the workers got.
+    ensures fault { IfErr result (IsUnsettled all.foreign book origin.now (outcomes_by_worker all)) }
+    // A worker that found a book of another origin is the cause, whatever else there is.
+    ensures foreign { IsTrue all.foreign → result ≡ Err (AgentFault.Gather GatherFault.ForeignBook) }
 {
-    if has_end(&works, End::OutOfMemory) {
-        return Err(AgentFault::Memory);
-    }
-    let foreign = has_end(&works, End::ForeignBook);
-    let mut outcomes = places(alloc, jobs.len())?;
-    let mut by = vec![in alloc; 0u32; jobs.len()]?;
-    let (takings, groups) = split(alloc, works)?;
-    if foreign {
+    if all.foreign {
         return Err(AgentFault::Gather(GatherFault::ForeignBook));
     }
-    gather(alloc, &book, origin, &groups)?;
+    gather(alloc, &book, origin, &all.groups)?;
+    let AllWork {
+        takings,
+        groups,
+        mut outcomes,
+        mut by,
+        ..
+    } = all;
     scatter(&mut outcomes, &mut by, &takings, groups);
     Ok(Batch { book, outcomes, by })
-}
-
-// A place for each job's outcome.
-fn places(alloc: Global, count: usize) -> Result<Vec<Outcome>, AllocError>
-    ensures { IfOk result (λ outcomes. vec_len outcomes ≡ count) }
-{
-    let mut outcomes = Vec::with_capacity(alloc, count)?;
-    for _job in 0..count {
-        outcomes.push_reserved(Outcome::Refused(BookFault::Memory));
-    }
-    Ok(outcomes)
-}
-
-// The jobs and the outcomes of each worker, apart.
-fn split(alloc: Global, works: Vec<Work>) -> Result<(Vec<Vec<u32>>, Vec<Vec<Outcome>>), AllocError>
-    ensures takings { IfOk result (λ lists. map items_of lists.0.items ≡ map taken_of works.items) }
-    ensures groups { IfOk result (λ lists. map items_of lists.1.items ≡ map outcomes_of works.items) }
-{
-    let mut takings = Vec::with_capacity(alloc, works.len())?;
-    let mut groups = Vec::with_capacity(alloc, works.len())?;
-    for work in works {
-        takings.push(work.taken)?;
-        groups.push(work.outcomes)?;
-    }
-    Ok((takings, groups))
 }

@@ -1,14 +1,14 @@
 //! The workers, all at once.
 
-ghost use Rattle.std.specs.Prelude.{◌≡◌, ℕ, ◌≤◌, ◌<◌, ◌^◌, length, vec_len, slice_index_or, IfOk, MatchBool};
+ghost use Rattle.std.specs.Prelude.{◌≡◌, ℕ, ◌≤◌, ◌<◌, ◌^◌, length, vec_len, slice_index_or, IfOk};
 ghost use Rattle.hash_workers.specs.Jobs.{operations_of};
-ghost use Rattle.hash_workers.specs.Seats.{AreWorksOf, IsCutOf, IsWorkOf, HasEnd, HasNoEnd};
+ghost use Rattle.hash_workers.specs.Seats.{AreWorksOf, IsCutOf, IsWorkOf};
 
 use crate::cut::Cut;
 use crate::gate::Gate;
 use crate::job::Job;
 use crate::recorder::SharedBook;
-use crate::work::{End, Work, take_jobs};
+use crate::work::{Work, take_jobs};
 use measure_book::{Book, Origin};
 use std::alloc::{AllocError, Global};
 use std::sync::{Mutex, Wait};
@@ -58,16 +58,4 @@ fn cuts_of(alloc: Global, workers: usize, count: usize) -> Result<Vec<Cut>, Allo
         cuts.push_reserved(Cut::of(worker, workers, count));
     }
     Ok(cuts)
-}
-
-/// Whether some worker ended so.
-pub(crate) fn has_end(works: &[Work], end: End) -> bool
-    ensures { MatchBool result (HasEnd works.now end) (HasNoEnd works.now end (length works.now)) }
-{
-    for work in works {
-        if work.end == end {
-            return true;
-        }
-    }
-    false
 }

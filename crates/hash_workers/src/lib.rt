@@ -15,6 +15,3 @@ pub use batch::{Batch, measure_files};
 pub use fault::AgentFault;
 pub use gate::{Gate, NoGate};
 pub use job::{Job, op_of};
-
-#[cfg(test)]
-mod tests;

@@ -8,16 +8,21 @@ ghost use Rattle.hash_workers.specs.Taking.{FollowsCut};
 ghost use Rattle.hash_workers.specs.Working.{IsWorked};
 ghost use Rattle.hash_workers.specs.Ending.{IsEnd, KeepsOne, StopsFor, TakesOne, TellsAll};
 
+mod all;
+#[cfg(test)]
+mod tests;
+
 use crate::cut::Cut;
 use crate::gate::Gate;
 use crate::job::{Job, op_of};
 use crate::recorder::{ForeignBook, Recorder};
+pub(crate) use all::AllWork;
 use measure_book::{BookFault, Op, Origin, Outcome};
 use std::alloc::{AllocError, Global};
 
 /// Why a worker takes no more jobs.
 #[derive(Clone, Copy, Debug, PartialEq, Eq)]
-pub(crate) enum End {
+enum End {
     /// None is left for it.
     NoneLeft,
     /// There was no memory to keep another one's outcome.
@@ -51,7 +56,7 @@ impl From<ForeignBook> for End {
 pub(crate) struct Work {
     pub(crate) taken: Vec<u32>,
     pub(crate) outcomes: Vec<Outcome>,
-    pub(crate) end: End,
+    end: End,
 }
 
 /// Takes the jobs of the cut in turn, until none is left.
@@ -66,7 +71,7 @@ pub(crate) fn take_jobs<B: Recorder, G: Gate>(
     requires { cut.count ≡ length jobs.now }
     ensures taken { FollowsCut cut.workers cut.count cut.next result.taken.items }
     ensures worked { IsWorked origin.now (operations_of origin.now.alg jobs.now) result.taken.items (map book_outcome_of result.outcomes.items) }
-    ensures end { IsEnd cut.workers cut.count cut.next result.taken.items result.end }
+    ensures end { IsEnd origin.now cut.workers cut.count cut.next result.taken.items result.end }
     ensures told { TellsAll origin.now (operations_of origin.now.alg jobs.now) (B.told recorder.old) (B.told recorder.new)
         result.taken.items (map book_outcome_of result.outcomes.items) result.end }
 {
@@ -108,8 +113,28 @@ impl Work {
         ensures end { self.new.end ≡ self.old.end }
     {
         let op = op_of(alloc, &jobs[number as usize], origin.alg).ok();
-        gate.hashed(number, op.as_ref());
-        let kept = self.keep(recorder, origin, number, op.as_ref());
+        self.pass(recorder, origin, number, op.as_ref(), gate)
+    }
+
+    // Has the job's operation recorded, between the two calls of the gate. Both are made whatever becomes of it.
+    fn pass<B: Recorder, G: Gate>(
+        &mut self,
+        recorder: &mut B,
+        origin: &Origin,
+        number: u32,
+        op: Option<&Op>,
+        gate: &G,
+    ) -> Result<(), End>
+        ensures keeps { MatchResult result
+            (λ _. KeepsOne origin.now (option_map book_op_of (option_copied op.entry)) number self.old.taken.items self.new.taken.items
+            (map book_outcome_of self.old.outcomes.items) (map book_outcome_of self.new.outcomes.items)
+            (B.told recorder.old) (B.told recorder.new))
+            (λ end. StopsFor origin.now (B.told recorder.old) (B.told recorder.new) end) }
+        ensures refused { OnErr result ((self.new.taken.items ≡ self.old.taken.items) × (self.new.outcomes.items ≡ self.old.outcomes.items)) }
+        ensures end { self.new.end ≡ self.old.end }
+    {
+        gate.hashed(number, op);
+        let kept = self.keep(recorder, origin, number, op);
         gate.recorded(number);
         kept
     }

@@ -1,7 +1,7 @@
 use Rattle.std.proofs.Common.{◌≡◌, map}
 use Rattle.hash_workers.specs.Seats.{outcomes_of, taken_of}
 use Rattle.hash_workers.specs.Scattering.{items_of}
-use Rattle.hash_workers.proofs.batch.split.Given as goal
+use Rattle.hash_workers.proofs.work.all.split.Given as goal
 
 abbrev pub invariant-loop-work : goal.invariant-loop-work
 invariant-loop-work l = record {

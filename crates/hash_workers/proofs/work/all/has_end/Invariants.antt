@@ -1,5 +1,5 @@
 use Rattle.hash_workers.specs.Seats.{HasNoEnd}
-use Rattle.hash_workers.proofs.fan.has_end.Given as goal
+use Rattle.hash_workers.proofs.work.all.has_end.Given as goal
 
 abbrev pub invariant-loop-work : goal.invariant-loop-work
 invariant-loop-work l = HasNoEnd l.works l.end l.work-index

@@ -1,0 +1,165 @@
+//! What becomes of one job, and what the gate is told of it, over a recorder whose book is seen.
+
+ghost use Rattle.std.specs.Prelude.{Some, ◌<◌};
+
+use super::{End, Work};
+use crate::gate::Gate;
+use crate::job::Job;
+use crate::recorder::{ForeignBook, Recorder, enter};
+use ima_list::Template;
+use measure_book::{Book, BookFault, Op, Origin, Outcome};
+use pcr_banks::{Alg, AlgSet, Banks};
+use std::alloc::{AllocError, Global};
+use std::sync::atomic::{AtomicU32, Ordering};
+use std::test::Fail;
+
+/// The last step of a job.
+const END: u32 = 3;
+
+/// A job that left its course.
+const LOST: u32 = 4;
+
+/// How far a job is: the gate is told that it is hashed (1), its operation is recorded, where there is one (2), the gate is
+/// told that it is recorded (3).
+#[derive(Drop)]
+struct Course {
+    step: AtomicU32,
+}
+
+impl Course {
+    fn new() -> Self {
+        Course {
+            step: AtomicU32::new(0),
+        }
+    }
+
+    /// Goes on from one step to the next; from another one the course is lost.
+    fn goes_on(&self, from: u32, to: u32) {
+        let next = if self.step.load(Ordering::SeqCst) == from {
+            to
+        } else {
+            LOST
+        };
+        self.step.store(next, Ordering::SeqCst);
+    }
+}
+
+impl Gate for Course {
+    fn hashed(&self, _job: u32, op: Option<&Op>) {
+        self.goes_on(0, if op.is_some() { 1 } else { 2 });
+    }
+
+    fn recorded(&self, _job: u32) {
+        self.goes_on(2, END);
+    }
+}
+
+/// A book that nobody else has, which a recorder tells.
+#[derive(Drop)]
+struct OwnBook<'a> {
+    book: Book,
+    course: &'a Course,
+}
+
+impl<'a> Recorder for OwnBook<'a> {
+    ghost told = { λ recorder. Some recorder.book };
+
+    fn record(&mut self, origin: &Origin, op: &Op) -> Result<Outcome, ForeignBook> {
+        self.course.goes_on(1, 2);
+        enter(&mut self.book, origin, op)
+    }
+}
+
+fn origin(limit: u32) -> Origin {
+    Origin {
+        start: Banks::new(AlgSet::empty().with(Alg::Sha256), 0),
+        template: Template::ImaNg,
+        alg: Alg::Sha256,
+        limit,
+    }
+}
+
+fn no_work(alloc: Global) -> Work {
+    Work {
+        taken: Vec::new(alloc),
+        outcomes: Vec::new(alloc),
+        end: End::NoneLeft,
+    }
+}
+
+/// A file, a violation and a read.
+fn jobs(alloc: Global) -> Result<[Job; 3], AllocError> {
+    let path = Vec::from_slice(alloc, b"/bin/sh")?;
+    let content = Vec::from_slice(alloc, b"abc")?;
+    let other = Vec::from_slice(alloc, b"/etc/x")?;
+    let read = Job::Read {
+        alg: Alg::Sha256,
+        register: 10,
+    };
+    Ok([
+        Job::File { path, content },
+        Job::Violation { path: other },
+        read,
+    ])
+}
+
+/// Takes a job with a book of this limit, where one of the limit 100 is asked for; how far the job came, and the records.
+fn taken(
+    alloc: Global,
+    work: &mut Work,
+    jobs: &[Job; 3],
+    number: u32,
+    limit: u32,
+) -> Result<(Result<(), End>, u32, usize), BookFault>
+    requires { number < 3 }
+{
+    let course = Course::new();
+    let book = Book::open(alloc, origin(limit))?;
+    let mut recorder = OwnBook {
+        book,
+        course: &course,
+    };
+    let taken = work.take(alloc, &mut recorder, &origin(100), jobs, number, &course);
+    let records = recorder.book.records().len();
+    Ok((taken, course.step.load(Ordering::SeqCst), records))
+}
+
+/// The same of a job whose operation found no memory.
+fn passed(
+    alloc: Global,
+    work: &mut Work,
+    number: u32,
+) -> Result<(Result<(), End>, u32, usize), BookFault> {
+    let course = Course::new();
+    let book = Book::open(alloc, origin(100))?;
+    let mut recorder = OwnBook {
+        book,
+        course: &course,
+    };
+    let passed = work.pass(&mut recorder, &origin(100), number, None, &course);
+    let records = recorder.book.records().len();
+    Ok((passed, course.step.load(Ordering::SeqCst), records))
+}
+
+/// The gate is told of each job as hashed, before it is recorded, and then as recorded: also of a job at which the worker
+/// stops, for a book of another origin, which is left as it is, and of one that cannot be recorded.
+#[test]
+fn gate_is_told_where_a_worker_stops(rt: HostRuntime) -> Result<(), Fail> {
+    let alloc = rt.alloc();
+    let jobs = jobs(alloc)?;
+    let mut work = no_work(alloc);
+    for number in 0..3 {
+        let done = taken(alloc, &mut work, &jobs, number, 100)?;
+        assert_eq!(rt; done, (Ok(()), END, 2));
+        let stopped = taken(alloc, &mut work, &jobs, number, 99)?;
+        assert_eq!(rt; stopped, (Err(End::ForeignBook), END, 1));
+        let without = passed(alloc, &mut work, number)?;
+        assert_eq!(rt; without, (Ok(()), END, 1));
+    }
+    assert_eq!(rt; work.taken.as_slice(), [0, 0, 1, 1, 2, 2].as_slice());
+    assert_eq!(rt;
+        work.outcomes.last(),
+        Some(&Outcome::Refused(BookFault::Memory))
+    );
+    Ok(())
+}
