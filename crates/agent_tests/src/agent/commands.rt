@@ -178,15 +178,15 @@ static HELPS: [&[&str]; 5] = [
 ];
 
 /// The program answers the words of each line so.
-fn assert_answers(
+pub fn assert_answers(
     rt: &(impl Threads + Wait + Sync + AllocGlobal + Abort),
     lines: &[(&[&str], u8, &[u8])],
     files: &[(&str, &[u8])],
 ) -> Result<(), Fail> {
     for (words, status, text) in lines {
         let (code, output) = answered(rt, words, files)?;
-        assert_eq!(rt; code, *status);
-        assert_eq!(rt; output.as_slice(), *text);
+        assert_eq!(rt; code, *status, "{words:?}");
+        assert_eq!(rt; output.as_slice(), *text, "{words:?}");
     }
     Ok(())
 }
@@ -217,6 +217,17 @@ fn command_lines(rt: HostRuntime) -> Result<(), Fail> {
         let (status, help) = answered(&rt, words, &files)?;
         assert_eq!(rt; status, 0);
         assert!(rt; !help.is_empty());
+    }
+    Ok(())
+}
+
+/// An option that no command has, and after it the word that asks for help: the words are wrong.
+#[test]
+fn help_after_an_unknown_option_is_refused(rt: HostRuntime) -> Result<(), Fail> {
+    for command in ["show", "verify", "measure"] {
+        let (status, output) = answered(&rt, &[command, "--bad", "--help"], &[])?;
+        assert_eq!(rt; status, 2);
+        assert_eq!(rt; output.as_slice(), b"refused: command line\n".as_slice());
     }
     Ok(())
 }

@@ -1,6 +1,6 @@
 //! Inputs of a megabyte and more, and inputs that are nearly right.
 
-use super::devices::{answered, joined, once_more, ran, ran_over, words_of};
+use super::devices::{answered, bytes_of, joined, once_more, ran, ran_over, words_of};
 use super::logs::{EVENT, EXTENDED_LINE, HEADER};
 use super::show::{MEASUREMENT, MEASUREMENT_LINE};
 use byte_streams::{Failed, SliceSource};
@@ -104,5 +104,33 @@ fn names_with_spaces(rt: HostRuntime) -> Result<(), Fail> {
             assert_eq!(rt; answer.1.as_slice(), output);
         }
     }
+    Ok(())
+}
+
+/// The lines of the boot aggregate of registers at reset, and of an empty file whose name ends in a space.
+const SPACED_LINES: &[u8] = b"\
+10 6bdad7efa602f84ca31ffe3f11ff7c476e25dcdd ima-ng \
+sha256:7b6436b0c98f62380866d9432c2af0ee08ce16a171bda6951aecd95ee1307d61 boot_aggregate\n\
+10 1326e7be02c05d5d61582f20614fbe79ad573910 ima-ng \
+sha256:e3b0c44298fc1c149afbf4c8996fb92427ae41e4649b934ca495991b7852b855 f \n";
+
+/// Each word that names an input is asked for to its last byte, a space; there are other files without it.
+#[test]
+fn names_that_end_in_a_space(rt: HostRuntime) -> Result<(), Fail> {
+    let alloc = rt.alloc();
+    let log = bytes_of(alloc, &[HEADER])?;
+    let files = [
+        ("L", b"x".as_slice()),
+        ("f", b"abc"),
+        ("L ", &log),
+        ("f ", b""),
+    ];
+    let (status, lines) = answered(&rt, &["measure", "L ", "f "], &files)?;
+    assert_eq!(rt; status, 0);
+    assert_eq!(rt; lines.as_slice(), SPACED_LINES);
+    let (status, report) = answered(&rt, &["verify", "L ", "f ", "f "], &files)?;
+    assert_eq!(rt; status, 1);
+    let text = b"events 0 locality 0\nentries 0\nboot_aggregate missing\nverdict differ\n";
+    assert_eq!(rt; report.as_slice(), text.as_slice());
     Ok(())
 }

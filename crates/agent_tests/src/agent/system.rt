@@ -2,6 +2,7 @@
 
 ghost use Rattle.std.specs.Prelude.{◌≤◌, IfOk};
 
+use super::devices::{ran_over, words_of};
 use byte_streams::{Failed, Sink, Source, send};
 use ima_agent::{Files, LoadFault, ReadSource, SystemFiles, WriteSink, load};
 use std::io::{self, Error, ErrorKind, Read, Write};
@@ -93,6 +94,7 @@ fn names_are_files(rt: HostRuntime) -> Result<(), Fail> {
         Some(LoadFault::TooLong)
     );
     assert!(rt; files.source(Some("-")).is_err());
+    assert!(rt; files.source(Some("/dev/null ")).is_err());
     assert!(rt; files.source(None).is_ok());
     Ok(())
 }
@@ -101,5 +103,21 @@ fn names_are_files(rt: HostRuntime) -> Result<(), Fail> {
 fn folder_is_no_input(rt: HostRuntime) -> Result<(), Fail> {
     let mut folder = SystemFiles::new(&rt).source(Some("/"))?;
     assert_eq!(rt; folder.read(&mut [0; 4]), Err(Failed));
+    Ok(())
+}
+
+/// The program over the system's files: a name with a space at its end is another file, which there is not.
+#[test]
+fn system_file_with_a_space_at_its_end(rt: HostRuntime) -> Result<(), Fail> {
+    for (name, status, line) in [
+        ("/dev/null", 0, b"".as_slice()),
+        ("/dev/null ", 3, b"failed: read /dev/null \n"),
+        (" /dev/null", 3, b"failed: read  /dev/null\n"),
+    ] {
+        let words = words_of(rt.alloc(), &["show", name])?;
+        let (code, output) = ran_over(&rt, &words, &mut SystemFiles::new(&rt));
+        assert_eq!(rt; code, status);
+        assert_eq!(rt; output.as_slice(), line);
+    }
     Ok(())
 }

@@ -132,6 +132,58 @@ fn report_on_empty_list(rt: HostRuntime) -> Result<(), Fail> {
     Ok(())
 }
 
+/// PCR 4 after the log of one event: the SHA-256 of 64 zero bytes.
+const EXTENDED: &[u8] = b"f5a5fd42d16a20302798ef6ed309979b43003d2320d9f0e8ea9831a92759fb4b";
+
+/// The expected register of this number, and how it compares with the registers after that log, where PCR 4 is this.
+fn numbered(number: u32, extended: Digest) -> (Expected, State) {
+    let register = number % 25;
+    let zeros = Digest::zero(Alg::Sha256);
+    let value = if number % 2 == 0 { zeros } else { extended };
+    let found = match register {
+        4 => extended,
+        17..=22 => Digest::ones(Alg::Sha256),
+        _ => zeros,
+    };
+    let state = if register == 24 {
+        State::Absent
+    } else if value == found {
+        State::Match
+    } else {
+        State::Differ(found)
+    };
+    let expected = Expected {
+        alg: Alg::Sha256,
+        register,
+        value,
+    };
+    (expected, state)
+}
+
+/// A thousand and one expected registers in one call: each has its row.
+#[test]
+fn thousand_and_one_expected_registers(rt: HostRuntime) -> Result<(), Fail> {
+    const COUNT: u32 = 1_001;
+    let alloc = rt.alloc();
+    let log = bytes_of(alloc, &[HEADER, EVENT])?;
+    let extended = Digest::from_hex(Alg::Sha256, EXTENDED).ok_or("no digest")?;
+    let expected = once_more(|| {
+        let mut expected = Vec::new(alloc);
+        for number in 0..COUNT {
+            expected.push(numbered(number, extended).0)?;
+        }
+        Ok::<Vec<Expected>, AllocError>(expected)
+    })?;
+    let report = report_on(alloc, &log, b"", &expected)?;
+    assert_eq!(rt; report.rows.len(), 1_001);
+    for (number, row) in (0..COUNT).zip(&report.rows) {
+        let (expected, state) = numbered(number, extended);
+        assert_eq!(rt; row.expected, expected, "row {number}");
+        assert_eq!(rt; row.state, state, "row {number}");
+    }
+    Ok(())
+}
+
 /// The spelling of an entry with this path and this digest.
 fn first_entry(alloc: Global, path: &[u8], digest: &Digest) -> Result<Vec<u8>, AllocError> {
     let mut bytes = Vec::new(alloc);
