@@ -1,0 +1,165 @@
+//! Two workers at once.
+
+use super::{batch_of, file, measured, origin, receipt_of, sha256};
+use hash_workers::{Batch, Gate, Job, measure_files};
+use measure_book::{Answer, Op};
+use std::alloc::{AllocError, Global};
+use std::sync::Wait;
+use std::sync::atomic::{AtomicBool, Ordering};
+use std::test::Fail;
+use std::thread::Threads;
+
+/// How often a gate looks for another job at most.
+const TURNS: u32 = 100_000_000;
+
+/// How often it looks where it only waits a while.
+const A_WHILE: u32 = 10_000_000;
+
+/// How far a job is.
+#[derive(Drop)]
+struct Stages {
+    op: Op,
+    hashed: AtomicBool,
+    recorded: AtomicBool,
+}
+
+impl Stages {
+    fn of(op: Op) -> Self {
+        Stages {
+            op,
+            hashed: AtomicBool::new(false),
+            recorded: AtomicBool::new(false),
+        }
+    }
+}
+
+/// Has both jobs hashed before one is recorded, and holds job 0 or job 1 until the other one is recorded.
+#[derive(Drop)]
+struct OtherFirst {
+    jobs: [Stages; 2],
+    held: u32,
+    ran_out: AtomicBool,
+    other_op: AtomicBool,
+    never: AtomicBool,
+}
+
+impl OtherFirst {
+    fn new(alloc: Global, held: u32) -> Result<Self, AllocError> {
+        let first = measured(alloc, b"/bin/sh", sha256(b"abc"))?;
+        let second = measured(alloc, b"/bin/ls", sha256(b""))?;
+        Ok(OtherFirst {
+            jobs: [Stages::of(first), Stages::of(second)],
+            held,
+            ran_out: AtomicBool::new(false),
+            other_op: AtomicBool::new(false),
+            never: AtomicBool::new(false),
+        })
+    }
+
+    /// The job, and the other one.
+    fn both(&self, job: u32) -> (&Stages, &Stages) {
+        let [first, second] = &self.jobs;
+        if job == 0 {
+            (first, second)
+        } else {
+            (second, first)
+        }
+    }
+
+    fn wait_for(&self, stage: &AtomicBool) {
+        if !comes(stage, TURNS) {
+            self.ran_out.store(true, Ordering::SeqCst);
+        }
+    }
+}
+
+/// Whether the stage is reached within this number of turns.
+fn comes(stage: &AtomicBool, turns: u32) -> bool {
+    for _ in 0..turns {
+        if stage.load(Ordering::SeqCst) {
+            return true;
+        }
+    }
+    false
+}
+
+impl Gate for OtherFirst {
+    fn hashed(&self, job: u32, op: Option<&Op>) {
+        let (this, other) = self.both(job);
+        if op.is_none_or(|op| *op != this.op) {
+            self.other_op.store(true, Ordering::SeqCst);
+        }
+        this.hashed.store(true, Ordering::SeqCst);
+        self.wait_for(&other.hashed);
+        if job == self.held {
+            self.wait_for(&other.recorded);
+        }
+    }
+
+    /// The other worker can have the lock now, and its job comes after this one in the book.
+    fn recorded(&self, job: u32) {
+        let (this, other) = self.both(job);
+        this.recorded.store(true, Ordering::SeqCst);
+        if job != self.held {
+            self.wait_for(&other.recorded);
+            let _waited = comes(&self.never, A_WHILE);
+        }
+    }
+}
+
+/// Two files with two workers, where one job is held; or what is wrong.
+fn held_batch<R: Threads + Wait + Sync>(
+    rt: &R,
+    alloc: Global,
+    jobs: &[Job; 2],
+    held: u32,
+) -> Result<Batch, &'static str> {
+    let Ok(gate) = OtherFirst::new(alloc, held) else {
+        return Err("out of memory");
+    };
+    let Ok(batch) = measure_files(rt, alloc, origin(100), jobs, 2, &gate) else {
+        return Err("no batch");
+    };
+    if gate.ran_out.load(Ordering::SeqCst) {
+        return Err("the turns ran out");
+    }
+    if gate.other_op.load(Ordering::SeqCst) {
+        return Err("another operation");
+    }
+    Ok(batch)
+}
+
+#[test]
+fn jobs_overlap(rt: HostRuntime) -> Result<(), Fail> {
+    let alloc = rt.alloc();
+    let jobs = [
+        file(alloc, b"/bin/sh", b"abc")?,
+        file(alloc, b"/bin/ls", b"")?,
+    ];
+    for (held, other) in [(0, 1), (1, 0)] {
+        let batch = match held_batch(&rt, alloc, &jobs, held) {
+            Ok(batch) => batch,
+            Err(_) => held_batch(&rt, alloc, &jobs, held)?,
+        };
+        assert_eq!(rt; batch.outcomes.len(), 2);
+        assert_eq!(rt;
+            receipt_of(&batch, held as usize).ok_or("refused")?.place,
+            2
+        );
+        assert_eq!(rt; receipt_of(&batch, other).ok_or("refused")?.place, 1);
+        assert_ne!(rt; batch.by.first(), batch.by.last());
+    }
+
+    let twice = [
+        file(alloc, b"/bin/sh", b"abc")?,
+        file(alloc, b"/bin/sh", b"abc")?,
+    ];
+    let batch = batch_of(&rt, alloc, origin(100), &twice, 2)?;
+    let first = receipt_of(&batch, 0).ok_or("refused")?.answer;
+    let second = receipt_of(&batch, 1).ok_or("refused")?.answer;
+    assert!(rt;
+        (first == Answer::Added(1) && second == Answer::Known(1))
+            || (first == Answer::Known(1) && second == Answer::Added(1))
+    );
+    Ok(())
+}
