@@ -1,7 +1,8 @@
 -- What the words of the command line ask for. All of this is this project's choice.
-use Rattle.std.specs.Prelude.{◌≡◌, ℕ, ◌≤◌, ◌<◌, ◌^◌, ◌⊎◌, ◌||◌, ◌==◌, Bool, IsTrue, List, [], ◌∷◌, bytes_eq, codes, String, string_bytes, vec_len}
+use Rattle.std.specs.Prelude.{◌≡◌, ℕ, ◌≤◌, ◌<◌, ◌^◌, ◌⊎◌, ◌||◌, ◌==◌, Bool, IsTrue, List, [], ◌∷◌, bytes_eq, codes, map, String, string_bytes, vec_len}
 use Rattle.std.specs.List.{list_any, starts_with}
 use Rattle.std.specs.Global.{Global}
+use Rattle.command_line.specs.Commands.{IsMatched}
 use Rattle.command_line.specs.declared.plan.Plan.{Plan}
 use Rattle.command_line.specs.declared.plan.Plan.TheVariants.{Registers, Measure, Verify, Show, Help}
 
@@ -34,7 +35,10 @@ HasHelpWord words = IsTrue (list_any (λ word. asks_help (string_bytes word)) wo
 abbrev pub IsHelp : Plan → Type 0
 IsHelp plan = (text : String Global) × (plan ≡ Help text)
 
--- No words ask for the registers of standard input; of others, one asks for help, or the first is the command.
+-- No words ask for the registers of standard input; of others, one asks for help, or the first is the command and they match its options
+-- and names.
 abbrev pub IsAskedBy : List (String Global) → Plan → Type 0
 IsAskedBy [] plan = plan ≡ Registers
-IsAskedBy (word ∷ words) plan = IsOfCommand (string_bytes word) plan ⊎ (HasHelpWord (word ∷ words) × IsHelp plan)
+IsAskedBy (word ∷ words) plan =
+    (IsOfCommand (string_bytes word) plan × IsMatched (map string_bytes (word ∷ words)) plan)
+    ⊎ (HasHelpWord (word ∷ words) × IsHelp plan)

@@ -1,6 +1,7 @@
 //! The command line: what its words ask for.
 #![tactic(auto)]
 
+mod commands;
 mod fault;
 mod plan;
 mod words;

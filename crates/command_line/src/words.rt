@@ -1,40 +1,23 @@
 //! The words of the command line.
 
-ghost use Rattle.std.specs.Prelude.{◌≡◌, ◌⊎◌, [], Ok, Some, codes, drop, map, string_bytes, IfOk};
-ghost use Rattle.clap.specs.Words.{first_value, found_of};
+ghost use Rattle.std.specs.Prelude.{◌≡◌, ◌≤◌, ◌⊎◌, [], Ok, Some, codes, drop, map, string_bytes, unwrap_or, IfOk};
+ghost use Rattle.clap.specs.Words.{all_of, first_of, found_of, rows_of, subcommand_rows_of};
+ghost use Rattle.ima_list.specs.Templates.{template_name};
+ghost use Rattle.command_line.specs.Commands.{HasNumber, HasValues, HasValuesIn, IsMatched, print_name};
 ghost use Rattle.std.specs.Vec.Iter.{into_iter_items};
 ghost use Rattle.command_line.specs.Plans.{HasHelpWord, IsAskedBy, IsHelp, IsOfCommand, IsWithinRanges, asks_help};
 ghost use Rattle.std.specs.List.{list_any};
 ghost use Rattle.command_line.specs.declared.plan.Plan.TheVariants.{Registers};
 
+use crate::commands::{MOST_WORKERS, all_commands};
 use crate::fault::WordsFault;
 use crate::plan::{Plan, Print};
 use clap::error::ErrorKind;
-use clap::{Arg, ArgAction, ArgMatches, Command, Error, value_parser};
+use clap::{ArgMatches, Error};
 use ima_list::Template;
 use pcr_banks::Alg;
 use std::alloc::{AllocError, Global};
 use std::env::Args;
-
-/// The names of the algorithms that files are measured by.
-static ALGS: [&str; 3] = ["sha1", "sha256", "sha384"];
-
-/// The names of the templates of entries.
-static TEMPLATES: [&str; 2] = ["ima", "ima-ng"];
-
-/// The names of what is printed.
-static PRINTS: [&str; 3] = ["ascii", "binary", "registers"];
-
-/// The greatest number of workers.
-const MOST_WORKERS: usize = 8;
-
-/// What the help of the program and of each command ends with.
-const STATUSES: &str = "\
-Exit status:
-  0  done; of verify: the expected registers and the list's boot aggregate match
-  1  of verify: an expected register or the boot aggregate does not match
-  2  the words or an input are refused
-  3  memory ran out, or a device failed";
 
 /// What the words of the command line ask for, the program's name left out. No words ask for the registers of the log on
 /// standard input; else the first word is the command.
@@ -61,9 +44,9 @@ pub fn words_after_name(alloc: Global, words: Args) -> Result<Vec<String>, Alloc
 
 // The command of this name that the words give, or the help that they ask for.
 fn plan_in(alloc: Global, words: &[String], command: &str) -> Result<Plan, WordsFault>
-    ensures { IfOk result (λ plan. (IsOfCommand command.now plan ⊎ (HasHelpWord words.now × IsHelp plan)) × IsWithinRanges plan) }
+    ensures { IfOk result (λ plan. ((IsOfCommand command.now plan × IsMatched (map string_bytes words.now) plan) ⊎ (HasHelpWord words.now × IsHelp plan)) × IsWithinRanges plan) }
 {
-    match commands(alloc)?.try_get_matches_from(words) {
+    match all_commands(alloc)?.try_get_matches_from(words) {
         Ok(matches) => plan_of(alloc, command, &matches),
         Err(error) => help_of(alloc, words, &error),
     }
@@ -71,37 +54,31 @@ fn plan_in(alloc: Global, words: &[String], command: &str) -> Result<Plan, Words
 
 // The command that the words give, by what clap found.
 fn plan_of(alloc: Global, command: &str, matches: &ArgMatches) -> Result<Plan, WordsFault>
-    ensures { IfOk result (λ plan. IsOfCommand command.now plan × IsWithinRanges plan) }
+    ensures { IfOk result (λ plan. IsOfCommand command.now plan × IsWithinRanges plan × HasValuesIn (subcommand_rows_of matches.now) plan) }
 {
     let Some(matches) = matches.subcommand_matches(command) else {
         return Err(WordsFault::Usage);
     };
     match command {
         "measure" => measure_of(alloc, matches),
-        "verify" => Ok(Plan::Verify {
-            log: name_of(alloc, matches, "LOG")?,
-            list: name_of(alloc, matches, "LIST")?,
-            expected: name_of(alloc, matches, "EXPECTED")?,
-        }),
-        "show" => Ok(Plan::Show {
-            list: name_of(alloc, matches, "LIST")?,
-        }),
+        "verify" => verify_of(alloc, matches),
+        "show" => show_of(alloc, matches),
         _ => Err(WordsFault::Usage),
     }
 }
 
 // What `measure` is asked for.
 fn measure_of(alloc: Global, matches: &ArgMatches) -> Result<Plan, WordsFault>
-    ensures { IfOk result (λ plan. IsOfCommand (codes "measure") plan × IsWithinRanges plan) }
+    ensures { IfOk result (λ plan. IsOfCommand (codes "measure") plan × IsWithinRanges plan × HasValues (rows_of (found_of matches.now)) plan) }
 {
     let alg = Alg::from_name(text_of(matches, "alg")?.as_bytes()).ok_or(WordsFault::Usage)?;
     let template = template_named(text_of(matches, "template")?)?;
+    let workers = workers_of(matches)?;
+    let limit = limit_of(matches)?;
     let print = print_named(text_of(matches, "print")?)?;
-    let workers = matches.get_one("workers").ok_or(WordsFault::Usage)?;
-    let limit = matches.get_one("limit").ok_or(WordsFault::Usage)?;
     let log = name_of(alloc, matches, "LOG")?;
-    let files = names_of(alloc, matches.get_strs("FILE").unwrap_or(&[]))?;
-    if workers == 0 || workers > MOST_WORKERS || limit == 0 || files.len() > u32::MAX as usize {
+    let files = files_of(alloc, matches)?;
+    if files.len() > u32::MAX as usize {
         return Err(WordsFault::Usage);
     }
     Ok(Plan::Measure {
@@ -115,8 +92,30 @@ fn measure_of(alloc: Global, matches: &ArgMatches) -> Result<Plan, WordsFault>
     })
 }
 
+// What `verify` is asked for.
+fn verify_of(alloc: Global, matches: &ArgMatches) -> Result<Plan, WordsFault>
+    ensures { IfOk result (λ plan. IsOfCommand (codes "verify") plan × IsWithinRanges plan × HasValues (rows_of (found_of matches.now)) plan) }
+{
+    Ok(Plan::Verify {
+        log: name_of(alloc, matches, "LOG")?,
+        list: name_of(alloc, matches, "LIST")?,
+        expected: name_of(alloc, matches, "EXPECTED")?,
+    })
+}
+
+// What `show` is asked for.
+fn show_of(alloc: Global, matches: &ArgMatches) -> Result<Plan, WordsFault>
+    ensures { IfOk result (λ plan. IsOfCommand (codes "show") plan × IsWithinRanges plan × HasValues (rows_of (found_of matches.now)) plan) }
+{
+    Ok(Plan::Show {
+        list: name_of(alloc, matches, "LIST")?,
+    })
+}
+
 // The template of this name.
-fn template_named(name: &str) -> Result<Template, WordsFault> {
+fn template_named(name: &str) -> Result<Template, WordsFault>
+    ensures { IfOk result (λ template. template_name template ≡ name.now) }
+{
     match name {
         "ima" => Ok(Template::Ima),
         "ima-ng" => Ok(Template::ImaNg),
@@ -125,7 +124,9 @@ fn template_named(name: &str) -> Result<Template, WordsFault> {
 }
 
 // What is printed for this name.
-fn print_named(name: &str) -> Result<Print, WordsFault> {
+fn print_named(name: &str) -> Result<Print, WordsFault>
+    ensures { IfOk result (λ print. print_name print ≡ name.now) }
+{
     match name {
         "ascii" => Ok(Print::Ascii),
         "binary" => Ok(Print::Binary),
@@ -134,16 +135,43 @@ fn print_named(name: &str) -> Result<Print, WordsFault> {
     }
 }
 
+// The number of workers, 1 to 8.
+fn workers_of(matches: &ArgMatches) -> Result<usize, WordsFault>
+    ensures { IfOk result (λ workers. HasNumber (codes "workers") (rows_of (found_of matches.now)) workers × (1 ≤ workers) × (workers ≤ 8)) }
+{
+    match matches.get_one("workers") {
+        Some(workers) if workers != 0 && workers <= MOST_WORKERS => Ok(workers),
+        _ => Err(WordsFault::Usage),
+    }
+}
+
+// The greatest number of records, 1 or more.
+fn limit_of(matches: &ArgMatches) -> Result<u32, WordsFault>
+    ensures { IfOk result (λ limit. HasNumber (codes "limit") (rows_of (found_of matches.now)) limit × (1 ≤ limit)) }
+{
+    match matches.get_one("limit") {
+        Some(limit) if limit != 0 => Ok(limit),
+        _ => Err(WordsFault::Usage),
+    }
+}
+
+// The names of the files.
+fn files_of(alloc: Global, matches: &ArgMatches) -> Result<Vec<String>, AllocError>
+    ensures { IfOk result (λ names. unwrap_or (all_of (codes "FILE") (rows_of (found_of matches.now))) [] ≡ map string_bytes names.items) }
+{
+    names_of(alloc, matches.get_strs("FILE").unwrap_or(&[]))
+}
+
 // The first word of this argument.
 fn text_of<'a>(matches: &ArgMatches<'a>, id: &str) -> Result<&'a str, WordsFault>
-    ensures { IfOk result (λ text. first_value (found_of matches.now) id.now ≡ Some text.now) }
+    ensures { IfOk result (λ text. first_of id.now (rows_of (found_of matches.now)) ≡ Some text.now) }
 {
     matches.get_str(id).ok_or(WordsFault::Usage)
 }
 
 // A copy of the first word of this argument.
 fn name_of(alloc: Global, matches: &ArgMatches, id: &str) -> Result<String, WordsFault>
-    ensures { IfOk result (λ name. first_value (found_of matches.now) id.now ≡ Some (string_bytes name)) }
+    ensures { IfOk result (λ name. first_of id.now (rows_of (found_of matches.now)) ≡ Some (string_bytes name)) }
 {
     Ok(String::from_str(alloc, text_of(matches, id)?)?)
 }
@@ -177,137 +205,4 @@ fn help_of(alloc: Global, words: &[String], error: &Error) -> Result<Plan, Words
         ErrorKind::OutOfMemory => Err(WordsFault::Memory),
         _ => Err(WordsFault::Usage),
     }
-}
-
-// The commands, as clap reads them.
-fn commands<'a>(alloc: Global) -> Result<Command<'a>, AllocError> {
-    let program = program(alloc).bin_name("ima-agent")?;
-    let program = with_command(program, measure_command(alloc))?;
-    let program = with_command(program, verify_command(alloc))?;
-    with_command(program, show_command(alloc))
-}
-
-// The program with one command more, if that could be made.
-fn with_command<'a>(
-    program: Command<'a>,
-    command: Result<Command<'a>, AllocError>,
-) -> Result<Command<'a>, AllocError> {
-    program.subcommand(command?)
-}
-
-// The program, without its commands.
-fn program<'a>(alloc: Global) -> Command<'a> {
-    Command::new(alloc, "ima-agent")
-        .about(
-            "\
-Replays firmware event logs and IMA measurement lists, measures files, and compares registers.
-
-Without a command: reads a firmware event log in hexadecimal from standard input, at most 64 MiB,
-and prints the registers that differ from their reset values.",
-        )
-        .after_help(STATUSES)
-        .no_binary_name(true)
-        .disable_help_subcommand(true)
-        .subcommand_required(true)
-}
-
-fn measure_command<'a>(alloc: Global) -> Result<Command<'a>, AllocError> {
-    Command::new(alloc, "measure")
-        .about(
-            "Measures files into the registers that a firmware event log makes, and prints the result",
-        )
-        .after_help(STATUSES)
-        .args(measure_arguments(alloc)?)
-}
-
-// The options and the inputs of `measure`.
-fn measure_arguments<'a>(alloc: Global) -> Result<Vec<Arg<'a>>, AllocError> {
-    let algs = "Hash algorithm of the files' digests\n";
-    let templates = "Template of the list's entries";
-    let prints = "\
-What to print: the list as text, the binary list, or the registers that
-differ from their reset values\n";
-    Ok(vec![in alloc;
-        choice(alloc, "alg", "A", "sha256", &ALGS, algs),
-        choice(alloc, "template", "T", "ima-ng", &TEMPLATES, templates),
-        workers_option(alloc),
-        limit_option(alloc),
-        choice(alloc, "print", "P", "ascii", &PRINTS, prints),
-        input(alloc, "LOG", "Firmware event log, binary, at most 64 MiB"),
-        files_argument(alloc),
-    ]?)
-}
-
-fn verify_command<'a>(alloc: Global) -> Result<Command<'a>, AllocError> {
-    Command::new(alloc, "verify")
-        .about("Replays a firmware event log and a measurement list, and compares the registers")
-        .after_help(STATUSES)
-        .arg(input(alloc, "LOG", "Firmware event log, binary, at most 64 MiB"))?
-        .arg(input(alloc, "LIST", "Measurement list, binary, at most 64 MiB"))?
-        .arg(input(
-            alloc,
-            "EXPECTED",
-            "\
-Expected registers, at most 64 MiB, a line each: algorithm, register and value
-in hexadecimal. A file without a line compares no register: it matches whatever
-the registers are, if the list's boot aggregate does",
-        ))
-}
-
-fn show_command<'a>(alloc: Global) -> Result<Command<'a>, AllocError> {
-    Command::new(alloc, "show")
-        .about("Prints the entries of a measurement list as text, one line each")
-        .after_help(STATUSES)
-        .arg(input(alloc, "LIST", "Measurement list, binary, at most 64 MiB"))
-}
-
-// A required word that names an input.
-fn input<'a>(alloc: Global, id: &'a str, help: &'a str) -> Arg<'a> {
-    Arg::new(alloc, id).required(true).help(help)
-}
-
-// An option that has one of these values.
-fn choice<'a>(
-    alloc: Global,
-    id: &'a str,
-    value: &'a str,
-    default: &'a str,
-    values: &'a [&'a str],
-    help: &'a str,
-) -> Arg<'a> {
-    Arg::new(alloc, id)
-        .long(id)
-        .value_name(value)
-        .value_parser(values)
-        .default_value(default)
-        .help(help)
-}
-
-fn workers_option<'a>(alloc: Global) -> Arg<'a> {
-    Arg::new(alloc, "workers")
-        .long("workers")
-        .value_name("N")
-        .value_parser(value_parser!(usize).range(1..=MOST_WORKERS as i64))
-        .default_value("2")
-        .help(
-            "\
-How many workers hash files at once, 1 to 8. Only with 1 are files measured in
-their order, so that each run gives the same list and registers",
-        )
-}
-
-fn limit_option<'a>(alloc: Global) -> Arg<'a> {
-    Arg::new(alloc, "limit")
-        .long("limit")
-        .value_name("N")
-        .value_parser(value_parser!(u32).range(1..))
-        .default_value("100000")
-        .help("The greatest number of records, the opening's included, 1 to 4294967295\n")
-}
-
-fn files_argument<'a>(alloc: Global) -> Arg<'a> {
-    Arg::new(alloc, "FILE")
-        .action(ArgAction::Append)
-        .num_args(0..)
-        .help("Files to measure, each at most 64 MiB, under the names given here")
 }

@@ -1,0 +1,32 @@
+-- What clap's matches are, and what is read of them.
+use Rattle.std.proofs.Common.{◌≡◌, ℕ, List, [], map, true, Option, None, Some, Bor, refl, sym, ap, ◌∙◌}
+use Rattle.std.specs.Prelude.{option_map, unwrap_or}
+use Rattle.std.specs.Str.Parse.{digits_value, without_leading_plus}
+use Rattle.clap.specs.Words.{Text, is_simple, one_text, rows_of}
+use Rattle.clap.specs.declared.parser.matches.Found.{Found}
+use Rattle.clap.proofs.OnLiterals.{clap_on_literals}
+use Rattle.clap.proofs.WalkLemmas.{one_text-rows}
+use Rattle.command_line.specs.Commands.{HasNumber, Parsers, commands}
+
+pub commands_are_simple : (parsers : Parsers) → is_simple (commands parsers) ≡ true
+unfolding clap_on_literals
+commands_are_simple parsers = refl
+
+-- The words of a slice that may be missing.
+pub words_or_none : (o : Option (Bor (List (Bor Text)))) (none given : Bor (List (Bor Text))) → none.now ≡ [] → given ≡ unwrap_or o none
+    → map (λ word. word.now) given.now ≡ unwrap_or (option_map (λ words. map (λ word. word.now) words.now) o) []
+words_or_none None none given empty is = ap (λ (words : Bor (List (Bor Text))). map (λ word. word.now) words.now) is ∙ ap (map (λ word. word.now)) empty
+words_or_none (Some words) none given empty is = ap (λ (words : Bor (List (Bor Text))). map (λ word. word.now) words.now) is
+
+-- The number that was read of a text.
+pub number_read : (f : Found) (id : Text) (n : ℕ) (P : Text → Type 0) → (one_text f id ≡ None → ⊥) → ((t : Text) → one_text f id ≡ Some t → P t)
+    → ((t : Text) → P t → n ≡ digits_value 10 (without_leading_plus t)) → HasNumber id (rows_of f) n
+number_read f id n P some reads value = go (one_text f id) refl
+  where
+    go : (o : Option Text) → one_text f id ≡ o → HasNumber id (rows_of f) n
+    go None e = absurd (some e)
+    go (Some t) e = record {
+      text = t;
+      has = sym (one_text-rows f id) ∙ e;
+      number_is = sym (value t (reads t e));
+    }

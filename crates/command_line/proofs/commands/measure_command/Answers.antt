@@ -1,0 +1,22 @@
+use Rattle.std.proofs.lemmas.Result.{IfOk-weaker}
+use Rattle.command_line.proofs.CommandLemmas.{one_argument_more}
+use Rattle.command_line.proofs.commands.measure_command.Goals as goal
+
+pub returns : goal.returns
+returns c =
+    let alg = one_argument_more _ _ _ _ _ c.command.ensures c.choice.ensures.1 c.in_ok-arg.ensures in
+    let template = one_argument_more _ _ _ _ _ alg c.choice-2.ensures.1 c.in_ok-arg-2.ensures in
+    let workers = one_argument_more _ _ _ _ _ template c.workers_option.ensures.1 c.in_ok-arg-3.ensures in
+    let limit = one_argument_more _ _ _ _ _ workers c.limit_option.ensures.1 c.in_ok-arg-4.ensures in
+    let print = one_argument_more _ _ _ _ _ limit c.choice-3.ensures.1 c.in_ok-arg-5.ensures in
+    let log = one_argument_more _ _ _ _ _ print c.input.ensures c.in_ok-arg-6.ensures in
+    IfOk-weaker c.arg-7.result _ _ (λ command adds. (
+      record {
+        algs = c.choice.ensures.0;
+        templates = c.choice-2.ensures.0;
+        workers = c.workers_option.ensures.0;
+        limit = c.limit_option.ensures.0;
+        prints = c.choice-3.ensures.0;
+      },
+      one_argument_more _ command _ _ _ log c.files_argument.ensures adds,
+    )) c.arg-7.ensures

@@ -1,0 +1,23 @@
+use Rattle.std.proofs.Common.{ap, map, subst, string_bytes, inl, ◌∙◌}
+use Rattle.std.proofs.lemmas.Result.{IfOk-weaker}
+use Rattle.clap.specs.Words.{is_simple, subcommand_of}
+use Rattle.command_line.specs.Commands.{HasValuesIn}
+use Rattle.command_line.proofs.ReadLemmas.{commands_are_simple}
+use Rattle.command_line.proofs.words.plan_in.Goals as goal
+
+pub returns-in-Ok : goal.returns-in-Ok
+returns-in-Ok c =
+    let parsers = c.in_ok-all_commands.ensures.0 in
+    let program = c.in_ok-all_commands.ensures.1 in
+    let found = (c.in-Ok.ensures.matches (ap is_simple program.app_is ∙ commands_are_simple parsers)).1 in
+    IfOk-weaker c.plan_of.result _ _
+    (λ plan is. (
+      inl (
+        is.0,
+        record {
+          parsers = parsers;
+          values = subst (λ matches. HasValuesIn matches plan) (found ∙ ap (λ app. subcommand_of app (map string_bytes c.args.words.now)) program.app_is) is.2;
+        },
+      ),
+      is.1,
+    )) c.plan_of.ensures

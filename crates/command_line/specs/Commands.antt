@@ -1,0 +1,130 @@
+-- The commands as they are given to clap, and what a plan has of the matches that clap finds in the words. What words match is clap's own
+-- definition (`subcommand_of`). All of this is this project's choice.
+use Rattle.std.specs.Prelude.{◌≡◌, ℕ, false, true, List, [], ◌∷◌, codes, map, option_map, unwrap_or, Option, Some, string_bytes}
+use Rattle.std.specs.Str.Parse.{digits_value, without_leading_plus}
+use Rattle.clap.specs.Words.{App, Row, Rule, Text, all_of, app_of, first_of, new_app, new_rule, one_of, rule_of, subcommand_of}
+use Rattle.clap.specs.Words.{with_rule, with_subcommand}
+use Rattle.clap.specs.Lexer.{usize_max}
+use Rattle.clap.specs.declared.builder.Arg.{Arg}
+use Rattle.clap.specs.declared.builder.ArgAction.TheVariants.{Append}
+use Rattle.clap.specs.declared.builder.Command.{Command}
+use Rattle.clap.specs.declared.builder.ValueParser.{ValueParser}
+use Rattle.pcr_banks.specs.Hashing.{name_of}
+use Rattle.ima_list.specs.Templates.{template_name}
+use Rattle.command_line.specs.declared.plan.Plan.{Plan}
+use Rattle.command_line.specs.declared.plan.Plan.TheVariants.{Registers, Measure, Verify, Show, Help}
+use Rattle.command_line.specs.declared.plan.Print.{Print}
+use Rattle.command_line.specs.declared.plan.Print.TheVariants as prints
+
+-- ---- the commands
+
+-- What clap asks of the values of options. It is left open: a plan says which values there are.
+pub record Parsers : Type 0 where
+  pub algs : ValueParser
+  pub templates : ValueParser
+  pub workers : ValueParser
+  pub limit : ValueParser
+  pub prints : ValueParser
+
+-- A word that must be there.
+abbrev pub required : Text → Rule
+required id = record (new_rule id) { required = true }
+
+-- An option that has this value where it is left out.
+abbrev pub optional : Text → Text → ValueParser → Rule
+optional id default parser = record (new_rule id) {
+  long = Some id;
+  value_names = 1;
+  defaults = default ∷ [];
+  parser = Some parser;
+}
+
+-- Any number of words.
+abbrev pub repeated : Text → Rule
+repeated id = record (new_rule id) {
+  action = Some Append;
+  range = Some (record { start_inclusive = 0; end_inclusive = usize_max });
+}
+
+abbrev pub measure_app : Parsers → App
+measure_app parsers =
+    with_rule (with_rule (with_rule (with_rule (with_rule (with_rule (with_rule (new_app (codes "measure"))
+    (optional (codes "alg") (codes "sha256") parsers.algs))
+    (optional (codes "template") (codes "ima-ng") parsers.templates))
+    (optional (codes "workers") (codes "2") parsers.workers))
+    (optional (codes "limit") (codes "100000") parsers.limit))
+    (optional (codes "print") (codes "ascii") parsers.prints))
+    (required (codes "LOG")))
+    (repeated (codes "FILE"))
+
+abbrev pub verify_app : App
+verify_app =
+    with_rule (with_rule (with_rule (new_app (codes "verify")) (required (codes "LOG"))) (required (codes "LIST"))) (required (codes "EXPECTED"))
+
+abbrev pub show_app : App
+show_app = with_rule (new_app (codes "show")) (required (codes "LIST"))
+
+-- The program, whose first word is a command's name.
+abbrev pub program_app : App
+program_app = record {
+  top = record (new_app (codes "ima-agent")).top { no_binary_name = true; disable_help_subcommand = true; subcommand_required = true };
+  subs = [];
+}
+
+abbrev pub commands : Parsers → App
+commands parsers = with_subcommand (with_subcommand (with_subcommand program_app (measure_app parsers).top) verify_app.top) show_app.top
+
+-- clap has this argument, which is one of its command alone.
+pub record IsArgument (rule : Rule) (arg : Arg) : Type 0 where
+  pub rule_is : rule_of arg ≡ rule
+  pub local : arg.global ≡ false
+
+-- clap has this command.
+pub record IsCommand (app : App) (command : Command) : Type 0 where
+  pub app_is : app_of command ≡ app
+
+-- ---- what a plan has of the words
+
+abbrev pub print_name : Print → Text
+print_name prints.Ascii = codes "ascii"
+print_name prints.Binary = codes "binary"
+print_name prints.Registers = codes "registers"
+
+-- The first value of this name is a number in decimal.
+pub record HasNumber (id : Text) (rows : List Row) (number : ℕ) : Type 0 where
+  pub text : Text
+  pub has : one_of id rows ≡ Some text
+  pub number_is : digits_value 10 (without_leading_plus text) ≡ number
+
+-- The options and the names of a measurement are these values of the matches.
+pub record HasMeasure (rows : List Row) (alg template print log : Text) (workers limit : ℕ) (files : List Text) : Type 0 where
+  pub alg_is : first_of (codes "alg") rows ≡ Some alg
+  pub template_is : first_of (codes "template") rows ≡ Some template
+  pub workers_is : HasNumber (codes "workers") rows workers
+  pub limit_is : HasNumber (codes "limit") rows limit
+  pub print_is : first_of (codes "print") rows ≡ Some print
+  pub log_is : first_of (codes "LOG") rows ≡ Some log
+  pub files_is : unwrap_or (all_of (codes "FILE") rows) [] ≡ files
+
+-- The plan has its options and names of these matches.
+abbrev pub HasValues : List Row → Plan → Type 0
+HasValues rows Registers = ⊥
+HasValues rows (Measure alg template workers limit print log files) =
+    HasMeasure rows (name_of alg) (template_name template) (print_name print) (string_bytes log) workers limit (map string_bytes files.items)
+HasValues rows (Verify log list expected) =
+    (first_of (codes "LOG") rows ≡ Some (string_bytes log))
+    × (first_of (codes "LIST") rows ≡ Some (string_bytes list))
+    × (first_of (codes "EXPECTED") rows ≡ Some (string_bytes expected))
+HasValues rows (Show list) = first_of (codes "LIST") rows ≡ Some (string_bytes list)
+HasValues rows (Help text) = ⊥
+
+-- The same of the matches of a command, where there are any.
+pub record HasValuesIn (found : Option (Text × List Row)) (plan : Plan) : Type 0 where
+  pub rows : List Row
+  pub rows_are : option_map (λ command. command.1) found ≡ Some rows
+  pub values : HasValues rows plan
+
+-- The plan has its options and names of what the words of its command match.
+pub record IsMatched (words : List Text) (plan : Plan) : Type 0 where
+  pub parsers : Parsers
+  pub values : HasValuesIn (subcommand_of (commands parsers) words) plan

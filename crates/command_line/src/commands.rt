@@ -1,0 +1,174 @@
+//! The commands, as clap takes them.
+
+ghost use Rattle.std.specs.Prelude.{codes, IfOk};
+ghost use Rattle.clap.specs.Words.{new_app};
+ghost use Rattle.clap.specs.declared.builder.ValueParser.{ValueParser};
+ghost use Rattle.command_line.specs.Commands.{IsArgument, IsCommand, Parsers, commands, measure_app, optional, program_app, repeated, required, show_app, verify_app};
+
+use clap::{Arg, ArgAction, Command, value_parser};
+use std::alloc::{AllocError, Global};
+
+/// The names of the algorithms that files are measured by.
+static ALGS: [&str; 3] = ["sha1", "sha256", "sha384"];
+
+/// The names of the templates of entries.
+static TEMPLATES: [&str; 2] = ["ima", "ima-ng"];
+
+/// The names of what is printed.
+static PRINTS: [&str; 3] = ["ascii", "binary", "registers"];
+
+/// The greatest number of workers.
+pub(crate) const MOST_WORKERS: usize = 8;
+
+/// What the help of the program and of each command ends with.
+const STATUSES: &str = "\
+Exit status:
+  0  done; of verify: the expected registers and the list's boot aggregate match
+  1  of verify: an expected register or the boot aggregate does not match
+  2  the words or an input are refused
+  3  memory ran out, or a device failed";
+
+// The commands, as clap reads them.
+pub(crate) fn all_commands<'a>(alloc: Global) -> Result<Command<'a>, AllocError>
+    ensures { IfOk result (λ program. (parsers : Parsers) × IsCommand (commands parsers) program) }
+{
+    let measure = measure_command(alloc)?;
+    let verify = verify_command(alloc)?;
+    let show = show_command(alloc)?;
+    let program = program(alloc)?.subcommand(measure)?;
+    let program = program.subcommand(verify)?;
+    program.subcommand(show)
+}
+
+// The program, without its commands.
+fn program<'a>(alloc: Global) -> Result<Command<'a>, AllocError>
+    ensures { IfOk result (IsCommand program_app) }
+{
+    let about = "\
+Replays firmware event logs and IMA measurement lists, measures files, and compares registers.
+
+Without a command: reads a firmware event log in hexadecimal from standard input, at most 64 MiB,
+and prints the registers that differ from their reset values.";
+    command(alloc, "ima-agent", about)
+        .no_binary_name(true)
+        .disable_help_subcommand(true)
+        .subcommand_required(true)
+        .bin_name("ima-agent")
+}
+
+// A command of this name, without arguments.
+fn command<'a>(alloc: Global, name: &'a str, about: &'a str) -> Command<'a>
+    ensures { IsCommand (new_app name.now) result }
+{
+    Command::new(alloc, name).about(about).after_help(STATUSES)
+}
+
+fn measure_command<'a>(alloc: Global) -> Result<Command<'a>, AllocError>
+    ensures { IfOk result (λ command. (parsers : Parsers) × IsCommand (measure_app parsers) command) }
+{
+    let algs = "Hash algorithm of the files' digests\n";
+    let templates = "Template of the list's entries";
+    let prints = "\
+What to print: the list as text, the binary list, or the registers that
+differ from their reset values\n";
+    let log = "Firmware event log, binary, at most 64 MiB";
+    let about =
+        "Measures files into the registers that a firmware event log makes, and prints the result";
+    command(alloc, "measure", about)
+        .arg(choice(alloc, "alg", "A", "sha256", &ALGS, algs))?
+        .arg(choice(alloc, "template", "T", "ima-ng", &TEMPLATES, templates))?
+        .arg(workers_option(alloc))?
+        .arg(limit_option(alloc))?
+        .arg(choice(alloc, "print", "P", "ascii", &PRINTS, prints))?
+        .arg(input(alloc, "LOG", log))?
+        .arg(files_argument(alloc))
+}
+
+fn verify_command<'a>(alloc: Global) -> Result<Command<'a>, AllocError>
+    ensures { IfOk result (IsCommand verify_app) }
+{
+    let about = "Replays a firmware event log and a measurement list, and compares the registers";
+    command(alloc, "verify", about)
+        .arg(input(alloc, "LOG", "Firmware event log, binary, at most 64 MiB"))?
+        .arg(input(alloc, "LIST", "Measurement list, binary, at most 64 MiB"))?
+        .arg(input(
+            alloc,
+            "EXPECTED",
+            "\
+Expected registers, at most 64 MiB, a line each: algorithm, register and value
+in hexadecimal. A file without a line compares no register: it matches whatever
+the registers are, if the list's boot aggregate does",
+        ))
+}
+
+fn show_command<'a>(alloc: Global) -> Result<Command<'a>, AllocError>
+    ensures { IfOk result (IsCommand show_app) }
+{
+    let about = "Prints the entries of a measurement list as text, one line each";
+    command(alloc, "show", about).arg(input(
+        alloc,
+        "LIST",
+        "Measurement list, binary, at most 64 MiB",
+    ))
+}
+
+// A required word that names an input.
+fn input<'a>(alloc: Global, id: &'a str, help: &'a str) -> Arg<'a>
+    ensures { IsArgument (required id.now) result }
+{
+    Arg::new(alloc, id).required(true).help(help)
+}
+
+// An option that has one of these values.
+fn choice<'a>(
+    alloc: Global,
+    id: &'a str,
+    value: &'a str,
+    default: &'a str,
+    values: &'a [&'a str],
+    help: &'a str,
+) -> Arg<'a>
+    ensures { (parser : ValueParser) × IsArgument (optional id.now default.now parser) result }
+{
+    Arg::new(alloc, id)
+        .long(id)
+        .value_name(value)
+        .value_parser(values)
+        .default_value(default)
+        .help(help)
+}
+
+fn workers_option<'a>(alloc: Global) -> Arg<'a>
+    ensures { (parser : ValueParser) × IsArgument (optional (codes "workers") (codes "2") parser) result }
+{
+    Arg::new(alloc, "workers")
+        .long("workers")
+        .value_name("N")
+        .value_parser(value_parser!(usize).range(1..=MOST_WORKERS as i64))
+        .default_value("2")
+        .help(
+            "\
+How many workers hash files at once, 1 to 8. Only with 1 are files measured in
+their order, so that each run gives the same list and registers",
+        )
+}
+
+fn limit_option<'a>(alloc: Global) -> Arg<'a>
+    ensures { (parser : ValueParser) × IsArgument (optional (codes "limit") (codes "100000") parser) result }
+{
+    Arg::new(alloc, "limit")
+        .long("limit")
+        .value_name("N")
+        .value_parser(value_parser!(u32).range(1..))
+        .default_value("100000")
+        .help("The greatest number of records, the opening's included, 1 to 4294967295\n")
+}
+
+fn files_argument<'a>(alloc: Global) -> Arg<'a>
+    ensures { IsArgument (repeated (codes "FILE")) result }
+{
+    Arg::new(alloc, "FILE")
+        .action(ArgAction::Append)
+        .num_args(0..)
+        .help("Files to measure, each at most 64 MiB, under the names given here")
+}
