@@ -4,7 +4,7 @@ ghost use Rattle.std.specs.Prelude.{◌≡◌, IfOk, IfErr};
 ghost use Rattle.std.specs.Process.{exit_status};
 ghost use Rattle.ima_agent.specs.FaultTexts.{fault_line, fault_status};
 ghost use Rattle.command_line.specs.Plans.{IsWithinRanges};
-ghost use Rattle.ima_agent.specs.Program.{Answers, IsFaultFor, IsFaultOf, IsOutput, IsOutputFor, IsOutputOf, ShowsFor};
+ghost use Rattle.ima_agent.specs.Program.{Answers, IsFaultFor, IsFaultOf, IsOutput, IsOutputFor, IsOutputOf, ShowsFor, status_after};
 
 use crate::fault::RunFault;
 use crate::files::Files;
@@ -34,9 +34,16 @@ pub fn exit_code<R: Threads + Wait + Sync, F: Files, S: Sink>(
     ensures { Answers (IsOutputOf (F.told files.old) words) (exit_status result) (S.state sink.old) (S.state sink.new) }
 {
     match words {
-        Ok(words) => ExitCode::from(run(rt, alloc, &words, files, sink)),
-        Err(_) => ExitCode::from(failed(&RunFault::Memory, sink)),
+        Ok(words) => exits_with(run(rt, alloc, &words, files, sink)),
+        Err(_) => exits_with(failed(&RunFault::Memory, sink)),
     }
+}
+
+// The process's exit code for an exit status.
+fn exits_with(status: u8) -> ExitCode
+    ensures { exit_status result ≡ status }
+{
+    ExitCode::from(status)
 }
 
 /// Does what the words ask for, the program's name left out, and answers the exit status.
@@ -59,10 +66,7 @@ pub fn run<R: Threads + Wait + Sync, F: Files, S: Sink>(
     ensures { Answers (IsOutput (F.told files.old) words.now) result (S.state sink.old) (S.state sink.new) }
 {
     match output_of(rt, alloc, words, files) {
-        Ok(output) => match send(&output.text, sink) {
-            Ok(()) => output.status,
-            Err(Failed) => FAILED,
-        },
+        Ok(output) => status_after(send(&output.text, sink), output.status),
         Err(fault) => failed(&fault, sink),
     }
 }
@@ -71,8 +75,15 @@ pub fn run<R: Threads + Wait + Sync, F: Files, S: Sink>(
 fn failed<S: Sink>(fault: &RunFault, sink: &mut S) -> u8
     ensures { Answers (λ text status. (text ≡ fault_line fault.now) × (status ≡ fault_status fault.now)) result (S.state sink.old) (S.state sink.new) }
 {
-    match write_fault(fault, sink) {
-        Ok(()) => status_of(fault),
+    status_after(write_fault(fault, sink), status_of(fault))
+}
+
+// The exit status of an output that was sent with this result.
+fn status_after(sent: Result<(), Failed>, status: u8) -> u8
+    ensures { result ≡ status_after sent status }
+{
+    match sent {
+        Ok(()) => status,
         Err(Failed) => FAILED,
     }
 }

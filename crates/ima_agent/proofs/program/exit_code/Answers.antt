@@ -10,7 +10,7 @@ returns-in-Ok g c =
       sent = said.sent;
       output = rw (c.in-Ok.is, ← c.deref.ensures.value) said.output;
       sends = said.sends;
-      answer_is = c.from.ensures ∙ said.answer_is;
+      answer_is = c.exits_with.ensures ∙ said.answer_is;
     }
 
 pub returns-in-Err : goal.returns-in-Err
@@ -22,5 +22,5 @@ returns-in-Err g c =
       sent = said.sent;
       output = rw c.in-Err.is said.output;
       sends = said.sends;
-      answer_is = c.from-in-Err.ensures ∙ said.answer_is;
+      answer_is = c.exits_with-in-Err.ensures ∙ said.answer_is;
     }

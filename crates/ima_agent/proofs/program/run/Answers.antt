@@ -1,28 +1,18 @@
-use Rattle.std.proofs.Common.{refl, Ok, Err, inl, inr}
+use Rattle.std.proofs.Common.{inl, inr}
 use Rattle.ima_agent.proofs.program.run.Goals as goal
-
-pub returns-in-Ok-send : goal.returns-in-Ok-send
-returns-in-Ok-send g c = record {
-  text = c.in-Ok.output.text.items;
-  status = c.in-Ok.output.status;
-  sent = Ok tt;
-  output = inl c.in-Ok.ensures.shown;
-  sends = rw (← c.deref.ensures.value) c.in-Ok-send.ensures;
-  answer_is = refl;
-}
 
 pub returns-in-Ok : goal.returns-in-Ok
 returns-in-Ok g c = record {
   text = c.in-Ok.output.text.items;
   status = c.in-Ok.output.status;
-  sent = Err c.in-Err-send.field-0;
+  sent = c.send.result;
   output = inl c.in-Ok.ensures.shown;
-  sends = rw (← c.deref.ensures.value) c.in-Err-send.ensures;
-  answer_is = refl;
+  sends = rw (← c.deref.ensures.value) c.send.ensures;
+  answer_is = c.status_after.ensures;
 }
 
-pub returns : goal.returns
-returns g c =
+pub returns-in-Err : goal.returns-in-Err
+returns-in-Err g c =
     let said = c.failed.ensures in
     record {
       text = said.text;
