@@ -4,6 +4,7 @@ pub mod Histories
 pub mod Runs
 pub mod Books
 pub mod Equality
+pub mod Origins
 pub mod Steps
 pub mod BookParts
 pub mod Groups

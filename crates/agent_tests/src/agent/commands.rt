@@ -56,7 +56,7 @@ fn measure_prints_registers(rt: HostRuntime) -> Result<(), Fail> {
 }
 
 /// Words, and the status and the output that they get.
-static COMMANDS: [(&[&str], u8, &[u8]); 29] = [
+static COMMANDS: [(&[&str], u8, &[u8]); 28] = [
     (
         &["verify", "log", "forged", "expected"],
         2,
@@ -138,7 +138,6 @@ static COMMANDS: [(&[&str], u8, &[u8]); 29] = [
     ),
     (&["measure", "-"], 3, b"failed: read -\n"),
     (&["verify", "-", "L", "L"], 3, b"failed: read -\n"),
-    (&["show", "-hx"], 2, b"refused: command line\n"),
     (
         &["measure", "none"],
         2,
@@ -169,12 +168,14 @@ static COMMANDS: [(&[&str], u8, &[u8]); 29] = [
 ];
 
 /// Each way to ask for help.
-static HELPS: [&[&str]; 5] = [
+static HELPS: [&[&str]; 7] = [
     &["--help"],
     &["-h"],
     &["measure", "--help"],
     &["verify", "--help"],
     &["show", "-h"],
+    &["-hh"],
+    &["show", "-hx"],
 ];
 
 /// The program answers the words of each line so.
