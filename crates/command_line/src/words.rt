@@ -20,11 +20,11 @@ use std::alloc::{AllocError, Global};
 use std::env::Args;
 
 /// What the words of the command line ask for, the program's name left out. No words ask for the registers of the log on
-/// standard input; else the first word is the command.
+/// standard input; else the first word is the command, and what options and names the others are is `clap`'s own definition.
 ///
 /// Refused as `Usage` where the words are not those of a command, and as `Memory` where memory runs out.
 pub fn read_words(alloc: Global, words: &[String]) -> Result<Plan, WordsFault>
-    // The command is the first word, and what a measurement is asked for is within its ranges.
+    // The command is the first word, with the options and names that the words match, and within its ranges; or help is asked for.
     ensures asked { IfOk result (λ plan. IsAskedBy words.now plan × IsWithinRanges plan) }
     // No words ask for the registers of standard input.
     ensures none { words.now ≡ [] → result ≡ Ok Registers }

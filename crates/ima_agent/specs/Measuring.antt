@@ -12,14 +12,17 @@ use Rattle.ima_list.specs.declared.template.Template.{Template}
 use Rattle.ima_list.specs.Lines.{line_of}
 use Rattle.measure_book.specs.declared.origin.Origin.{Origin}
 use Rattle.measure_book.specs.declared.fault.BookFault.{BookFault}
+use Rattle.measure_book.specs.declared.gathers.GatherFault.{GatherFault}
 use Rattle.measure_book.specs.Operations.{BookOp, BookOutcome, refused}
 use Rattle.measure_book.specs.Books.{BookState, exported}
 use Rattle.hash_workers.specs.declared.job.Job.{Job}
 use Rattle.hash_workers.specs.declared.job.Job.TheVariants as jobs
 use Rattle.hash_workers.specs.declared.fault.AgentFault.{AgentFault}
+use Rattle.hash_workers.specs.declared.fault.AgentFault.TheVariants as agents
 use Rattle.hash_workers.specs.Jobs.{operations_of}
 use Rattle.hash_workers.specs.Batches.{IsBatch}
 use Rattle.hash_workers.specs.Faults.{IsFaultOf}
+use Rattle.hash_workers.specs.Settling.{IsCauseAmong}
 use Rattle.boot_verdict.specs.RegisterTexts.{registers_text}
 use Rattle.ima_agent.specs.declared.fault.RunFault.{RunFault}
 use Rattle.ima_agent.specs.declared.measuring.Measuring.{Measuring}
@@ -134,15 +137,16 @@ pub record IsRefusedJob (origin : Origin) (ops : List BookOp) (workers : ℕ) (f
   pub first : IsFirstRefused outcomes job cause
   pub says : fault ≡ fault_of_job job cause
 
--- The workers gave no book.
-pub record IsNoBatch (origin : Origin) (workers : ℕ) (fault : RunFault) : Type 0 where
+-- The workers gave no book. Where their receipts do not account for it, this is the first cause against what they got.
+pub record IsNoBatch (origin : Origin) (ops : List BookOp) (workers : ℕ) (fault : RunFault) : Type 0 where
   pub first : AgentFault
   pub first_is : IsFaultOf workers origin first
+  pub among : (cause : GatherFault) → first ≡ agents.Gather cause → IsCauseAmong workers origin ops cause
   pub says : fault ≡ fault_of_agent first
 
 -- Why the operations are not all recorded.
 abbrev pub IsRecordingFault : Origin → List BookOp → ℕ → RunFault → Type 0
-IsRecordingFault origin ops workers fault = IsNoBatch origin workers fault ⊎ IsRefusedJob origin ops workers fault
+IsRecordingFault origin ops workers fault = IsNoBatch origin ops workers fault ⊎ IsRefusedJob origin ops workers fault
 
 -- The files of these names were to be measured so over this log, and were not all recorded.
 pub record IsNotRecorded (inputs : Inputs) (log : List ℕ) (manner : Manner) (names : List (List ℕ)) (fault : RunFault) : Type 0 where

@@ -14,7 +14,7 @@ use std::alloc::Global;
 ///
 /// Refused as `Usage` where the words are not those of a command, and as `Memory` where memory runs out.
 pub fn read_words(alloc: Global, words: &[String]) -> Result<Plan, RunFault>
-    // The command is the first word, and what a measurement is asked for is within its ranges.
+    // The command is the first word, with the options and names that the words match, and within its ranges; or help is asked for.
     ensures asked { IfOk result (λ plan. IsAskedBy words.now plan × IsWithinRanges plan) }
     ensures refused { IfErr result IsWordsFault }
     // No words ask for the registers of standard input.
