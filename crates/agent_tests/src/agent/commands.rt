@@ -247,6 +247,22 @@ fn measured(
     }
 }
 
+/// The list of a log that leaves the registers at reset, and of the files `f`, which has `abc`, and `g`, which is empty.
+const THREE_ENTRIES: &str = "
+0a000000 6bdad7efa602f84ca31ffe3f11ff7c476e25dcdd 06000000 696d612d6e67 3f000000
+28000000 7368613235363a00 7b6436b0c98f62380866d9432c2af0ee08ce16a171bda6951aecd95ee1307d61
+0f000000 626f6f745f61676772656761746500
+0a000000 34e13111fbec9d50d71128958c8977cc06238f8a 06000000 696d612d6e67 32000000
+28000000 7368613235363a00 ba7816bf8f01cfea414140de5dae2223b00361a396177a9cb410ff61f20015ad
+02000000 6600
+0a000000 bffc808b20730f8d14bbf33c8d5cf96ff9fc7e5b 06000000 696d612d6e67 32000000
+28000000 7368613235363a00 e3b0c44298fc1c149afbf4c8996fb92427ae41e4649b934ca495991b7852b855
+02000000 6700";
+
+/// PCR 10 after it.
+const THREE_ENTRIES_LINE: &[u8] =
+    b"sha256 10 f1d9ce8f7aff8a2409268b0d1b4d45d5bed4a1c4bde7ee001af1973627dfd9e7\n";
+
 /// A list that is exported can be shown, and verified with the registers that it makes.
 #[test]
 fn measured_list_is_verified(rt: HostRuntime) -> Result<(), Fail> {
@@ -254,6 +270,8 @@ fn measured_list_is_verified(rt: HostRuntime) -> Result<(), Fail> {
     let files = [("L", log.as_slice()), ("f", b"abc"), ("g", b"")];
     let list = measured(&rt, "binary", &files)?;
     let registers = measured(&rt, "registers", &files)?;
+    assert!(rt; list == bytes_of(rt.alloc(), &[THREE_ENTRIES])?);
+    assert_eq!(rt; registers.as_slice(), THREE_ENTRIES_LINE);
     let files = [
         ("L", log.as_slice()),
         ("list", list.as_slice()),

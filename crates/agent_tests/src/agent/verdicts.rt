@@ -6,7 +6,7 @@ use super::show::VIOLATION;
 use boot_log::{LogFault, read_log};
 use byte_streams::{Failed, VecSink};
 use ima_agent::{Aggregate, Expected, Report, State, VerifyFault, verify};
-use ima_list::{Entry, Template, boot_aggregate, write_entry};
+use ima_list::{Entry, Template, write_entry};
 use measure_book::{Book, BookFault, Op, Origin};
 use pcr_banks::{Alg, Banks, Digest, hash};
 use std::alloc::{AllocError, Global};
@@ -60,6 +60,18 @@ sha256 0 ffffffffffffffffffffffffffffffffffffffffffffffffffffffffffffffff
 sha1 10 0000000000000000000000000000000000000000
 ";
 
+/// The entries of that list: the boot aggregate of the registers after the log, and `/bin/sh` with `abc` and with nothing.
+const LIST: &str = "
+0a000000 510d89a2e5404ad12d2b950133f6621fb82f931a 06000000 696d612d6e67 3f000000
+28000000 7368613235363a00 3ef781bb9b62116d8b9e7c9e9136670fb2d7b7b9cca79a98ddc7fbdec1f68768
+0f000000 626f6f745f61676772656761746500
+0a000000 83fdff315175587157ed3aa604e7f9ec63ca0b42 06000000 696d612d6e67 38000000
+28000000 7368613235363a00 ba7816bf8f01cfea414140de5dae2223b00361a396177a9cb410ff61f20015ad
+08000000 2f62696e2f736800
+0a000000 df6496ba016db65204477db13fa771237e42c714 06000000 696d612d6e67 38000000
+28000000 7368613235363a00 e3b0c44298fc1c149afbf4c8996fb92427ae41e4649b934ca495991b7852b855
+08000000 2f62696e2f736800";
+
 /// The log of one event, and the list of a book over it.
 pub fn log_and_list(alloc: Global) -> Result<(Vec<u8>, Vec<u8>), Fail> {
     let log = bytes_of(alloc, &[HEADER, EVENT])?;
@@ -69,10 +81,11 @@ pub fn log_and_list(alloc: Global) -> Result<(Vec<u8>, Vec<u8>), Fail> {
     Ok((log, list))
 }
 
-/// A row of each state, and the first row alone.
+/// A row of each state, and the first row alone, on the list that the book made.
 #[test]
 fn report_with_each_state(rt: HostRuntime) -> Result<(), Fail> {
     let (log, list) = log_and_list(rt.alloc())?;
+    assert!(rt; list == bytes_of(rt.alloc(), &[LIST])?);
     let (first, _) = EXPECTED.split_once('\n').ok_or("no line")?;
     for (expected, status, rows) in [
         (
@@ -195,13 +208,15 @@ fn first_entry(alloc: Global, path: &[u8], digest: &Digest) -> Result<Vec<u8>, A
     Ok(bytes)
 }
 
+/// The boot aggregate of the registers after the log of one event.
+const AGGREGATE: &[u8] = b"3ef781bb9b62116d8b9e7c9e9136670fb2d7b7b9cca79a98ddc7fbdec1f68768";
+
 /// What the first entry says of the log's registers.
 #[test]
 fn aggregates_of_first_entries(rt: HostRuntime) -> Result<(), Fail> {
     let alloc = rt.alloc();
     let log = bytes_of(alloc, &[HEADER, EVENT])?;
-    let start = registers_of(alloc, &log)?;
-    let good = boot_aggregate(&start, Alg::Sha256).ok_or("no bank")?;
+    let good = Digest::from_hex(Alg::Sha256, AGGREGATE).ok_or("no digest")?;
     let none = Digest::zero(Alg::Sha384);
     for (path, digest, aggregate) in [
         (b"boot_aggregate".as_slice(), good, Aggregate::Good),
