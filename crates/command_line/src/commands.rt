@@ -67,7 +67,7 @@ fn measure_command<'a>(alloc: Global) -> Result<Command<'a>, AllocError>
     ensures { IfOk result (λ command. (parsers : Parsers) × IsCommand (measure_app parsers) command) }
 {
     let algs = "Hash algorithm of the files' digests\n";
-    let templates = "Template of the list's entries";
+    let templates = "Template of the list's entries\n";
     let prints = "\
 What to print: the list as text, the binary list, or the registers that
 differ from their reset values\n";
