@@ -3,14 +3,19 @@
 mod books;
 mod exports;
 mod gathering;
+mod large_books;
 mod memory;
+mod origins;
 mod refusals;
 mod values;
 
-use ima_list::Template;
-use measure_book::{Answer, Book, BookFault, Op, Origin, Outcome, Receipt};
+use exports::{list_of, spellings};
+use ima_list::{Entry, Template};
+use measure_book::{Answer, Book, BookFault, Op, Origin, Outcome, Receipt, Record};
 use pcr_banks::{Alg, AlgSet, Banks, Digest, hash};
 use std::alloc::{AllocError, Global};
+use std::process::Abort;
+use std::test::Fail;
 
 /// The entry of `/bin/sh`, measured into PCR 10 with the SHA-256 of `abc`, in the template `ima-ng`.
 const MEASUREMENT: &[u8] = b"\x0a\x00\x00\x00\
@@ -57,14 +62,9 @@ fn copied(alloc: Global, bytes: &[u8]) -> Result<Vec<u8>, AllocError> {
     Vec::from_slice(alloc, bytes).or_else(|_| Vec::from_slice(alloc, bytes))
 }
 
-/// The parts joined; once more where an allocation was refused.
-fn joined(alloc: Global, parts: &[&[u8]]) -> Result<Vec<u8>, AllocError> {
-    parts.concat(alloc).or_else(|_| parts.concat(alloc))
-}
-
-/// The value of a register of SHA-256 after an extend.
-fn extended(alloc: Global, old: &[u8], digest: &[u8]) -> Result<Digest, AllocError> {
-    Ok(sha256(&joined(alloc, &[old, digest])?))
+/// The value of a register of SHA-256, from its hexadecimal digits.
+fn value(digits: &str) -> Option<Digest> {
+    Digest::from_hex(Alg::Sha256, digits.as_bytes())
 }
 
 fn measure(alloc: Global, path: &[u8], digest: Digest) -> Result<Op, AllocError> {
@@ -128,4 +128,47 @@ fn three_measurements(alloc: Global) -> Result<[Op; 3], AllocError> {
         measure(alloc, b"/bin/sh", sha256(b"abc"))?,
         measure(alloc, b"/bin/sh", sha256(b""))?,
     ])
+}
+
+/// A copy of the operation; once more where an allocation was refused.
+fn copied_op(alloc: Global, op: &Op) -> Result<Op, AllocError> {
+    match op {
+        Op::Measure { path, digest } => measure(alloc, path, *digest),
+        Op::Violation { path } => violation(alloc, path),
+        Op::Read { alg, register } => Ok(read(*alg, *register)),
+    }
+}
+
+/// What a book shows at some time: copies of its records and of its list, and its registers.
+#[derive(Drop)]
+struct Shown {
+    records: Vec<Record>,
+    entries: Vec<Entry>,
+    banks: Banks,
+}
+
+fn shown_by(alloc: Global, book: &Book) -> Result<Shown, Fail> {
+    let count = book.records().len();
+    let mut records = Vec::with_capacity(alloc, count).or_else(|_| Vec::with_capacity(
+        alloc, count,
+    ))?;
+    for record in book.records() {
+        let op = copied_op(alloc, &record.op)?;
+        records.push(Record {
+            op,
+            answer: record.answer,
+        })?;
+    }
+    Ok(Shown {
+        records,
+        entries: list_of(alloc, &spellings(alloc, book.entries())?)?,
+        banks: *book.banks(),
+    })
+}
+
+/// The book shows this: the same records, the same entries and the same registers.
+fn assert_shows(rt: &impl Abort, book: &Book, shown: &Shown) {
+    assert!(rt; book.records() == shown.records.as_slice());
+    assert!(rt; book.entries() == shown.entries.as_slice());
+    assert_eq!(rt; *book.banks(), shown.banks);
 }

@@ -2,10 +2,10 @@
 
 use super::exports::{ShortSink, spellings};
 use super::{
-    MEASUREMENT, VIOLATION, applied, extended, measure, opened, origin, read, receipt, run_on_new,
-    sha256, three_measurements, violation,
+    MEASUREMENT, VIOLATION, applied, measure, opened, origin, read, receipt, run_on_new, sha256,
+    start, three_measurements, value, violation,
 };
-use ima_list::{Entry, write_entry};
+use ima_list::{Entry, replay, write_entry};
 use measure_book::laws::{
     fronts_are_histories, operations_have_one_answer, reads_are_replays, runs_go_on,
 };
@@ -13,6 +13,21 @@ use measure_book::{Answer, BookFault, ExportFault, Outcome, Record};
 use pcr_banks::{Alg, Digest};
 use std::alloc::{AllocError, Global};
 use std::test::Fail;
+
+/// PCR 10 after the boot aggregate of registers at reset.
+const AFTER_OPENING: &str = "bf0d858e3904704b36740bc2ddcf4820b93a9323c1098338b7c38e338735257b";
+
+/// PCR 10 after this entry and the measurement of `/bin/sh` with the content `abc`; then also with no content.
+const AFTER_TWO: &str = "5fcef84d490a160058b8f1b7e33abea9f2df325f2b7ccb294d1d28f3459db9d5";
+
+const AFTER_THREE: &str = "8969ed91a785f4fbb88b785dd3e6cf2d5bf6d1ba1550c61a202e9d644685bf9c";
+
+/// PCR 10 after the boot aggregate and a violation of `/etc/x`; then also after the measurement of this path with a digest
+/// of zero bytes, and a second violation.
+const AFTER_VIOLATION: &str = "f452d7d9f5e9d973174411f620ab7dace63a48de8c1cccdca0830ac7d06a0146";
+
+const AFTER_TWO_VIOLATIONS: &str =
+    "438c0bc73f9e938c832f47438e12b63e37f7520ecb0c992c71b251192b8c50d2";
 
 /// An entry's spelling; once more where an allocation was refused.
 fn spelling_of(alloc: Global, entry: &Entry) -> Result<Vec<u8>, AllocError> {
@@ -57,11 +72,7 @@ fn three_operations(rt: HostRuntime) -> Result<(), Fail> {
         spelling_of(alloc, &book.entries()[1])?.as_slice(),
         MEASUREMENT
     );
-    let mut value = Digest::zero(Alg::Sha256);
-    for entry in book.entries() {
-        value = extended(alloc, value.bytes(), sha256(entry.payload()).bytes())?;
-    }
-    assert_eq!(rt; book.banks().read(Alg::Sha256, 10), Some(value));
+    assert_eq!(rt; book.banks().read(Alg::Sha256, 10), value(AFTER_THREE));
     Ok(())
 }
 
@@ -69,7 +80,7 @@ fn three_operations(rt: HostRuntime) -> Result<(), Fail> {
 fn violation_then_measure(rt: HostRuntime) -> Result<(), Fail> {
     let alloc = rt.alloc();
     let mut book = opened(alloc, origin(100))?;
-    let before = book.banks().read(Alg::Sha256, 10).ok_or("no bank")?;
+    assert_eq!(rt; book.banks().read(Alg::Sha256, 10), value(AFTER_OPENING));
     let op = violation(alloc, b"/etc/x")?;
     let first = applied(&mut book, &op)?;
     assert_eq!(rt;
@@ -78,13 +89,16 @@ fn violation_then_measure(rt: HostRuntime) -> Result<(), Fail> {
     );
     let added = book.entries().last().ok_or("no entry")?;
     assert_eq!(rt; spelling_of(alloc, added)?.as_slice(), VIOLATION);
-    let after = extended(alloc, before.bytes(), &[0xFF; 32])?;
-    assert_eq!(rt; book.banks().read(Alg::Sha256, 10), Some(after));
+    assert_eq!(rt; book.banks().read(Alg::Sha256, 10), value(AFTER_VIOLATION));
     let zeros = measure(alloc, b"/etc/x", Digest::zero(Alg::Sha256))?;
     assert_eq!(rt; applied(&mut book, &zeros)?.answer, Answer::Added(2));
     assert_eq!(rt; applied(&mut book, &op)?.answer, Answer::Added(3));
     assert_eq!(rt; applied(&mut book, &zeros)?.answer, Answer::Known(2));
     assert_eq!(rt; book.entries().len(), 4);
+    assert_eq!(rt;
+        book.banks().read(Alg::Sha256, 10),
+        value(AFTER_TWO_VIOLATIONS)
+    );
     Ok(())
 }
 
@@ -98,7 +112,8 @@ fn run_with_refusal_between(rt: HostRuntime) -> Result<(), Fail> {
     ];
     let mut outcomes = Vec::new(alloc);
     let mut book = run_on_new(alloc, origin(100), &ops, &mut outcomes)?;
-    let value = book.banks().read(Alg::Sha256, 10).ok_or("no bank")?;
+    let value = value(AFTER_TWO).ok_or("no value")?;
+    assert_eq!(rt; book.banks().read(Alg::Sha256, 10), Some(value));
     assert_eq!(rt; outcomes.len(), 3);
     let first = measure(alloc, b"/bin/sh", sha256(b"abc"))?;
     let added = Outcome::Done(receipt(1, first, Answer::Added(1)));
@@ -161,11 +176,31 @@ fn many_files_are_known_again(rt: HostRuntime) -> Result<(), Fail> {
     Ok(())
 }
 
-/// The laws take nothing and do nothing.
+/// What the laws say, seen on books that the same operations are done on: the answers are the same, those to the first
+/// operations are a front of all, a run may be cut in two, and a read is answered what the replay of the list so far gives.
 #[test]
-fn laws_of_histories() {
+fn laws_of_histories(rt: HostRuntime) -> Result<(), Fail> {
     operations_have_one_answer();
     fronts_are_histories();
     reads_are_replays();
     runs_go_on();
+    let alloc = rt.alloc();
+    let ops = [
+        measure(alloc, b"/bin/sh", sha256(b"abc"))?,
+        violation(alloc, b"/bin/sh")?,
+        read(Alg::Sha256, 10),
+        measure(alloc, b"/bin/sh", sha256(b"abc"))?,
+    ];
+    let mut outcomes = Vec::new(alloc);
+    let whole = run_on_new(alloc, origin(100), &ops, &mut outcomes)?;
+    let mut cut = run_on_new(alloc, origin(100), &ops[..3], &mut outcomes)?;
+    assert!(rt; whole.records().starts_with(cut.records()));
+    let banks = replay(start(), cut.entries())?;
+    let value = banks.read(Alg::Sha256, 10).ok_or("no bank")?;
+    let answer = cut.records().last().ok_or("no record")?.answer;
+    assert_eq!(rt; answer, Answer::Value(value));
+    applied(&mut cut, &ops[3])?;
+    assert!(rt; whole.records() == cut.records());
+    assert!(rt; whole.entries() == cut.entries());
+    Ok(())
 }

@@ -64,7 +64,7 @@ pub fn spellings(alloc: Global, entries: &[Entry]) -> Result<Vec<u8>, AllocError
 }
 
 /// The book's export; into another sink once more where an allocation was refused.
-fn export_of(alloc: Global, book: &Book) -> Result<Vec<u8>, ExportFault> {
+pub fn export_of(alloc: Global, book: &Book) -> Result<Vec<u8>, ExportFault> {
     let mut sink = VecSink::new(Vec::new(alloc));
     if book.export(&mut sink).is_err() {
         sink = VecSink::new(Vec::new(alloc));
@@ -74,7 +74,7 @@ fn export_of(alloc: Global, book: &Book) -> Result<Vec<u8>, ExportFault> {
 }
 
 /// Reads a list; once more where an allocation was refused.
-fn list_of(alloc: Global, bytes: &[u8]) -> Result<Vec<Entry>, ListFault> {
+pub fn list_of(alloc: Global, bytes: &[u8]) -> Result<Vec<Entry>, ListFault> {
     match read_list(alloc, bytes) {
         Err(ListFault::Memory) => read_list(alloc, bytes),
         answer => answer,

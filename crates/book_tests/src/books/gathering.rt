@@ -1,10 +1,11 @@
 //! Outcomes of all callers, held against a book's records.
 
 use super::{
-    applied, measure, opened, origin, read, receipt, run_on_new, sha256, start, three_measurements,
-    violation,
+    applied, copied_op, measure, opened, origin, read, receipt, run_on_new, sha256, start,
+    three_measurements,
 };
-use measure_book::{Answer, Book, BookFault, GatherFault, Op, Outcome, Receipt, gather};
+use measure_book::laws::accounts_are_one_to_one;
+use measure_book::{Answer, Book, BookFault, GatherFault, Outcome, Receipt, gather};
 use pcr_banks::{Alg, Digest};
 use std::alloc::{AllocError, Global};
 use std::sync::{Mutex, Wait};
@@ -25,27 +26,34 @@ fn gathered(
     }
 }
 
-/// A copy of the operation; once more where an allocation was refused.
-fn copied_op(alloc: Global, op: &Op) -> Result<Op, AllocError> {
-    match op {
-        Op::Measure { path, digest } => measure(alloc, path, *digest),
-        Op::Violation { path } => violation(alloc, path),
-        Op::Read { alg, register } => Ok(read(*alg, *register)),
-    }
-}
-
 /// An empty group with this room; once more where an allocation was refused.
 fn group_with_room(alloc: Global, count: usize) -> Result<Vec<Outcome>, AllocError> {
     Vec::with_capacity(alloc, count).or_else(|_| Vec::with_capacity(alloc, count))
 }
 
-/// The receipts for these places of the book, in this order.
-fn group(alloc: Global, book: &Book, places: &[u32]) -> Result<Vec<Outcome>, Fail> {
+/// A copy of the receipt; once more where an allocation was refused.
+fn copied_receipt(alloc: Global, done: &Receipt) -> Result<Receipt, AllocError> {
+    Ok(receipt(done.place, copied_op(alloc, &done.op)?, done.answer))
+}
+
+/// The receipt among these outcomes that is for this place.
+fn receipt_for(outcomes: &[Outcome], place: u32) -> Option<&Receipt> {
+    for outcome in outcomes {
+        if let Outcome::Done(receipt) = outcome {
+            if receipt.place == place {
+                return Some(receipt);
+            }
+        }
+    }
+    None
+}
+
+/// Copies of the receipts that were answered for these places, in this order.
+fn group(alloc: Global, answered: &[Outcome], places: &[u32]) -> Result<Vec<Outcome>, Fail> {
     let mut outcomes = group_with_room(alloc, places.len())?;
     for place in places {
-        let record = book.records().get(*place as usize).ok_or("no record")?;
-        let op = copied_op(alloc, &record.op)?;
-        outcomes.push(Outcome::Done(receipt(*place, op, record.answer)))?;
+        let done = receipt_for(answered, *place).ok_or("no receipt")?;
+        outcomes.push(Outcome::Done(copied_receipt(alloc, done)?))?;
     }
     Ok(outcomes)
 }
@@ -57,52 +65,59 @@ fn group_of(alloc: Global, outcome: Outcome) -> Result<Vec<Outcome>, AllocError>
     Ok(outcomes)
 }
 
-/// The book of the first worked example, which three measurements were done on.
-fn book_of_three(alloc: Global) -> Result<Book, BookFault> {
+/// The book of the first worked example, which three measurements were done on, and what became of these.
+fn book_of_three(alloc: Global) -> Result<(Book, Vec<Outcome>), BookFault> {
     let mut outcomes = Vec::new(alloc);
-    run_on_new(
+    let book = run_on_new(
         alloc,
         origin(100),
         &three_measurements(alloc)?,
         &mut outcomes,
-    )
+    )?;
+    Ok((book, outcomes))
 }
 
 #[test]
 fn gather_each_cause(rt: HostRuntime) -> Result<(), Fail> {
     let alloc = rt.alloc();
-    let book = book_of_three(alloc)?;
-    let whole = [group(alloc, &book, &[1, 2, 3])?];
+    let (book, answered) = book_of_three(alloc)?;
+    let whole = [group(alloc, &answered, &[1, 2, 3])?];
     assert_eq!(rt; gathered(alloc, &book, 100, &whole), Ok(()));
-    let two = [group(alloc, &book, &[3])?, group(alloc, &book, &[1, 2])?];
+    let two = [
+        group(alloc, &answered, &[3])?,
+        group(alloc, &answered, &[1, 2])?,
+    ];
     assert_eq!(rt; gathered(alloc, &book, 100, &two), Ok(()));
     assert_eq!(rt;
         gathered(alloc, &book, 99, &two),
         Err(GatherFault::ForeignBook)
     );
-    let twice = [group(alloc, &book, &[1, 1, 2, 3])?];
+    let twice = [group(alloc, &answered, &[1, 1, 2, 3])?];
     assert_eq!(rt;
         gathered(alloc, &book, 100, &twice),
         Err(GatherFault::OutOfOrder)
     );
-    let double = [group(alloc, &book, &[1, 2, 3])?, group(alloc, &book, &[1])?];
+    let double = [
+        group(alloc, &answered, &[1, 2, 3])?,
+        group(alloc, &answered, &[1])?,
+    ];
     assert_eq!(rt;
         gathered(alloc, &book, 100, &double),
         Err(GatherFault::Double)
     );
-    let gap = [group(alloc, &book, &[1, 3])?];
+    let gap = [group(alloc, &answered, &[1, 3])?];
     assert_eq!(rt;
         gathered(alloc, &book, 100, &gap),
         Err(GatherFault::Unnamed { place: 2 })
     );
-    let mut other_answer = group(alloc, &book, &[1, 2, 3])?;
+    let mut other_answer = group(alloc, &answered, &[1, 2, 3])?;
     let op = measure(alloc, b"/bin/sh", sha256(b"abc"))?;
     let second = other_answer.get_mut(1).ok_or("no second outcome")?;
     *second = Outcome::Done(receipt(2, op, Answer::Known(2)));
     let stranger = GatherFault::Stranger { group: 0, index: 1 };
     assert_eq!(rt; gathered(alloc, &book, 100, &[other_answer]), Err(stranger));
     let full = [
-        group(alloc, &book, &[1, 2, 3])?,
+        group(alloc, &answered, &[1, 2, 3])?,
         group_of(alloc, Outcome::Refused(BookFault::Full))?,
     ];
     assert_eq!(rt;
@@ -117,27 +132,34 @@ fn gather_each_cause(rt: HostRuntime) -> Result<(), Fail> {
 #[test]
 fn gather_order_of_causes(rt: HostRuntime) -> Result<(), Fail> {
     let alloc = rt.alloc();
-    let book = book_of_three(alloc)?;
-    let opening = [group(alloc, &book, &[0])?];
+    let (book, answered) = book_of_three(alloc)?;
+    let aggregate = measure(alloc, b"boot_aggregate", sha256(&[0; 320]))?;
+    let opening = [group_of(
+        alloc,
+        Outcome::Done(receipt(0, aggregate, Answer::Added(0))),
+    )?];
     let first = GatherFault::Stranger { group: 0, index: 0 };
     assert_eq!(rt; gathered(alloc, &book, 100, &opening), Err(first));
     assert_eq!(rt;
         gathered(alloc, &book, 100, &[]),
         Err(GatherFault::Unnamed { place: 1 })
     );
-    let turned = [group(alloc, &book, &[2, 1])?];
+    let turned = [group(alloc, &answered, &[2, 1])?];
     assert_eq!(rt;
         gathered(alloc, &book, 100, &turned),
         Err(GatherFault::OutOfOrder)
     );
-    let double = [group(alloc, &book, &[1])?, group(alloc, &book, &[1])?];
+    let double = [
+        group(alloc, &answered, &[1])?,
+        group(alloc, &answered, &[1])?,
+    ];
     assert_eq!(rt;
         gathered(alloc, &book, 100, &double),
         Err(GatherFault::Double)
     );
     let op = measure(alloc, b"/bin/sh", sha256(b"abc"))?;
     let past = Outcome::Done(receipt(u32::MAX, op, Answer::Added(1)));
-    let far = [group(alloc, &book, &[2, 1])?, group_of(alloc, past)?];
+    let far = [group(alloc, &answered, &[2, 1])?, group_of(alloc, past)?];
     let stranger = GatherFault::Stranger { group: 1, index: 0 };
     assert_eq!(rt; gathered(alloc, &book, 100, &far), Err(stranger));
     assert_eq!(rt;
@@ -145,20 +167,63 @@ fn gather_order_of_causes(rt: HostRuntime) -> Result<(), Fail> {
         Err(GatherFault::ForeignBook)
     );
     let late = [
-        group(alloc, &book, &[1, 2])?,
-        group(alloc, &book, &[1, 3, 2])?,
+        group(alloc, &answered, &[1, 2])?,
+        group(alloc, &answered, &[1, 3, 2])?,
     ];
     assert_eq!(rt;
         gathered(alloc, &book, 100, &late),
         Err(GatherFault::OutOfOrder)
     );
-    let mut short = group(alloc, &book, &[1, 2])?;
+    let mut short = group(alloc, &answered, &[1, 2])?;
     short.push(Outcome::Refused(BookFault::Full))?;
     let short = [short];
     assert_eq!(rt;
         gathered(alloc, &book, 100, &short),
         Err(GatherFault::Unnamed { place: 3 })
     );
+    Ok(())
+}
+
+/// How many of these outcomes are receipts for this place.
+fn times_named(outcomes: &[Outcome], place: u32) -> usize {
+    outcomes
+        .iter()
+        .filter(|outcome| matches!(outcome, Outcome::Done(done) if done.place == place))
+        .count()
+}
+
+/// What the law on full accounts says, seen on one: each record after the opening's has one receipt, with its operation and
+/// answer, and there are no more receipts than these records.
+#[test]
+fn full_account_is_one_to_one(rt: HostRuntime) -> Result<(), Fail> {
+    accounts_are_one_to_one();
+    let alloc = rt.alloc();
+    let (book, answered) = book_of_three(alloc)?;
+    let mut first = group(alloc, &answered, &[2])?;
+    first.push(Outcome::Refused(BookFault::NulInPath))?;
+    let groups = [first, group(alloc, &answered, &[1, 3])?];
+    assert_eq!(rt; gathered(alloc, &book, 100, &groups), Ok(()));
+    assert_eq!(rt; book.records().len(), 4);
+    for (place, named) in [
+        (0, (0, 0)),
+        (1, (0, 1)),
+        (2, (1, 0)),
+        (3, (0, 1)),
+        (4, (0, 0)),
+    ] {
+        let times = (
+            times_named(&groups[0], place),
+            times_named(&groups[1], place),
+        );
+        assert_eq!(rt; times, named, "place {place}");
+    }
+    for place in 1..4u32 {
+        let record = book.records().get(place as usize).ok_or("no record")?;
+        let of_first = receipt_for(&groups[0], place);
+        let of_second = receipt_for(&groups[1], place);
+        let receipt = of_first.or(of_second).ok_or("no receipt")?;
+        assert!(rt; receipt.op == record.op && receipt.answer == record.answer);
+    }
     Ok(())
 }
 

@@ -1,6 +1,8 @@
 //! Calls that find memory, and calls that do not.
 
-use super::{measure, opened, origin, read, sha256, three_measurements, violation};
+use super::{
+    assert_shows, measure, opened, origin, read, sha256, shown_by, three_measurements, violation,
+};
 use measure_book::{Answer, Book, BookFault, Outcome};
 use pcr_banks::Alg;
 use std::test::Fail;
@@ -67,13 +69,10 @@ fn refused_memory_changes_nothing(rt: HostRuntime) -> Result<(), Fail> {
         ),
     ] {
         let records = book.records().len();
-        let entries = book.entries().len();
-        let banks = *book.banks();
+        let before = shown_by(alloc, &book)?;
         let done = match book.apply(&op) {
             Err(BookFault::Memory) => {
-                assert_eq!(rt; book.records().len(), records);
-                assert_eq!(rt; book.entries().len(), entries);
-                assert_eq!(rt; *book.banks(), banks);
+                assert_shows(&rt, &book, &before);
                 book.apply(&op)?
             }
             done => done?,

@@ -1,6 +1,6 @@
 //! Operations that are refused, and books that are not opened.
 
-use super::{applied, measure, opened, origin, read, sha256, violation};
+use super::{applied, assert_shows, measure, opened, origin, read, sha256, shown_by, violation};
 use ima_list::Template;
 use measure_book::{Answer, Book, BookFault, Origin};
 use pcr_banks::{Alg, hash};
@@ -13,7 +13,7 @@ fn full_book_and_order_of_causes(rt: HostRuntime) -> Result<(), Fail> {
     let op = measure(alloc, b"/bin/sh", sha256(b"abc"))?;
     let done = applied(&mut book, &op)?;
     assert_eq!(rt; (done.place, done.answer), (1, Answer::Added(1)));
-    let banks = *book.banks();
+    let before = shown_by(alloc, &book)?;
     let nul = b"/bin/\0sh";
     for (op, fault) in [
         (op, BookFault::Full),
@@ -28,10 +28,9 @@ fn full_book_and_order_of_causes(rt: HostRuntime) -> Result<(), Fail> {
         ),
     ] {
         assert_eq!(rt; book.apply(&op).err(), Some(fault));
-        assert_eq!(rt; book.records().len(), 2);
-        assert_eq!(rt; book.entries().len(), 2);
-        assert_eq!(rt; *book.banks(), banks);
+        assert_shows(&rt, &book, &before);
     }
+    assert_eq!(rt; (book.records().len(), book.entries().len()), (2, 2));
     for (other, fault) in [
         (origin(0), BookFault::Full),
         (ima_origin(Alg::Sha256, 100), BookFault::WrongHash),

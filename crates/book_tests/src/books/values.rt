@@ -1,24 +1,7 @@
-//! Operations, records, receipts and outcomes that are compared, and faults in words.
+//! Faults in words.
 
-use super::{measure, read, sha256, violation};
-use measure_book::{BookFault, Op};
-use pcr_banks::{Alg, hash};
-use std::alloc::{AllocError, Global};
+use measure_book::BookFault;
 use std::test::Fail;
-
-fn ops(alloc: Global) -> Result<[Op; 9], AllocError> {
-    Ok([
-        measure(alloc, b"/a", sha256(b"abc"))?,
-        measure(alloc, b"/b", sha256(b"abc"))?,
-        measure(alloc, b"/a", sha256(b""))?,
-        measure(alloc, b"/a", hash(Alg::Sha1, b"abc"))?,
-        violation(alloc, b"/a")?,
-        violation(alloc, b"/b")?,
-        read(Alg::Sha256, 10),
-        read(Alg::Sha1, 10),
-        read(Alg::Sha256, 11),
-    ])
-}
 
 #[test]
 fn faults_in_words(rt: HostRuntime) -> Result<(), Fail> {

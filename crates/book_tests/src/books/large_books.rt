@@ -1,0 +1,134 @@
+//! Books of thousands of records, and one that may have as many as there are numbers: a body that gives up without cause
+//! fails here.
+
+use super::{measure, origin, read, receipt, sha256, three_measurements, value, violation};
+use measure_book::{Answer, Book, BookFault, GatherFault, Op, Outcome, gather};
+use pcr_banks::{Alg, Digest};
+use std::alloc::{AllocError, Global};
+use std::test::Fail;
+
+/// How many operations are done after the opening.
+const MANY: u32 = 5_000;
+
+/// PCR 10 after them.
+const AFTER_MANY: &str = "b82a376544a3c9ad3d39a37535a83e2fb0b49e684566c5b36e51d949810149d8";
+
+/// The operation of this number. Of each eight the first measures a file, the second measures it again, the third is its
+/// violation, and the others read a register that no entry extends.
+fn op_of(alloc: Global, number: u32) -> Result<Op, AllocError> {
+    let file = number / 8;
+    let path = format!(in alloc; "/f/{file}")?;
+    match number % 8 {
+        0 | 1 => measure(alloc, path.as_bytes(), sha256(b"abc")),
+        2 => violation(alloc, path.as_bytes()),
+        _ => Ok(read(Alg::Sha256, 0)),
+    }
+}
+
+/// What it is answered after those of smaller numbers.
+fn answer_to(number: u32) -> Answer {
+    let place = number / 8 * 2 + 1;
+    match number % 8 {
+        0 => Answer::Added(place),
+        1 => Answer::Known(place),
+        2 => Answer::Added(place + 1),
+        _ => Answer::Value(Digest::zero(Alg::Sha256)),
+    }
+}
+
+/// Wants all its memory: each call is made once.
+#[test]
+fn ample_memory_applies_five_thousand(rt: HostRuntime) -> Result<(), Fail> {
+    let alloc = rt.alloc();
+    let mut book = Book::open(alloc, origin(MANY + 1))?;
+    for number in 0..MANY {
+        let op = op_of(alloc, number)?;
+        let done = book.apply(&op)?;
+        assert!(rt;
+            done == receipt(number + 1, op, answer_to(number)),
+            "{number}"
+        );
+    }
+    assert_eq!(rt; book.records().len(), 5_001);
+    assert_eq!(rt; book.entries().len(), 1_251);
+    assert_eq!(rt; book.banks().read(Alg::Sha256, 10), value(AFTER_MANY));
+    let more = book.apply(&read(Alg::Sha256, 0));
+    assert_eq!(rt; more.err(), Some(BookFault::Full));
+    Ok(())
+}
+
+/// The operations of all numbers, in order.
+fn many_ops(alloc: Global) -> Result<Vec<Op>, AllocError> {
+    let mut ops = Vec::new(alloc);
+    for number in 0..MANY {
+        ops.push(op_of(alloc, number)?)?;
+    }
+    Ok(ops)
+}
+
+/// How many callers share what was run.
+const GROUPS: usize = 8;
+
+/// The outcomes, dealt out to the groups in turn.
+fn dealt(alloc: Global, outcomes: Vec<Outcome>) -> Result<Vec<Vec<Outcome>>, AllocError> {
+    let mut groups = Vec::new(alloc);
+    for _ in 0..GROUPS {
+        groups.push(Vec::new(alloc))?;
+    }
+    for (index, outcome) in outcomes.into_iter().enumerate() {
+        if let Some(group) = groups.get_mut(index % GROUPS) {
+            group.push(outcome)?;
+        }
+    }
+    Ok(groups)
+}
+
+/// Wants all its memory: each call is made once. What is run is gathered in eight groups, then with an empty one before
+/// them, then with refusals at the end of the last.
+#[test]
+fn ample_memory_runs_and_gathers_five_thousand(rt: HostRuntime) -> Result<(), Fail> {
+    let alloc = rt.alloc();
+    let origin = origin(MANY + 1);
+    let mut book = Book::open(alloc, origin)?;
+    let outcomes = book.run(&many_ops(alloc)?)?;
+    assert_eq!(rt; outcomes.len(), 5_000);
+    for number in 0..MANY {
+        let outcome = outcomes.get(number as usize).ok_or("no outcome")?;
+        let done = receipt(number + 1, op_of(alloc, number)?, answer_to(number));
+        assert!(rt; *outcome == Outcome::Done(done), "{number}");
+    }
+    assert_eq!(rt; book.records().len(), 5_001);
+    assert_eq!(rt; book.entries().len(), 1_251);
+    assert_eq!(rt; book.banks().read(Alg::Sha256, 10), value(AFTER_MANY));
+    let mut groups = dealt(alloc, outcomes)?;
+    assert_eq!(rt; gather(alloc, &book, &origin, &groups), Ok(()));
+    groups.push(Vec::new(alloc))?;
+    groups.reverse();
+    assert_eq!(rt; groups.len(), 9);
+    assert_eq!(rt; groups[0].len(), 0);
+    assert_eq!(rt; gather(alloc, &book, &origin, &groups), Ok(()));
+    for fault in [BookFault::Full, BookFault::NulInPath, BookFault::Memory] {
+        let last = groups.last_mut().ok_or("no group")?;
+        last.push(Outcome::Refused(fault))?;
+        assert_eq!(rt; gather(alloc, &book, &origin, &groups), Ok(()));
+    }
+    Ok(())
+}
+
+/// Wants all its memory: each call is made once. The greatest limit takes no more memory than a small one.
+#[test]
+fn ample_memory_opens_with_the_greatest_limit(rt: HostRuntime) -> Result<(), Fail> {
+    let alloc = rt.alloc();
+    let origin = origin(4_294_967_295);
+    let mut book = Book::open(alloc, origin)?;
+    assert_eq!(rt; book.origin().limit, 4_294_967_295);
+    let mut outcomes = book.run(&three_measurements(alloc)?)?;
+    assert_eq!(rt; book.records().len(), 4);
+    outcomes.push(Outcome::Refused(BookFault::PathTooLong))?;
+    let mut groups = [outcomes];
+    assert_eq!(rt; gather(alloc, &book, &origin, &groups), Ok(()));
+    groups[0].push(Outcome::Refused(BookFault::Full))?;
+    let full = gather(alloc, &book, &origin, &groups);
+    assert_eq!(rt; full, Err(GatherFault::FalseFull));
+    Ok(())
+}
