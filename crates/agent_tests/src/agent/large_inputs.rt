@@ -2,7 +2,7 @@
 
 use super::devices::{answered, bytes_of, joined, once_more};
 use super::logs::{EVENT, EXTENDED_LINE, HEADER};
-use super::show::{MEASUREMENT, MEASUREMENT_LINE};
+use super::show::MEASUREMENT;
 use std::alloc::{AllocError, Global};
 use std::sync::Wait;
 use std::test::Fail;
@@ -19,76 +19,82 @@ fn filled(alloc: Global, byte: u8, count: usize) -> Result<Vec<u8>, AllocError> 
     once_more(|| vec![in alloc; byte; count])
 }
 
-/// A violation of the template `ima-xx` in PCR 10 with a payload of forty mebibytes, up to its payload. It is not hashed.
-const LARGE_ENTRY: &[u8] = b"\x0a\x00\x00\x00\
-    \x00\x00\x00\x00\x00\x00\x00\x00\x00\x00\x00\x00\x00\x00\x00\x00\x00\x00\x00\x00\
-    \x06\x00\x00\x00ima-xx\
-    \x00\x00\x80\x02";
-
-/// The line of this entry, up to its payload.
-const LARGE_LINE: &[u8] = b"10 0000000000000000000000000000000000000000 ima-xx ";
-
-/// The text of a list of over forty mebibytes.
-#[test]
-fn list_of_forty_mebibytes_is_shown(rt: HostRuntime) -> Result<(), Fail> {
-    let alloc = rt.alloc();
-    let payload = filled(alloc, 0xAB, FORTY)?;
-    let list = joined(alloc, &[LARGE_ENTRY, &payload, MEASUREMENT])?;
-    let (status, text) = answered(&rt, &["show", "x"], &[("x", &list)])?;
-    assert_eq!(rt; status, 0);
-    let rest = text.strip_prefix(LARGE_LINE).ok_or("another entry")?;
-    let digits = rest.strip_suffix(MEASUREMENT_LINE).ok_or("no last line")?;
-    assert_eq!(rt; digits.len(), 2 * FORTY + 1);
-    assert!(rt; digits.starts_with(b"abab") && digits.ends_with(b"abab\n"));
-    Ok(())
+/// Forty mebibytes that begin and end so, with the byte 0xAB between.
+fn framed(alloc: Global, front: &[u8], back: &[u8]) -> Result<Vec<u8>, AllocError> {
+    let mut bytes = filled(alloc, 0xAB, FORTY)?;
+    for (place, byte) in bytes.iter_mut().zip(front) {
+        *place = *byte;
+    }
+    for (place, byte) in bytes.iter_mut().rev().zip(back.iter().rev()) {
+        *place = *byte;
+    }
+    Ok(bytes)
 }
 
-/// An event of register 4, type 4, with a SHA-256 digest of zero bytes and forty mebibytes of data, up to its data.
+/// An event of register 4, type 4, with a SHA-256 digest of zero bytes, up to its data: what forty mebibytes leave for that
+/// between the header and this event, and another one.
 const LARGE_EVENT: &str = "04000000 04000000 01000000 0b00
-    0000000000000000000000000000000000000000000000000000000000000000 00008002";
+    0000000000000000000000000000000000000000000000000000000000000000 57ff7f02";
 
-/// The entry of the boot aggregate of registers of which PCR 4 was extended twice by zero bytes.
-const AGGREGATE: &str =
-    "0a000000 e1f4cfeab0d88106629bf8922b47715a1807c76e 06000000 696d612d6e67 3f000000
-    28000000 7368613235363a00 34014b2a090706b6884f4aa74c4f899a157053eac7d58793e41644839eac60e2
-    0f000000 626f6f745f61676772656761746500";
-
-/// The registers that the log and the list make.
-const REGISTERS: &[u8] = b"\
-sha256 4 7a0501f5957bdf9cb3a8ff4966f02265f968658b7a9c62642cba1165e86642f5
-sha256 10 49928d3571c7595c01e04f0e45a61bfca822e88a8e73478413c2a2a600c854f9
+/// The report on a log of two events, which are extended into PCR 4, and a list of no entries.
+const LOG_REPORT: &[u8] = b"\
+events 2 locality 0
+entries 0
+boot_aggregate missing
+sha256 4 match
+verdict differ
 ";
 
-/// A log and a list of over forty mebibytes: an event and an entry of that size, and others around it.
 #[test]
-fn verdict_on_forty_mebibytes_of_log_and_list(rt: HostRuntime) -> Result<(), Fail> {
+fn verdict_on_a_log_of_forty_mebibytes(rt: HostRuntime) -> Result<(), Fail> {
     let alloc = rt.alloc();
-    let bytes = filled(alloc, 0xAB, FORTY)?;
     let front = bytes_of(alloc, &[HEADER, LARGE_EVENT])?;
-    let event = bytes_of(alloc, &[EVENT])?;
-    let log = joined(alloc, &[&front, &bytes, &event])?;
-    let first = bytes_of(alloc, &[AGGREGATE])?;
-    let list = joined(alloc, &[&first, LARGE_ENTRY, &bytes, MEASUREMENT])?;
+    let log = framed(alloc, &front, &bytes_of(alloc, &[EVENT])?)?;
+    let expected = b"sha256 4 7a0501f5957bdf9cb3a8ff4966f02265f968658b7a9c62642cba1165e86642f5";
     let files = [
         ("log", log.as_slice()),
-        ("list", &list),
-        ("expected", REGISTERS),
+        ("list", b""),
+        ("expected", expected),
     ];
     let (status, report) = answered(&rt, &["verify", "log", "list", "expected"], &files)?;
-    assert_eq!(rt; report.as_slice(), LARGE_REPORT);
-    assert_eq!(rt; status, 0);
+    assert_eq!(rt; report.as_slice(), LOG_REPORT);
+    assert_eq!(rt; status, 1);
     Ok(())
 }
 
-/// The report on both.
-const LARGE_REPORT: &[u8] = b"\
-events 2 locality 0
+/// The entry of the boot aggregate of registers at reset, and a violation of the template `ima-xx` up to its payload: what
+/// forty mebibytes leave for that between these and the entry of `/bin/sh`. A violation is not hashed.
+const LARGE_ENTRY: &str = "
+    0a000000 6bdad7efa602f84ca31ffe3f11ff7c476e25dcdd 06000000 696d612d6e67 3f000000
+    28000000 7368613235363a00 7b6436b0c98f62380866d9432c2af0ee08ce16a171bda6951aecd95ee1307d61
+    0f000000 626f6f745f61676772656761746500
+    0a000000 0000000000000000000000000000000000000000 06000000 696d612d7878 17ff7f02";
+
+/// The report on a log of no events and that list.
+const LIST_REPORT: &[u8] = b"\
+events 0 locality 0
 entries 3
 boot_aggregate good
-sha256 4 match
 sha256 10 match
 verdict match
 ";
+
+#[test]
+fn verdict_on_a_list_of_forty_mebibytes(rt: HostRuntime) -> Result<(), Fail> {
+    let alloc = rt.alloc();
+    let log = bytes_of(alloc, &[HEADER])?;
+    let list = framed(alloc, &bytes_of(alloc, &[LARGE_ENTRY])?, MEASUREMENT)?;
+    let expected = b"sha256 10 cd106b6d314037a8be43487b79cc1e4748696a8bf9021bb5a5cddfed44c27aaa";
+    let files = [
+        ("log", log.as_slice()),
+        ("list", &list),
+        ("expected", expected),
+    ];
+    let (status, report) = answered(&rt, &["verify", "log", "list", "expected"], &files)?;
+    assert_eq!(rt; report.as_slice(), LIST_REPORT);
+    assert_eq!(rt; status, 0);
+    Ok(())
+}
 
 /// The lines of the boot aggregate of registers at reset, and of a file of two mebibytes of the byte 0xAB.
 const LARGE_FILE: &[u8] = b"\
