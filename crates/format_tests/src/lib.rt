@@ -11,4 +11,6 @@ mod lists;
 #[cfg(test)]
 mod logs;
 #[cfg(test)]
+mod sinks;
+#[cfg(test)]
 mod streams;

@@ -1,53 +1,8 @@
 //! Sinks and sources that fail, and what is sent to them.
 
-ghost use Rattle.std.specs.Prelude.{None};
-
+use crate::sinks::ShortSink;
 use byte_streams::{Failed, Sink, SliceSource, Source, VecSink, send, send_pieces};
 use std::test::Fail;
-
-/// How many bytes a short sink takes at most.
-const MOST: usize = 16;
-
-/// Takes one byte at a time, fails once it has a number of them, and tells no bytes.
-#[derive(Drop)]
-struct ShortSink {
-    taken: [u8; MOST],
-    count: usize,
-    room: usize,
-    failures: u64,
-}
-
-impl ShortSink {
-    fn new(room: usize) -> Self {
-        ShortSink {
-            taken: [0; MOST],
-            count: 0,
-            room,
-            failures: 0,
-        }
-    }
-
-    fn bytes(&self) -> &[u8] {
-        self.taken.get(..self.count).unwrap_or(&[])
-    }
-}
-
-impl Sink for ShortSink {
-    ghost state = { λ sink. record { taken = None; failures = sink.failures } };
-
-    fn write(&mut self, bytes: &[u8]) -> Result<usize, Failed> {
-        let Some(first) = bytes.first() else {
-            return Ok(0);
-        };
-        if self.count >= self.room || self.count >= self.taken.len() {
-            self.failures = self.failures.saturating_add(1);
-            return Err(Failed);
-        }
-        self.taken[self.count] = *first;
-        self.count += 1;
-        Ok(1)
-    }
-}
 
 /// How many bytes a sink has room for, how many of the text it then takes, and how often it fails.
 const ROOMS: [(usize, usize, u64); 4] = [(0, 0, 1), (2, 2, 1), (5, 5, 1), (6, 6, 0)];
@@ -58,7 +13,7 @@ fn send_stops_where_the_sink_fails(rt: HostRuntime) {
         let mut sink = ShortSink::new(room);
         assert_eq!(rt; send(b"abcdef", &mut sink).is_ok(), failures == 0);
         assert_eq!(rt; sink.bytes(), &b"abcdef"[..taken], "room {room}");
-        assert_eq!(rt; sink.failures, failures);
+        assert_eq!(rt; sink.failures(), failures);
     }
 }
 
@@ -69,7 +24,7 @@ fn send_pieces_stops_where_the_sink_fails(rt: HostRuntime) {
         let pieces = [b"".as_slice(), b"a", b"bcde", b"", b"f"];
         assert_eq!(rt; send_pieces(&pieces, &mut sink).is_ok(), failures == 0);
         assert_eq!(rt; sink.bytes(), &b"abcdef"[..taken], "room {room}");
-        assert_eq!(rt; sink.failures, failures);
+        assert_eq!(rt; sink.failures(), failures);
     }
 }
 

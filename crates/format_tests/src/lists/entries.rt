@@ -1,5 +1,6 @@
 //! Entries that are made, and what they tell.
 
+use super::replaying::MEASURED;
 use super::{
     DIGEST_PLACE, MEASUREMENT, MEASUREMENT_LINE, NAME_END, PAYLOAD_LENGTH, PAYLOAD_PLACE,
     REGISTER_PLACE, VIOLATION, entry_of, hashed_of, joined, line_of, list_of, measured,
@@ -106,8 +107,8 @@ fn other_template_as_bytes(rt: HostRuntime) -> Result<(), Fail> {
     assert_eq!(rt; entry.fields(), None);
     assert_eq!(rt; line_of(alloc, &entry)?.as_slice(), OTHER_TEMPLATE_LINE);
     let banks = replay(Banks::new(AlgSet::empty().with(Alg::Sha256), 0), &[entry])?;
-    let once = joined(alloc, &[&[0; 32], hash(Alg::Sha256, payload).bytes()])?;
-    assert_eq!(rt; banks.read(Alg::Sha256, 10), Some(hash(Alg::Sha256, &once)));
+    let value = Digest::from_hex(Alg::Sha256, MEASURED).ok_or("no digest")?;
+    assert_eq!(rt; banks.read(Alg::Sha256, 10), Some(value));
     Ok(())
 }
 

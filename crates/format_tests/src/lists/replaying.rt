@@ -1,11 +1,12 @@
 //! Lists replayed into registers.
 
+use super::aggregates::RESET_AGGREGATES;
 use super::{
     DIGEST_PLACE, MEASUREMENT, PAYLOAD_LENGTH, PAYLOAD_PLACE, VIOLATION, entry_of, joined, list_of,
     measurement_with, words_of,
 };
 use ima_list::{Fields, ReplayFault, boot_aggregate, replay};
-use pcr_banks::{Alg, AlgSet, Banks, REGISTERS, hash};
+use pcr_banks::{Alg, AlgSet, Banks, Digest, REGISTERS, hash};
 use std::alloc::Global;
 use std::process::Abort;
 use std::test::Fail;
@@ -15,38 +16,57 @@ fn start() -> Banks {
     Banks::new(AlgSet::empty().with(Alg::Sha256), 0)
 }
 
-/// Replays of a measurement and of violations, a forged entry, payloads without fields, an empty path, and the boot
+/// PCR 10 after a measurement, after a violation, and after a measurement, a violation and the same measurement again.
+pub const MEASURED: &[u8] = b"b5d40d04bac9491388df368bfb22d52254d875ae2ac067181bcab312acde96a9";
+
+const VIOLATED: &[u8] = b"bba91ca85dc914b2ec3efb9e16e7267bf9193b14350d20fba8a8b406730ae30a";
+
+const TWO_REPLAYED: &[u8] = b"1881408a6ffad91edddc65a64dc4d51ae1402c528e75384747af19907616aba6";
+
+const THREE_REPLAYED: &[u8] = b"91ec579db4eafcc82a01f7eeb153895e24b5ff11b3db01735d956a5b740c53c8";
+
+/// Replays of a measurement and of violations, of two and of three entries, a forged entry, payloads without fields, an empty path, and the boot
 /// aggregates of reset registers: all of this example but what the program shows.
 #[test]
 fn replay_and_fields(rt: HostRuntime) -> Result<(), Fail> {
     let alloc = rt.alloc();
-    let part = hash(Alg::Sha256, &MEASUREMENT[PAYLOAD_PLACE..]);
-    assert_replayed(&rt, alloc, MEASUREMENT, part.bytes())?;
-    assert_replayed(&rt, alloc, VIOLATION, &[0xFF; 32])?;
     let front = &MEASUREMENT[..DIGEST_PLACE];
     let zeros = joined(alloc, &[front, &[0; 20], &MEASUREMENT[DIGEST_PLACE + 20..]])?;
-    assert_replayed(&rt, alloc, &zeros, &[0xFF; 32])?;
+    for (parts, value) in [
+        ([MEASUREMENT, b"", b""], MEASURED),
+        ([VIOLATION, b"", b""], VIOLATED),
+        ([&zeros, b"", b""], VIOLATED),
+        ([MEASUREMENT, VIOLATION, b""], TWO_REPLAYED),
+        ([MEASUREMENT, &zeros, MEASUREMENT], THREE_REPLAYED),
+    ] {
+        assert_replayed(&rt, alloc, &joined(alloc, &parts)?, value)?;
+    }
     let forged = measurement_with(alloc, DIGEST_PLACE, 0x84)?;
     let fault = ReplayFault::BadTemplateDigest { entry: 0 };
     assert_eq!(rt; replay(start(), &list_of(alloc, &forged)?), Err(fault));
     assert_fields(&rt, alloc)?;
     assert_empty_path(&rt, alloc)?;
-    for (alg, count) in [(Alg::Sha1, 160), (Alg::Sha256, 320), (Alg::Sha384, 480)] {
+    for (alg, digits) in RESET_AGGREGATES {
         let banks = Banks::new(AlgSet::empty().with(alg), 0);
-        let expected = hash(alg, &[0; 480][..count]);
+        let expected = Digest::from_hex(alg, digits).ok_or("no digest")?;
         assert_eq!(rt; boot_aggregate(&banks, alg), Some(expected));
     }
     assert_eq!(rt; boot_aggregate(&start(), Alg::Sha1), None);
     Ok(())
 }
 
-/// The replay of one entry extends PCR 10 by this part, and changes nothing else.
-fn assert_replayed(rt: &impl Abort, alloc: Global, bytes: &[u8], part: &[u8]) -> Result<(), Fail> {
+/// The replay of a list gives PCR 10 this value, and changes nothing else.
+fn assert_replayed(
+    rt: &impl Abort,
+    alloc: Global,
+    bytes: &[u8],
+    digits: &[u8],
+) -> Result<(), Fail> {
     let banks = replay(start(), &list_of(alloc, bytes)?)?;
-    let once = hash(Alg::Sha256, &joined(alloc, &[&[0; 32], part])?);
+    let value = Digest::from_hex(Alg::Sha256, digits).ok_or("no digest")?;
     for register in 0..REGISTERS {
         let expected = match register {
-            10 => Some(once),
+            10 => Some(value),
             _ => start().read(Alg::Sha256, register),
         };
         assert_eq!(rt; banks.read(Alg::Sha256, register), expected);
