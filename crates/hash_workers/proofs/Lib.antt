@@ -5,3 +5,5 @@ pub mod CutLaws
 pub mod BatchLaws
 pub mod FaultLaws
 pub mod SettlingLaws
+pub mod ClaimSums
+pub mod ClaimLaws

@@ -2,6 +2,7 @@
 #![tactic(auto)]
 
 mod batch;
+mod claims;
 mod cut;
 mod fan;
 mod fault;
@@ -12,6 +13,7 @@ mod scatter;
 mod work;
 
 pub use batch::{Batch, measure_files};
+pub use claims::{ClaimSeat, Claims};
 pub use fault::AgentFault;
 pub use gate::{Gate, NoGate};
 pub use job::{Job, op_of};
