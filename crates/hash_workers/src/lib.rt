@@ -3,7 +3,6 @@
 
 mod batch;
 mod claims;
-mod cut;
 mod fan;
 mod fault;
 mod gate;
