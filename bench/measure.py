@@ -144,17 +144,18 @@ def logs():
     return []
 
 
-def measured(what, workers, sizes, contents):
-    """The times of `measure` by so many workers, of the first files of `contents`, which has the hash of each name's file."""
-    log, _ = small_log()
+def measure_time(workers, contents):
+    """The time of `measure` by so many workers, of the files of `contents`, which has the hash of each name's file."""
+    log, registers = small_log()
     store("made.log", log)
-    times = []
-    for count in sizes:
-        names = list(contents)[:count]
-        _, registers = small_log()
-        _, text = inputs.make_list(registers, [(name.encode(), contents[name]) for name in names])
-        words = ["measure", "--workers", str(workers), "made.log", *names]
-        times.append(median_time(words, text, compared=in_order if workers == 1 else in_any_order))
+    _, text = inputs.make_list(registers, [(name.encode(), digest) for name, digest in contents.items()])
+    words = ["measure", "--workers", str(workers), "made.log", *contents]
+    return median_time(words, text, compared=in_order if workers == 1 else in_any_order)
+
+
+def measured(what, workers, sizes, contents):
+    """The times of `measure` by so many workers, of the first files of `contents`."""
+    times = [measure_time(workers, dict(list(contents.items())[:count])) for count in sizes]
     print_growth(what, "files", sizes, times)
     return times[1]
 
@@ -182,6 +183,13 @@ def files():
     ]
 
 
+def uneven_files():
+    """`measure` of one large file and then many small ones, by one worker and by four."""
+    contents = made_files(1, 32 * 1024 * 1024) | made_files(400, 64 * 1024)
+    what = "measure of a file of 32 MiB and then 400 of 64 KiB by 1 worker, to the same by 4 workers"
+    return [(what, measure_time(1, contents), measure_time(4, contents))]
+
+
 def starts():
     """What a start of the script takes above one of the program itself, when all is built."""
     words = ["show", NO_INPUT]
@@ -202,7 +210,7 @@ def starts():
 def main():
     print(f"runs      {RUNS} for each time, which is their median\n")
     print(f"{'':<48}{'small':>11}{'large':>11}{'times':>8}{'sizes':>8}{'growth':>8}", flush=True)
-    ratios = [*lists(), *logs(), *files()]
+    ratios = [*lists(), *logs(), *files(), *uneven_files()]
     print(f"\n{'':<90}{'ratio':>8}")
     for ratio in ratios:
         print_ratio(*ratio)

@@ -15,11 +15,12 @@ use Rattle.measure_book.specs.Histories.{refusal_of, op_refusal}
 use Rattle.measure_book.specs.Groups as groups
 use Rattle.measure_book.specs.Groups.{groups_of, outcome_at, HasReceipt, AccountsForAll, IsNamed, SaysFull}
 use Rattle.measure_book.specs.Books.{BookState}
-use Rattle.hash_workers.specs.Taking.{Took, HandsOutEach, RiseForEach}
+use Rattle.hash_workers.specs.Taking.{Took, RiseForEach}
 use Rattle.hash_workers.specs.Working.{IsOutcomeOfJob}
 use Rattle.hash_workers.specs.Scattering.{items_of, got_at, ArePairs, AreScattered}
 use Rattle.hash_workers.specs.Batches.{IsReceiptOfJob, IsRefusalOfJob, IsBatch}
-use Rattle.hash_workers.proofs.CutLaws.{map_at, at_map, list_at, at_list, within_at}
+use Rattle.hash_workers.proofs.ListLaws.{map_at, at_map, list_at, at_list, within_at}
+use Rattle.hash_workers.proofs.TakingLaws.{TakeEach}
 
 -- ---- the groups that are gathered are what the workers have
 
@@ -88,7 +89,7 @@ record Source (takings : List (List ℕ)) (gs : List (Vec Outcome Global)) (by :
 
 source_of : (count : ℕ) (takings : List (List ℕ)) (gs : List (Vec Outcome Global)) (outcomes : List Outcome) (by : List ℕ) (job : ℕ)
     (outcome : BookOutcome)
-    → HandsOutEach count takings → ArePairs takings (map items_of gs) → AreScattered takings (map items_of gs) 0 outcomes by
+    → TakeEach count takings → ArePairs takings (map items_of gs) → AreScattered takings (map items_of gs) 0 outcomes by
     → length outcomes ≡ count
     → slice_get (map book_outcome_of outcomes) job ≡ Some outcome → Source takings gs by job outcome
 source_of count takings gs outcomes by job outcome hands pairs scattered size has =
@@ -170,7 +171,7 @@ pub record IsSettled (origin : Origin) (ops : List BookOp) (workers : ℕ) (book
   pub one_each : length takings ≡ workers
   pub of_jobs : (worker i job : ℕ) (outcome : BookOutcome) → Took takings worker i job → outcome_at (groups_of gs) worker i ≡ Some outcome
       → IsOutcomeOfJob origin ops job outcome
-  pub hands : HandsOutEach (length ops) takings
+  pub hands : TakeEach (length ops) takings
   pub rises : RiseForEach takings
   pub pairs : ArePairs takings (map items_of gs)
   pub scattered : AreScattered takings (map items_of gs) 0 outcomes by

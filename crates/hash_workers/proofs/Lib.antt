@@ -1,7 +1,11 @@
 pub mod WorkLaws
 pub mod ScatterLaws
 pub mod EndLaws
-pub mod CutLaws
+pub mod ListLaws
+pub mod TakingLaws
+pub mod SeatLaws
 pub mod BatchLaws
 pub mod FaultLaws
 pub mod SettlingLaws
+pub mod ClaimSums
+pub mod ClaimLaws

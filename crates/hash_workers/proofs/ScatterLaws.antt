@@ -4,8 +4,9 @@ use Rattle.std.specs.Prelude.{slice_get, Vec, option_map, option_and_then}
 use Rattle.std.specs.declared.alloc.Global.{Global}
 use Rattle.std.proofs.lemmas.Bool.{cases_lt}
 use Rattle.std.proofs.lemmas.Option.{same_Some, none-some, slice_get-map, slice_get_read}
-use Rattle.hash_workers.specs.Taking.{Took, HandsOutEach, RiseForEach}
-use Rattle.hash_workers.specs.Scattering.{items_of, AreBelow, Rise, ArePlaced, AreKept, got_at, AreScattered}
+use Rattle.hash_workers.specs.Taking.{Took, Rise, RiseForEach}
+use Rattle.hash_workers.proofs.TakingLaws.{TakeEach}
+use Rattle.hash_workers.specs.Scattering.{items_of, AreBelow, ArePlaced, AreKept, got_at, AreScattered}
 
 -- ---- lists
 
@@ -119,7 +120,7 @@ kept_more taken old outcomes old_by by worker from next job outcome step took ke
 
 -- ---- all workers
 
-pub below_of : (count : ℕ) (takings : List (List ℕ)) (worker : ℕ) (taken : List ℕ) → HandsOutEach count takings
+pub below_of : (count : ℕ) (takings : List (List ℕ)) (worker : ℕ) (taken : List ℕ) → TakeEach count takings
     → slice_get takings worker ≡ Some taken → AreBelow count taken
 below_of count takings worker taken hands here = record {
   each = λ index job has. hands.below worker index job
@@ -137,7 +138,7 @@ rise_of takings worker taken rise here = record {
 pub scattered_more : {X : Type 0}
     → (count : ℕ) (takings : List (List ℕ)) (groups : List (List X)) (worker next : ℕ) (taken : List ℕ) (group old outcomes : List X)
     (old_by by : List ℕ)
-    → worker + 1 ≡ next → HandsOutEach count takings → slice_get takings worker ≡ Some taken → slice_get groups worker ≡ Some group
+    → worker + 1 ≡ next → TakeEach count takings → slice_get takings worker ≡ Some taken → slice_get groups worker ≡ Some group
     → ArePlaced taken group worker 0 outcomes by → AreKept taken 0 old outcomes old_by by → AreScattered takings groups next old old_by
     → AreScattered takings groups worker outcomes by
 scattered_more count takings groups worker next taken group old outcomes old_by by step hands has_taken has_group placed kept scattered =
@@ -145,8 +146,8 @@ scattered_more count takings groups worker next taken group old outcomes old_by 
       each = λ other index job outcome after took got. elim (cases_lt worker other) [
         | inl later ↦
             let before = scattered.each other index job outcome (omega arith) took got in
-            let same = kept.each job (λ at _ has. let one : worker ≡ other = hands.once worker other at index job
-            (here_at takings worker at taken job has_taken has) took in omega arith) in
+            let same = kept.each job (λ at _ has. let one : worker ≡ other = (hands.once worker other at index job
+            (here_at takings worker at taken job has_taken has) took).0 in omega arith) in
             (same.0 ∙ before.0, same.1 ∙ before.1)
         | inr here ↦
             let same : other ≡ worker = omega arith in

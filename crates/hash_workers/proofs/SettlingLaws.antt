@@ -1,5 +1,5 @@
 -- What all workers did, as it is settled, and why it is not.
-use Rattle.std.proofs.Common.{◌≡◌, ℕ, ◌<◌, Bool, true, false, List, length, map, Some, refl, sym, ap, ◌∙◌, subst, arith}
+use Rattle.std.proofs.Common.{◌≡◌, ℕ, Bool, true, false, List, length, map, Some, refl, sym, ap, ◌∙◌, subst, arith}
 use Rattle.std.specs.Prelude.{slice_get, Vec, Result, Ok, Err, IfErr, MatchResult}
 use Rattle.std.specs.declared.alloc.Global.{Global}
 use Rattle.std.proofs.lemmas.List.{length-map}
@@ -19,22 +19,25 @@ use Rattle.hash_workers.specs.declared.work.End.TheVariants.{NoneLeft, OutOfMemo
 use Rattle.hash_workers.specs.declared.work.Work.{Work}
 use Rattle.hash_workers.specs.declared.work.all.AllWork.{AllWork}
 use Rattle.hash_workers.specs.Faults.{fault_of_gather, MayBegin, IsFaultOf}
-use Rattle.hash_workers.specs.Taking.{Took, HandsOutEach}
+use Rattle.std.specs.List.{concat}
+use Rattle.hash_workers.specs.Claims.{ClaimsState, SeatState, HandsOutEach}
+use Rattle.hash_workers.specs.Taking.{Took}
 use Rattle.hash_workers.specs.Working.{IsOutcomeOfJob}
 use Rattle.hash_workers.specs.Ending.{IsEnd, IsFound}
 use Rattle.hash_workers.specs.Scattering.{items_of, got_at}
 use Rattle.hash_workers.specs.Seats.{AreWorksOf, HasEnd, outcomes_of, taken_of}
 use Rattle.hash_workers.specs.Settling.{IsAllWork, IsMadeOf, IsFirstCause, IsUnsettled, IsCauseAmong, outcomes_by_worker, takings_of}
-use Rattle.hash_workers.proofs.CutLaws.{map_at, at_map, list_at, cuts_hand_out, rises_of, pairs_of}
+use Rattle.hash_workers.proofs.ListLaws.{map_at, at_map, list_at}
+use Rattle.hash_workers.proofs.SeatLaws.{rises_of, pairs_of}
 use Rattle.hash_workers.proofs.BatchLaws.{from_groups, job_for}
 
 -- ---- what a worker says of its jobs
 
-of_job : (origin : Origin) (ops : List BookOp) (workers count : ℕ) (works : List Work) (takings : List (List ℕ))
+of_job : (origin : Origin) (ops : List BookOp) (claims : ClaimsState) (works : List Work) (takings : List (List ℕ))
     (gs : List (Vec Outcome Global)) (worker i job : ℕ) (outcome : BookOutcome)
-    → AreWorksOf origin ops workers count works → takings ≡ map taken_of works → map items_of gs ≡ map outcomes_of works
+    → AreWorksOf origin ops claims works → takings ≡ map taken_of works → map items_of gs ≡ map outcomes_of works
     → Took takings worker i job → outcome_at (groups_of gs) worker i ≡ Some outcome → IsOutcomeOfJob origin ops job outcome
-of_job origin ops workers count works takings gs worker i job outcome are takings_are groups_are took has =
+of_job origin ops claims works takings gs worker i job outcome are takings_are groups_are took has =
     let At : List (List ℕ) → Type 0 = λ ts. Took ts worker i job in
     let taken = list_at (map taken_of works) worker i job (subst At takings_are took) in
     let here = map_at taken_of works worker taken.0 taken.1 in
@@ -51,37 +54,36 @@ of_job origin ops workers count works takings gs worker i job outcome are taking
 
 -- ---- what all workers did
 
-found_by : (origin : Origin) (workers count worker : ℕ) (taken : List ℕ) (end : End) → IsEnd origin workers count worker taken end
+found_by : (origin : Origin) (seat : SeatState) (taken : List ℕ) (end : End) → IsEnd origin seat taken end
     → end ≡ ForeignBook → IsFound origin
-found_by origin workers count worker taken NoneLeft ends is = absurd cc
-found_by origin workers count worker taken OutOfMemory ends is = absurd cc
-found_by origin workers count worker taken ForeignBook ends is = ends
+found_by origin seat taken NoneLeft ends is = absurd cc
+found_by origin seat taken OutOfMemory ends is = absurd cc
+found_by origin seat taken ForeignBook ends is = ends
 
-found_of : (origin : Origin) (ops : List BookOp) (workers count : ℕ) (works : List Work) → AreWorksOf origin ops workers count works
+found_of : (origin : Origin) (ops : List BookOp) (claims : ClaimsState) (works : List Work) → AreWorksOf origin ops claims works
     → HasEnd works ForeignBook → IsFound origin
-found_of origin ops workers count works are has =
-    found_by origin workers count has.worker has.work.taken.items has.work.end (are.each has.worker has.work has.stands).ends has.ends
+found_of origin ops claims works are has =
+    found_by origin has.work.seat has.work.taken.items has.work.end (are.each has.worker has.work has.stands).ends has.ends
 
-pub all_work : (origin : Origin) (ops : List BookOp) (workers count : ℕ) (works : List Work) (all : AllWork) → 0 < workers
-    → length ops ≡ count → AreWorksOf origin ops workers count works → IsMadeOf works count all → IsAllWork origin ops workers all
-all_work origin ops workers count works all some size are made =
-    let one_each : length works ≡ workers = are.one_each in
+pub all_work : (origin : Origin) (ops : List BookOp) (workers count : ℕ) (claims : ClaimsState) (works : List Work) (all : AllWork)
+    → claims.seats ≡ workers → claims.jobs ≡ count → length ops ≡ count → AreWorksOf origin ops claims works → IsMadeOf works count all
+    → (all.foreign ≡ false → HandsOutEach claims.jobs (concat (takings_of all))) → IsAllWork origin ops workers all
+all_work origin ops workers count claims works all seats jobs size are made each =
+    let one_each : length works ≡ claims.seats = are.one_each in
     let takings : length all.takings.items ≡ length works =
     sym (length-map all.takings.items items_of) ∙ ap length made.takings ∙ length-map works taken_of in
     let places = made.places in
     let places_by = made.places_by in
-    let At : List (List ℕ) → Type 0 = λ ts. HandsOutEach (length ops) ts in
-    let Of : ℕ → Type 0 = λ n. HandsOutEach n (map taken_of works) in
+    let At : ℕ → Type 0 = λ n. HandsOutEach n (concat (takings_of all)) in
     record {
       one_each = omega arith;
-      pairs = pairs_of origin ops workers count works (takings_of all) (map items_of all.groups.items) are made.takings made.groups;
+      pairs = pairs_of origin ops claims works (takings_of all) (map items_of all.groups.items) are made.takings made.groups;
       of_jobs = λ worker index job outcome took has.
-          of_job origin ops workers count works (takings_of all) all.groups.items worker index job outcome are made.takings made.groups
+          of_job origin ops claims works (takings_of all) all.groups.items worker index job outcome are made.takings made.groups
           took has;
-      rise = rises_of origin ops workers count works (takings_of all) some are made.takings;
-      each = λ same. subst At (sym made.takings)
-          (subst Of (sym size) (cuts_hand_out origin ops workers count works some are made.memory (made.same same)));
-      found = λ foreign. found_of origin ops workers count works are (made.foreign foreign);
+      rise = rises_of origin ops claims works (takings_of all) are made.takings;
+      each = λ same. subst At (jobs ∙ sym size) (each same);
+      found = λ foreign. found_of origin ops claims works are (made.foreign foreign);
       places = omega arith;
       places_by = omega arith;
     }

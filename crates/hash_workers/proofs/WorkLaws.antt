@@ -1,15 +1,14 @@
 -- A worker's work, one job after others.
-use Rattle.std.proofs.Common.{◌≡◌, ◌≢◌, ℕ, zero, suc, ◌+◌, ◌*◌, ◌<◌, List, [], ◌∷◌, ◌++◌, length, length-append, get_or, Option, Some, None, refl, sym, ap, ◌∙◌, subst, inl, inr, arith, map}
-use Rattle.std.specs.Prelude.{◌⊎◌, slice_get, unwrap_or, IfSome, IfOk, option_map, MatchResult, Result, Ok, Err}
+use Rattle.std.proofs.Common.{◌≡◌, ◌≢◌, ℕ, zero, suc, ◌+◌, ◌-◌, ◌<◌, ◌≤◌, List, [], ◌∷◌, ◌++◌, length, get_or, Option, Some, None, refl, sym, ap, ◌∙◌, subst, inl, inr, arith, map}
+use Rattle.std.specs.Prelude.{◌⊎◌, slice_get, unwrap_or, IfSome, option_map, MatchResult, Result, Ok, Err}
 use Rattle.std.specs.Option.{option_copied}
-use Rattle.std.specs.Result.{result_ok}
-use Rattle.std.proofs.lemmas.List.{map_push}
-use Rattle.std.specs.declared.alloc.AllocError.{AllocError}
+use Rattle.std.proofs.lemmas.List.{map_push, length-map}
 use denote.Ref.{Bor}
 use Rattle.pcr_banks.specs.declared.alg.Alg.{Alg}
 use Rattle.measure_book.specs.declared.op.Op.{Op}
 use Rattle.measure_book.specs.declared.op.Outcome.{Outcome}
-use Rattle.std.proofs.lemmas.Option.{same_Some, none-some, slice_get-map, slice_get_read, slice_get_within}
+use Rattle.std.specs.List.{All}
+use Rattle.std.proofs.lemmas.Option.{same_Some, none-some, slice_get-map, slice_get_read, slice_get_within, get_or_from_slice_get}
 use Rattle.measure_book.specs.declared.origin.Origin.{Origin}
 use Rattle.measure_book.specs.declared.fault.BookFault.{BookFault}
 use Rattle.measure_book.specs.declared.fault.BookFault.TheVariants.{Memory}
@@ -23,22 +22,10 @@ use Rattle.hash_workers.specs.declared.work.End.TheVariants.{NoneLeft, OutOfMemo
 use Rattle.hash_workers.specs.declared.work.End.TheVariants as ends
 use Rattle.hash_workers.specs.declared.job.Job.{Job}
 use Rattle.hash_workers.specs.Jobs.{operation_of, operations_of}
-use Rattle.hash_workers.specs.Taking.{FollowsCut}
+use Rattle.hash_workers.specs.Taking.{Rise}
 use Rattle.hash_workers.specs.Working.{MayBecome, IsOutcomeOfJob, IsWorked, IsEntered, Records, IsForeign, IsDoneAfter, AreDoneInOrder}
-use Rattle.hash_workers.specs.Ending.{Becomes, TellsOp, KeepsOne, ToldAfterJob, TellsJob, TakesOne, TellsAll, StopsFor}
-
--- ---- lists with one element more
-
--- What stands in a list with one element more stood there before, or is the new one.
-pub slice_get_snoc : {X : Type 0} → (xs : List X) (x y : X) (i : ℕ) → slice_get (xs ++ x ∷ []) i ≡ Some y
-    → (slice_get xs i ≡ Some y) ⊎ ((i ≡ length xs) × (y ≡ x))
-slice_get_snoc [] x y zero has = inr (refl, sym (same_Some x y has))
-slice_get_snoc [] x y (suc i) has = absurd (none-some y has)
-slice_get_snoc (z ∷ xs) x y zero has = inl has
-slice_get_snoc (z ∷ xs) x y (suc i) has = elim (slice_get_snoc xs x y i has) [ inl old ↦ inl old | inr new ↦ inr (ap suc new.0, new.1) ]
-
-length_snoc : {X : Type 0} → (xs : List X) (x : X) → length (xs ++ x ∷ []) ≡ length xs + 1
-length_snoc xs x = length-append xs (x ∷ [])
+use Rattle.hash_workers.specs.Ending.{Becomes, TellsOp, KeepsOne, LeavesJob, TellsJob, TakesOne, TellsAll, StopsFor}
+use Rattle.hash_workers.proofs.ListLaws.{slice_get_snoc, length_snoc, within_at}
 
 -- ---- one operation
 
@@ -63,7 +50,7 @@ keeps_recorded origin told now_told op outcome records = record {
   each = λ book is.
       let known = records.tells.each book is in
       let At : BookState → Type 0 = λ before. IsEntered origin before records.after op outcome in
-      record { after = records.after; tells = known.1; leaves = subst At (sym known.0) records.entered };
+      record { after = records.after; tells = known.1; holds = subst At (sym known.0) records.entered };
 }
 
 -- What is known of a recorded operation, or of none, at the option that has it.
@@ -99,7 +86,7 @@ keeps_at_none origin told now_told op outcome now_outcome is tells stays memory 
       without,
       record {
         each = λ book told_is. record
-            { after = book; tells = tells ∙ told_is; leaves = (without, refl) };
+            { after = book; tells = tells ∙ told_is; holds = (without, refl) };
       },
     )
 
@@ -127,26 +114,18 @@ job_without_memory origin ops job op outcome has is =
     let At : BookOutcome → Type 0 = λ o. MayBecome origin op o in
     record { op = op; has = has; becomes = subst At (sym is) (inl refl) }
 
-told_without_memory : (origin : Origin) (ops : List BookOp) (now_told : Option BookState) (book after : BookState) (job : ℕ)
-    (op : BookOp) (outcome : BookOutcome)
-    → slice_get ops job ≡ Some op → now_told ≡ Some after → outcome ≡ refused Memory → after ≡ book
-    → ToldAfterJob origin ops now_told book job outcome
-told_without_memory origin ops now_told book after job op outcome has tells is same =
+left_without_memory : (origin : Origin) (ops : List BookOp) (book after : BookState) (job : ℕ) (op : BookOp) (outcome : BookOutcome)
+    → slice_get ops job ≡ Some op → outcome ≡ refused Memory → after ≡ book → LeavesJob origin ops book after job outcome
+left_without_memory origin ops book after job op outcome has is same =
     let At : BookOutcome → Type 0 = λ o. after.records ≡ records_after book.records o in
     record {
-      after = after;
-      tells = tells;
       records = subst At (sym is) (ap (λ (b : BookState). b.records) same);
       is_done = record { op = op; has = has; becomes = inl is };
     }
 
-told_with_op : (origin : Origin) (ops : List BookOp) (now_told : Option BookState) (book after : BookState) (job : ℕ) (op : BookOp)
-    (outcome : BookOutcome)
-    → slice_get ops job ≡ Some op → now_told ≡ Some after → IsEntered origin book after op outcome
-    → ToldAfterJob origin ops now_told book job outcome
-told_with_op origin ops now_told book after job op outcome has tells entered = record {
-  after = after;
-  tells = tells;
+left_with_op : (origin : Origin) (ops : List BookOp) (book after : BookState) (job : ℕ) (op : BookOp) (outcome : BookOutcome)
+    → slice_get ops job ≡ Some op → IsEntered origin book after op outcome → LeavesJob origin ops book after job outcome
+left_with_op origin ops book after job op outcome has entered = record {
   records = entered.runs.1;
   is_done = record { op = op; has = has; becomes = inr entered.runs.0 };
 }
@@ -154,7 +133,7 @@ told_with_op origin ops now_told book after job op outcome has tells entered = r
 -- The operation that was made for a job, if memory was found, is the job's.
 pub takes_one : (origin : Origin) (ops : List BookOp) (made : Option BookOp) (op : BookOp) (job : ℕ) (taken now_taken : List ℕ)
     (outcomes now_outcomes : List BookOutcome) (told now_told : Option BookState)
-    → slice_get ops job ≡ Some op → IfSome made (λ o. o ≡ op)
+    → slice_get ops job ≡ Some op → IfSome made (λ o. slice_get ops job ≡ Some o)
     → KeepsOne origin made job taken now_taken outcomes now_outcomes told now_told
     → TakesOne origin ops job taken now_taken outcomes now_outcomes told now_told
 takes_one origin ops None op job taken now_taken outcomes now_outcomes told now_told has made keeps = record {
@@ -163,31 +142,47 @@ takes_one origin ops None op job taken now_taken outcomes now_outcomes told now_
   keeps = keeps.keeps;
   of_job = job_without_memory origin ops job op keeps.outcome has keeps.becomes;
   tells = record {
-    each = λ book is. let told_after = keeps.tells.each book is in
-        told_without_memory origin ops now_told book told_after.after job op keeps.outcome has told_after.tells told_after.leaves.0
-        told_after.leaves.1;
+    each = λ book is. let turned = keeps.tells.each book is in
+        record {
+          after = turned.after;
+          tells = turned.tells;
+          holds = left_without_memory origin ops book turned.after job op keeps.outcome has turned.holds.0 turned.holds.1;
+        };
   };
 }
 takes_one origin ops (Some other) op job taken now_taken outcomes now_outcomes told now_told has made keeps =
-    let same : slice_get ops job ≡ Some other = has ∙ ap (λ (o : BookOp). Some o) (sym made) in
     record {
       outcome = keeps.outcome;
       takes = keeps.takes;
       keeps = keeps.keeps;
-      of_job = record { op = other; has = same; becomes = keeps.becomes };
+      of_job = record { op = other; has = made; becomes = keeps.becomes };
       tells = record {
-        each = λ book is. let told_after = keeps.tells.each book is in
-            told_with_op origin ops now_told book told_after.after job other keeps.outcome same told_after.tells told_after.leaves;
+        each = λ book is. let turned = keeps.tells.each book is in
+            record {
+              after = turned.after;
+              tells = turned.tells;
+              holds = left_with_op origin ops book turned.after job other keeps.outcome made turned.holds;
+            };
       };
     }
 
--- The operation that was made is that of the job.
-pub made_of : (copied made : Option Op) (result : Result Op AllocError) (op : BookOp) → copied ≡ made → made ≡ result_ok result
-    → IfOk result (λ o. book_op_of o ≡ op) → IfSome (option_map book_op_of copied) (λ o. o ≡ op)
-made_of copied made (Ok one) op is from says = let At : Option Op
-    → Type 0 = λ o. IfSome (option_map book_op_of o) (λ p. p ≡ op) in subst At (sym (is ∙ from)) says
-made_of copied made (Err refused') op is from says = let At : Option Op
-    → Type 0 = λ o. IfSome (option_map book_op_of o) (λ p. p ≡ op) in subst At (sym (is ∙ from)) tt
+-- The operation that was made is that of the job, also where it is lent.
+made_at : (ops : List BookOp) (job : ℕ) (made : Option Op) → IfSome made (λ o. slice_get ops job ≡ Some (book_op_of o))
+    → IfSome (option_map book_op_of made) (λ o. slice_get ops job ≡ Some o)
+made_at ops job None known = tt
+made_at ops job (Some one) known = known
+
+pub made_of : (ops : List BookOp) (job : ℕ) (lent made : Option Op) → lent ≡ made
+    → IfSome made (λ o. slice_get ops job ≡ Some (book_op_of o)) → IfSome (option_map book_op_of lent) (λ o. slice_get ops job ≡ Some o)
+made_of ops job lent made is known =
+    let At : Option Op → Type 0 = λ o. IfSome (option_map book_op_of o) (λ p. slice_get ops job ≡ Some p) in
+    subst At (sym is) (made_at ops job made known)
+
+pub op_at : (alg : Alg) (jobs : List Job) (number : ℕ) → number < length jobs
+    → (op : BookOp) × (slice_get (operations_of alg jobs) number ≡ Some op)
+op_at alg jobs number within =
+    let many : length (operations_of alg jobs) ≡ length jobs = length-map jobs (operation_of alg) in
+    within_at (operations_of alg jobs) number (omega arith)
 
 pub op_of_job : (alg : Alg) (jobs : List Job) (number : ℕ) (job : Job) → number < length jobs → job ≡ get_or jobs number job
     → slice_get (operations_of alg jobs) number ≡ Some (operation_of alg job)
@@ -202,25 +197,57 @@ match_ok (Err end) P Q S turns known = known
 
 -- ---- all jobs of a worker
 
-pub follow_none : (workers count worker : ℕ) → FollowsCut workers count worker []
-follow_none workers count worker = record {
-  steps = λ index job has. absurd (none-some job has);
-  below = λ index job has. absurd (none-some job has);
-}
+pub rise_none : Rise []
+rise_none = record { each = λ first second earlier later order has also. absurd (none-some earlier has) }
 
-pub follow_more : (workers count worker job : ℕ) (taken : List ℕ) → FollowsCut workers count worker taken
-    → job ≡ worker + length taken * workers → job < count
-    → FollowsCut workers count worker (taken ++ job ∷ [])
-follow_more workers count worker job taken follows is below = record {
-  steps = λ index other has. elim (slice_get_snoc taken job other index has) [
-    | inl old ↦ follows.steps index other old
-    | inr new ↦ new.1 ∙ is ∙ ap (λ (n : ℕ). worker + n * workers) (sym new.0)
-  ];
-  below = λ index other has. elim (slice_get_snoc taken job other index has) [
-    | inl old ↦ follows.below index other old
-    | inr new ↦ let same : other ≡ job = new.1 in omega arith
-  ];
-}
+below_at : (taken : List ℕ) (index number job : ℕ) → All (λ drawn. drawn < job) taken → slice_get taken index ≡ Some number → number < job
+below_at taken index number job all has =
+    let At : ℕ → Type 0 = λ n. n < job in
+    subst At (get_or_from_slice_get taken index number 0 has) (all index 0 (slice_get_within taken index number has))
+
+pub rise_more : (taken now_taken : List ℕ) (job : ℕ) → Rise taken → All (λ drawn. drawn < job) taken → now_taken ≡ taken ++ job ∷ []
+    → Rise now_taken
+rise_more taken now_taken job rise above is =
+    let At : List ℕ → Type 0 = λ xs. Rise xs in
+    subst At (sym is) (record {
+      each = λ first second earlier later order has also. elim (slice_get_snoc taken job earlier first has) [
+        | inl old ↦ elim (slice_get_snoc taken job later second also) [
+          | inl older ↦ rise.each first second earlier later order old older
+          | inr new ↦ let below = below_at taken first earlier job above old in let same : later ≡ job = new.1 in omega arith
+        ]
+        | inr new ↦ elim (slice_get_snoc taken job later second also) [
+          | inl older ↦ let within = slice_get_within taken second later older in let at : first ≡ length taken = new.0 in
+              absurd (omega arith)
+          | inr newer ↦ let at : first ≡ length taken = new.0 in let too : second ≡ length taken = newer.0 in absurd (omega arith)
+        ]
+      ];
+    })
+
+-- A number of a list that rises is at least its index.
+at_least_index : (taken : List ℕ) (index number : ℕ) → Rise taken → slice_get taken index ≡ Some number → index ≤ number
+at_least_index taken zero number rise has = omega arith
+at_least_index taken (suc index) number rise has =
+    let within = slice_get_within taken (suc index) number has in
+    let before = within_at taken index (omega arith) in
+    let known = at_least_index taken index before.0 rise before.1 in
+    let less = rise.each index (suc index) before.0 number (omega arith) before.1 has in
+    omega arith
+
+count_of : (taken : List ℕ) (count job : ℕ) → count ≡ length taken → Rise taken → All (λ drawn. drawn < job) taken → count ≤ job
+count_of taken zero job is rise above = omega arith
+count_of taken (suc index) job is rise above =
+    let last = within_at taken index (omega arith) in
+    let known = at_least_index taken index last.0 rise last.1 in
+    let below = below_at taken index last.0 job above last.1 in
+    omega arith
+
+-- A job above all that were taken leaves fewer to take.
+pub turn_smaller : (taken now_taken : List ℕ) (count job : ℕ) → Rise taken → All (λ drawn. drawn < job) taken → job < count
+    → now_taken ≡ taken ++ job ∷ [] → count - length now_taken < count - length taken
+turn_smaller taken now_taken count job rise above below is =
+    let longer : length now_taken ≡ length taken + 1 = ap length is ∙ length_snoc taken job in
+    let few = count_of taken (length taken) job refl rise above in
+    omega arith
 
 pub worked_none : (origin : Origin) (ops : List BookOp) → IsWorked origin ops [] []
 worked_none origin ops = record { pairs = refl; each = λ index job outcome took has. absurd (none-some job took) }
@@ -262,7 +289,7 @@ done_more origin ops old middle (one ∷ taken) (other ∷ outcomes) job outcome
 
 pub tells_none : (origin : Origin) (ops : List BookOp) (told : Option BookState) → TellsAll origin ops told told [] [] NoneLeft
 tells_none origin ops told = record {
-  each = λ book is. record { after = book; tells = is; are_done = refl; foreign = λ never. absurd cc };
+  each = λ book is. record { after = book; tells = is; holds = record { are_done = refl; foreign = λ never. absurd cc } };
 }
 
 pub tells_more : (origin : Origin) (ops : List BookOp) (told middle now_told : Option BookState) (taken : List ℕ)
@@ -278,9 +305,11 @@ tells_more origin ops told middle now_told taken outcomes job outcome all one = 
       record {
         after = last.after;
         tells = last.tells;
-        are_done = subst At (sym last.records) (done_more origin ops book.records first.after.records taken outcomes job outcome
-            first.are_done last.is_done);
-        foreign = λ never. absurd cc;
+        holds = record {
+          are_done = subst At (sym last.holds.records) (done_more origin ops book.records first.after.records taken outcomes job outcome
+              first.holds.are_done last.holds.is_done);
+          foreign = λ never. absurd cc;
+        };
       };
 }
 
@@ -292,7 +321,11 @@ pub tells_stop : (origin : Origin) (ops : List BookOp) (told middle now_told : O
 tells_stop origin ops told middle now_told taken outcomes NoneLeft all stops = absurd stops
 tells_stop origin ops told middle now_told taken outcomes OutOfMemory all stops = record {
   each = λ book is. let first = all.each book is in
-      record { after = first.after; tells = stops ∙ first.tells; are_done = first.are_done; foreign = λ never. absurd cc };
+      record {
+        after = first.after;
+        tells = stops ∙ first.tells;
+        holds = record { are_done = first.holds.are_done; foreign = λ never. absurd cc };
+      };
 }
 tells_stop origin ops told middle now_told taken outcomes ends.ForeignBook all stops = record {
   each = λ book is.
@@ -302,28 +335,11 @@ tells_stop origin ops told middle now_told taken outcomes ends.ForeignBook all s
       record {
         after = first.after;
         tells = known.1 ∙ ap (λ (b : BookState). Some b) (sym known.0);
-        are_done = first.are_done;
-        foreign = λ _. subst At (sym known.0) stops.other;
+        holds = record { are_done = first.holds.are_done; foreign = λ _. subst At (sym known.0) stops.other };
       };
 }
 
 -- ---- one turn of a worker's loop, over the code's lists
-
-pub turn_follows : (workers count worker job next : ℕ) (origin : Origin) (ops : List BookOp) (taken now_taken : List ℕ)
-    (outcomes now_outcomes : List BookOutcome) (told now_told : Option BookState)
-    → next ≡ worker + length taken * workers → job ≡ next → job < count → FollowsCut workers count worker taken
-    → TakesOne origin ops job taken now_taken outcomes now_outcomes told now_told → FollowsCut workers count worker now_taken
-turn_follows workers count worker job next origin ops taken now_taken outcomes now_outcomes told now_told at drawn below follows one =
-    let At : List ℕ → Type 0 = λ xs. FollowsCut workers count worker xs in
-    subst At (sym one.takes) (follow_more workers count worker job taken follows (drawn ∙ at) below)
-
-pub turn_next : (workers worker job next : ℕ) (origin : Origin) (ops : List BookOp) (taken now_taken : List ℕ)
-    (outcomes now_outcomes : List BookOutcome) (told now_told : Option BookState)
-    → next ≡ worker + length taken * workers → TakesOne origin ops job taken now_taken outcomes now_outcomes told now_told
-    → next + workers ≡ worker + length now_taken * workers
-turn_next workers worker job next origin ops taken now_taken outcomes now_outcomes told now_told at one =
-    let longer : length now_taken ≡ length taken + 1 = ap length one.takes ∙ length_snoc taken job in
-    rw longer (omega arith)
 
 pub turn_worked : (job : ℕ) (origin : Origin) (ops : List BookOp) (taken now_taken : List ℕ) (outcomes now_outcomes : List BookOutcome)
     (told now_told : Option BookState)

@@ -1,5 +1,5 @@
 -- What one job more makes of a worker's work, and why a worker takes no more jobs.
-use Rattle.std.specs.Prelude.{◌≡◌, ◌≢◌, ℕ, List, [], ◌∷◌, ◌++◌, Option, Some, None}
+use Rattle.std.specs.Prelude.{◌≡◌, ◌≢◌, ℕ, List, [], ◌∷◌, ◌++◌, true, Option, Some, None}
 use Rattle.measure_book.specs.declared.origin.Origin.{Origin}
 use Rattle.measure_book.specs.declared.fault.BookFault.TheVariants.{Memory}
 use Rattle.measure_book.specs.Operations.{BookOp, BookOutcome, refused}
@@ -7,8 +7,20 @@ use Rattle.measure_book.specs.Runs.{records_after}
 use Rattle.measure_book.specs.Books.{BookState}
 use Rattle.hash_workers.specs.declared.work.End.{End}
 use Rattle.hash_workers.specs.declared.work.End.TheVariants.{NoneLeft, OutOfMemory, ForeignBook}
-use Rattle.hash_workers.specs.Taking.{IsWholeCut}
+use Rattle.hash_workers.specs.Claims.{SeatState}
 use Rattle.hash_workers.specs.Working.{MayBecome, IsOutcomeOfJob, IsEntered, IsForeign, IsDoneAfter, AreDoneInOrder}
+
+-- ---- the private book
+
+-- The private book before and after: where the recorder tells a book that nobody else has, it tells one afterwards too, and
+-- this holds of the two.
+pub record HasBookAfter (now_told : Option BookState) (Holds : BookState → Type 0) : Type 0 where
+  pub after : BookState
+  pub tells : now_told ≡ Some after
+  pub holds : Holds after
+
+pub record TurnsPrivateBook (told now_told : Option BookState) (Holds : BookState → BookState → Type 0) : Type 0 where
+  pub each : (before : BookState) → told ≡ Some before → HasBookAfter now_told (Holds before)
 
 -- ---- an operation, or none where it found no memory
 
@@ -20,15 +32,9 @@ abbrev pub Leaves : Origin → Option BookOp → BookState → BookState → Boo
 Leaves origin None before after outcome = (outcome ≡ refused Memory) × (after ≡ before)
 Leaves origin (Some op) before after outcome = IsEntered origin before after op outcome
 
--- The book that is told after one operation.
-pub record ToldAfterOp (origin : Origin) (now_told : Option BookState) (before : BookState) (op : Option BookOp) (outcome : BookOutcome)
-    : Type 0 where
-  pub after : BookState
-  pub tells : now_told ≡ Some after
-  pub leaves : Leaves origin op before after outcome
-
-pub record TellsOp (origin : Origin) (told now_told : Option BookState) (op : Option BookOp) (outcome : BookOutcome) : Type 0 where
-  pub each : (book : BookState) → told ≡ Some book → ToldAfterOp origin now_told book op outcome
+-- What an operation makes of the private book.
+abbrev pub TellsOp : Origin → Option BookState → Option BookState → Option BookOp → BookOutcome → Type 0
+TellsOp origin told now_told op outcome = TurnsPrivateBook told now_told (λ before after. Leaves origin op before after outcome)
 
 -- The job is taken, with an outcome of this operation.
 pub record KeepsOne (origin : Origin) (op : Option BookOp) (job : ℕ) (taken now_taken : List ℕ) (outcomes now_outcomes : List BookOutcome)
@@ -41,17 +47,13 @@ pub record KeepsOne (origin : Origin) (op : Option BookOp) (job : ℕ) (taken no
 
 -- ---- a job
 
--- The book that is told after one job.
-pub record ToldAfterJob (origin : Origin) (ops : List BookOp) (now_told : Option BookState) (before : BookState) (job : ℕ)
-    (outcome : BookOutcome) : Type 0 where
-  pub after : BookState
-  pub tells : now_told ≡ Some after
+-- What a job makes of the private book.
+pub record LeavesJob (origin : Origin) (ops : List BookOp) (before after : BookState) (job : ℕ) (outcome : BookOutcome) : Type 0 where
   pub records : after.records ≡ records_after before.records outcome
   pub is_done : IsDoneAfter origin ops before.records job outcome
 
-pub record TellsJob (origin : Origin) (ops : List BookOp) (told now_told : Option BookState) (job : ℕ) (outcome : BookOutcome) : Type 0
-  where
-    pub each : (book : BookState) → told ≡ Some book → ToldAfterJob origin ops now_told book job outcome
+abbrev pub TellsJob : Origin → List BookOp → Option BookState → Option BookState → ℕ → BookOutcome → Type 0
+TellsJob origin ops told now_told job outcome = TurnsPrivateBook told now_told (λ before after. LeavesJob origin ops before after job outcome)
 
 -- The job is taken, with an outcome of its own.
 pub record TakesOne (origin : Origin) (ops : List BookOp) (job : ℕ) (taken now_taken : List ℕ) (outcomes now_outcomes : List BookOutcome)
@@ -64,18 +66,16 @@ pub record TakesOne (origin : Origin) (ops : List BookOp) (job : ℕ) (taken now
 
 -- ---- all jobs of a worker
 
--- The book that is told after all jobs of a worker: they were done in their order, and where the worker stopped for a
+-- What all jobs of a worker make of the private book: they were done in their order, and where the worker stopped for a
 -- book of another origin it is such a book.
-pub record ToldAfterAll (origin : Origin) (ops : List BookOp) (now_told : Option BookState) (before : BookState)
-    (taken : List ℕ) (outcomes : List BookOutcome) (end : End) : Type 0 where
-  pub after : BookState
-  pub tells : now_told ≡ Some after
+pub record LeavesAll (origin : Origin) (ops : List BookOp) (before after : BookState) (taken : List ℕ) (outcomes : List BookOutcome)
+    (end : End) : Type 0 where
   pub are_done : AreDoneInOrder origin ops before.records taken outcomes after.records
   pub foreign : end ≡ ForeignBook → after.origin ≢ origin
 
-pub record TellsAll (origin : Origin) (ops : List BookOp) (told now_told : Option BookState)
-    (taken : List ℕ) (outcomes : List BookOutcome) (end : End) : Type 0 where
-  pub each : (book : BookState) → told ≡ Some book → ToldAfterAll origin ops now_told book taken outcomes end
+abbrev pub TellsAll : Origin → List BookOp → Option BookState → Option BookState → List ℕ → List BookOutcome → End → Type 0
+TellsAll origin ops told now_told taken outcomes end =
+    TurnsPrivateBook told now_told (λ before after. LeavesAll origin ops before after taken outcomes end)
 
 -- A worker stops early since memory ran out, with the book as it was, or since the book is of another origin.
 abbrev pub StopsFor : Origin → Option BookState → Option BookState → End → Type 0
@@ -88,9 +88,9 @@ pub record IsFound (origin : Origin) : Type 0 where
   pub book : BookState
   pub other : book.origin ≢ origin
 
--- Why a worker takes no more jobs: none is left only where it took all of its cut, and it found a book of another origin
--- only where it says so.
-abbrev pub IsEnd : Origin → ℕ → ℕ → ℕ → List ℕ → End → Type 0
-IsEnd origin workers count worker taken NoneLeft = IsWholeCut workers count worker taken
-IsEnd origin workers count worker taken OutOfMemory = Unit {0}
-IsEnd origin workers count worker taken ForeignBook = IsFound origin
+-- Why a worker takes no more jobs: none is left only where its seat is ended and drew what it took, and it found a book of
+-- another origin only where it says so.
+abbrev pub IsEnd : Origin → SeatState → List ℕ → End → Type 0
+IsEnd origin seat taken NoneLeft = (seat.ended ≡ true) × (seat.draws ≡ taken)
+IsEnd origin seat taken OutOfMemory = Unit {0}
+IsEnd origin seat taken ForeignBook = IsFound origin

@@ -7,3 +7,5 @@ pub mod Seats
 pub mod Scattering
 pub mod Settling
 pub mod Batches
+pub mod Claims
+pub mod ClaimRule

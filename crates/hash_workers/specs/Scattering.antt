@@ -11,10 +11,6 @@ items_of v = v.items
 pub record AreBelow (count : ℕ) (taken : List ℕ) : Type 0 where
   pub each : (index job : ℕ) → slice_get taken index ≡ Some job → job < count
 
-pub record Rise (taken : List ℕ) : Type 0 where
-  pub each : (first second earlier later : ℕ) → first < second → slice_get taken first ≡ Some earlier
-      → slice_get taken second ≡ Some later → earlier < later
-
 -- From an index on, the worker's jobs have what it has for them.
 pub record ArePlaced {X : Type 0} (taken : List ℕ) (group : List X) (worker from : ℕ) (outcomes : List X) (by : List ℕ) : Type 0 where
   pub each : (index job : ℕ) (outcome : X) → from ≤ index → slice_get taken index ≡ Some job → slice_get group index ≡ Some outcome

@@ -1,31 +1,78 @@
--- The workers' cuts, and what each worker hands back.
-use Rattle.std.specs.Prelude.{◌≡◌, ◌≢◌, ℕ, ◌<◌, List, length, map, slice_get, Some}
+-- The workers' seats, and what each worker hands back.
+use Rattle.std.specs.Prelude.{◌≡◌, ◌≢◌, ℕ, ◌<◌, ◌||◌, Bool, true, false, List, [], ◌∷◌, length, map, slice_get, Option, None, Some, IfSome}
+use Rattle.std.specs.List.{concat}
 use Rattle.measure_book.specs.declared.origin.Origin.{Origin}
 use Rattle.measure_book.specs.declared.op.Outcome.{Outcome}
 use Rattle.measure_book.specs.Operations.{BookOp, book_outcome_of}
-use Rattle.hash_workers.specs.declared.cut.Cut.{Cut}
 use Rattle.hash_workers.specs.declared.work.End.{End}
+use Rattle.hash_workers.specs.declared.work.End.TheVariants.{NoneLeft}
 use Rattle.hash_workers.specs.declared.work.Work.{Work}
-use Rattle.hash_workers.specs.Taking.{FollowsCut}
+use Rattle.hash_workers.specs.Claims.{ClaimsState, SeatState, IsSeat}
+use Rattle.hash_workers.specs.Taking.{Rise}
 use Rattle.hash_workers.specs.Working.{IsWorked}
 use Rattle.hash_workers.specs.Ending.{IsEnd}
 
--- The cut is that of this worker, which has taken no job yet.
-pub record IsCutOf (workers count worker : ℕ) (cut : Cut) : Type 0 where
-  pub next : cut.next ≡ worker
-  pub workers_are : cut.workers ≡ workers
-  pub count_is : cut.count ≡ count
+-- ---- seats
 
--- The worker did this: it took jobs of its cut, each has one outcome, and this is why it took no more.
-pub record IsWorkOf (origin : Origin) (ops : List BookOp) (workers count worker : ℕ) (work : Work) : Type 0 where
-  pub follows : FollowsCut workers count worker work.taken.items
+-- A worker's seat before it drew: one place of these claims.
+abbrev pub IsNewSeat : ClaimsState → SeatState → Type 0
+IsNewSeat claims seat = IsSeat claims 1 [] false seat
+
+-- The seat has one place of these claims, whatever it drew.
+abbrev pub IsSinglePlace : ClaimsState → SeatState → Type 0
+IsSinglePlace claims seat = (seat.claims ≡ claims) × (seat.places ≡ 1)
+
+abbrev pub draws_of : SeatState → List ℕ
+draws_of seat = seat.draws
+
+-- Whether one of the seats is ended.
+abbrev pub some_ended : List SeatState → Bool
+some_ended [] = false
+some_ended (seat ∷ seats) = seat.ended || some_ended seats
+
+-- ---- seats that are joined in turn, none at first
+
+abbrev pub places_in : Option SeatState → ℕ
+places_in None = 0
+places_in (Some seat) = seat.places
+
+abbrev pub draws_in : Option SeatState → List ℕ
+draws_in None = []
+draws_in (Some seat) = seat.draws
+
+abbrev pub ended_in : Option SeatState → Bool
+ended_in None = false
+ended_in (Some seat) = seat.ended
+
+-- These seats, of one place each, are joined to this one.
+pub record AreJoined (claims : ClaimsState) (seats : List SeatState) (all : Option SeatState) : Type 0 where
+  pub claims_are : IfSome all (λ seat. seat.claims ≡ claims)
+  pub places : places_in all ≡ length seats
+  pub draws : draws_in all ≡ concat (map draws_of seats)
+  pub ended : ended_in all ≡ some_ended seats
+
+-- ---- what workers hand back
+
+-- The worker did this: it took jobs that rise, each has one outcome, its seat is still one of these claims, and this is
+-- why it took no more.
+pub record IsWorkOf (origin : Origin) (ops : List BookOp) (claims : ClaimsState) (work : Work) : Type 0 where
+  pub rises : Rise work.taken.items
   pub worked : IsWorked origin ops work.taken.items (map book_outcome_of work.outcomes.items)
-  pub ends : IsEnd origin workers count worker work.taken.items work.end
+  pub seat : IsSinglePlace claims work.seat
+  pub ends : IsEnd origin work.seat work.taken.items work.end
 
--- Each worker did its work.
-pub record AreWorksOf (origin : Origin) (ops : List BookOp) (workers count : ℕ) (works : List Work) : Type 0 where
-  pub one_each : length works ≡ workers
-  pub each : (worker : ℕ) (work : Work) → slice_get works worker ≡ Some work → IsWorkOf origin ops workers count worker work
+-- Each worker did its work, one for each place of the claims.
+pub record AreWorksOf (origin : Origin) (ops : List BookOp) (claims : ClaimsState) (works : List Work) : Type 0 where
+  pub one_each : length works ≡ claims.seats
+  pub each : (worker : ℕ) (work : Work) → slice_get works worker ≡ Some work → IsWorkOf origin ops claims work
+
+-- Each worker hands its seat back, one for each place of the claims; where none was left it is ended, and drew what the
+-- worker took.
+pub record HandBack (claims : ClaimsState) (works : List Work) : Type 0 where
+  pub one_each : length works ≡ claims.seats
+  pub seat : (worker : ℕ) (work : Work) → slice_get works worker ≡ Some work → IsSinglePlace claims work.seat
+  pub ended : (worker : ℕ) (work : Work) → slice_get works worker ≡ Some work → work.end ≡ NoneLeft
+      → (work.seat.ended ≡ true) × (work.seat.draws ≡ work.taken.items)
 
 -- Some worker ended so; none of the first ones did.
 pub record HasEnd (works : List Work) (end : End) : Type 0 where
@@ -44,3 +91,6 @@ taken_of work = work.taken.items
 
 abbrev pub outcomes_of : Work → List Outcome
 outcomes_of work = work.outcomes.items
+
+abbrev pub seat_of : Work → SeatState
+seat_of work = work.seat

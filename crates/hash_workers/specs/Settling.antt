@@ -1,5 +1,6 @@
 -- What all workers did, how it is settled with the book, and why it is not.
 use Rattle.std.specs.Prelude.{◌≡◌, ℕ, Bool, true, false, List, length, map, vec_len, Some}
+use Rattle.std.specs.List.{concat}
 use Rattle.measure_book.specs.declared.origin.Origin.{Origin}
 use Rattle.measure_book.specs.declared.gathers.GatherFault.{GatherFault}
 use Rattle.measure_book.specs.declared.gathers.GatherFault.TheVariants as gathers
@@ -11,7 +12,8 @@ use Rattle.hash_workers.specs.declared.work.End.TheVariants.{OutOfMemory, Foreig
 use Rattle.hash_workers.specs.declared.work.Work.{Work}
 use Rattle.hash_workers.specs.declared.work.all.AllWork.{AllWork}
 use Rattle.hash_workers.specs.Faults.{fault_of_gather}
-use Rattle.hash_workers.specs.Taking.{Took, HandsOutEach, RiseForEach}
+use Rattle.hash_workers.specs.Claims.{HandsOutEach}
+use Rattle.hash_workers.specs.Taking.{Took, RiseForEach}
 use Rattle.hash_workers.specs.Working.{IsOutcomeOfJob}
 use Rattle.hash_workers.specs.Ending.{IsFound}
 use Rattle.hash_workers.specs.Scattering.{ArePairs, items_of}
@@ -44,7 +46,7 @@ pub record IsAllWork (origin : Origin) (ops : List BookOp) (workers : ℕ) (all 
   pub of_jobs : (worker index job : ℕ) (outcome : BookOutcome) → Took (takings_of all) worker index job
       → outcome_at (outcomes_by_worker all) worker index ≡ Some outcome → IsOutcomeOfJob origin ops job outcome
   pub rise : RiseForEach (takings_of all)
-  pub each : all.foreign ≡ false → HandsOutEach (length ops) (takings_of all)
+  pub each : all.foreign ≡ false → HandsOutEach (length ops) (concat (takings_of all))
   pub found : all.foreign ≡ true → IsFound origin
   pub places : vec_len all.outcomes ≡ length ops
   pub places_by : vec_len all.by ≡ length ops

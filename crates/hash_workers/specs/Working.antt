@@ -7,6 +7,10 @@ use Rattle.measure_book.specs.Histories.{refusal_of}
 use Rattle.measure_book.specs.Runs.{RunsTo, IsOutcome, records_after}
 use Rattle.measure_book.specs.Books.{BookState}
 
+-- Of what becomes of an operation there are two things to say. `MayBecome`, `IsOutcomeOfJob`, and `Becomes` of an operation
+-- that may not have been made, speak of no history: they are known of a book that others use too, whatever it had before.
+-- `IsOutcome` of the book, and `IsDoneAfter`, speak of the records before: they are known only of a book whose history is.
+
 -- What becomes of an operation, whatever the book had before: it is done with a receipt of its own, refused since
 -- memory ran out, or refused for the first cause that holds after some number of records.
 abbrev pub MayBecome : Origin → BookOp → BookOutcome → Type 0

@@ -10,6 +10,7 @@ ghost use Rattle.hash_workers.specs.Faults.{IsFaultOf, IsNumberOfWorkers, MayBeg
 ghost use Rattle.hash_workers.specs.Settling.{IsAllWork, IsCauseAmong, IsUnsettled, outcomes_by_worker};
 ghost use Rattle.hash_workers.specs.Batches.{IsBatch};
 
+use crate::claims::Claims;
 use crate::fan::fan_out;
 use crate::fault::AgentFault;
 use crate::gate::Gate;
@@ -35,8 +36,8 @@ pub struct Batch {
     pub by: Vec<u32>,
 }
 
-/// Opens a book, and has the jobs recorded in it by a number of workers at once, 1 to 8. Worker `w` takes the jobs `w`,
-/// `w + workers` and so on: it makes the operation of each, then takes the book's lock, and holds it for this operation
+/// Opens a book, and has the jobs recorded in it by a number of workers at once, 1 to 8. Each worker draws one job after
+/// another until none is left: it makes the job's operation, then takes the book's lock, and holds it for this operation
 /// alone. The gate is told of each job.
 ///
 /// There is one outcome for each job, whatever the schedule: the receipts and the book's records from place 1 on
@@ -72,8 +73,9 @@ pub fn measure_files<R: Threads + Wait + Sync, G: Gate + Sync>(
         return Err(AgentFault::Workers);
     }
     let book = Book::open(alloc, origin)?;
-    let (book, works) = fan_out(rt, alloc, book, &origin, jobs, workers, gate)?;
-    let all = AllWork::of(alloc, works, jobs.len())?;
+    let (claims, first) = Claims::new(alloc, jobs.len() as u32, workers as u32)?;
+    let (book, works) = fan_out(rt, alloc, &claims, first, book, &origin, jobs, gate)?;
+    let all = AllWork::of(alloc, claims, works, jobs.len())?;
     settle(alloc, book, &origin, jobs, workers, all)
 }
 

@@ -1,10 +1,11 @@
 //! The workers, all at once.
 
-ghost use Rattle.std.specs.Prelude.{◌≡◌, ℕ, ◌≤◌, ◌<◌, ◌^◌, length, vec_len, slice_index_or, IfOk};
+ghost use Rattle.std.specs.Prelude.{◌≡◌, [], false, length, vec_len, All, IfOk};
 ghost use Rattle.hash_workers.specs.Jobs.{operations_of};
-ghost use Rattle.hash_workers.specs.Seats.{AreWorksOf, IsCutOf, IsWorkOf};
+ghost use Rattle.hash_workers.specs.Claims.{IsSeat};
+ghost use Rattle.hash_workers.specs.Seats.{AreWorksOf, IsNewSeat, IsWorkOf};
 
-use crate::cut::Cut;
+use crate::claims::{ClaimSeat, Claims};
 use crate::gate::Gate;
 use crate::job::Job;
 use crate::recorder::SharedBook;
@@ -15,47 +16,57 @@ use std::sync::{Mutex, Wait};
 use std::thread;
 use std::thread::Threads;
 
-/// Shares the book among the workers, lets each take its jobs, and gives the book back with what each of them did.
+/// Shares the book among workers, one for each place of the first seat, lets each draw its jobs, and gives the book back
+/// with what each of them did.
 pub(crate) fn fan_out<R: Threads + Wait + Sync, G: Gate + Sync>(
     rt: &R,
     alloc: Global,
+    claims: &Claims,
+    first: ClaimSeat,
     book: Book,
     origin: &Origin,
     jobs: &[Job],
-    workers: usize,
     gate: &G,
 ) -> Result<(Book, Vec<Work>), AllocError>
-    requires few { workers ≤ 8 }
-    requires small { length jobs.now < 2 ^ 32 }
-    ensures { IfOk result (λ done. AreWorksOf origin.now (operations_of origin.now.alg jobs.now) workers (length jobs.now) done.1.items) }
+    requires jobs { claims.now.jobs ≡ length jobs.now }
+    requires first { IsSeat claims.now claims.now.seats [] false first }
+    ensures { IfOk result (λ done. AreWorksOf origin.now (operations_of origin.now.alg jobs.now) claims.now done.1.items) }
 {
-    let cuts = cuts_of(alloc, workers, jobs.len())?;
+    let seats = seats_of(alloc, claims, first)?;
     let book = Mutex::new(book);
     let shared = &book;
     let works = thread::map_vec(
         rt,
-        cuts,
-        &|cut: Cut| -> Work
-            requires { cut.count ≡ length jobs.now }
-            ensures { IsWorkOf origin.entry.now (operations_of origin.entry.now.alg jobs.entry.now) cut.workers cut.count cut.next result }
+        seats,
+        &|seat: ClaimSeat| -> Work
+            requires { IsNewSeat claims.now seat × (claims.now.jobs ≡ length jobs.now) }
+            ensures { IsWorkOf origin.entry.now (operations_of origin.entry.now.alg jobs.entry.now) claims.entry.now result }
         {
             let mut recorder = SharedBook { rt, book: shared };
-            take_jobs(alloc, &mut recorder, origin, jobs, cut, gate)
+            take_jobs(alloc, &mut recorder, origin, jobs, claims, seat, gate)
         },
     )?;
     Ok((book.into_inner(), works))
 }
 
-// The cuts of all workers, which take this number of jobs in all.
-fn cuts_of(alloc: Global, workers: usize, count: usize) -> Result<Vec<Cut>, AllocError>
-    requires few { workers ≤ 8 }
-    requires small { count < 2 ^ 32 }
-    ensures len { IfOk result (λ cuts. vec_len cuts ≡ workers) }
-    ensures each { IfOk result (λ cuts. (worker : ℕ) (d : _) → worker < workers → IsCutOf workers count worker (slice_index_or cuts.items worker d)) }
+// A seat for each worker: the first one is split until it has one place.
+fn seats_of(alloc: Global, claims: &Claims, first: ClaimSeat) -> Result<Vec<ClaimSeat>, AllocError>
+    requires { IsSeat claims.now first.places [] false first }
+    ensures len { IfOk result (λ seats. vec_len seats ≡ first.places) }
+    ensures each { IfOk result (λ seats. All (IsNewSeat claims.now) seats.items) }
 {
-    let mut cuts = Vec::with_capacity(alloc, workers)?;
-    for worker in 0..workers {
-        cuts.push_reserved(Cut::of(worker, workers, count));
+    let mut seats = Vec::new(alloc);
+    let mut giver = first;
+    loop {
+        match claims.split(giver) {
+            Ok((rest, seat)) => {
+                giver = rest;
+                seats.push(seat)?;
+            }
+            Err(last) => {
+                seats.push(last)?;
+                return Ok(seats);
+            }
+        }
     }
-    Ok(cuts)
 }

@@ -2,7 +2,7 @@
 #![tactic(auto)]
 
 mod batch;
-mod cut;
+mod claims;
 mod fan;
 mod fault;
 mod gate;
@@ -12,6 +12,7 @@ mod scatter;
 mod work;
 
 pub use batch::{Batch, measure_files};
+pub use claims::{ClaimSeat, Claims};
 pub use fault::AgentFault;
 pub use gate::{Gate, NoGate};
 pub use job::{Job, op_of};

@@ -1,8 +1,10 @@
 //! Outcomes, put in the order of the jobs.
 
 ghost use Rattle.std.specs.Prelude.{◌≡◌, ◌≤◌, ◌<◌, ◌^◌, length, map, vec_len};
-ghost use Rattle.hash_workers.specs.Taking.{HandsOutEach, RiseForEach};
-ghost use Rattle.hash_workers.specs.Scattering.{AreBelow, AreKept, ArePlaced, ArePairs, AreScattered, Rise, items_of};
+ghost use Rattle.std.specs.List.{concat};
+ghost use Rattle.hash_workers.specs.Claims.{HandsOutEach};
+ghost use Rattle.hash_workers.specs.Taking.{Rise, RiseForEach};
+ghost use Rattle.hash_workers.specs.Scattering.{AreBelow, AreKept, ArePlaced, ArePairs, AreScattered, items_of};
 
 use measure_book::Outcome;
 
@@ -13,7 +15,7 @@ pub(crate) fn scatter(
     takings: &[Vec<u32>],
     mut groups: Vec<Vec<Outcome>>,
 )
-    requires each { HandsOutEach (vec_len outcomes.old) (map items_of takings.now) }
+    requires each { HandsOutEach (vec_len outcomes.old) (concat (map items_of takings.now)) }
     requires rise { RiseForEach (map items_of takings.now) }
     requires pairs { ArePairs (map items_of takings.now) (map items_of groups.items) }
     requires sizes { vec_len by.old ≡ vec_len outcomes.old }

@@ -1,18 +1,19 @@
 //! What one worker does.
 
-ghost use Rattle.std.specs.Prelude.{◌≡◌, ◌<◌, length, map, slice_get, OnErr, MatchResult, option_map};
+ghost use Rattle.std.specs.Prelude.{◌≡◌, ◌<◌, Some, length, map, slice_get, IfSome, OnErr, MatchResult, option_map};
 ghost use Rattle.std.specs.Option.{option_copied};
 ghost use Rattle.measure_book.specs.Operations.{book_op_of, book_outcome_of};
 ghost use Rattle.hash_workers.specs.Jobs.{operations_of};
-ghost use Rattle.hash_workers.specs.Taking.{FollowsCut};
+ghost use Rattle.hash_workers.specs.Taking.{Rise};
 ghost use Rattle.hash_workers.specs.Working.{IsWorked};
 ghost use Rattle.hash_workers.specs.Ending.{IsEnd, KeepsOne, StopsFor, TakesOne, TellsAll};
+ghost use Rattle.hash_workers.specs.Seats.{IsNewSeat, IsSinglePlace};
 
 mod all;
 #[cfg(test)]
 mod tests;
 
-use crate::cut::Cut;
+use crate::claims::{ClaimSeat, Claims};
 use crate::gate::Gate;
 use crate::job::{Job, op_of};
 use crate::recorder::{ForeignBook, Recorder};
@@ -23,7 +24,7 @@ use std::alloc::{AllocError, Global};
 /// Why a worker takes no more jobs.
 #[derive(Clone, Copy, Debug, PartialEq, Eq)]
 enum End {
-    /// None is left for it.
+    /// None is left.
     NoneLeft,
     /// There was no memory to keep another one's outcome.
     OutOfMemory,
@@ -51,36 +52,41 @@ impl From<ForeignBook> for End {
     }
 }
 
-/// What a worker did: the jobs that it took, in its order, the outcome of each, and why it took no more.
+/// What a worker did: its seat, the jobs that it took, in its order, the outcome of each, and why it took no more.
 #[derive(Drop)]
 pub(crate) struct Work {
+    pub(crate) seat: ClaimSeat,
     pub(crate) taken: Vec<u32>,
     pub(crate) outcomes: Vec<Outcome>,
     end: End,
 }
 
-/// Takes the jobs of the cut in turn, until none is left.
+/// Draws jobs from the claims and takes each, until none is left.
 pub(crate) fn take_jobs<B: Recorder, G: Gate>(
     alloc: Global,
     recorder: &mut B,
     origin: &Origin,
     jobs: &[Job],
-    mut cut: Cut,
+    claims: &Claims,
+    seat: ClaimSeat,
     gate: &G,
 ) -> Work
-    requires { cut.count ≡ length jobs.now }
-    ensures taken { FollowsCut cut.workers cut.count cut.next result.taken.items }
+    requires jobs { claims.now.jobs ≡ length jobs.now }
+    requires seat { IsNewSeat claims.now seat }
+    ensures seat { IsSinglePlace claims.now result.seat }
+    ensures taken { Rise result.taken.items }
     ensures worked { IsWorked origin.now (operations_of origin.now.alg jobs.now) result.taken.items (map book_outcome_of result.outcomes.items) }
-    ensures end { IsEnd origin.now cut.workers cut.count cut.next result.taken.items result.end }
+    ensures end { IsEnd origin.now result.seat result.taken.items result.end }
     ensures told { TellsAll origin.now (operations_of origin.now.alg jobs.now) (B.told recorder.old) (B.told recorder.new)
         result.taken.items (map book_outcome_of result.outcomes.items) result.end }
 {
     let mut work = Work {
+        seat,
         taken: Vec::new(alloc),
         outcomes: Vec::new(alloc),
         end: End::NoneLeft,
     };
-    while let Some(number) = cut.draw() {
+    while let Some(number) = claims.draw(&mut work.seat) {
         match work.take(alloc, recorder, origin, jobs, number, gate) {
             Ok(()) => (),
             Err(end) => {
@@ -90,6 +96,18 @@ pub(crate) fn take_jobs<B: Recorder, G: Gate>(
         }
     }
     work
+}
+
+// The operation of a job; none where there was no memory for it.
+#[tactic(auto, using(crate::proofs::WorkLaws::op_of_job))]
+fn operation_for(alloc: Global, origin: &Origin, jobs: &[Job], number: u32) -> Option<Op>
+    requires { number < length jobs.now }
+    ensures { IfSome result (λ op. slice_get (operations_of origin.now.alg jobs.now) number ≡ Some (book_op_of op)) }
+{
+    match op_of(alloc, &jobs[number as usize], origin.alg) {
+        Ok(op) => Some(op),
+        Err(_) => None,
+    }
 }
 
 impl Work {
@@ -110,9 +128,9 @@ impl Work {
             (B.told recorder.old) (B.told recorder.new))
             (λ end. StopsFor origin.now (B.told recorder.old) (B.told recorder.new) end) }
         ensures refused { OnErr result ((self.new.taken.items ≡ self.old.taken.items) × (self.new.outcomes.items ≡ self.old.outcomes.items)) }
-        ensures end { self.new.end ≡ self.old.end }
+        ensures same { (self.new.seat ≡ self.old.seat) × (self.new.end ≡ self.old.end) }
     {
-        let op = op_of(alloc, &jobs[number as usize], origin.alg).ok();
+        let op = operation_for(alloc, origin, jobs, number);
         self.pass(recorder, origin, number, op.as_ref(), gate)
     }
 
@@ -131,7 +149,7 @@ impl Work {
             (B.told recorder.old) (B.told recorder.new))
             (λ end. StopsFor origin.now (B.told recorder.old) (B.told recorder.new) end) }
         ensures refused { OnErr result ((self.new.taken.items ≡ self.old.taken.items) × (self.new.outcomes.items ≡ self.old.outcomes.items)) }
-        ensures end { self.new.end ≡ self.old.end }
+        ensures same { (self.new.seat ≡ self.old.seat) × (self.new.end ≡ self.old.end) }
     {
         gate.hashed(number, op);
         let kept = self.keep(recorder, origin, number, op);
@@ -154,7 +172,7 @@ impl Work {
             (B.told recorder.old) (B.told recorder.new))
             (λ end. StopsFor origin.now (B.told recorder.old) (B.told recorder.new) end) }
         ensures refused { OnErr result ((self.new.taken.items ≡ self.old.taken.items) × (self.new.outcomes.items ≡ self.old.outcomes.items)) }
-        ensures end { self.new.end ≡ self.old.end }
+        ensures same { (self.new.seat ≡ self.old.seat) × (self.new.end ≡ self.old.end) }
     {
         self.taken.reserve(1)?;
         self.outcomes.reserve(1)?;

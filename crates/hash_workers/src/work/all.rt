@@ -1,11 +1,14 @@
 //! What all workers did.
 
-ghost use Rattle.std.specs.Prelude.{◌≡◌, length, map, vec_len, IfOk, MatchBool};
-ghost use Rattle.hash_workers.specs.Seats.{HasEnd, HasNoEnd, outcomes_of, taken_of};
+ghost use Rattle.std.specs.Prelude.{◌≡◌, ◌+◌, ◌≤◌, ◌++◌, ◌||◌, true, false, length, map, vec_len, All, IfOk, IfSome, MatchBool};
+ghost use Rattle.std.specs.List.{concat};
+ghost use Rattle.hash_workers.specs.Claims.{HandsOutEach, IsSeat};
+ghost use Rattle.hash_workers.specs.Seats.{AreJoined, HandBack, HasEnd, HasNoEnd, IsSinglePlace, draws_in, draws_of, ended_in, outcomes_of, places_in, seat_of, taken_of};
 ghost use Rattle.hash_workers.specs.Scattering.{items_of};
-ghost use Rattle.hash_workers.specs.Settling.{IsMadeOf};
+ghost use Rattle.hash_workers.specs.Settling.{IsMadeOf, takings_of};
 
 use super::{End, Work};
+use crate::claims::{ClaimSeat, Claims};
 use measure_book::{BookFault, Outcome};
 use std::alloc::{AllocError, Global};
 
@@ -25,12 +28,21 @@ pub(crate) struct AllWork {
 }
 
 impl AllWork {
-    /// What these workers did, with places for this number of jobs.
+    /// What these workers did, with places for this number of jobs. Their seats are joined, and the claims are closed, so
+    /// that each job was taken once where no worker stopped.
     ///
     /// Refused where a worker found no memory, or there is none for the lists and the places. How a worker ended is told by
     /// nothing else, so whatever is found of that comes after the memory.
-    pub(crate) fn of(alloc: Global, works: Vec<Work>, count: usize) -> Result<Self, AllocError>
-        ensures { IfOk result (IsMadeOf works.items count) }
+    pub(crate) fn of(
+        alloc: Global,
+        claims: Claims,
+        works: Vec<Work>,
+        count: usize,
+    ) -> Result<Self, AllocError>
+        requires some { 1 ≤ claims.seats }
+        requires works { HandBack claims works.items }
+        ensures made { IfOk result (IsMadeOf works.items count) }
+        ensures each { IfOk result (λ all. all.foreign ≡ false → HandsOutEach claims.jobs (concat (takings_of all))) }
     {
         if has_end(&works, End::OutOfMemory) {
             return Err(AllocError);
@@ -38,7 +50,8 @@ impl AllWork {
         let foreign = has_end(&works, End::ForeignBook);
         let outcomes = places(alloc, count)?;
         let by = vec![in alloc; 0u32; count]?;
-        let (takings, groups) = split(alloc, works)?;
+        let (takings, groups, seats) = split(alloc, works)?;
+        close(claims, seats);
         Ok(AllWork {
             takings,
             groups,
@@ -72,16 +85,58 @@ fn places(alloc: Global, count: usize) -> Result<Vec<Outcome>, AllocError>
     Ok(outcomes)
 }
 
-// The jobs and the outcomes of each worker, apart.
-fn split(alloc: Global, works: Vec<Work>) -> Result<(Vec<Vec<u32>>, Vec<Vec<Outcome>>), AllocError>
+/// The jobs that each worker took, the outcomes of these, and the seats.
+type Parts = (Vec<Vec<u32>>, Vec<Vec<Outcome>>, Vec<ClaimSeat>);
+
+// The jobs, the outcomes and the seat of each worker, apart.
+fn split(alloc: Global, works: Vec<Work>) -> Result<Parts, AllocError>
     ensures takings { IfOk result (λ lists. map items_of lists.0.items ≡ map taken_of works.items) }
     ensures groups { IfOk result (λ lists. map items_of lists.1.items ≡ map outcomes_of works.items) }
+    ensures seats { IfOk result (λ lists. lists.2.items ≡ map seat_of works.items) }
 {
     let mut takings = Vec::with_capacity(alloc, works.len())?;
     let mut groups = Vec::with_capacity(alloc, works.len())?;
+    let mut seats = Vec::with_capacity(alloc, works.len())?;
     for work in works {
         takings.push(work.taken)?;
         groups.push(work.outcomes)?;
+        seats.push(work.seat)?;
     }
-    Ok((takings, groups))
+    Ok((takings, groups, seats))
+}
+
+// Closes the claims with all of their seats, which have one place each. Where every seat is ended, they drew each number.
+fn close(claims: Claims, seats: Vec<ClaimSeat>)
+    requires some { 1 ≤ claims.seats }
+    requires seats { All (IsSinglePlace claims) seats.items }
+    requires all { vec_len seats ≡ claims.seats }
+    ensures { All (λ seat. seat.ended ≡ true) seats.items → HandsOutEach claims.jobs (concat (map draws_of seats.items)) }
+{
+    if let Some(seat) = joined(&claims, seats) {
+        claims.close(seat);
+    }
+}
+
+// The seats as one, joined in turn.
+fn joined(claims: &Claims, seats: Vec<ClaimSeat>) -> Option<ClaimSeat>
+    requires { All (IsSinglePlace claims.now) seats.items }
+    ensures { AreJoined claims.now seats.items result }
+{
+    let mut all = None;
+    for seat in seats {
+        all = Some(with(claims, all, seat));
+    }
+    all
+}
+
+// The seats that were joined so far, and one more.
+fn with(claims: &Claims, others: Option<ClaimSeat>, seat: ClaimSeat) -> ClaimSeat
+    requires seat { IsSinglePlace claims.now seat }
+    requires others { IfSome others (λ all. all.claims ≡ claims.now) }
+    ensures { IsSeat claims.now (places_in others + 1) (draws_in others ++ seat.draws) (ended_in others || seat.ended) result }
+{
+    match others {
+        Some(all) => claims.join(all, seat),
+        None => seat,
+    }
 }

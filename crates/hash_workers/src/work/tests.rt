@@ -3,6 +3,7 @@
 ghost use Rattle.std.specs.Prelude.{Some, ◌<◌};
 
 use super::{End, Work};
+use crate::claims::Claims;
 use crate::gate::Gate;
 use crate::job::Job;
 use crate::recorder::{ForeignBook, Recorder, enter};
@@ -79,12 +80,14 @@ fn origin(limit: u32) -> Origin {
     }
 }
 
-fn no_work(alloc: Global) -> Work {
-    Work {
+fn no_work(alloc: Global) -> Result<Work, AllocError> {
+    let (_claims, seat) = Claims::new(alloc, 3, 1)?;
+    Ok(Work {
+        seat,
         taken: Vec::new(alloc),
         outcomes: Vec::new(alloc),
         end: End::NoneLeft,
-    }
+    })
 }
 
 /// A file, a violation and a read.
@@ -147,7 +150,7 @@ fn passed(
 fn gate_is_told_where_a_worker_stops(rt: HostRuntime) -> Result<(), Fail> {
     let alloc = rt.alloc();
     let jobs = jobs(alloc)?;
-    let mut work = no_work(alloc);
+    let mut work = no_work(alloc)?;
     for number in 0..3 {
         let done = taken(alloc, &mut work, &jobs, number, 100)?;
         assert_eq!(rt; done, (Ok(()), END, 2));

@@ -1,4 +1,4 @@
-use Rattle.std.proofs.Common.{ℕ, List, map, ap, ◌∙◌, subst, arith}
+use Rattle.std.proofs.Common.{ℕ, List, length, map, ap, ◌∙◌, subst, arith}
 use Rattle.std.proofs.lemmas.List.{length-map}
 use Rattle.std.specs.Prelude.{Vec}
 use Rattle.std.specs.declared.alloc.Global.{Global}
@@ -9,6 +9,7 @@ use Rattle.hash_workers.specs.Scattering.{AreScattered, items_of}
 use Rattle.hash_workers.specs.Settling.{outcomes_by_worker, takings_of}
 use Rattle.hash_workers.proofs.BatchLaws.{batch_of}
 use Rattle.hash_workers.proofs.SettlingLaws.{foreign_unsettled}
+use Rattle.hash_workers.proofs.TakingLaws.{take_each}
 use Rattle.hash_workers.proofs.batch.settle.Goals as goal
 
 pub returns-then-all-clause-fault : goal.returns-then-all-clause-fault
@@ -28,7 +29,7 @@ returns-clause-batch c =
     (record {
       one_each = length-map c.args.all.takings.items items_of ∙ c.requires.all.one_each;
       of_jobs = c.requires.all.of_jobs;
-      hands = c.requires.all.each c.if-all.false;
+      hands = take_each (length (operations_of c.args.origin.now.alg c.args.jobs.now)) (takings_of c.args.all) (c.requires.all.each c.if-all.false);
       rises = c.requires.all.rise;
       pairs = c.requires.all.pairs;
       scattered = subst To (ap (map items_of) c.deref-2.ensures.value) c.scatter.ensures.scattered;

@@ -1,19 +1,22 @@
-use Rattle.std.proofs.Common.{◌≡◌, ◌<◌, length, vec_len, arith}
+use Rattle.std.proofs.Common.{◌≡◌, ◌<◌, length, vec_len, subst, arith}
 use Rattle.std.proofs.lemmas.Option.{slice_get_within, get_or_from_slice_get}
-use Rattle.hash_workers.proofs.CutLaws.{work_of}
+use Rattle.hash_workers.specs.declared.work.Work.{Work}
+use Rattle.hash_workers.specs.Jobs.{operations_of}
+use Rattle.hash_workers.specs.Seats.{IsWorkOf}
 use Rattle.hash_workers.proofs.fan.fan_out.Goals as goal
 
 pub returns : goal.returns
 returns g c =
-    let as_many : vec_len c.in_ok-works.works ≡ vec_len c.in_ok-cuts.cuts = c.in_ok-works.ensures.len in
-    let all : vec_len c.in_ok-cuts.cuts ≡ c.args.workers = c.in_ok-cuts.ensures.len in
+    let as_many : vec_len c.in_ok-works.works ≡ vec_len c.in_ok-seats.seats = c.in_ok-works.ensures.len in
+    let all : vec_len c.in_ok-seats.seats ≡ c.args.first.places = c.in_ok-seats.ensures.len in
+    let places = c.requires.first.1 in
     record {
       one_each = omega arith;
       each = λ worker work here.
           let within = slice_get_within c.in_ok-works.works.items worker work here in
-          let inside : worker < length c.in_ok-cuts.cuts.items = omega arith in
+          let inside : worker < length c.in_ok-seats.seats.items = omega arith in
           let gives = (c.in_ok-works.ensures.each worker work inside).1 in
-          work_of _ _ c.args.workers (length c.args.jobs.now) worker c.in_ok-cuts.cuts.items gives.job _ work
-          (c.in_ok-cuts.ensures.each worker gives.job (omega arith)) (gives.job_is gives.job)
-          (get_or_from_slice_get c.in_ok-works.works.items worker work work here) gives.call.met;
+          let At : Work → Type 0 =
+          λ w. IsWorkOf c.args.origin.now (operations_of c.args.origin.now.alg c.args.jobs.now) c.args.claims.now w in
+          subst At (get_or_from_slice_get c.in_ok-works.works.items worker work work here) gives.call.met;
     }

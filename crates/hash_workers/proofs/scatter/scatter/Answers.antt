@@ -1,7 +1,9 @@
 use Rattle.std.proofs.Common.{◌≡◌, ◌+◌, ℕ, List, length, map, vec_len, Some, sym, ◌∙◌, ap, subst, arith}
 use Rattle.std.specs.Prelude.{slice_get}
-use Rattle.hash_workers.specs.Scattering.{AreBelow, Rise, ArePlaced, items_of}
+use Rattle.hash_workers.specs.Taking.{Rise}
+use Rattle.hash_workers.specs.Scattering.{AreBelow, ArePlaced, items_of}
 use Rattle.hash_workers.proofs.ScatterLaws.{items_here, items_at, below_of, rise_of, front_less, front_last, scattered_more}
+use Rattle.hash_workers.proofs.TakingLaws.{take_each}
 use Rattle.hash_workers.proofs.scatter.scatter.Goals as goal
 
 -- The list that is taken out of the takings is that of the worker.
@@ -12,7 +14,8 @@ place-requires-clause-below c =
     let at : c.len-worker.result ≡ vec_len c.pop.new.self = c.len-worker.ensures in
     let here = items_here c.args.takings.now c.len-worker.result c.index-takings-worker.result (omega arith) c.index-takings-worker.is in
     let known = below_of (vec_len c.args.outcomes.now) (map items_of c.args.takings.now) c.len-worker.result
-    c.index-takings-worker.result.items c.requires.each here in
+    c.index-takings-worker.result.items
+    (take_each (vec_len c.args.outcomes.now) (map items_of c.args.takings.now) c.requires.each) here in
     let At : List ℕ → Type 0 = λ xs. AreBelow (vec_len c.loop-group.outcomes) xs in
     let For : ℕ → Type 0 = λ n. AreBelow n c.index-takings-worker.result.items in
     subst At (sym c.deref.ensures.value) (subst For (sym kept.outcomes_len) known)
@@ -62,7 +65,8 @@ loop-group-preserved c =
       scattered = scattered_more (vec_len c.args.outcomes.now) (map items_of c.args.takings.now) (map items_of c.args.groups.items)
           (vec_len c.pop.new.self)
           (vec_len c.loop-group.groups) c.deref.result.now c.in-Some.group.items c.loop-group.outcomes.items c.place.new.outcomes.items
-          c.loop-group.by.items c.place.new.by.items step c.requires.each here group (subst For at c.place.ensures.placed)
+          c.loop-group.by.items c.place.new.by.items step
+          (take_each (vec_len c.args.outcomes.now) (map items_of c.args.takings.now) c.requires.each) here group (subst For at c.place.ensures.placed)
           c.place.ensures.kept kept.scattered;
       outcomes_len = c.place.ensures.sizes.0 ∙ kept.outcomes_len;
       by_len = c.place.ensures.sizes.1 ∙ kept.by_len;

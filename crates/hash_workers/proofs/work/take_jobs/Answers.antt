@@ -1,11 +1,20 @@
-use Rattle.std.proofs.Common.{◌+◌, ℕ, ap, ◌∙◌}
-use Rattle.hash_workers.proofs.WorkLaws.{stop_tells, turn_follows, turn_next, turn_worked, turn_tells}
+use Rattle.std.proofs.Common.{◌≡◌, ◌<◌, ℕ, List, [], ◌∷◌, ◌++◌, map, sym, ap, ◌∙◌, subst}
+use Rattle.std.specs.List.{All}
+use Rattle.measure_book.specs.Operations.{book_outcome_of}
+use Rattle.hash_workers.specs.Claims.{SeatState}
+use Rattle.hash_workers.specs.Jobs.{operations_of}
+use Rattle.hash_workers.proofs.WorkLaws.{rise_more, stop_tells, turn_smaller, turn_worked, turn_tells}
 use Rattle.hash_workers.proofs.work.take_jobs.Goals as goal
 
-pub returns-in-Err-clause-told : goal.returns-in-Err-clause-told
-returns-in-Err-clause-told g c =
-    stop_tells c.args.origin.now _ _ _ _ _ _ _ _ c.in-Err.end c.in-Err.ensures.refused.0 c.in-Err.ensures.refused.1
-    c.loop-number.invariant.tells c.in-Err.ensures.takes
+-- The job is above all that the worker took, which are its seat's draws.
+pub loop-number-smaller : goal.loop-number-smaller
+loop-number-smaller g c =
+    let kept = c.loop-number.invariant in
+    let drawn = c.in-Some.ensures.some in
+    let one = c.in-Ok.ensures.takes in
+    let Above : List ℕ → Type 0 = λ draws. All (λ drawn. drawn < c.in-Some.number) draws in
+    turn_smaller c.loop-number.work.taken.items c.take.new.self.taken.items c.args.claims.now.jobs c.in-Some.number kept.rises
+    (subst Above kept.seat.2 drawn.1) drawn.0 one.takes
 
 pub loop-number-preserved : goal.loop-number-preserved
 loop-number-preserved g c =
@@ -13,14 +22,30 @@ loop-number-preserved g c =
     let drawn = c.in-Some.ensures.some in
     let same = c.in-Some.ensures.same in
     let one = c.in-Ok.ensures.takes in
+    let stays = c.in-Ok.ensures.same in
+    let number : ℕ = c.in-Some.number in
+    let Above : List ℕ → Type 0 = λ draws. All (λ drawn. drawn < c.in-Some.number) draws in
+    let seat_stays : c.take.new.self.seat ≡ c.draw.new.seat = stays.0 in
     record {
-      workers = same.0 ∙ kept.workers;
-      count = same.1 ∙ kept.count;
-      next = drawn.2 ∙ ap (λ (n : ℕ). c.loop-number.cut.next + n) kept.workers
-          ∙ turn_next c.args.cut.workers c.args.cut.next c.in-Some.number c.loop-number.cut.next _ _ _ _ _ _ _ _ kept.next one;
-      follows = turn_follows c.args.cut.workers c.args.cut.count c.args.cut.next c.in-Some.number c.loop-number.cut.next _ _ _ _ _ _ _ _
-          kept.next drawn.0 (rw (← kept.count) drawn.1) kept.follows one;
-      worked = turn_worked c.in-Some.number _ _ _ _ _ _ _ _ kept.worked one;
-      tells = turn_tells c.in-Some.number _ _ _ _ _ _ _ _ _ kept.tells one;
-      end = c.in-Ok.ensures.end ∙ kept.end;
+      seat = (
+        ap (λ (s : SeatState). s.claims) seat_stays ∙ same.0,
+        ap (λ (s : SeatState). s.places) seat_stays ∙ same.1 ∙ kept.seat.1,
+        ap (λ (s : SeatState). s.draws) seat_stays ∙ drawn.2 ∙ ap (λ (xs : List ℕ). xs ++ number ∷ []) kept.seat.2 ∙ sym one.takes,
+        ap (λ (s : SeatState). s.ended) seat_stays ∙ drawn.4,
+      );
+      rises = rise_more c.loop-number.work.taken.items c.take.new.self.taken.items number kept.rises (subst Above kept.seat.2 drawn.1)
+          one.takes;
+      worked = turn_worked number _ _ _ _ _ _ _ _ kept.worked one;
+      tells = turn_tells number c.args.origin.now (operations_of c.args.origin.now.alg c.args.jobs.now) c.loop-number.work.taken.items
+          c.take.new.self.taken.items (map book_outcome_of c.loop-number.work.outcomes.items)
+          (map book_outcome_of c.take.new.self.outcomes.items) (g.B.Recorder.told c.args.recorder.now)
+          (g.B.Recorder.told c.loop-number.recorder) (g.B.Recorder.told c.take.new.recorder) kept.tells one;
+      end = stays.1 ∙ kept.end;
     }
+
+pub returns-in-Err-clause-told : goal.returns-in-Err-clause-told
+returns-in-Err-clause-told g c =
+    stop_tells c.args.origin.now (operations_of c.args.origin.now.alg c.args.jobs.now) (g.B.Recorder.told c.args.recorder.now)
+    (g.B.Recorder.told c.loop-number.recorder) (g.B.Recorder.told c.take.new.recorder) c.loop-number.work.taken.items
+    c.take.new.self.taken.items c.loop-number.work.outcomes.items c.take.new.self.outcomes.items c.in-Err.end
+    c.in-Err.ensures.refused.0 c.in-Err.ensures.refused.1 c.loop-number.invariant.tells c.in-Err.ensures.takes

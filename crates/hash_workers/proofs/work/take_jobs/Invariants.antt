@@ -1,18 +1,17 @@
-use Rattle.std.proofs.Common.{◌≡◌, ◌+◌, ◌-◌, ◌*◌, length, map}
+use Rattle.std.proofs.Common.{◌≡◌, ◌-◌, false, length, map}
 use Rattle.measure_book.specs.Operations.{book_outcome_of}
 use Rattle.hash_workers.specs.declared.work.End.TheVariants.{NoneLeft}
 use Rattle.hash_workers.specs.Jobs.{operations_of}
-use Rattle.hash_workers.specs.Taking.{FollowsCut}
+use Rattle.hash_workers.specs.Claims.{IsSeat}
+use Rattle.hash_workers.specs.Taking.{Rise}
 use Rattle.hash_workers.specs.Working.{IsWorked}
 use Rattle.hash_workers.specs.Ending.{TellsAll}
 use Rattle.hash_workers.proofs.work.take_jobs.Given as goal
 
 abbrev pub invariant-loop-number : goal.invariant-loop-number
 invariant-loop-number g l = record {
-  workers : l.cut.workers ≡ l.fn.cut.workers;
-  count : l.cut.count ≡ l.fn.cut.count;
-  next : l.cut.next ≡ l.fn.cut.next + length l.work.taken.items * l.fn.cut.workers;
-  follows : FollowsCut l.fn.cut.workers l.fn.cut.count l.fn.cut.next l.work.taken.items;
+  seat : IsSeat l.claims 1 l.work.taken.items false l.work.seat;
+  rises : Rise l.work.taken.items;
   worked : IsWorked l.origin (operations_of l.origin.alg l.jobs) l.work.taken.items (map book_outcome_of l.work.outcomes.items);
   tells : TellsAll l.origin (operations_of l.origin.alg l.jobs) (g.B.Recorder.told l.fn.recorder) (g.B.Recorder.told l.recorder)
       l.work.taken.items (map book_outcome_of l.work.outcomes.items) NoneLeft;
@@ -20,4 +19,4 @@ invariant-loop-number g l = record {
 }
 
 abbrev pub decreases-loop-number : goal.decreases-loop-number
-decreases-loop-number g l = l.cut.count - l.cut.next
+decreases-loop-number g l = l.claims.jobs - length l.work.taken.items

@@ -1,0 +1,281 @@
+-- Each step on the claims' word keeps the claim rule.
+use Rattle.std.proofs.Common.{◌≡◌, ℕ, suc, ◌+◌, ◌-◌, ◌%◌, ◌<◌, ◌≤◌, ◌⊎◌, min, Bool, true, false, cond, ltb, ◌||◌, List, [], ◌∷◌, ◌++◌, get_or, set, map, sym, refl, ap, ◌∙◌, subst, inl, inr, ⊎_elim, arith, length-set, get_or-set_same}
+use Rattle.std.specs.List.{concat}
+use Rattle.std.proofs.lemmas.Bool.Decides.{nat_tests}
+use mathlib.Core.Logic.{dite}
+use mathlib.Core.Option.{none, some}
+use native.Mathlib.Decide.{dec_le}
+use lib.ListN.{get_elem?}
+use Rattle.atomic_table.specs.Table.{State, Me, step, keeps, stepped, Allows, Splits, Joins, Final, Seen}
+use Rattle.atomic_table.proofs.Lists.{at_set, at_snoc, set_again, set_else}
+use Rattle.hash_workers.specs.declared.claims.view.SeatView.{SeatView}
+use Rattle.hash_workers.specs.declared.claims.view.Allotment.{Allotment}
+use Rattle.hash_workers.specs.Claims.{HandsOutEach, times}
+use Rattle.hash_workers.specs.ClaimRule.{KeepsRule, AreClaimed, IsViewOf, view_of, spent, draws_of, places_of, ended_places_of, total, giver, taker, merged, drawn_view, MayDraw, Looks}
+use Rattle.hash_workers.proofs.ClaimSums.{total-set, total-push, total_at, ended_within, times_of, times-append, times-concat, once_below, below_one_more, is_below, each_once, hands_out}
+
+abbrev Holder : Type 0
+Holder = Me (Unit {0}) SeatView
+
+-- ---- draws, as sums over the views
+
+-- How often all seats drew the number.
+abbrev drawn_times : ℕ → List SeatView → ℕ
+drawn_times number views = total (times_of number) views
+
+counted : (count : ℕ) (views : List SeatView) → HandsOutEach count (concat (map draws_of views)) → (number : ℕ)
+    → drawn_times number views ≡ once_below number count
+counted count views hands number = sym (times-concat number views) ∙ each_once count (concat (map draws_of views)) hands number
+
+handed : (count : ℕ) (views : List SeatView) → ((number : ℕ) → drawn_times number views ≡ once_below number count)
+    → HandsOutEach count (concat (map draws_of views))
+handed count views each = hands_out count (concat (map draws_of views)) (λ number. times-concat number views ∙ each number)
+
+-- ---- a draw
+
+pub drawn_below : (view : SeatView) (number : ℕ) → number < view.jobs
+    → drawn_view view number ≡ view_of view.jobs view.seats view.places (view.draws ++ number ∷ []) view.ended
+drawn_below view number below = let test : ltb number view.jobs ≡ true = grind (arith, nat_tests) in rw test refl
+
+pub drawn_past : (view : SeatView) (number : ℕ) → view.jobs ≤ number
+    → drawn_view view number ≡ view_of view.jobs view.seats view.places view.draws true
+drawn_past view number past = let test : ltb number view.jobs ≡ false = grind (arith, nat_tests) in rw test refl
+
+-- What is a view of the claims stays one while the word grows.
+still_view : (jobs seats word : ℕ) (view : SeatView) → IsViewOf jobs seats word view → IsViewOf jobs seats (word + 1) view
+still_view jobs seats word view (inl is) = inl is
+still_view jobs seats word view (inr known) = inr (known.0, known.1, known.2, λ ended. let past = known.3 ended in omega arith)
+
+below_kept : (seats word : ℕ) (views : List SeatView) (seat : ℕ) (view : SeatView) → AreClaimed view.jobs seats word views
+    → get_elem? views seat ≡ some view → view.seats ≡ seats → 1 ≤ view.places → view.ended ≡ false → word < view.jobs
+    → AreClaimed view.jobs seats (word + 1) (set views seat (view_of view.jobs view.seats view.places (view.draws ++ word ∷ []) view.ended))
+below_kept seats word views seat view rule here same placed going below =
+    let new : SeatView = view_of view.jobs view.seats view.places (view.draws ++ word ∷ []) view.ended in
+    record {
+      few = rule.few;
+      each = λ other found is. ⊎_elim
+          (λ at. subst (IsViewOf view.jobs seats (word + 1)) at.1 (inr (refl, same, placed, λ end. absurd (let no = sym going ∙ end in cc))))
+          (λ at. still_view view.jobs seats word found (rule.each other found at.1)) (at_set views seat other new found is);
+      places = let sums = total-set places_of views seat view new here in let places = rule.places in omega arith;
+      drawn = let least : min word view.jobs ≡ word = omega arith in
+          let next : min (word + 1) view.jobs ≡ word + 1 = omega arith in
+          let before = rw least at rule.drawn in
+          rw next (handed (word + 1) (set views seat new) (λ number.
+          let sums = total-set (times_of number) views seat view new here in
+          let known = counted word views before number in
+          let longer = times-append number view.draws (word ∷ []) in
+          let more = below_one_more number word in
+          omega arith));
+      bound = let sums = total-set ended_places_of views seat view new here in let bound = rule.bound in omega arith;
+    }
+
+past_kept : (seats word : ℕ) (views : List SeatView) (seat : ℕ) (view : SeatView) → AreClaimed view.jobs seats word views
+    → get_elem? views seat ≡ some view → view.seats ≡ seats → 1 ≤ view.places → view.ended ≡ false → view.jobs ≤ word
+    → AreClaimed view.jobs seats (word + 1) (set views seat (view_of view.jobs view.seats view.places view.draws true))
+past_kept seats word views seat view rule here same placed going past =
+    let new : SeatView = view_of view.jobs view.seats view.places view.draws true in
+    record {
+      few = rule.few;
+      each = λ other found is. ⊎_elim
+          (λ at. subst (IsViewOf view.jobs seats (word + 1)) at.1 (inr (refl, same, placed, λ _. omega arith)))
+          (λ at. still_view view.jobs seats word found (rule.each other found at.1)) (at_set views seat other new found is);
+      places = let sums = total-set places_of views seat view new here in let places = rule.places in omega arith;
+      drawn = let least : min word view.jobs ≡ view.jobs = omega arith in
+          let next : min (word + 1) view.jobs ≡ view.jobs = omega arith in
+          let before = rw least at rule.drawn in
+          rw next (handed view.jobs (set views seat new) (λ number.
+          let sums = total-set (times_of number) views seat view new here in
+          let known = counted view.jobs views before number in
+          omega arith));
+      bound = let sums = total-set ended_places_of views seat view new here in let bound = rule.bound in
+          let no_end : ended_places_of view ≡ 0 = rw going refl in omega arith;
+    }
+
+-- The word never wraps.
+never_wraps : (jobs seats word : ℕ) (views : List SeatView) → AreClaimed jobs seats word views
+    → (word + 1) % 18446744073709551616 ≡ word + 1
+never_wraps jobs seats word views rule =
+    let bound = rule.bound in let within = ended_within views in let places = rule.places in let few = rule.few in omega arith
+
+-- What a seat drew is below the word.
+drawn_before : (jobs seats word : ℕ) (views : List SeatView) (seat : ℕ) (view : SeatView) → AreClaimed jobs seats word views
+    → get_elem? views seat ≡ some view → (number : ℕ) → 1 ≤ times number view.draws → number < word
+drawn_before jobs seats word views seat view rule here number drawn =
+    let within = total_at (times_of number) views seat view here in
+    let known = counted (min word jobs) views rule.drawn number in
+    let some_here : 1 ≤ once_below number (min word jobs) = omega arith in
+    let below = is_below number (min word jobs) some_here in
+    omega arith
+
+module _ (allotment : Allotment) (slots seat : ℕ) (holder : Holder) where
+  -- The word and the seat's view change together.
+  moved : (state : State (Unit {0}) SeatView) (view : SeatView) (word : ℕ) → KeepsRule allotment state
+      → AreClaimed allotment.jobs allotment.seats word (set state.views seat view)
+      → KeepsRule allotment (stepped state 0 word seat holder.1 view keeps)
+  moved state view word kept rule =
+      let one = kept.0 in
+      let At : ℕ → Type 0 = λ n. AreClaimed allotment.jobs allotment.seats n (set state.views seat view) in
+      (length-set state.words 0 word ∙ one, subst At (sym (get_or-set_same state.words 0 word 0 (omega arith))) rule)
+
+  pub draws : holder.0.jobs ≡ allotment.jobs → holder.0.seats ≡ allotment.seats → 1 ≤ holder.0.places → holder.0.ended ≡ false
+      → MayDraw allotment slots seat holder
+  draws jobs_are seats_are placed going state kept _ here _ =
+      let view : SeatView = holder.0 in
+      let word : ℕ = get_or state.words 0 0 in
+      let rule : AreClaimed view.jobs allotment.seats word state.views = rw jobs_are kept.1 in
+      let At : SeatView → Type 0 = λ v. AreClaimed allotment.jobs allotment.seats (word + 1) (set state.views seat v) in
+      let done : At (drawn_view view word) = dite (dec_le view.jobs word)
+      (λ past. subst At (sym (drawn_past view word past))
+      (rw (← jobs_are) (past_kept allotment.seats word state.views seat view rule here seats_are placed going past)))
+      (λ not_past. let below : word < view.jobs = omega arith in
+      subst At (sym (drawn_below view word below))
+      (rw (← jobs_are) (below_kept allotment.seats word state.views seat view rule here seats_are placed going below))) in
+      let To : ℕ → Type 0 = λ n. KeepsRule allotment (stepped state 0 n seat holder.1 (drawn_view view word) keeps) in (
+        drawn_view view word,
+        keeps,
+        tt,
+        subst To (sym (never_wraps allotment.jobs allotment.seats word state.views kept.1))
+            (moved state (drawn_view view word) (word + 1) kept done),
+        (refl, refl, drawn_before allotment.jobs allotment.seats word state.views seat view kept.1 here),
+      )
+
+module _ (allotment : Allotment) (slots seat : ℕ) (holder : Holder) where
+  unmoved : (state : State (Unit {0}) SeatView) → get_elem? state.views seat ≡ some holder.0 → KeepsRule allotment state
+      → KeepsRule allotment (stepped state 0 (get_or state.words 0 0) seat holder.1 holder.0 keeps)
+  unmoved state here kept =
+      moved allotment slots seat holder state holder.0 (get_or state.words 0 0) kept
+      (subst (AreClaimed allotment.jobs allotment.seats (get_or state.words 0 0)) (sym (set_again state.views seat holder.0 here)) kept.1)
+
+  pub looks : holder.0.seats ≡ allotment.seats
+      → Allows (KeepsRule allotment) slots seat holder 0 (λ word. word) (Looks (step slots 0 0 0 none) holder)
+  looks seats_are state kept _ here _ =
+      let within = total_at places_of state.views seat holder.0 here in let places = kept.1.places in
+      (holder.0, keeps, tt, unmoved state here kept, (refl, omega arith))
+
+-- ---- a split
+
+cut_places : (view : SeatView) → 2 ≤ view.places → ended_places_of (giver view) + ended_places_of (taker view) ≡ ended_places_of view
+cut_places view two =
+    elim view.ended as (λ b. cond b (view.places - 1) 0 + cond b 1 0 ≡ cond b view.places 0) [ true ↦ omega arith | false ↦ omega arith ]
+
+pub splits : (allotment : Allotment) (seat : ℕ) (view : SeatView) → view.jobs ≡ allotment.jobs → view.seats ≡ allotment.seats
+    → 2 ≤ view.places → Splits (KeepsRule allotment) seat view (giver view) (taker view)
+splits allotment seat view jobs_are seats_are two state kept here =
+    let rule = kept.1 in
+    let word : ℕ = get_or state.words 0 0 in
+    let views = set state.views seat (giver view) in
+    let At : SeatView → Type 0 = λ v. IsViewOf allotment.jobs allotment.seats word v in
+    let past : view.ended ≡ true → allotment.jobs ≤ word =
+    λ ended. ⊎_elim (λ is. absurd (let no_place : view.places ≡ 0 = ap places_of is in omega arith)) (λ known. known.3 ended)
+    (rule.each seat view here) in (
+      kept.0,
+      record {
+        few = rule.few;
+        each = λ other found is. ⊎_elim
+            (λ old. ⊎_elim (λ at. subst At at.1 (inr (jobs_are, seats_are, omega arith, past))) (λ at. rule.each other found at.1)
+            (at_set state.views seat other (giver view) found old))
+            (λ new. subst At new (inr (jobs_are, seats_are, omega arith, past)))
+            (at_snoc views (taker view) found other is);
+        places = let cut = total-set places_of state.views seat view (giver view) here in
+            let longer = total-push places_of views (taker view) in let places = rule.places in omega arith;
+        drawn = handed (min word allotment.jobs) (views ++ taker view ∷ []) (λ number.
+            let cut = total-set (times_of number) state.views seat view (giver view) here in
+            let longer = total-push (times_of number) views (taker view) in
+            let known = counted (min word allotment.jobs) state.views rule.drawn number in
+            omega arith);
+        bound = let cut = total-set ended_places_of state.views seat view (giver view) here in
+            let longer = total-push ended_places_of views (taker view) in
+            let bound = rule.bound in let same = cut_places view two in omega arith;
+      },
+    )
+
+-- ---- a join
+
+both_ended : (one other : Bool) (m n : ℕ) → cond one m 0 + cond other n 0 ≤ cond (one || other) (m + n) 0
+both_ended true true m n = omega arith
+both_ended true false m n = omega arith
+both_ended false true m n = omega arith
+both_ended false false m n = omega arith
+
+either_ended : (one other : Bool) → (one || other) ≡ true → (one ≡ true) ⊎ (other ≡ true)
+either_ended true other is = inl refl
+either_ended false other is = inr is
+
+past_of : (jobs seats word : ℕ) (views : List SeatView) (seat : ℕ) (view : SeatView) → AreClaimed jobs seats word views
+    → get_elem? views seat ≡ some view → 1 ≤ view.places → view.ended ≡ true → jobs ≤ word
+past_of jobs seats word views seat view rule here placed ended =
+    ⊎_elim (λ is. absurd (let no_place : view.places ≡ 0 = ap places_of is in omega arith)) (λ known. known.3 ended) (rule.each seat view here)
+
+pub joins : (allotment : Allotment) (seat taken : ℕ) (view other : SeatView) → view.jobs ≡ allotment.jobs → view.seats ≡ allotment.seats
+    → 1 ≤ view.places → 1 ≤ other.places → Joins (KeepsRule allotment) seat view taken other (merged view other) spent
+joins allotment seat taken view other jobs_are seats_are placed other_placed state kept here apart there =
+    let rule = kept.1 in
+    let word : ℕ = get_or state.words 0 0 in
+    let middle = set state.views seat (merged view other) in
+    let At : SeatView → Type 0 = λ v. IsViewOf allotment.jobs allotment.seats word v in
+    let before : get_elem? state.views taken ≡ some other = sym (set_else state.views seat taken (merged view other) apart) ∙ there in
+    let past : (view.ended || other.ended) ≡ true → allotment.jobs ≤ word =
+    λ ended. ⊎_elim (past_of allotment.jobs allotment.seats word state.views seat view rule here placed)
+    (past_of allotment.jobs allotment.seats word state.views taken other rule before other_placed)
+    (either_ended view.ended other.ended ended) in (
+      kept.0,
+      record {
+        few = rule.few;
+        each = λ at_seat found is. ⊎_elim
+            (λ at. subst At at.1 (inl refl))
+            (λ old. ⊎_elim (λ at. subst At at.1 (inr (jobs_are, seats_are, omega arith, past))) (λ at. rule.each at_seat found at.1)
+            (at_set state.views seat at_seat (merged view other) found old.1))
+            (at_set middle taken at_seat spent found is);
+        places = let one = total-set places_of state.views seat view (merged view other) here in
+            let two = total-set places_of middle taken other spent there in let places = rule.places in omega arith;
+        drawn = handed (min word allotment.jobs) (set middle taken spent) (λ number.
+            let one = total-set (times_of number) state.views seat view (merged view other) here in
+            let two = total-set (times_of number) middle taken other spent there in
+            let known = counted (min word allotment.jobs) state.views rule.drawn number in
+            let both = times-append number view.draws other.draws in
+            omega arith);
+        bound = let one = total-set ended_places_of state.views seat view (merged view other) here in
+            let two = total-set ended_places_of middle taken other spent there in
+            let bound = rule.bound in let both = both_ended view.ended other.ended view.places other.places in omega arith;
+      },
+    )
+
+-- ---- the end
+
+-- Where all views are without a place, nothing was drawn.
+nothing_drawn : (jobs seats word number : ℕ) (views : List SeatView)
+    → ((seat : ℕ) (view : SeatView) → get_elem? views seat ≡ some view → IsViewOf jobs seats word view)
+    → total places_of views ≡ 0 → drawn_times number views ≡ 0
+nothing_drawn jobs seats word number [] each empty = refl
+nothing_drawn jobs seats word number (view ∷ views) each empty =
+    let others = nothing_drawn jobs seats word number views (λ seat found is. each (suc seat) found is) (omega arith) in
+    let here : times number view.draws ≡ 0 =
+    ⊎_elim (λ is. ap (λ (v : SeatView). times number v.draws) is) (λ known. absurd (omega arith)) (each 0 view refl) in
+    omega arith
+
+-- A seat that has all places and is ended drew every number.
+pub all_drawn : (allotment : Allotment) (seat : ℕ) (view : SeatView) (words : List ℕ) (values : List (Unit {0}))
+    → Final (Seen (KeepsRule allotment) seat view) words values → view.places ≡ allotment.seats → view.ended ≡ true
+    → HandsOutEach allotment.jobs view.draws
+all_drawn allotment seat view words values final all ended =
+    let state = final.0 in
+    let rule = final.1.0.1 in
+    let here = final.1.1 in
+    let word : ℕ = get_or state.words 0 0 in
+    let few = rule.few in
+    let past = past_of allotment.jobs allotment.seats word state.views seat view rule here (omega arith) ended in
+    let others = set state.views seat spent in
+    let cut = total-set places_of state.views seat view spent here in
+    let places = rule.places in
+    let empty : total places_of others ≡ 0 = omega arith in
+    let At : SeatView → Type 0 = λ v. IsViewOf allotment.jobs allotment.seats word v in
+    let each : (at_seat : ℕ) (found : SeatView) → get_elem? others at_seat ≡ some found → At found =
+    λ at_seat found is. ⊎_elim (λ at. subst At at.1 (inl refl)) (λ at. rule.each at_seat found at.1)
+    (at_set state.views seat at_seat spent found is) in
+    let least : min word allotment.jobs ≡ allotment.jobs = omega arith in
+    let drawn = rw least at rule.drawn in
+    hands_out allotment.jobs view.draws (λ number.
+    let sums = total-set (times_of number) state.views seat view spent here in
+    let known = counted allotment.jobs state.views drawn number in
+    let quiet = nothing_drawn allotment.jobs allotment.seats word number others each empty in
+    omega arith)

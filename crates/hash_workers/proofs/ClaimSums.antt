@@ -1,0 +1,96 @@
+-- Sums over all views of claims, and how often numbers stand in what was drawn.
+use Rattle.std.proofs.Common.{◌≡◌, ℕ, zero, suc, ◌+◌, ◌<◌, ◌≤◌, cond, eqb, ltb, true, false, List, [], ◌∷◌, ◌++◌, length, get_or, set, map, sym, refl, ap, ◌∙◌, arith}
+use Rattle.std.specs.List.{All, concat}
+use Rattle.std.proofs.lemmas.Bool.Decides.{nat_tests}
+use mathlib.Core.Logic.{dite}
+use mathlib.Core.Option.{some, some-injective, some-ne-none}
+use native.Mathlib.Decide.{dec_le}
+use lib.ListN.{get_elem?}
+use Rattle.hash_workers.specs.declared.claims.view.SeatView.{SeatView}
+use Rattle.hash_workers.specs.Claims.{HandsOutEach, times}
+use Rattle.hash_workers.specs.ClaimRule.{total, draws_of, places_of, ended_places_of}
+
+-- ---- sums
+
+pub total-set : (of : SeatView → ℕ) (views : List SeatView) (seat : ℕ) (old new : SeatView) → get_elem? views seat ≡ some old
+    → total of (set views seat new) + of old ≡ total of views + of new
+total-set of [] seat old new here = absurd (some-ne-none old (sym here))
+total-set of (view ∷ views) zero old new here = let is : of view ≡ of old = ap of (some-injective view old here) in omega arith
+total-set of (view ∷ views) (suc seat) old new here = let others = total-set of views seat old new here in omega arith
+
+pub total-push : (of : SeatView → ℕ) (views : List SeatView) (view : SeatView) → total of (views ++ view ∷ []) ≡ total of views + of view
+total-push of [] view = omega arith
+total-push of (other ∷ views) view = let others = total-push of views view in omega arith
+
+pub total_at : (of : SeatView → ℕ) (views : List SeatView) (seat : ℕ) (view : SeatView) → get_elem? views seat ≡ some view
+    → of view ≤ total of views
+total_at of [] seat view here = absurd (some-ne-none view (sym here))
+total_at of (other ∷ views) zero view here = let is : of other ≡ of view = ap of (some-injective other view here) in omega arith
+total_at of (other ∷ views) (suc seat) view here = let others = total_at of views seat view here in omega arith
+
+ended_at : (view : SeatView) → ended_places_of view ≤ places_of view
+ended_at view = elim view.ended as (λ b. cond b view.places 0 ≤ view.places) [ true ↦ omega arith | false ↦ omega arith ]
+
+pub ended_within : (views : List SeatView) → total ended_places_of views ≤ total places_of views
+ended_within [] = omega arith
+ended_within (view ∷ views) = let others = ended_within views in let here = ended_at view in omega arith
+
+-- ---- how often a number stands in a list
+
+-- 1 where the number is below the count, else 0.
+abbrev pub once_below : ℕ → ℕ → ℕ
+once_below number count = cond (ltb number count) 1 0
+
+abbrev pub hit : ℕ → ℕ → ℕ
+hit number other = cond (eqb number other) 1 0
+
+abbrev pub times_of : ℕ → SeatView → ℕ
+times_of number view = times number view.draws
+
+pub times-append : (number : ℕ) (first second : List ℕ) → times number (first ++ second) ≡ times number first + times number second
+times-append number [] second = omega arith
+times-append number (other ∷ others) second = let rest = times-append number others second in omega arith
+
+pub times-concat : (number : ℕ) (views : List SeatView) → times number (concat (map draws_of views)) ≡ total (times_of number) views
+times-concat number [] = refl
+times-concat number (view ∷ views) =
+    let here = times-append number view.draws (concat (map draws_of views)) in let rest = times-concat number views in omega arith
+
+once_is : (number count : ℕ) → number < count → once_below number count ≡ 1
+once_is number count below = grind (arith, nat_tests)
+
+once_is_none : (number count : ℕ) → count ≤ number → once_below number count ≡ 0
+once_is_none number count past = grind (arith, nat_tests)
+
+pub below_one_more : (number count : ℕ) → once_below number (count + 1) ≡ once_below number count + hit number count
+below_one_more number count = grind (arith, nat_tests)
+
+pub is_below : (number count : ℕ) → 1 ≤ once_below number count → number < count
+is_below number count once = grind (arith, nat_tests)
+
+hit_itself : (number : ℕ) → hit number number ≡ 1
+hit_itself number = grind (arith, nat_tests)
+
+-- What is handed out, as one sum for each number, and back.
+pub each_once : (count : ℕ) (draws : List ℕ) → HandsOutEach count draws → (number : ℕ) → times number draws ≡ once_below number count
+each_once count draws hands number = dite (dec_le count number)
+    (λ past. let is = hands.others number past in let none = once_is_none number count past in omega arith)
+    (λ below. let within : number < count = omega arith in let is = hands.once number within in let one = once_is number count within in
+    omega arith)
+
+pub hands_out : (count : ℕ) (draws : List ℕ) → ((number : ℕ) → times number draws ≡ once_below number count) → HandsOutEach count draws
+hands_out count draws each = record {
+  once = λ number below. each number ∙ once_is number count below;
+  others = λ number past. each number ∙ once_is_none number count past;
+}
+
+-- ---- all numbers of a list are below one
+
+times_here : (draws : List ℕ) (index d : ℕ) → index < length draws → 1 ≤ times (get_or draws index d) draws
+times_here [] index d within = absurd (omega arith)
+times_here (number ∷ draws) zero d within = let here = hit_itself number in omega arith
+times_here (number ∷ draws) (suc index) d within = let rest = times_here draws index d (omega arith) in omega arith
+
+pub all_below : (number : ℕ) (draws : List ℕ) → ((drawn : ℕ) → 1 ≤ times drawn draws → drawn < number)
+    → All (λ drawn. drawn < number) draws
+all_below number draws known = λ index d within. known (get_or draws index d) (times_here draws index d within)

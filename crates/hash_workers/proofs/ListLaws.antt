@@ -1,0 +1,53 @@
+-- What stands in lists, in lists that a function made of others, and in lists of lists.
+use Rattle.std.proofs.Common.{◌≡◌, ℕ, zero, suc, ◌+◌, ◌<◌, List, [], ◌∷◌, ◌++◌, length, length-append, map, Option, Some, None, refl, sym, ap, ◌∙◌, inl, inr, arith}
+use Rattle.std.specs.Prelude.{◌⊎◌, slice_get, option_and_then}
+use Rattle.std.proofs.lemmas.Option.{same_Some, none-some, slice_get_cases}
+use Rattle.hash_workers.specs.Scattering.{got_at}
+
+-- ---- one list
+
+-- What stands in a list with one element more stood there before, or is the new one.
+pub slice_get_snoc : {X : Type 0} → (xs : List X) (x y : X) (i : ℕ) → slice_get (xs ++ x ∷ []) i ≡ Some y
+    → (slice_get xs i ≡ Some y) ⊎ ((i ≡ length xs) × (y ≡ x))
+slice_get_snoc [] x y zero has = inr (refl, sym (same_Some x y has))
+slice_get_snoc [] x y (suc i) has = absurd (none-some y has)
+slice_get_snoc (z ∷ xs) x y zero has = inl has
+slice_get_snoc (z ∷ xs) x y (suc i) has = elim (slice_get_snoc xs x y i has) [ inl old ↦ inl old | inr new ↦ inr (ap suc new.0, new.1) ]
+
+pub length_snoc : {X : Type 0} → (xs : List X) (x : X) → length (xs ++ x ∷ []) ≡ length xs + 1
+length_snoc xs x = length-append xs (x ∷ [])
+
+pub within_at : {X : Type 0} → (xs : List X) (i : ℕ) → i < length xs → (x : X) × (slice_get xs i ≡ Some x)
+within_at xs i within = elim ((slice_get_cases xs i).1) [
+  | inl here ↦ (here.0, here.2)
+  | inr past ↦ let le = past.0 in absurd (omega arith)
+]
+
+-- ---- what a function made of a list
+
+pub map_at : {A B : Type 0} → (f : A → B) (xs : List A) (i : ℕ) (y : B) → slice_get (map f xs) i ≡ Some y
+    → (x : A) × (slice_get xs i ≡ Some x) × (f x ≡ y)
+map_at f [] i y has = absurd (none-some y has)
+map_at f (x ∷ xs) zero y has = (x, refl, same_Some (f x) y has)
+map_at f (x ∷ xs) (suc i) y has = map_at f xs i y has
+
+pub at_map : {A B : Type 0} → (f : A → B) (xs : List A) (i : ℕ) (x : A) → slice_get xs i ≡ Some x → slice_get (map f xs) i ≡ Some (f x)
+at_map f [] i x has = absurd (none-some x has)
+at_map f (y ∷ xs) zero x has = ap (λ z. Some (f z)) (same_Some y x has)
+at_map f (y ∷ xs) (suc i) x has = at_map f xs i x has
+
+-- ---- a list of lists
+
+one_at : {X : Type 0} → (o : Option (List X)) (i : ℕ) (x : X) → option_and_then (λ xs. slice_get xs i) o ≡ Some x
+    → (one : List X) × (o ≡ Some one) × (slice_get one i ≡ Some x)
+one_at None i x has = absurd (none-some x has)
+one_at (Some one) i x has = (one, refl, has)
+
+pub list_at : {X : Type 0} → (lists : List (List X)) (worker i : ℕ) (x : X) → got_at lists worker i ≡ Some x
+    → (one : List X) × (slice_get lists worker ≡ Some one) × (slice_get one i ≡ Some x)
+list_at lists worker i x has = one_at (slice_get lists worker) i x has
+
+pub at_list : {X : Type 0} → (lists : List (List X)) (worker i : ℕ) (one : List X) (x : X) → slice_get lists worker ≡ Some one
+    → slice_get one i ≡ Some x
+    → got_at lists worker i ≡ Some x
+at_list {X = X} lists worker i one x here has = ap (option_and_then (λ (xs : List X). slice_get xs i)) here ∙ has

@@ -1,0 +1,15 @@
+use Rattle.std.proofs.Common.{arith, sym, ap, ◌∙◌}
+use Rattle.hash_workers.specs.Claims.{ClaimsState, SeatState}
+use Rattle.hash_workers.specs.declared.claims.view.Allotment.{Allotment}
+use Rattle.hash_workers.proofs.ClaimLaws.{splits}
+use Rattle.hash_workers.proofs.claims.Claims.split.Goals as goal
+
+pub split_seat-new-requires : goal.split_seat-new-requires
+split_seat-new-requires c =
+    let same = ap (λ (s : SeatState). s.claims) c.seat.view_is ∙ c.requires ∙ sym c.self.view_is in
+    let key = c.self.invariant.2 in (
+      ap (λ (s : ClaimsState). s.word) same,
+      omega (arith, c.self.invariant.0),
+      splits _ _ _ (ap (λ (s : ClaimsState). s.jobs) same ∙ sym (ap (λ (a : Allotment). a.jobs) key))
+          (ap (λ (s : ClaimsState). s.seats) same ∙ sym (ap (λ (a : Allotment). a.seats) key)) (omega (arith, c.seat.invariant)),
+    )

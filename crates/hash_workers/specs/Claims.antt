@@ -1,0 +1,31 @@
+-- What contracts see of claims and of their seats (this project's choice).
+use Rattle.std.specs.Prelude.{◌≡◌, ℕ, ◌+◌, ◌<◌, ◌≤◌, ◌==◌, if◌then◌else◌, Bool, List, [], ◌∷◌}
+use Rattle.atomic_table.specs.Seated.{TableId}
+
+-- How many jobs and seats there are, and which word counts the draws.
+pub record ClaimsState : Type 0 where
+  pub jobs : ℕ
+  pub seats : ℕ
+  pub word : TableId
+
+-- Of which claims the seat is, its places, what it drew, in its order, and whether it found no number left.
+pub record SeatState : Type 0 where
+  pub claims : ClaimsState
+  pub places : ℕ
+  pub draws : List ℕ
+  pub ended : Bool
+
+-- The seat is of these claims, and has these places and draws.
+abbrev pub IsSeat : ClaimsState → ℕ → List ℕ → Bool → SeatState → Type 0
+IsSeat claims places draws ended seat =
+    (seat.claims ≡ claims) × (seat.places ≡ places) × (seat.draws ≡ draws) × (seat.ended ≡ ended)
+
+-- How often the number stands in the list.
+abbrev pub times : ℕ → List ℕ → ℕ
+times number [] = 0
+times number (other ∷ others) = (if number == other then 1 else 0) + times number others
+
+-- Each number below the count is drawn once, and no other.
+pub record HandsOutEach (count : ℕ) (draws : List ℕ) : Type 0 where
+  pub once : (number : ℕ) → number < count → times number draws ≡ 1
+  pub others : (number : ℕ) → count ≤ number → times number draws ≡ 0

@@ -1,0 +1,211 @@
+//! Numbers that several threads draw, each once.
+
+ghost use Rattle.std.specs.Prelude.{◌≡◌, ◌+◌, ◌-◌, ◌<◌, ◌≤◌, ◌||◌, [], ◌∷◌, ◌++◌, true, false, All, IfOk, IfErr, IfSome, IfNone};
+ghost use mathlib.Core.Option.{none};
+ghost use Rattle.atomic_table.specs.Table.{step};
+ghost use Rattle.hash_workers.specs.Claims.{HandsOutEach, IsSeat};
+ghost use Rattle.hash_workers.specs.ClaimRule.{Draws, MayDraw};
+
+mod steps;
+mod view;
+
+use atomic_table::{Seat, Shared, Table};
+use std::alloc::{AllocError, Global};
+use std::marker::Model;
+use steps::{ClaimRule, Cut, Draw, Look, Merge};
+use view::{Allotment, SeatView};
+
+/// The numbers below a number of jobs, which the seats of these claims draw, each number once, whatever the schedule.
+///
+/// They are drawn from one word of memory. Each step on it is sequentially consistent, and waits for nobody.
+#[derive(Drop)]
+pub struct Claims {
+    table: Table<(), SeatView, Allotment, ClaimRule, Global>,
+    allotment: Allotment,
+}
+
+impl Model for Claims {
+    ghost use Rattle.std.specs.Prelude.{◌≡◌, ◌≤◌};
+    ghost use Rattle.hash_workers.specs.Claims.{ClaimsState};
+
+    ghost Value = { ClaimsState };
+
+    ghost view = { λ c. record { jobs = c.allotment.jobs; seats = c.allotment.seats; word = c.table.shared.table_id } };
+
+    ghost invariant = { λ c. (c.table.shared.table_id.words ≡ 1) × (c.table.shared.table_id.slots ≡ 0)
+        × (c.table.shared.key ≡ c.allotment) × (1 ≤ c.allotment.seats) × (c.allotment.seats ≤ 8) };
+}
+
+/// The right to draw, which one thread has, with what it drew. A seat has one place or more of those of its claims.
+#[derive(Drop)]
+pub struct ClaimSeat {
+    seat: Seat<(), SeatView>,
+    places: u32,
+    ended: bool,
+}
+
+impl Model for ClaimSeat {
+    ghost use Rattle.std.specs.Prelude.{◌≡◌, ◌≤◌, []};
+    ghost use Rattle.hash_workers.specs.Claims.{SeatState};
+
+    ghost Value = { SeatState };
+
+    ghost view = { λ c. record {
+      claims = record { jobs = c.seat.me.0.jobs; seats = c.seat.me.0.seats; word = c.seat.table_id };
+      places = c.places;
+      draws = c.seat.me.0.draws;
+      ended = c.ended;
+    } };
+
+    ghost invariant = { λ c. (c.seat.me.1 ≡ []) × (c.places ≡ c.seat.me.0.places) × (c.ended ≡ c.seat.me.0.ended)
+        × (1 ≤ c.places) × (c.places ≤ 8) };
+}
+
+impl ClaimSeat {
+    /// How many places the seat has, 1 to 8.
+    pub fn places(&self) -> u32
+        ensures value { result ≡ self.now.places }
+        ensures range { (1 ≤ result) × (result ≤ 8) }
+    {
+        self.places
+    }
+
+    /// Whether the seat found no number left.
+    pub fn ended(&self) -> bool
+        ensures { result ≡ self.now.ended }
+    {
+        self.ended
+    }
+}
+
+impl Claims {
+    /// Claims of the numbers below `jobs`, and the first seat, which has all places, 1 to 8, and drew nothing.
+    ///
+    /// Refused where there is no memory. No other call on claims and seats takes any.
+    pub fn new(alloc: Global, jobs: u32, seats: u32) -> Result<(Claims, ClaimSeat), AllocError>
+        requires { (1 ≤ seats) × (seats ≤ 8) }
+        ensures claims { IfOk result (λ made. (made.0.jobs ≡ jobs) × (made.0.seats ≡ seats)) }
+        ensures seat { IfOk result (λ made. IsSeat made.0 seats [] false made.1) }
+    {
+        let allotment = Allotment { jobs, seats };
+        let (table, seat) = Table::of_words(alloc, &[0], &allotment)?;
+        let seat = ClaimSeat {
+            seat,
+            places: seats,
+            ended: false,
+        };
+        Ok((Claims { table, allotment }, seat))
+    }
+
+    /// Draws the next number, by one addition to the word. None where no number is left, and the seat is then ended; a
+    /// seat that is ended takes no step.
+    pub fn draw(&self, seat: &mut ClaimSeat) -> Option<u32>
+        requires { seat.old.claims ≡ self.now }
+        ensures same { (seat.new.claims ≡ self.now) × (seat.new.places ≡ seat.old.places) }
+        // The number is below that of the jobs, and above all that the seat drew before.
+        ensures some { IfSome result (λ number. (number < self.now.jobs) × All (λ drawn. drawn < number) seat.old.draws
+            × (seat.new.draws ≡ seat.old.draws ++ number ∷ []) × (seat.old.ended ≡ false) × (seat.new.ended ≡ false)) }
+        ensures none { IfNone result ((seat.new.draws ≡ seat.old.draws) × (seat.new.ended ≡ true)) }
+    {
+        if seat.ended {
+            return None;
+        }
+        let found = add_one(&self.table.shared, &mut seat.seat);
+        if found < u64::from(self.allotment.jobs) {
+            return Some(found as u32);
+        }
+        seat.ended = true;
+        None
+    }
+
+    /// Cuts one place off the seat, for a new seat, which drew nothing, and is ended where the seat is.
+    ///
+    /// Where the seat has one place alone, it is handed back.
+    pub fn split(&self, seat: ClaimSeat) -> Result<(ClaimSeat, ClaimSeat), ClaimSeat>
+        requires { seat.claims ≡ self.now }
+        ensures ok { IfOk result (λ cut. (2 ≤ seat.places)
+            × IsSeat self.now (seat.places - 1) seat.draws seat.ended cut.0 × IsSeat self.now 1 [] seat.ended cut.1) }
+        ensures err { IfErr result (λ back. (back ≡ seat) × (seat.places ≡ 1)) }
+    {
+        if seat.places == 1 {
+            return Err(seat);
+        }
+        let ClaimSeat {
+            mut seat,
+            places,
+            ended,
+        } = seat;
+        let new = self.table.shared.split_seat::<Cut>(&mut seat);
+        let giver = ClaimSeat {
+            seat,
+            places: places - 1,
+            ended,
+        };
+        let new = ClaimSeat {
+            seat: new,
+            places: 1,
+            ended,
+        };
+        Ok((giver, new))
+    }
+
+    /// Makes two seats one: it has the places and the draws of both, and is ended where either was.
+    pub fn join(&self, seat: ClaimSeat, other: ClaimSeat) -> ClaimSeat
+        requires { (seat.claims ≡ self.now) × (other.claims ≡ self.now) }
+        ensures { IsSeat self.now (seat.places + other.places) (seat.draws ++ other.draws) (seat.ended || other.ended) result }
+    {
+        let ClaimSeat {
+            mut seat,
+            places,
+            ended,
+        } = seat;
+        let ClaimSeat {
+            seat: other,
+            places: more,
+            ended: other_ended,
+        } = other;
+        let shared = &self.table.shared;
+        shared.join_seat::<Merge>(&mut seat, other);
+        // A view is learnt from at a step alone, so this load tells that the seats have no more places than there are.
+        shared.load::<Look>(&mut seat, 0);
+        ClaimSeat {
+            seat,
+            places: places + more,
+            ended: ended || other_ended,
+        }
+    }
+
+    /// Ends the claims, with the one seat that has all places. Where it is ended, its draws are the numbers below that of
+    /// the jobs, each once.
+    pub fn close(self, seat: ClaimSeat)
+        requires { (seat.claims ≡ self) × (seat.places ≡ self.seats) }
+        ensures { seat.ended ≡ true → HandsOutEach self.jobs seat.draws }
+    {
+        let Claims {
+            table,
+            allotment: _,
+        } = self;
+        let ClaimSeat {
+            seat,
+            places: _,
+            ended: _,
+        } = seat;
+        table.close_with(seat).free();
+    }
+}
+
+// Adds one to the word, for a seat that draws, and gives what the word was.
+//
+// The word cannot wrap: it is at most the number of jobs and the places of the ended seats, since each draw beyond the jobs
+// ends a seat, which then draws no more. So it is below 2^32 + 8.
+fn add_one(
+    shared: &Shared<(), SeatView, Allotment, ClaimRule>,
+    seat: &mut Seat<(), SeatView>,
+) -> u64
+    requires word { (seat.old.table_id ≡ shared.now.table_id) × (0 < shared.now.table_id.words) }
+    requires draws { MayDraw shared.now.key shared.now.table_id.slots seat.old.id seat.old.me }
+    ensures same { seat.new.table_id ≡ seat.old.table_id }
+    ensures drawn { Draws (step shared.now.table_id.slots 0 1 0 none) seat.old.me result seat.new.me }
+{
+    shared.fetch_add::<Draw>(seat, 0, 1)
+}

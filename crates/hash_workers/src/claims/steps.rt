@@ -1,0 +1,48 @@
+//! The claim rule, and the steps that keep it.
+
+ghost use Rattle.hash_workers.specs.ClaimRule.{KeepsRule, first_view, Draws, Looks, giver, taker, merged, spent};
+
+use super::view::{Allotment, SeatView};
+use atomic_table::{Join, Play, Split, TableRule};
+
+/// What holds of the word and of all views between any two steps.
+#[derive(Clone, Copy)]
+pub(crate) struct ClaimRule;
+
+impl TableRule<(), SeatView, Allotment> for ClaimRule {
+    ghost holds = { KeepsRule };
+
+    ghost first = { first_view };
+}
+
+/// A number is drawn, or none is left.
+pub(crate) struct Draw;
+
+impl Play<(), SeatView> for Draw {
+    ghost then = { Draws };
+}
+
+/// The word is read, and nothing changes.
+pub(crate) struct Look;
+
+impl Play<(), SeatView> for Look {
+    ghost then = { Looks };
+}
+
+/// One place is cut off.
+pub(crate) struct Cut;
+
+impl Split<SeatView> for Cut {
+    ghost left = { giver };
+
+    ghost right = { taker };
+}
+
+/// Two seats become one.
+pub(crate) struct Merge;
+
+impl Join<SeatView> for Merge {
+    ghost both = { merged };
+
+    ghost spent = { spent };
+}
