@@ -171,12 +171,13 @@ def made_files(count, size):
 
 
 def files():
-    """`measure` of files of 1 MiB by one worker and by four, and of many small ones."""
+    """`measure` of files of 1 MiB by one worker and by four, of small ones, and of so many that finding known ones counts."""
     contents = made_files(256, 1024 * 1024)
     by_one = measured("measure 1 MiB, 1 worker", 1, (64, 256), contents)
     by_four = measured("measure 1 MiB, 4 workers", 4, (64, 256), contents)
     hashed = median_of_tools(["sha256sum", *contents])
     measured("measure 1 KiB, 1 worker", 1, (400, 4_000), made_files(4_000, 1024))
+    measured("measure 16 bytes, 1 worker", 1, (10_000, 40_000), made_files(40_000, 16))
     return [
         ("measure of 256 files of 1 MiB by 1 worker, to the same by 4 workers", by_one, by_four),
         ("measure of 256 files of 1 MiB by 1 worker, to sha256sum of the files", by_one, hashed),

@@ -1,3 +1,4 @@
+pub mod IndexLaws
 pub mod PlaceLaws
 pub mod HistoryLaws
 pub mod RunLaws

@@ -2,6 +2,7 @@ pub mod Operations
 pub mod Faults
 pub mod Histories
 pub mod Runs
+pub mod Indexes
 pub mod Books
 pub mod Equality
 pub mod Origins

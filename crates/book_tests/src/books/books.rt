@@ -147,35 +147,6 @@ fn run_with_refusal_between(rt: HostRuntime) -> Result<(), Fail> {
     Ok(())
 }
 
-/// Two hundred paths, each measured twice: the second time each is known at its place.
-#[test]
-fn many_files_are_known_again(rt: HostRuntime) -> Result<(), Fail> {
-    let alloc = rt.alloc();
-    let mut book = opened(alloc, origin(401))?;
-    for known in [false, true] {
-        for number in 0..200u32 {
-            let path = match format!(in alloc; "/f/{number}") {
-                Ok(path) => path,
-                Err(_) => format!(in alloc; "/f/{number}")?,
-            };
-            let op = measure(alloc, path.as_bytes(), sha256(b"abc"))?;
-            let expected = if known {
-                Answer::Known(number + 1)
-            } else {
-                Answer::Added(number + 1)
-            };
-            assert_eq!(rt; applied(&mut book, &op)?.answer, expected);
-        }
-    }
-    assert_eq!(rt; book.records().len(), 401);
-    assert_eq!(rt; book.entries().len(), 201);
-    assert_eq!(rt;
-        applied(&mut book, &read(Alg::Sha256, 0)).err(),
-        Some(BookFault::Full)
-    );
-    Ok(())
-}
-
 /// What the laws say, seen on books that the same operations are done on: the answers are the same, those to the first
 /// operations are a front of all, a run may be cut in two, and a read is answered what the replay of the list so far gives.
 #[test]

@@ -1,7 +1,9 @@
 //! Books of thousands of records, and one that may have as many as there are numbers: a body that gives up without cause
 //! fails here.
 
-use super::{measure, origin, read, receipt, sha256, three_measurements, value, violation};
+use super::{
+    applied, measure, opened, origin, read, receipt, sha256, three_measurements, value, violation,
+};
 use measure_book::{Answer, Book, BookFault, GatherFault, Op, Outcome, gather};
 use pcr_banks::{Alg, Digest};
 use std::alloc::{AllocError, Global};
@@ -81,6 +83,45 @@ fn dealt(alloc: Global, outcomes: Vec<Outcome>) -> Result<Vec<Vec<Outcome>>, All
         }
     }
     Ok(groups)
+}
+
+/// PCR 10 after the boot aggregate of registers at reset, the measurements of `/f/0` to `/f/1999` with the content `abc`, and
+/// a violation.
+const AFTER_TWO_THOUSAND: &str = "92f024f4a01e9cf1337aa968158bc679bce5c95c17bfccc2110c76de14aa4877";
+
+/// The measurement of the file of this number; once more where an allocation was refused.
+fn file_of(alloc: Global, number: u32) -> Result<Op, AllocError> {
+    let path = format!(in alloc; "/f/{number}").or_else(|_| format!(in alloc; "/f/{number}"))?;
+    measure(alloc, path.as_bytes(), sha256(b"abc"))
+}
+
+/// Two thousand files are added, and then each is known at its place. A violation of the first of them is added too, and the
+/// file is still known where its measurement stands.
+#[test]
+fn index_of_two_thousand(rt: HostRuntime) -> Result<(), Fail> {
+    let alloc = rt.alloc();
+    let mut book = opened(alloc, origin(MANY))?;
+    for known in [false, true] {
+        for number in 0..2_000u32 {
+            let place = number + 1;
+            let expected = if known {
+                Answer::Known(place)
+            } else {
+                Answer::Added(place)
+            };
+            let done = applied(&mut book, &file_of(alloc, number)?)?;
+            assert_eq!(rt; done.answer, expected);
+        }
+    }
+    let noted = applied(&mut book, &violation(alloc, b"/f/0")?)?;
+    assert_eq!(rt; noted.answer, Answer::Added(2_001));
+    let known = applied(&mut book, &file_of(alloc, 0)?)?;
+    assert_eq!(rt; known.answer, Answer::Known(1));
+    assert_eq!(rt; book.records().len(), 4_003);
+    assert_eq!(rt; book.entries().len(), 2_002);
+    let value = value(AFTER_TWO_THOUSAND);
+    assert_eq!(rt; book.banks().read(Alg::Sha256, 10), value);
+    Ok(())
 }
 
 /// Wants all its memory: each call is made once. What is run is gathered in eight groups, then with an empty one before

@@ -2,12 +2,13 @@
 
 use super::replaying::MEASURED;
 use super::{
-    DIGEST_PLACE, MEASUREMENT, MEASUREMENT_LINE, NAME_END, PAYLOAD_LENGTH, PAYLOAD_PLACE,
+    DIGEST_PLACE, EMPTY_ENTRY, MEASUREMENT, MEASUREMENT_LINE, NAME_END, PAYLOAD_LENGTH, PAYLOAD_PLACE,
     REGISTER_PLACE, VIOLATION, entry_of, hashed_of, joined, line_of, list_of, measured,
-    measurement_with, spelling_of, violated,
+    measurement_with, once_more, spelling_of, violated,
 };
 use ima_list::{EntryFault, Fields, ListFault, Template, replay};
 use pcr_banks::{Alg, AlgSet, Banks, Digest, hash};
+use std::alloc::AllocError;
 use std::test::Fail;
 
 /// Of 255 bytes of path: what is hashed of the entry, how it is written and read; and one byte more is refused.
@@ -63,6 +64,21 @@ fn ima_ng_entry_layout(rt: HostRuntime) -> Result<(), Fail> {
     let bad = list_of(alloc, &bad).err();
     assert_eq!(rt; bad, Some(ListFault::BadRegister { entry: 0 }));
     assert_eq!(rt; list_of(alloc, b"")?.len(), 0);
+    Ok(())
+}
+
+/// A copy has the payload's bytes, of which an entry may have none.
+#[test]
+fn payloads_are_copied(rt: HostRuntime) -> Result<(), Fail> {
+    let alloc = rt.alloc();
+    let payload = &MEASUREMENT[PAYLOAD_PLACE..];
+    for (bytes, expected) in [(MEASUREMENT, payload), (EMPTY_ENTRY, b"".as_slice())] {
+        let entry = entry_of(alloc, bytes)?;
+        let copy = once_more(AllocError, || entry.payload_copy())?;
+        assert_eq!(rt; copy.as_slice(), expected);
+        assert_eq!(rt; entry.payload(), expected);
+    }
+    assert_eq!(rt; payload.len(), 56);
     Ok(())
 }
 
