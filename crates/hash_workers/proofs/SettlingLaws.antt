@@ -113,6 +113,13 @@ settled_fault workers origin foreign book groups (Err fault) may known =
     let At : AgentFault → Type 0 = λ f. IsFaultOf workers origin f in
     subst At (sym known.fault_is) (gather_fault workers origin known.cause may)
 
+pub settled_number : (workers : ℕ) (origin : Origin) (result : Result Batch AgentFault) → MayBegin workers origin
+    → MatchResult result (λ _. MayBegin workers origin) (IsFaultOf workers origin) → result ≡ Err agents.Workers → ⊥
+settled_number workers origin (Ok batch) may known is = cc
+settled_number workers origin (Err fault) may known is =
+    let At : AgentFault → Type 0 = λ f. IsFaultOf workers origin f in
+    let same : fault ≡ agents.Workers = cc in subst At same known may.0
+
 same_cause : (one other : GatherFault) → agents.Gather one ≡ fault_of_gather other → one ≡ other
 same_cause one gathers.ForeignBook is = cc
 same_cause one (gathers.Stranger group index) is = cc
