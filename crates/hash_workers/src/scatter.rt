@@ -1,6 +1,6 @@
 //! Outcomes, put in the order of the jobs.
 
-ghost use Rattle.std.specs.Prelude.{◌≡◌, ◌≤◌, ◌<◌, ◌^◌, length, map, vec_len};
+ghost use Rattle.std.specs.Prelude.{◌≡◌, ◌≤◌, ◌<◌, ◌^◌, length, map, slice_set, vec_len};
 ghost use Rattle.std.specs.List.{concat};
 ghost use Rattle.hash_workers.specs.Claims.{HandsOutEach};
 ghost use Rattle.hash_workers.specs.Taking.{Rise, RiseForEach};
@@ -47,7 +47,24 @@ fn place(
 {
     while let Some(outcome) = group.pop() {
         let job = taken[group.len()] as usize;
-        outcomes[job] = outcome;
-        by[job] = worker;
+        put(outcomes, by, job, outcome, worker);
     }
+}
+
+// Puts one outcome to its job.
+fn put(
+    outcomes: &mut Vec<Outcome>,
+    by: &mut Vec<u32>,
+    job: usize,
+    outcome: Outcome,
+    worker: u32,
+)
+    requires job { job < vec_len outcomes.old }
+    requires by { job < vec_len by.old }
+    ensures outcomes { outcomes.new.items ≡ slice_set outcomes.old.items job outcome }
+    ensures by { by.new.items ≡ slice_set by.old.items job worker }
+    ensures sizes { (vec_len outcomes.new ≡ vec_len outcomes.old) × (vec_len by.new ≡ vec_len by.old) }
+{
+    outcomes[job] = outcome;
+    by[job] = worker;
 }

@@ -11,7 +11,7 @@ use Rattle.measure_book.specs.declared.op.Receipt.{Receipt}
 use Rattle.measure_book.specs.declared.fault.BookFault.{BookFault}
 use Rattle.measure_book.specs.Operations.{done, refused, book_outcome_of, book_receipt_of}
 use Rattle.hash_workers.specs.declared.job.Job.{Job}
-use Rattle.hash_workers.proofs.CutLaws.{at_map, map_at}
+use Rattle.hash_workers.proofs.ListLaws.{at_map, map_at}
 use Rattle.ima_agent.specs.declared.fault.RunFault.{RunFault}
 use Rattle.ima_agent.specs.Loading.{Inputs, IsInputFault}
 use Rattle.ima_agent.specs.Measuring.{AreAllDone, AreFiles, IsFileFault, path_of}

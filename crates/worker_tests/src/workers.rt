@@ -1,6 +1,7 @@
 //! Worked examples, and what they are made of.
 
 mod batches;
+mod claims;
 mod counts;
 mod many;
 mod operations;

@@ -1,8 +1,9 @@
 //! What batches make of the list and of PCR 10.
 
+use super::many::{Wanted, wrong_in};
 use super::{batch_of, copied, file, measured, origin, read, receipt_of, sha256, violation};
 use hash_workers::{Batch, Job};
-use measure_book::Answer;
+use measure_book::{Answer, Op};
 use pcr_banks::{Alg, Digest};
 use std::alloc::{AllocError, Global};
 use std::test::Fail;
@@ -56,9 +57,21 @@ fn one_path_three_times(rt: HostRuntime) -> Result<(), Fail> {
         let receipt = receipt_of(&batch, job).ok_or("refused")?;
         assert_eq!(rt; (receipt.place as usize, receipt.answer), (job + 1, answer));
     }
-    let batch = batch_of(&rt, alloc, origin(100), &jobs, 3)?;
-    assert_eq!(rt; batch.book.records().len(), 4);
-    assert_eq!(rt; batch.book.entries().len(), 3);
+    let path = copied(alloc, b"/bin/sh")?;
+    let wanted = [
+        Wanted::done(measured(alloc, b"/bin/sh", sha256(b"abc"))?),
+        Wanted::done(Op::Violation { path }),
+        Wanted::done(measured(alloc, b"/bin/sh", sha256(b"abc"))?),
+    ];
+    assert_eq!(rt; wrong_in(alloc, &batch, &wanted)?, None);
+    assert_eq!(rt; batch.by.as_slice(), [0, 0, 0].as_slice());
+    for workers in [2, 3] {
+        let batch = batch_of(&rt, alloc, origin(100), &jobs, workers)?;
+        assert_eq!(rt; wrong_in(alloc, &batch, &wanted)?, None);
+        assert!(rt; batch.by.iter().all(|worker| (*worker as usize) < workers));
+        assert_eq!(rt; batch.book.records().len(), 4);
+        assert_eq!(rt; batch.book.entries().len(), 3);
+    }
     Ok(())
 }
 

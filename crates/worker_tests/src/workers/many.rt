@@ -14,6 +14,13 @@ pub(super) struct Wanted {
     refusal: Option<BookFault>,
 }
 
+impl Wanted {
+    /// A job that is to be done.
+    pub(super) fn done(op: Op) -> Self {
+        Wanted { op, refusal: None }
+    }
+}
+
 /// Jobs, and what becomes of each.
 #[derive(Drop)]
 pub(super) struct Plan {
@@ -135,7 +142,11 @@ fn first_fallen(batch: &Batch) -> Option<usize> {
 
 /// How many records have a receipt.
 fn named_records(alloc: Global, batch: &Batch) -> Result<usize, AllocError> {
-    let mut named = vec![in alloc; false; batch.book.records().len()]?;
+    let count = batch.book.records().len();
+    let mut named = match vec![in alloc; false; count] {
+        Ok(named) => named,
+        Err(_) => vec![in alloc; false; count]?,
+    };
     for outcome in &batch.outcomes {
         if let Outcome::Done(receipt) = outcome {
             if let Some(mark) = named.get_mut(receipt.place as usize) {

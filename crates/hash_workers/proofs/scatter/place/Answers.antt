@@ -1,4 +1,4 @@
-use Rattle.std.proofs.Common.{◌≡◌, ◌+◌, ◌<◌, ℕ, length, get_or, vec_len, Some, subst, arith, rules}
+use Rattle.std.proofs.Common.{◌≡◌, ◌+◌, ◌<◌, ℕ, length, get_or, vec_len, Some, ◌∙◌, subst, arith}
 use Rattle.std.specs.Prelude.{slice_get}
 use Rattle.std.proofs.lemmas.Option.{slice_get-get_or}
 use Rattle.hash_workers.proofs.ScatterLaws.{front_less, front_last, placed_more, kept_more}
@@ -21,14 +21,14 @@ loop-outcome-preserved c =
     record {
       within = omega arith;
       front = front_less c.args.group.items c.loop-outcome.group.items c.pop.new.self.items c.in-Some.outcome popped kept.front;
-      placed = placed_more c.args.taken.now c.args.group.items c.loop-outcome.outcomes.items c.loop-outcome.by.items c.args.worker
+      placed = rw (c.put.ensures.outcomes, c.put.ensures.by) (placed_more c.args.taken.now c.args.group.items c.loop-outcome.outcomes.items c.loop-outcome.by.items c.args.worker
           (vec_len c.pop.new.self)
           (vec_len c.loop-outcome.group) (get_or c.args.taken.now c.len.result 0) c.in-Some.outcome step c.requires.rise took got
-          (omega arith) (omega arith) kept.placed;
-      kept = kept_more c.args.taken.now c.args.outcomes.now.items c.loop-outcome.outcomes.items c.args.by.now.items
+          (omega arith) (omega arith) kept.placed);
+      kept = rw (c.put.ensures.outcomes, c.put.ensures.by) (kept_more c.args.taken.now c.args.outcomes.now.items c.loop-outcome.outcomes.items c.args.by.now.items
           c.loop-outcome.by.items c.args.worker
           (vec_len c.pop.new.self) (vec_len c.loop-outcome.group) (get_or c.args.taken.now c.len.result 0) c.in-Some.outcome step took
-          kept.kept;
-      outcomes_len = search rules;
-      by_len = search rules;
+          kept.kept);
+      outcomes_len = c.put.ensures.sizes.0 ∙ kept.outcomes_len;
+      by_len = c.put.ensures.sizes.1 ∙ kept.by_len;
     }
