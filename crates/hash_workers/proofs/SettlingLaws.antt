@@ -166,3 +166,20 @@ settled_cause workers origin ops all book cause (Err fault) are known is =
     let same : agents.Gather cause ≡ fault_of_gather known.cause = let one : agents.Gather cause ≡ fault = cc in one ∙ known.fault_is in
     let At : GatherFault → Type 0 = λ c. IsFirstCause all.foreign book origin (outcomes_by_worker all) c in
     cause_among origin ops workers all book cause are (subst At (sym (same_cause cause known.cause same)) known.first)
+
+-- What is against the book and what workers got is no wrong number of workers.
+no_number : (cause : GatherFault) → agents.Workers ≡ fault_of_gather cause → ⊥
+no_number gathers.ForeignBook e = absurd cc
+no_number (gathers.Stranger group index) e = absurd cc
+no_number gathers.OutOfOrder e = absurd cc
+no_number gathers.Double e = absurd cc
+no_number (gathers.Unnamed place) e = absurd cc
+no_number gathers.FalseFull e = absurd cc
+no_number gathers.Memory e = absurd cc
+
+pub settled_number : (origin : Origin) (all : AllWork) (book : BookState) (result : Result Batch AgentFault)
+    → IfErr result (IsUnsettled all.foreign book origin (outcomes_by_worker all)) → result ≡ Err agents.Workers → ⊥
+settled_number origin all book (Ok batch) known is = absurd cc
+settled_number origin all book (Err fault) known is =
+    let one : agents.Workers ≡ fault = cc in
+    no_number known.cause (one ∙ known.fault_is)

@@ -3,7 +3,7 @@ use Rattle.std.proofs.lemmas.List.{length-map}
 use Rattle.hash_workers.specs.Faults.{IsNumberOfWorkers}
 use Rattle.hash_workers.specs.Jobs.{operation_of, operations_of}
 use Rattle.hash_workers.proofs.FaultLaws.{opening_fault}
-use Rattle.hash_workers.proofs.SettlingLaws.{all_work, settled_cause}
+use Rattle.hash_workers.proofs.SettlingLaws.{all_work, settled_cause, settled_number}
 use Rattle.hash_workers.proofs.batch.measure_files.Goals as goal
 
 pub returns-in_err-book-clause-fault : goal.returns-in_err-book-clause-fault
@@ -18,6 +18,13 @@ settle-requires-clause-all g c =
     all_work c.args.origin (operations_of c.args.origin.alg c.args.jobs.now) c.args.workers (length c.args.jobs.now)
     c.in_ok-book-2.works.items c.in_ok-all.all some (length-map c.args.jobs.now (operation_of c.args.origin.alg)) c.in_ok-book-2.ensures
     c.in_ok-all.ensures
+
+pub returns-clause-workers : goal.returns-clause-workers
+returns-clause-workers g c =
+    let number : IsNumberOfWorkers c.args.workers = (omega arith, omega arith) in (
+      λ is _. settled_number c.args.origin c.in_ok-all.all c.in_ok-book-2.book c.settle.result c.settle.ensures.fault is,
+      λ wrong. absurd (wrong number),
+    )
 
 pub returns-clause-gather : goal.returns-clause-gather
 returns-clause-gather g c =
