@@ -113,13 +113,6 @@ settled_fault workers origin foreign book groups (Err fault) may known =
     let At : AgentFault → Type 0 = λ f. IsFaultOf workers origin f in
     subst At (sym known.fault_is) (gather_fault workers origin known.cause may)
 
-pub settled_number : (workers : ℕ) (origin : Origin) (result : Result Batch AgentFault) → MayBegin workers origin
-    → MatchResult result (λ _. MayBegin workers origin) (IsFaultOf workers origin) → result ≡ Err agents.Workers → ⊥
-settled_number workers origin (Ok batch) may known is = cc
-settled_number workers origin (Err fault) may known is =
-    let At : AgentFault → Type 0 = λ f. IsFaultOf workers origin f in
-    let same : fault ≡ agents.Workers = cc in subst At same known may.0
-
 same_cause : (one other : GatherFault) → agents.Gather one ≡ fault_of_gather other → one ≡ other
 same_cause one gathers.ForeignBook is = cc
 same_cause one (gathers.Stranger group index) is = cc
@@ -175,3 +168,20 @@ settled_cause workers origin ops all book cause (Err fault) are known is =
     let same : agents.Gather cause ≡ fault_of_gather known.cause = let one : agents.Gather cause ≡ fault = cc in one ∙ known.fault_is in
     let At : GatherFault → Type 0 = λ c. IsFirstCause all.foreign book origin (outcomes_by_worker all) c in
     cause_among origin ops workers all book cause are (subst At (sym (same_cause cause known.cause same)) known.first)
+
+-- What is against the book and what workers got is no wrong number of workers.
+no_number : (cause : GatherFault) → agents.Workers ≡ fault_of_gather cause → ⊥
+no_number gathers.ForeignBook e = absurd cc
+no_number (gathers.Stranger group index) e = absurd cc
+no_number gathers.OutOfOrder e = absurd cc
+no_number gathers.Double e = absurd cc
+no_number (gathers.Unnamed place) e = absurd cc
+no_number gathers.FalseFull e = absurd cc
+no_number gathers.Memory e = absurd cc
+
+pub settled_number : (origin : Origin) (all : AllWork) (book : BookState) (result : Result Batch AgentFault)
+    → IfErr result (IsUnsettled all.foreign book origin (outcomes_by_worker all)) → result ≡ Err agents.Workers → ⊥
+settled_number origin all book (Ok batch) known is = absurd cc
+settled_number origin all book (Err fault) known is =
+    let one : agents.Workers ≡ fault = cc in
+    no_number known.cause (one ∙ known.fault_is)
