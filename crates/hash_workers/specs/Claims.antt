@@ -15,7 +15,7 @@ pub record SeatState : Type 0 where
   pub draws : List ℕ
   pub ended : Bool
 
--- The seat is of these claims, and has these places and draws.
+-- The seat is of these claims, has these places and draws, and is ended or not.
 abbrev pub IsSeat : ClaimsState → ℕ → List ℕ → Bool → SeatState → Type 0
 IsSeat claims places draws ended seat =
     (seat.claims ≡ claims) × (seat.places ≡ places) × (seat.draws ≡ draws) × (seat.ended ≡ ended)

@@ -166,7 +166,8 @@ impl Claims {
         } = other;
         let shared = &self.table.shared;
         shared.join_seat::<Merge>(&mut seat, other);
-        // A view is learnt from at a step alone, so this load tells that the seats have no more places than there are.
+        // What the rule says of a seat is known at a step on the word alone. So the word is read: that tells that the joined
+        // seat has no more places than there are, and the sum below cannot overflow.
         shared.load::<Look>(&mut seat, 0);
         ClaimSeat {
             seat,
