@@ -52,13 +52,7 @@ fn place(
 }
 
 // Puts one outcome to its job.
-fn put(
-    outcomes: &mut Vec<Outcome>,
-    by: &mut Vec<u32>,
-    job: usize,
-    outcome: Outcome,
-    worker: u32,
-)
+fn put(outcomes: &mut Vec<Outcome>, by: &mut Vec<u32>, job: usize, outcome: Outcome, worker: u32)
     requires job { job < vec_len outcomes.old }
     requires by { job < vec_len by.old }
     ensures outcomes { outcomes.new.items ≡ slice_set outcomes.old.items job outcome }
