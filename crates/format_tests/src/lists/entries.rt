@@ -2,9 +2,9 @@
 
 use super::replaying::MEASURED;
 use super::{
-    DIGEST_PLACE, EMPTY_ENTRY, MEASUREMENT, MEASUREMENT_LINE, NAME_END, PAYLOAD_LENGTH, PAYLOAD_PLACE,
-    REGISTER_PLACE, VIOLATION, entry_of, hashed_of, joined, line_of, list_of, measured,
-    measurement_with, once_more, spelling_of, violated,
+    DIGEST_PLACE, EMPTY_ENTRY, MEASUREMENT, MEASUREMENT_LINE, NAME_END, PAYLOAD_LENGTH,
+    PAYLOAD_PLACE, REGISTER_PLACE, VIOLATION, entry_of, hashed_of, joined, line_of, list_of,
+    measured, measurement_with, once_more, spelling_of, violated,
 };
 use ima_list::{EntryFault, Fields, ListFault, Template, replay};
 use pcr_banks::{Alg, AlgSet, Banks, Digest, hash};
