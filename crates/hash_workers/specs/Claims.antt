@@ -25,7 +25,7 @@ abbrev pub times : ℕ → List ℕ → ℕ
 times number [] = 0
 times number (other ∷ others) = (if number == other then 1 else 0) + times number others
 
--- Each number below the count is drawn once, and no other.
+-- Each number below the count is drawn once, at one place of the list alone, and no other number is.
 pub record HandsOutEach (count : ℕ) (draws : List ℕ) : Type 0 where
   pub once : (number : ℕ) → number < count → times number draws ≡ 1
   pub others : (number : ℕ) → count ≤ number → times number draws ≡ 0
