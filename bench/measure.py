@@ -1,4 +1,5 @@
-"""Times the program's commands over made inputs of two sizes, checks each answer, and prints how the times grow.
+"""Times the program's commands over made inputs of two sizes, checks each answer, and prints how the times grow, and what memory
+the list's commands take.
 
 Words: the repository's folder, an empty folder for inputs and outputs, and the number of runs of which the median is taken.
 """
@@ -26,6 +27,7 @@ NO_INPUT = "empty.list"
 OUTPUT = FOLDER / "output"
 
 complaints = []
+PEAKS = []
 
 
 def store(name, data):
@@ -82,6 +84,27 @@ def median_of_tools(*commands):
     return statistics.median(times[1:])
 
 
+def peak_memory(words, wanted, wanted_status=0):
+    """The most memory that one call of the program held at once, in MiB; nothing where its answer is not the one that is wanted."""
+    python = [sys.executable, "-S", "-E", ROOT / "bench/peak.py"]
+    with open(FOLDER / NO_INPUT, "rb") as source, open(OUTPUT, "wb") as sink:
+        told = subprocess.run([*python, PROGRAM, *words], stdin=source, stdout=sink, stderr=subprocess.PIPE, cwd=FOLDER).stderr
+    status, kibibytes = map(int, told.split())
+    text = OUTPUT.read_bytes()
+    if status != wanted_status or text != wanted:
+        complain([PROGRAM.name, *words], status, text)
+        return None
+    return kibibytes / 1024
+
+
+def print_memory(what, sizes, empty, peaks):
+    """Prints the peak of a call with an empty list, and of those with lists of both sizes."""
+    name = f"{what:<28}{sizes[0]:>7,} and {sizes[1]:>7,} entries "
+    peaks = [empty, *peaks]
+    text = "   wrong" if None in peaks else "".join(f"{peak:9.1f} MiB" for peak in peaks)
+    print(f"{name}{text}", flush=True)
+
+
 def print_growth(what, unit, sizes, times):
     """Prints the times at both sizes, and by how much they grow."""
     name = f"{what:<28}{sizes[0]:>7,} and {sizes[1]:>7,} {unit:<8}"
@@ -111,29 +134,40 @@ def report_of_match(entries):
 
 
 def lists():
-    """`verify` and `show` of made lists."""
-    sizes = (40_000, 400_000)
-    verified, shown = [], []
+    """`verify` and `show` of made lists: time and peak memory."""
+    sizes = (40_000, 440_000)
+    verified, shown, memory = [], [], {"verify": [], "show": []}
+    log, _ = small_log()
+    store("made.log", log)
+    store("none.txt", b"")
     for entries in sizes:
-        log, registers = small_log()
+        _, registers = small_log()
         spelling, text = inputs.make_list(registers, inputs.made_measurements(entries - 1))
-        names = store("made.log", log), store("made.list", spelling), store("expected.txt", registers.lines())
+        names = "made.log", store("made.list", spelling), store("expected.txt", registers.lines())
         verified.append(median_time(["verify", *names], report_of_match(entries)))
         shown.append(median_time(["show", "made.list"], text))
+        memory["verify"].append(peak_memory(["verify", *names], report_of_match(entries)))
+        memory["show"].append(peak_memory(["show", "made.list"], text))
     print_growth("verify", "entries", sizes, verified)
     print_growth("show", "entries", sizes, shown)
     hashed = median_of_tools(["sha1sum", "made.list"], ["sha256sum", "made.list"])
+    hashed_once = median_of_tools(["sha256sum", "made.list"])
     copied = median_of_tools(["cat", "made.list"])
+    nothing = b"events 24 locality 3\nentries 0\nboot_aggregate missing\nverdict differ\n"
+    empty = {"verify": peak_memory(["verify", "made.log", NO_INPUT, "none.txt"], nothing, 1), "show": peak_memory(["show", NO_INPUT], b"")}
+    PEAKS.extend((what, sizes, empty[what], peaks) for what, peaks in memory.items())
     return [
         (f"verify of {sizes[1]:,} entries, to sha1sum and sha256sum of the list", verified[1], hashed),
+        (f"verify of {sizes[1]:,} entries, to sha256sum of the list", verified[1], hashed_once),
+        (f"show of {sizes[1]:,} entries, to sha256sum of the list", shown[1], hashed_once),
         (f"show of {sizes[1]:,} entries, to cat of the list", shown[1], copied),
     ]
 
 
 def logs():
-    """The registers of made logs of two banks, which come in hexadecimal on standard input."""
-    sizes = (20_000, 200_000)
-    algs = ["sha1", "sha256"]
+    """The registers of made logs, which come in hexadecimal on standard input."""
+    sizes = (32_000, 320_000)
+    algs = ["sha256"]
     reset = inputs.Registers(algs, locality=3)
     times = []
     for events in sizes:
@@ -141,7 +175,8 @@ def logs():
         store("log.hex", inputs.hexadecimal(log))
         times.append(median_time([], registers.lines(reset), stdin="log.hex"))
     print_growth("registers of a log", "events", sizes, times)
-    return []
+    hashed = median_of_tools(["sha256sum", "log.hex"])
+    return [(f"registers of a log of {sizes[1]:,} events, to sha256sum of its hexadecimal", times[1], hashed)]
 
 
 def measure_time(workers, contents):
@@ -212,6 +247,9 @@ def main():
     print(f"runs      {RUNS} for each time, which is their median\n")
     print(f"{'':<48}{'small':>11}{'large':>11}{'times':>8}{'sizes':>8}{'growth':>8}", flush=True)
     ratios = [*lists(), *logs(), *files(), *uneven_files()]
+    print(f"\n{'peak memory of':<52}{'empty':>13}{'small':>13}{'large':>13}")
+    for peak in PEAKS:
+        print_memory(*peak)
     print(f"\n{'':<90}{'ratio':>8}")
     for ratio in ratios:
         print_ratio(*ratio)

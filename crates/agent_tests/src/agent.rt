@@ -5,6 +5,7 @@ mod devices;
 mod expected;
 mod inputs;
 mod large_inputs;
+mod list_sources;
 mod loading;
 mod logs;
 mod many_files;

@@ -1,3 +1,4 @@
 pub mod RegisterLaws
 pub mod ExpectedLaws
 pub mod VerdictLaws
+pub mod ReplayLaws

@@ -44,16 +44,13 @@ bytes_back Sha1 (Some value) = refl
 bytes_back Sha256 (Some value) = refl
 bytes_back Sha384 (Some value) = refl
 
-pub aggregate_same : (algs : AlgSet) (events : List LogEvent) (start : Banks) (entries : List ListEntry) (stated : Digest)
-    (value : Option Digest) (alg : Alg)
-    → IsFirmware algs events start → stated_aggregate entries ≡ Some (alg_of stated, bytes_of stated) → alg ≡ alg_of stated
-    → value ≡ option_map (digest_of alg) (boot_aggregate_of start alg)
-    → compared (bytes_of stated) (option_map bytes_of value) ≡ aggregate_of algs events (stated_aggregate entries)
-aggregate_same algs events start entries stated value alg firmware states by is =
+pub aggregate_same : (algs : AlgSet) (events : List LogEvent) (start : Banks) (stated : Digest) (value : Option Digest) (alg : Alg)
+    → IsFirmware algs events start → alg ≡ alg_of stated → value ≡ option_map (digest_of alg) (boot_aggregate_of start alg)
+    → compared (bytes_of stated) (option_map bytes_of value) ≡ aggregate_of algs events (Some (alg_of stated, bytes_of stated))
+aggregate_same algs events start stated value alg firmware by is =
     ap (λ (o : Option Digest). compared (bytes_of stated) (option_map bytes_of o)) is
     ∙ ap (compared (bytes_of stated)) (bytes_back alg (boot_aggregate_of start alg) ∙ booted_same algs events start alg firmware)
     ∙ ap (λ (a : Alg). compared (bytes_of stated) (booted_aggregate algs events a)) by
-    ∙ ap (aggregate_of algs events) (sym states)
 
 -- A register after the log and the list.
 final_same : (algs : AlgSet) (events : List LogEvent) (entries : List ListEntry) (start banks : Banks) (alg : Alg) (register : ℕ)

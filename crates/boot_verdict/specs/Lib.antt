@@ -3,3 +3,5 @@ pub mod ExpectFaults
 pub mod ExpectedTexts
 pub mod Verdicts
 pub mod ReportTexts
+pub mod ListSources
+pub mod ListReplays

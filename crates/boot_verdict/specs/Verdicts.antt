@@ -9,6 +9,8 @@ use Rattle.pcr_banks.specs.Hashing.{hash_of, same_alg}
 use Rattle.pcr_banks.specs.Digests.{alg_of, bytes_of, digest_of}
 use Rattle.pcr_banks.specs.Sets.{has_alg}
 use Rattle.pcr_banks.specs.Registers.{register_count, extended_by_all, value_at}
+use Rattle.byte_streams.specs.declared.pieces.ReadFault.{ReadFault}
+use Rattle.byte_streams.specs.declared.pieces.ReadFault.TheVariants as reads
 use Rattle.boot_log.specs.declared.fault.LogFault.{LogFault}
 use Rattle.boot_log.specs.declared.fault.LogFault.TheVariants as logs
 use Rattle.boot_log.specs.declared.header.Row.{Row as TableRow}
@@ -33,6 +35,7 @@ use Rattle.boot_verdict.specs.declared.report.Aggregate.TheVariants.{Good, Wrong
 use Rattle.boot_verdict.specs.declared.report.Report.{Report}
 use Rattle.boot_verdict.specs.declared.verifier.VerifyFault.{VerifyFault}
 use Rattle.boot_verdict.specs.declared.verifier.VerifyFault.TheVariants as faults
+use Rattle.boot_verdict.specs.ListSources.{CameWhole, IsListFault}
 
 -- ---- registers
 
@@ -67,9 +70,13 @@ abbrev pub aggregate_in : Option FileFields → Option (Alg × List ℕ)
 aggregate_in None = None
 aggregate_in (Some fields) = if bytes_eq fields.path (codes "boot_aggregate") then Some (fields.alg, fields.digest) else None
 
+-- What an entry states so, where it is the first.
+abbrev pub stated_in : ListEntry → Option (Alg × List ℕ)
+stated_in first = if is_violation first then None else aggregate_in (fields_of first)
+
 abbrev pub stated_aggregate : List ListEntry → Option (Alg × List ℕ)
 stated_aggregate [] = None
-stated_aggregate (first ∷ entries) = if is_violation first then None else aggregate_in (fields_of first)
+stated_aggregate (first ∷ entries) = stated_in first
 
 -- The boot aggregate of the log's registers.
 abbrev pub booted_aggregate : AlgSet → List LogEvent → Alg → Option (List ℕ)
@@ -160,6 +167,8 @@ abbrev pub IsVerifyFault : List ℕ → List ℕ → VerifyFault → Type 0
 IsVerifyFault log list (faults.Log fault) = log_fault log ≡ Some fault
 IsVerifyFault log list (faults.List fault) = IsSomeLog log × IsReading list (Err fault)
 IsVerifyFault log list (faults.Replay fault) = IsSomeLog log × IsForged list fault
+IsVerifyFault log list faults.Source = ⊥
+IsVerifyFault log list faults.TooLong = ⊥
 IsVerifyFault log list faults.Memory = Unit {0}
 
 -- That memory ran out is one fault, wherever it ran out.
@@ -170,6 +179,28 @@ fault_of_log fault = faults.Log fault
 abbrev pub fault_of_list : ListFault → VerifyFault
 fault_of_list lists.Memory = faults.Memory
 fault_of_list fault = faults.List fault
+
+-- That memory ran out, or the source failed, while the list was read.
+abbrev pub fault_of_reading : ReadFault → VerifyFault
+fault_of_reading reads.Source = faults.Source
+fault_of_reading reads.Memory = faults.Memory
+
+-- ---- a list that comes from a source
+
+-- All bytes that the source had left, at most `limit`, are a list, and this is the verdict on the log and the list.
+pub record IsVerdictFrom (log : List ℕ) (old new : Option (List ℕ)) (limit : ℕ) (expected : List Expected) (verdict : Verdict) : Type 0 where
+  pub list : List ℕ
+  pub came : CameWhole old new limit list
+  pub verdict_is : IsVerdict log list expected verdict
+
+-- Why there is no verdict on a log and the list that a source has left: the first of these that holds. The log comes before the source,
+-- and all of the list before its entries.
+abbrev pub IsVerifyFaultFrom : List ℕ → Option (List ℕ) → Option (List ℕ) → ℕ → VerifyFault → Type 0
+IsVerifyFaultFrom log old new limit (faults.Log fault) = (log_fault log ≡ Some fault) × (new ≡ old)
+IsVerifyFaultFrom log old new limit (faults.Replay fault) =
+    IsSomeLog log × ((list : List ℕ) × CameWhole old new limit list × IsForged list fault)
+IsVerifyFaultFrom log old new limit faults.Memory = Unit {0}
+IsVerifyFaultFrom log old new limit fault = IsSomeLog log × IsListFault old new limit fault
 
 -- ---- what contracts see of a report
 

@@ -2,6 +2,7 @@
 #![tactic(auto)]
 
 mod expected;
+mod list_replay;
 mod report;
 mod texts;
 mod verifier;
@@ -9,4 +10,4 @@ mod verifier;
 pub use expected::{ExpectFault, Expected, read_expected};
 pub use report::{Aggregate, Report, Row, State};
 pub use texts::{write_registers, write_report};
-pub use verifier::{VerifyFault, verify};
+pub use verifier::{VerifyFault, verify, verify_from};

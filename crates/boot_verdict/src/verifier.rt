@@ -1,28 +1,31 @@
 //! The verdict on a firmware event log, a measurement list and expected registers.
 
-ghost use Rattle.std.specs.Prelude.{◌≡◌, List, map, option_map, Ok, IfOk, IfErr, IsErrOf};
+ghost use Rattle.std.specs.Prelude.{◌≡◌, ◌⊎◌, List, map, option_map, is_some, Ok, IfOk, IfErr, IsErrOf};
 ghost use Rattle.pcr_banks.specs.declared.sets.AlgSet.{AlgSet};
 ghost use Rattle.pcr_banks.specs.Digests.{alg_of, bytes_of};
 ghost use Rattle.byte_fields.specs.Reading.{ReadsInMemory};
 ghost use Rattle.boot_log.specs.declared.header.Row.{Row as TableRow};
-ghost use Rattle.boot_log.specs.Spelling.{LogEvent, IsLog, algs_in};
+ghost use Rattle.boot_log.specs.BootLog.{algs_of, events_of};
+ghost use Rattle.boot_log.specs.Spelling.{LogEvent, BeginsWithEvent, IsLog, algs_in};
 ghost use Rattle.boot_log.specs.Replaying.{IsFirmware};
 ghost use Rattle.ima_list.specs.ListEntry.{ListEntry};
 ghost use Rattle.ima_list.specs.Spelling.{IsReading};
 ghost use Rattle.ima_list.specs.Replaying.{AreGenuine};
 ghost use Rattle.boot_verdict.specs.declared.verifier.VerifyFault.TheVariants.{Memory, Replay};
-ghost use Rattle.boot_verdict.specs.Verdicts.{HasSomethingToKeep, IsVerdict, IsVerifyFault, aggregate_of, compared, fault_of_list, fault_of_log, row_of, stated_aggregate, verdict_of, verdict_on};
+ghost use Rattle.boot_verdict.specs.Verdicts.{HasSomethingToKeep, IsSomeLog, IsVerdict, IsVerdictFrom, IsVerifyFault, IsVerifyFaultFrom, aggregate_of, compared, fault_of_list, fault_of_log, fault_of_reading, row_of, verdict_of, verdict_on};
+ghost use Rattle.boot_verdict.specs.ListSources.{failures_after_list};
+ghost use Rattle.boot_verdict.specs.ListReplays.{IsReportFault, Replays};
 
 use crate::expected::Expected;
+use crate::list_replay::ListReplay;
 use crate::report::{Aggregate, Report, Row, State};
-use boot_log::{LogFault, read_log};
-use ima_list::{Entry, ListFault, ReplayFault, boot_aggregate, read_list, replay};
+use boot_log::{BootLog, LogFault, read_log};
+use byte_streams::{ReadFault, Source};
+use ima_list::laws::list_has_one_reading;
+use ima_list::{ListFault, ReplayFault, boot_aggregate};
 use pcr_banks::{Banks, Digest};
 use std::alloc::{AllocError, Global};
 use thiserror::Error;
-
-/// The path of the measurement that states the boot aggregate.
-const BOOT_AGGREGATE: &[u8] = b"boot_aggregate";
 
 /// Why there is no verdict.
 #[derive(Clone, Copy, Debug, PartialEq, Eq, Error)]
@@ -36,7 +39,13 @@ pub enum VerifyFault {
     /// 3: an entry of the list is not genuine.
     #[error("replay: {0}")]
     Replay(ReplayFault),
-    /// 6: memory ran out. (4 and 5 are kept for a list that is read from a source.)
+    /// 4: the source of the list failed.
+    #[error("the source of the list failed")]
+    Source,
+    /// 5: more bytes of the list came than are allowed.
+    #[error("the list is too long")]
+    TooLong,
+    /// 6: memory ran out.
     #[error("out of memory")]
     Memory,
 }
@@ -71,6 +80,17 @@ impl From<ReplayFault> for VerifyFault {
     }
 }
 
+impl From<ReadFault> for VerifyFault {
+    ghost from_gives = { λ read_fault fault. fault ≡ fault_of_reading read_fault };
+
+    fn from(fault: ReadFault) -> Self {
+        match fault {
+            ReadFault::Source => VerifyFault::Source,
+            ReadFault::Memory => VerifyFault::Memory,
+        }
+    }
+}
+
 impl From<AllocError> for VerifyFault {
     ghost from_gives = { λ _ fault. fault ≡ Memory };
 
@@ -101,16 +121,62 @@ pub fn verify(
     ensures fault { IfErr result (IsVerifyFault log.now list.now) }
     ensures memory { IsErrOf result VerifyFault.Memory → HasSomethingToKeep log.now list.now }
 {
+    list_has_one_reading(list);
     let log = read_log(alloc, log)?;
-    let entries = read_list(alloc, list)?;
     let start = log.registers();
-    let now = replay(start, &entries)?;
+    let replay = ListReplay::of_list(start, list)?;
+    report_on(alloc, &log, &start, &replay, expected)
+}
+
+/// As [`verify`], with a list that is taken from a source, which may give at most `limit` bytes: entry after entry is replayed as its
+/// bytes come, and none is kept. A fault of the log comes before the source is asked for anything, and [`VerifyFault::Replay`] after all
+/// of the list was read.
+///
+/// [`VerifyFault::Source`] and [`VerifyFault::TooLong`] stand at the point of the list where the source failed, or where the byte
+/// after `limit` came: only where the bytes before that point read as a list, or as one that is torn.
+pub fn verify_from<R: Source>(
+    alloc: Global,
+    log: &[u8],
+    list: &mut R,
+    limit: u64,
+    expected: &[Expected],
+) -> Result<Report, VerifyFault>
+    // The report is the verdict on the log, all bytes that the source had left, and the expected registers.
+    ensures report { IfOk result (λ report. IsVerdictFrom log.now (R.state list.old).remaining (R.state list.new).remaining limit expected.now (verdict_of report)) }
+    // Any fault is the first cause.
+    ensures fault { IfErr result (IsVerifyFaultFrom log.now (R.state list.old).remaining (R.state list.new).remaining limit) }
+    ensures memory { IsErrOf result VerifyFault.Memory → BeginsWithEvent log.now ⊎ IsSomeLog log.now }
+    ensures telling { is_some (R.state list.new).remaining ≡ is_some (R.state list.old).remaining }
+    ensures counts { (R.state list.new).failures ≡ failures_after_list result (R.state list.old).failures }
+{
+    let firmware = read_log(alloc, log)?;
+    let start = firmware.registers();
+    let replay = ListReplay::of_source(alloc, start, list, limit)?;
+    report_on(alloc, &firmware, &start, &replay, expected)
+}
+
+// The report on a log whose registers are `start`, a list that is replayed from there, and expected registers.
+fn report_on(
+    alloc: Global,
+    log: &BootLog<'_>,
+    start: &Banks,
+    replay: &ListReplay,
+    expected: &[Expected],
+) -> Result<Report, VerifyFault>
+    requires { IsFirmware (algs_of log.now) (events_of log.now) start.now }
+    ensures report { IfOk result (λ report. (entries : List ListEntry) → Replays start.now entries replay.now
+        → AreGenuine entries × (verdict_of report ≡ verdict_on (algs_of log.now) (events_of log.now) entries expected.now)) }
+    ensures fault { IfErr result (λ fault. (entries : List ListEntry) → Replays start.now entries replay.now → IsReportFault entries fault) }
+{
+    if let Some(entry) = replay.forged {
+        return Err(ReplayFault::BadTemplateDigest { entry }.into());
+    }
     Ok(Report {
         events: log.events().len(),
         locality: log.locality(),
-        entries: entries.len(),
-        aggregate: aggregate_of(&start, &entries),
-        rows: rows_on(alloc, &now, expected)?,
+        entries: replay.entries,
+        aggregate: aggregate_of(start, replay.stated),
+        rows: rows_on(alloc, &replay.banks, expected)?,
     })
 }
 
@@ -139,12 +205,12 @@ fn row_on(now: &Banks, expected: &Expected) -> Row
     }
 }
 
-// What the list says of the log's registers, which are these.
-fn aggregate_of(start: &Banks, entries: &[Entry]) -> Aggregate
+// What is said of the boot aggregate that the list states, if it states one, by the log's registers, which are these.
+fn aggregate_of(start: &Banks, stated: Option<Digest>) -> Aggregate
     ensures { (algs : AlgSet) (events : List LogEvent) → IsFirmware algs events start.now
-        → result ≡ aggregate_of algs events (stated_aggregate entries.now) }
+        → result ≡ aggregate_of algs events (option_map (λ digest. (alg_of digest, bytes_of digest)) stated) }
 {
-    match stated_aggregate(entries) {
+    match stated {
         None => Aggregate::Missing,
         Some(stated) => compared(&stated, boot_aggregate(start, stated.alg())),
     }
@@ -159,16 +225,4 @@ fn compared(stated: &Digest, value: Option<Digest>) -> Aggregate
         Some(value) if value.bytes() == stated.bytes() => Aggregate::Good,
         Some(_) => Aggregate::Wrong,
     }
-}
-
-// The boot aggregate that the list's first entry states.
-fn stated_aggregate(entries: &[Entry]) -> Option<Digest>
-    ensures { option_map (λ digest. (alg_of digest, bytes_of digest)) result ≡ stated_aggregate entries.now }
-{
-    let first = entries.first()?;
-    if first.is_violation() {
-        return None;
-    }
-    let fields = first.fields()?;
-    (fields.path == BOOT_AGGREGATE).then_some(fields.file)
 }

@@ -1,3 +1,6 @@
 pub mod Steps
 pub mod FieldLaws
 pub mod SequenceLaws
+pub mod FormatLaws
+pub mod ItemLaws
+pub mod LastingLaws

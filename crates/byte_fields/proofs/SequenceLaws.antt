@@ -3,7 +3,7 @@ use Rattle.std.proofs.Common.{◌≡◌, ℕ, zero, suc, ◌+◌, ◌-◌, ◌<�
 use Rattle.std.specs.Prelude.{IsOk, Bool, true, false, eqb}
 use Rattle.std.proofs.lemmas.Bool.{eqb-true}
 use Rattle.std.proofs.lemmas.List.{append-nil, length-append}
-use Rattle.byte_fields.specs.Reading.{◌>>=◌, items_within, items_from}
+use Rattle.byte_fields.specs.Reading.{◌>>=◌, items_at, items_within, items_from}
 use Rattle.byte_fields.proofs.Steps.{IsBytes}
 
 -- A reader of items, each of which takes bytes.
@@ -61,7 +61,7 @@ pub record ReadsOn {X E : Type 0} (item_at : ℕ → List ℕ → Result (X × L
   pub shorter : length items + length rest ≤ length bytes
   pub begun : ((items ≡ []) × (rest ≡ bytes)) ⊎ IsOk (item_at start bytes)
 
-with_none : {X E : Type 0} (r : Result (List X) E) → with_front [] r ≡ r
+pub with_none : {X E : Type 0} (r : Result (List X) E) → with_front [] r ≡ r
 with_none (Ok items) = refl
 with_none (Err fault) = refl
 
@@ -81,8 +81,13 @@ with_one_more : {X E : Type 0} (front : List X) (item : X) (r : Result (List X) 
 with_one_more {X} front item (Ok others) = ap (λ (xs : List X). Ok xs) (sym (append_assoc front (item ∷ []) others))
 with_one_more front item (Err fault) = refl
 
+pub with_first : {X E : Type 0} (item : X) (front : List X) (r : Result (List X) E)
+    → (with_front front r >>= λ others. Ok (item ∷ others)) ≡ with_front (item ∷ front) r
+with_first item front (Ok others) = refl
+with_first item front (Err fault) = refl
+
 -- The first item of what is left, and the rest.
-from_first : {X E : Type 0} (item_at : ℕ → List ℕ → Result (X × List ℕ) E) (lost : ℕ → E) → Shortens item_at
+pub from_first : {X E : Type 0} (item_at : ℕ → List ℕ → Result (X × List ℕ) E) (lost : ℕ → E) → Shortens item_at
     → (k : ℕ) (rest : List ℕ) (item : X) (after : List ℕ) → IsBytes rest → 0 < length rest → item_at k rest ≡ Ok (item, after)
     → items_from item_at lost k rest ≡ (items_from item_at lost (k + 1) after >>= λ others. Ok (item ∷ others))
 from_first {X} {E} item_at lost shortens k rest item after fits some e =
@@ -94,7 +99,7 @@ from_first {X} {E} item_at lost shortens k rest item after fits some e =
     ∙ items_step item_at lost (length rest - 1) k rest item after some e
     ∙ ap (λ (r : Result (List X) E). r >>= λ others. Ok (item ∷ others)) enough
 
-from_fault : {X E : Type 0} (item_at : ℕ → List ℕ → Result (X × List ℕ) E) (lost : ℕ → E) (k : ℕ) (rest : List ℕ) (fault : E)
+pub from_fault : {X E : Type 0} (item_at : ℕ → List ℕ → Result (X × List ℕ) E) (lost : ℕ → E) (k : ℕ) (rest : List ℕ) (fault : E)
     → 0 < length rest → item_at k rest ≡ Err fault → items_from item_at lost k rest ≡ Err fault
 unfolding items_within
 from_fault item_at lost k [] fault some e = absurd (omega arith)
@@ -146,6 +151,43 @@ pub reads_to_end : {X E : Type 0} (item_at : ℕ → List ℕ → Result (X × L
 reads_to_end {X} {E} item_at lost start bytes items rest none on =
     let last : items_from item_at lost (length items + start) rest ≡ Ok [] = rw none (items_none item_at lost 0 (length items + start)) in
     sym on.reading ∙ ap (with_front items) last ∙ ap (λ (xs : List X). Ok xs) (append-nil items)
+
+-- ---- a loop over so many items: what is left to read gives what reading all gives
+
+pub items_at_first : {X E : Type 0} (item_at : List X → List ℕ → Result (X × List ℕ) E) (count : ℕ) (bytes : List ℕ)
+    → items_at item_at (count - 0) [] bytes ≡ items_at item_at count [] bytes
+items_at_first item_at count bytes = ap (λ (n : ℕ). items_at item_at n [] bytes) (omega arith)
+
+pub items_on : {X E : Type 0} (item_at : List X → List ℕ → Result (X × List ℕ) E) (count i : ℕ) (bytes : List ℕ) (before : List X)
+    (rest : List ℕ) (item : X) (after : List ℕ)
+    → i < count → item_at before rest ≡ Ok (item, after) → items_at item_at (count - i) before rest ≡ items_at item_at count [] bytes
+    → items_at item_at (count - (i + 1)) (before ++ item ∷ []) after ≡ items_at item_at count [] bytes
+unfolding items_at
+items_on item_at count i bytes before rest item after lt e on =
+    let n : count - i ≡ suc (count - (i + 1)) = omega arith in
+    let one : items_at item_at (count - i) before rest ≡ items_at item_at (count - (i + 1)) (before ++ item ∷ []) after =
+    rw (n, e) refl in
+    sym one ∙ on
+
+pub items_fault : {X E : Type 0} (item_at : List X → List ℕ → Result (X × List ℕ) E) (count i : ℕ) (bytes : List ℕ) (before : List X)
+    (rest : List ℕ) (fault : E)
+    → i < count → item_at before rest ≡ Err fault → items_at item_at (count - i) before rest ≡ items_at item_at count [] bytes
+    → items_at item_at count [] bytes ≡ Err fault
+unfolding items_at
+items_fault item_at count i bytes before rest fault lt e on =
+    let n : count - i ≡ suc (count - (i + 1)) = omega arith in
+    let one : items_at item_at (count - i) before rest ≡ Err fault = rw (n, e) refl in
+    sym on ∙ one
+
+pub items_to_end : {X E : Type 0} (item_at : List X → List ℕ → Result (X × List ℕ) E) (count i : ℕ) (bytes : List ℕ)
+    (before : List X) (rest : List ℕ)
+    → count ≤ i → items_at item_at (count - i) before rest ≡ items_at item_at count [] bytes
+    → items_at item_at count [] bytes ≡ Ok (before, rest)
+unfolding items_at
+items_to_end item_at count i bytes before rest le on =
+    let n : count - i ≡ 0 = omega arith in
+    let one : items_at item_at (count - i) before rest ≡ Ok (before, rest) = rw n refl in
+    sym on ∙ one
 
 -- ---- tests of what is left
 

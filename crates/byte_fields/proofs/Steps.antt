@@ -1,5 +1,5 @@
 -- Steps that may fail, and what a reader took from the front of its bytes.
-use Rattle.std.proofs.Common.{◌≡◌, ℕ, ◌+◌, ◌⊎◌, suc, Bool, true, false, cond, List, ◌∷◌, ◌++◌, take, drop, Option, Some, None, Result, Ok, Err, refl, sym, ap, ◌∙◌, append_assoc, arith, inl, inr}
+use Rattle.std.proofs.Common.{◌≡◌, ℕ, ◌+◌, Bool, true, false, cond, List, ◌++◌, take, drop, Option, Some, None, Result, Ok, Err, refl, arith, inl, inr}
 use Rattle.std.specs.Prelude.{ok_or, IsOk}
 use Rattle.std.proofs.lemmas.Bool.{cases_lt}
 use Rattle.std.proofs.lemmas.List.{get_or-drop, get_or-take, get_or_past, length-take}
@@ -16,9 +16,6 @@ IsBytes-take n bytes h i =
       | inr le ↦ rw (get_or_past (take n bytes) i 0 (omega (arith, length-take n bytes))) (omega arith)
     ]
 
-pub IsBytes-rest : (byte : ℕ) (bytes : List ℕ) → IsBytes (byte ∷ bytes) → IsBytes bytes
-IsBytes-rest byte bytes h i = h (suc i)
-
 abbrev failed : {E : Type 0} (A : Type 0) → E → Result A E
 failed A d = Err d
 
@@ -26,19 +23,10 @@ failed A d = Err d
 pub same_fault : {A E : Type 0} (c d : E) → failed A c ≡ failed A d → c ≡ d
 same_fault c d e = cc
 
-pub err_is : {A B E : Type 0} (c d : E) → failed B c ≡ failed B d → failed A c ≡ failed A d
-err_is {A} {B} c d e = ap (failed A) (same_fault {A = B} c d e)
-
 -- The value of a step that did not fail.
 pub bind_ok : {A B E : Type 0} (r : Result A E) (f : A → Result B E) (y : B) → (r >>= f) ≡ Ok y → (x : A) × (r ≡ Ok x) × (f x ≡ Ok y)
 bind_ok (Ok x) f y e = (x, refl, e)
 bind_ok (Err d) f y e = absurd cc
-
--- A step that failed, or the one after it.
-pub bind_err : {A B E : Type 0} (r : Result A E) (f : A → Result B E) (d : E) → (r >>= f) ≡ Err d
-    → (r ≡ Err d) ⊎ ((x : A) × (r ≡ Ok x) × (f x ≡ Err d))
-bind_err (Ok x) f d e = inr (x, refl, e)
-bind_err (Err c) f d e = inl (err_is c d e)
 
 -- A test that did not fail, where failing is its first branch.
 pub guard_ok : {A E : Type 0} (b : Bool) (d : E) (r : Result A E) (y : A) → cond b (Err d) r ≡ Ok y → (b ≡ false) × (r ≡ Ok y)
@@ -63,11 +51,6 @@ ok_is x y e = cc
 pub ok_not_err : {A E : Type 0} (x : A) (fault : E) → the_ok E x ≡ Err fault → ⊥
 ok_not_err x fault e = cc
 
--- A fault that comes through a step which cannot fail.
-pub kept_err : {A B E : Type 0} (r : Result A E) (f : A → B) (fault : E) → (r >>= λ x. the_ok E (f x)) ≡ Err fault → r ≡ Err fault
-kept_err (Ok x) f fault e = absurd (ok_not_err (f x) fault e)
-kept_err {A} {B} {E} (Err y) f fault e = err_is {A = A} {B = B} y fault e
-
 -- What there is where there is no fault.
 pub is_ok_value : {A E : Type 0} (r : Result A E) → IsOk r → (x : A) × (r ≡ Ok x)
 is_ok_value (Ok x) ok = (x, refl)
@@ -81,7 +64,3 @@ fault_is r y f g a b c = cc
 pub record Takes (bytes text rest : List ℕ) : Type 0 where
   pub parts : bytes ≡ text ++ rest
   pub rest_fits : IsBytes rest
-
-pub Takes-then : (a x b y c : List ℕ) → Takes a x b → Takes b y c → Takes a (x ++ y) c
-Takes-then a x b y c p q =
-    record { parts = p.parts ∙ ap (λ (t : List ℕ). x ++ t) q.parts ∙ sym (append_assoc x y c); rest_fits = q.rest_fits }

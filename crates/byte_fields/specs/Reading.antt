@@ -1,5 +1,5 @@
 -- Reading fields from left to right, with the first fault that is met.
-use Rattle.std.specs.Prelude.{◌≡◌, ◌⊎◌, ℕ, zero, suc, ◌+◌, nat_lt, if◌then◌else◌, List, [], ◌∷◌, length, take, drop, Result, Ok, Err}
+use Rattle.std.specs.Prelude.{◌≡◌, ◌⊎◌, ℕ, zero, suc, ◌+◌, nat_lt, if◌then◌else◌, List, [], ◌∷◌, ◌++◌, length, take, drop, Result, Ok, Err}
 use Rattle.std.specs.Int.{Width, w32, byte_len, from_le_bytes}
 
 -- ---- steps that may fail
@@ -39,7 +39,16 @@ sized_at fault bytes = do
   size ← number_at fault w32 bytes
   part_at fault size.0 size.1
 
--- ---- items one after another, to the end of the bytes
+-- ---- items one after another
+
+-- `count` more items, each read after those before it.
+unfoldable pub items_at : {X E : Type 0} → (List X → List ℕ → Result (X × List ℕ) E) → ℕ → List X → List ℕ → Result (List X × List ℕ) E
+items_at item_at zero before bytes = Ok (before, bytes)
+items_at item_at (suc count) before bytes = do
+  item ← item_at before bytes
+  items_at item_at count (before ++ item.0 ∷ []) item.1
+
+-- ---- items to the end of the bytes
 
 -- The items from the k-th on. Each takes bytes, so as many steps as there are bytes are enough; `lost` is for a reading
 -- that ran out of them.

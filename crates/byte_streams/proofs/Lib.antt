@@ -1,2 +1,3 @@
 pub mod SinkLaws
 pub mod PieceLaws
+pub mod ReadLaws

@@ -1,6 +1,8 @@
 -- What sinks and sources have, and what a call leaves. All of this is this project's choice.
 use Rattle.std.specs.Prelude.{◌≡◌, ℕ, ◌+◌, ◌-◌, ◌^◌, ◌<◌, ◌≤◌, min, List, ◌++◌, length, Option, is_some, Result, Ok, Err, IfOk, OnOk}
-use Rattle.std.specs.Io.KnownBytes.{Appends, ReadConsumes, WriteAppends}
+use Rattle.std.specs.Io.KnownBytes.{Appends, Consumes, IsAtEnd, ReadConsumes, WriteAppends}
+use Rattle.byte_streams.specs.declared.pieces.ReadFault.{ReadFault}
+use Rattle.byte_streams.specs.declared.pieces.ReadFault.TheVariants.{Source, Memory}
 
 -- A sink: the bytes that it took, where it tells its bytes, and how often it failed.
 pub record SinkState : Type 0 where
@@ -47,3 +49,20 @@ pub record Sends {A E : Type 0} (old new : SinkState) (result : Result A E) (tex
   pub part : TakesPart old.taken new.taken text
   pub telling : is_some new.taken ≡ is_some old.taken
   pub counts : new.failures ≡ failures_after result old.failures
+
+-- ---- reading piece by piece
+
+-- These bytes were read from the source's front, and put behind those before them; how many they are is told, and none came only
+-- where none remain.
+pub record GivesPiece (old new : Option (List ℕ)) (before after : List ℕ) (count : ℕ) : Type 0 where
+  pub came : List ℕ
+  pub lost : Consumes old new came
+  pub added : after ≡ before ++ came
+  pub count_is : length came ≡ count
+  pub end : count ≡ 0 → IsAtEnd new
+
+-- How many failures the source counts after a piece was asked for: a fault of the source is one more, and nothing else is.
+abbrev pub failures_after_reading : {A : Type 0} → Result A ReadFault → ℕ → ℕ
+failures_after_reading (Ok count) failures = failures
+failures_after_reading (Err Source) failures = failures_after {A = ℕ} (Err Source) failures
+failures_after_reading (Err Memory) failures = failures

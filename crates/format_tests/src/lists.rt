@@ -7,6 +7,7 @@ mod large_lists;
 mod laws;
 mod lines;
 mod lists;
+mod pieces;
 mod replaying;
 mod sending;
 mod templates;
@@ -60,6 +61,11 @@ const VIOLATION: &[u8] = b"\x0a\x00\x00\x00\
 const EMPTY_ENTRY: &[u8] = b"\x0a\x00\x00\x00\
     \x00\x00\x00\x00\x00\x00\x00\x00\x00\x00\x00\x00\x00\x00\x00\x00\x00\x00\x00\x00\
     \x00\x00\x00\x00\x00\x00\x00\x00";
+
+/// An entry of register 10 whose template digest is zero and whose name is `ima-xx`, up to the length of its payload.
+const OTHER_HEAD: &[u8] = b"\x0a\x00\x00\x00\
+    \x00\x00\x00\x00\x00\x00\x00\x00\x00\x00\x00\x00\x00\x00\x00\x00\x00\x00\x00\x00\
+    \x06\x00\x00\x00ima-xx";
 
 /// What a call returns; where that is the fault of a refused allocation, what the same call returns once more.
 fn once_more<T: Drop, E: Copy + PartialEq, F: FnMut() -> Result<T, E>>(

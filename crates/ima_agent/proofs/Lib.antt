@@ -1,3 +1,5 @@
 pub mod LoadingLemmas
 pub mod MeasuringLaws
 pub mod FaultLaws
+pub mod VerifyingLaws
+pub mod ShowingLaws

@@ -1,6 +1,6 @@
 -- What the faults of the parts are to the program. That memory ran out is one fault, wherever it ran out. All of this is this project's
 -- choice.
-use Rattle.std.specs.Prelude.{◌≡◌, ℕ, ◌⊎◌}
+use Rattle.std.specs.Prelude.{◌≡◌, ℕ, ◌⊎◌, List}
 use Rattle.command_line.specs.declared.fault.WordsFault.{WordsFault}
 use Rattle.command_line.specs.declared.fault.WordsFault.TheVariants as words
 use Rattle.boot_log.specs.declared.fault.LogFault.{LogFault}
@@ -17,6 +17,7 @@ use Rattle.boot_verdict.specs.declared.verifier.VerifyFault.{VerifyFault}
 use Rattle.boot_verdict.specs.declared.verifier.VerifyFault.TheVariants as verdicts
 use Rattle.ima_agent.specs.declared.fault.RunFault.{RunFault}
 use Rattle.ima_agent.specs.declared.fault.RunFault.TheVariants as runs
+use Rattle.ima_agent.specs.Loading.{IsNotRead, IsTooLong}
 
 abbrev pub fault_of_words : WordsFault → RunFault
 fault_of_words words.Usage = runs.Usage
@@ -34,11 +35,14 @@ abbrev pub fault_of_expected : ExpectFault → RunFault
 fault_of_expected expects.Memory = runs.Memory
 fault_of_expected fault = runs.Expect fault
 
-abbrev pub fault_of_verdict : VerifyFault → RunFault
-fault_of_verdict (verdicts.Log fault) = fault_of_log fault
-fault_of_verdict (verdicts.List fault) = fault_of_list fault
-fault_of_verdict (verdicts.Replay fault) = runs.Replay fault
-fault_of_verdict verdicts.Memory = runs.Memory
+-- What the verifier's fault is to the program, where the list is the input of this name: a fault of its source names it.
+abbrev pub IsFaultOfVerdict : List ℕ → VerifyFault → RunFault → Type 0
+IsFaultOfVerdict name (verdicts.Log first) fault = fault ≡ fault_of_log first
+IsFaultOfVerdict name (verdicts.List first) fault = fault ≡ fault_of_list first
+IsFaultOfVerdict name (verdicts.Replay first) fault = fault ≡ runs.Replay first
+IsFaultOfVerdict name verdicts.Source fault = IsNotRead name fault ⊎ (fault ≡ runs.Memory)
+IsFaultOfVerdict name verdicts.TooLong fault = IsTooLong name fault ⊎ (fault ≡ runs.Memory)
+IsFaultOfVerdict name verdicts.Memory fault = fault ≡ runs.Memory
 
 -- A wrong number of workers is one of the command line.
 abbrev pub fault_of_agent : AgentFault → RunFault

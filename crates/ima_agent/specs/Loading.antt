@@ -2,11 +2,18 @@
 use Rattle.std.specs.Prelude.{◌≡◌, ℕ, ◌+◌, ◌<◌, ◌⊎◌, List, length, codes, Option, None, Some, ⊤, Result, Ok, Err, IfSome, String, string_bytes}
 use Rattle.std.specs.Global.{Global}
 use Rattle.std.specs.Io.KnownBytes.{Consumes}
+use Rattle.byte_streams.specs.declared.pieces.ReadFault.{ReadFault}
+use Rattle.byte_streams.specs.declared.pieces.ReadFault.TheVariants as reads
 use Rattle.byte_streams.specs.Streams.{SourceState, failures_after}
 use Rattle.ima_agent.specs.declared.loading.LoadFault.{LoadFault}
 use Rattle.ima_agent.specs.declared.loading.LoadFault.TheVariants.{TooLong, Source, Memory}
 use Rattle.ima_agent.specs.declared.fault.RunFault.{RunFault}
 use Rattle.ima_agent.specs.declared.fault.RunFault.TheVariants as runs
+
+-- Why no more bytes came.
+abbrev pub fault_of_reading : ReadFault → LoadFault
+fault_of_reading reads.Source = Source
+fault_of_reading reads.Memory = Memory
 
 -- How many failures the source counts after loading: a fault of the source is one more, and nothing else is.
 abbrev pub failures_after_load : {A : Type 0} → Result A LoadFault → ℕ → ℕ

@@ -1,15 +1,16 @@
 -- The report on a log, a list and expected registers, as the program writes it. All of this is this project's choice.
-use Rattle.std.specs.Prelude.{◌≡◌, ℕ, ◌⊎◌, if◌then◌else◌, List, Some}
+use Rattle.std.specs.Prelude.{◌≡◌, ℕ, ◌⊎◌, if◌then◌else◌, List, Option, Some}
 use Rattle.boot_verdict.specs.declared.expected.Expected.{Expected}
 use Rattle.boot_verdict.specs.declared.expected.ExpectFault.{ExpectFault}
 use Rattle.boot_verdict.specs.declared.verifier.VerifyFault.{VerifyFault}
 use Rattle.boot_verdict.specs.ExpectedTexts.{IsExpectedText, HasFirstFault}
-use Rattle.boot_verdict.specs.Verdicts.{Verdict, IsVerdict, IsVerifyFault, matches}
+use Rattle.boot_verdict.specs.ListSources.{CameWhole}
+use Rattle.boot_verdict.specs.Verdicts.{Verdict, IsSomeLog, IsVerdict, IsVerifyFault, IsVerifyFaultFrom, matches}
 use Rattle.boot_verdict.specs.ReportTexts.{report_text}
 use Rattle.ima_agent.specs.declared.fault.RunFault.{RunFault}
 use Rattle.ima_agent.specs.declared.fault.RunFault.TheVariants as runs
-use Rattle.ima_agent.specs.Faults.{fault_of_expected, fault_of_verdict}
-use Rattle.ima_agent.specs.Loading.{Inputs, Holds, IsInputFault}
+use Rattle.ima_agent.specs.Faults.{IsFaultOfVerdict, fault_of_expected}
+use Rattle.ima_agent.specs.Loading.{Inputs, Holds, HoldsTooMuch, IsInputFault, IsNotRead, IsTooLong, input_limit}
 
 -- The exit status of a verdict: 0 where all matches, else 1.
 abbrev pub verdict_status : Verdict → ℕ
@@ -42,9 +43,10 @@ pub record IsNotExpected (inputs : Inputs) (name : List ℕ) (fault : RunFault) 
   pub first_is : HasFirstFault text first
   pub says : fault ≡ fault_of_expected first
 
--- There is no verdict on this log and this list, and this is the first cause; or memory ran out.
-abbrev pub IsNoVerdictOn : List ℕ → List ℕ → RunFault → Type 0
-IsNoVerdictOn log list fault = ((first : VerifyFault) × IsVerifyFault log list first × (fault ≡ fault_of_verdict first)) ⊎ (fault ≡ runs.Memory)
+-- There is no verdict on this log and this list, whose input has this name, and this is the first cause; or memory ran out.
+abbrev pub IsNoVerdictOn : List ℕ → List ℕ → List ℕ → RunFault → Type 0
+IsNoVerdictOn list_name log list fault =
+    ((first : VerifyFault) × IsVerifyFault log list first × IsFaultOfVerdict list_name first fault) ⊎ (fault ≡ runs.Memory)
 
 -- The same, of the log and the list of these names.
 pub record IsNoVerdict (inputs : Inputs) (log_name list_name : List ℕ) (fault : RunFault) : Type 0 where
@@ -52,11 +54,37 @@ pub record IsNoVerdict (inputs : Inputs) (log_name list_name : List ℕ) (fault 
   pub list : List ℕ
   pub log_held : Holds inputs (Some log_name) log
   pub list_held : Holds inputs (Some list_name) list
-  pub cause : IsNoVerdictOn log list fault
+  pub cause : IsNoVerdictOn list_name log list fault
+
+-- The input of this name is a firmware event log.
+pub record HoldsLog (inputs : Inputs) (name : List ℕ) : Type 0 where
+  pub log : List ℕ
+  pub log_held : Holds inputs (Some name) log
+  pub log_is : IsSomeLog log
+
+-- Why the list of this name was not had: after a log that is one it has too many bytes; or it could not be opened, or failed; or memory ran
+-- out.
+abbrev pub IsListInputFault : Inputs → List ℕ → List ℕ → RunFault → Type 0
+IsListInputFault inputs log list fault =
+    (IsTooLong list fault × HoldsTooMuch inputs (Some list) × HoldsLog inputs log) ⊎ IsNotRead list fault ⊎ (fault ≡ runs.Memory)
 
 -- Why there is no report on the files of these names: one was not had, the text states no expected registers, there is no verdict, or
 -- memory ran out.
 abbrev pub IsReportFault : Inputs → List ℕ → List ℕ → List ℕ → RunFault → Type 0
 IsReportFault inputs log list text fault =
-    IsInputFault inputs (Some log) fault ⊎ IsInputFault inputs (Some list) fault ⊎ IsInputFault inputs (Some text) fault
+    IsInputFault inputs (Some log) fault ⊎ IsListInputFault inputs log list fault ⊎ IsInputFault inputs (Some text) fault
     ⊎ IsNotExpected inputs text fault ⊎ IsNoVerdict inputs log list fault ⊎ (fault ≡ runs.Memory)
+
+-- ---- what contracts see of the steps of the report
+
+-- What is shown is the report on this log, all that the list's source had left, and these expected registers.
+pub record IsReportFrom (log : List ℕ) (old new : Option (List ℕ)) (expected : List Expected) (shown : List ℕ) (status : ℕ) : Type 0 where
+  pub list : List ℕ
+  pub came : CameWhole old new input_limit list
+  pub report : IsReportOn log list expected shown status
+
+-- There is no verdict on this log and the list that the source of this name had left, and this is the first cause; or memory ran out.
+abbrev pub IsNoVerdictFrom : List ℕ → List ℕ → Option (List ℕ) → Option (List ℕ) → RunFault → Type 0
+IsNoVerdictFrom list_name log old new fault =
+    ((first : VerifyFault) × IsVerifyFaultFrom log old new input_limit first × IsFaultOfVerdict list_name first fault)
+    ⊎ (fault ≡ runs.Memory)

@@ -1,11 +1,11 @@
 //! Why the program did not do what it was asked for.
 
 ghost use Rattle.std.specs.Prelude.{◌≡◌};
-ghost use Rattle.ima_agent.specs.Faults.{fault_of_agent, fault_of_expected, fault_of_list, fault_of_log, fault_of_verdict, fault_of_words};
+ghost use Rattle.ima_agent.specs.Faults.{fault_of_agent, fault_of_expected, fault_of_list, fault_of_log, fault_of_words};
 ghost use Rattle.ima_agent.specs.declared.fault.RunFault.TheVariants.{Memory};
 
 use boot_log::LogFault;
-use boot_verdict::{ExpectFault, VerifyFault};
+use boot_verdict::ExpectFault;
 use command_line::WordsFault;
 use hash_workers::AgentFault;
 use ima_list::{ListFault, ReplayFault};
@@ -99,19 +99,6 @@ impl From<ExpectFault> for RunFault {
         match fault {
             ExpectFault::Memory => RunFault::Memory,
             other => RunFault::Expect(other),
-        }
-    }
-}
-
-impl From<VerifyFault> for RunFault {
-    ghost from_gives = { λ verify_fault fault. fault ≡ fault_of_verdict verify_fault };
-
-    fn from(fault: VerifyFault) -> Self {
-        match fault {
-            VerifyFault::Log(fault) => fault.into(),
-            VerifyFault::List(fault) => fault.into(),
-            VerifyFault::Replay(fault) => RunFault::Replay(fault),
-            VerifyFault::Memory => RunFault::Memory,
         }
     }
 }

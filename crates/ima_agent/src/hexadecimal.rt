@@ -1,10 +1,9 @@
 ghost use Rattle.std.specs.Prelude.{◌≡◌, not, Ok, IfOk, IsErr, IsErrOf};
 ghost use Rattle.hex.specs.Hex.{decode_of};
-ghost use Rattle.ima_agent.specs.declared.hexadecimal.HexFault.TheVariants.{Memory};
 ghost use Rattle.ima_agent.specs.Hexadecimal.{is_white_space, without_white_space};
 
 use hex::FromHexError;
-use std::alloc::{AllocError, Global};
+use std::alloc::Global;
 use thiserror::Error;
 
 /// Why a text was not decoded.
@@ -18,14 +17,6 @@ pub(crate) enum HexFault {
     Memory,
 }
 
-impl From<AllocError> for HexFault {
-    ghost from_gives = { λ _ fault. fault ≡ Memory };
-
-    fn from(_fault: AllocError) -> Self {
-        HexFault::Memory
-    }
-}
-
 /// Whether a byte counts in a hexadecimal text: all do but space, tab, carriage return and line feed.
 fn is_kept(byte: u8) -> bool
     ensures { result ≡ not (is_white_space byte) }
@@ -33,16 +24,21 @@ fn is_kept(byte: u8) -> bool
     !matches!(byte, b' ' | b'\t' | b'\r' | b'\n')
 }
 
-/// The bytes that a text spells: two hexadecimal digits of either case for each, with white space anywhere.
-pub(crate) fn decode_hexadecimal(alloc: Global, text: &[u8]) -> Result<Vec<u8>, HexFault>
-    ensures ok { IfOk result (λ bytes. decode_of (without_white_space text.now) ≡ Ok bytes.items) }
-    ensures not_hex { IsErrOf result HexFault.NotHex → IsErr (decode_of (without_white_space text.now)) }
+// Drops white space from the text, in place.
+fn drop_white_space(text: &mut Vec<u8>)
+    ensures { text.new.items ≡ without_white_space text.old.items }
 {
-    let digits: Vec<u8> = text
-        .iter()
-        .copied()
-        .filter(|byte| is_kept(*byte))
-        .collect(alloc)?;
+    text.retain(|byte| is_kept(*byte));
+}
+
+/// The bytes that a text spells: two hexadecimal digits of either case for each, with white space anywhere. The digits are not
+/// copied.
+pub(crate) fn decode_hexadecimal(alloc: Global, text: Vec<u8>) -> Result<Vec<u8>, HexFault>
+    ensures ok { IfOk result (λ bytes. decode_of (without_white_space text.items) ≡ Ok bytes.items) }
+    ensures not_hex { IsErrOf result HexFault.NotHex → IsErr (decode_of (without_white_space text.items)) }
+{
+    let mut digits = text;
+    drop_white_space(&mut digits);
     match hex::decode(alloc, digits) {
         Ok(bytes) => Ok(bytes),
         Err(FromHexError::OutOfMemory) => Err(HexFault::Memory),

@@ -1,4 +1,4 @@
-//! The program's inputs, loaded whole.
+//! The program's inputs: those that are loaded whole, and what is said of one that cannot be read.
 
 ghost use Rattle.std.specs.Prelude.{◌≡◌, ◌≤◌, ◌⊎◌, option_map, vec_len, IfOk, IfErr, IfSome};
 ghost use Rattle.ima_agent.specs.Loading.{input_limit, Holds, IsInputFault, IsLoadFaultOf, IsNotRead, IsTooLong};
@@ -11,7 +11,7 @@ use byte_streams::Source;
 use std::alloc::Global;
 
 /// How many bytes an input may have.
-const INPUT_LIMIT: u64 = 64 * 1024 * 1024;
+pub(crate) const INPUT_LIMIT: u64 = 64 * 1024 * 1024;
 
 /// What standard input is called.
 const STANDARD_INPUT: &str = "-";
@@ -49,8 +49,8 @@ fn loaded_from<R: Source>(alloc: Global, source: &mut R, input: &str) -> Result<
     }
 }
 
-// The fault that the input of this name could not be opened, or failed.
-fn not_read(alloc: Global, input: &str) -> RunFault
+/// The fault that the input of this name could not be opened, or failed.
+pub(crate) fn not_read(alloc: Global, input: &str) -> RunFault
     ensures { IsNotRead input.now result ⊎ (result ≡ RunFault.Memory) }
 {
     match String::from_str(alloc, input) {
@@ -59,8 +59,8 @@ fn not_read(alloc: Global, input: &str) -> RunFault
     }
 }
 
-// The fault that the input of this name has too many bytes.
-fn too_long(alloc: Global, input: &str) -> RunFault
+/// The fault that the input of this name has too many bytes.
+pub(crate) fn too_long(alloc: Global, input: &str) -> RunFault
     ensures { IsTooLong input.now result ⊎ (result ≡ RunFault.Memory) }
 {
     match String::from_str(alloc, input) {

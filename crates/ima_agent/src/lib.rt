@@ -18,7 +18,7 @@ mod words;
 
 pub use boot_verdict::{
     Aggregate, ExpectFault, Expected, Report, Row, State, VerifyFault, read_expected, verify,
-    write_registers, write_report,
+    verify_from, write_registers, write_report,
 };
 pub use command_line::{Plan, Print, words_after_name};
 pub use fault::RunFault;

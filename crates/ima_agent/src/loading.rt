@@ -2,15 +2,11 @@
 
 ghost use Rattle.std.specs.Prelude.{◌≡◌, ◌<◌, ◌≤◌, length, vec_len, is_some, IfOk, IfSome, IsErrOf, OnOk};
 ghost use Rattle.std.specs.Io.KnownBytes.{IsAtEnd};
-ghost use Rattle.ima_agent.specs.declared.loading.LoadFault.TheVariants.{Memory, Source};
-ghost use Rattle.ima_agent.specs.Loading.{failures_after_load, LosesFront, LosesMoreThan};
+ghost use Rattle.ima_agent.specs.Loading.{failures_after_load, fault_of_reading, LosesFront, LosesMoreThan};
 
-use byte_streams::{Failed, Source};
-use std::alloc::{AllocError, Global};
+use byte_streams::{ReadFault, Source, read_piece};
+use std::alloc::Global;
 use thiserror::Error;
-
-/// How many bytes are read at once.
-const PIECE: usize = 4096;
 
 /// Why a source was not loaded.
 #[derive(Clone, Copy, Debug, PartialEq, Eq, Error)]
@@ -26,19 +22,14 @@ pub enum LoadFault {
     Memory,
 }
 
-impl From<Failed> for LoadFault {
-    ghost from_gives = { λ _ fault. fault ≡ Source };
+impl From<ReadFault> for LoadFault {
+    ghost from_gives = { λ read_fault fault. fault ≡ fault_of_reading read_fault };
 
-    fn from(_fault: Failed) -> Self {
-        LoadFault::Source
-    }
-}
-
-impl From<AllocError> for LoadFault {
-    ghost from_gives = { λ _ fault. fault ≡ Memory };
-
-    fn from(_fault: AllocError) -> Self {
-        LoadFault::Memory
+    fn from(fault: ReadFault) -> Self {
+        match fault {
+            ReadFault::Source => LoadFault::Source,
+            ReadFault::Memory => LoadFault::Memory,
+        }
     }
 }
 
@@ -58,15 +49,13 @@ pub fn load<R: Source>(alloc: Global, source: &mut R, limit: u64) -> Result<Vec<
     ensures counts { (R.state source.new).failures ≡ failures_after_load result (R.state source.old).failures }
 {
     let mut bytes = Vec::new(alloc);
-    let mut piece = [0; PIECE];
     loop {
-        let count = source.read(&mut piece)?;
+        let count = read_piece(source, &mut bytes)?;
         if count == 0 {
             return Ok(bytes);
         }
-        if (count as u64) > limit - bytes.len() as u64 {
+        if bytes.len() as u64 > limit {
             return Err(LoadFault::TooLong);
         }
-        bytes.extend_from_slice(&piece[..count])?;
     }
 }

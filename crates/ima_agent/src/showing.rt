@@ -13,7 +13,8 @@ use crate::inputs::loaded;
 use boot_log::read_log;
 use boot_verdict::write_registers;
 use byte_streams::{Failed, VecSink};
-use ima_list::{Entry, read_list};
+use ima_list::laws::entries_to_the_end_are_the_reading;
+use ima_list::{Entry, EntryRef};
 use std::alloc::{AllocError, Global};
 
 /// The registers that differ from their reset values after the log on standard input, which is in hexadecimal.
@@ -23,7 +24,7 @@ pub(crate) fn shown_registers<F: Files>(alloc: Global, files: &mut F) -> Result<
         ⊎ OfInput (F.told files.old) None (λ text. IsRefusedFor text fault)) }
 {
     let text = loaded(alloc, files, None)?;
-    registers_in(alloc, &text)
+    registers_in(alloc, text)
 }
 
 /// The lines of the entries of the list in the file of this name.
@@ -37,14 +38,31 @@ pub(crate) fn shown_list<F: Files>(
         ⊎ OfInput (F.told files.old) (Some list.now) (λ bytes. IsNoListFor bytes fault)) }
 {
     let bytes = loaded(alloc, files, Some(list))?;
-    let entries = read_list(alloc, &bytes)?;
-    Ok(lines(alloc, &entries)?)
+    lines_in(alloc, &bytes)
+}
+
+// The lines of the entries of a list, which are read in place.
+fn lines_in(alloc: Global, list: &[u8]) -> Result<Vec<u8>, RunFault>
+    ensures shown { IfOk result (λ shown. ShowsList list.now shown.items) }
+    ensures fault { IfErr result (IsNoListFor list.now) }
+{
+    entries_to_the_end_are_the_reading();
+    let mut text = Vec::new(alloc);
+    let mut number = 0;
+    let mut rest = list;
+    while !rest.is_empty() {
+        let (entry, after) = EntryRef::read(number, rest)?;
+        entry.line(&mut text)?;
+        number += 1;
+        rest = after;
+    }
+    Ok(text)
 }
 
 // The registers of a log in hexadecimal that differ from their reset values.
-fn registers_in(alloc: Global, text: &[u8]) -> Result<Vec<u8>, RunFault>
-    ensures shown { IfOk result (λ shown. ShowsRegisters text.now shown.items) }
-    ensures refused { IfErr result (IsRefusedFor text.now) }
+fn registers_in(alloc: Global, text: Vec<u8>) -> Result<Vec<u8>, RunFault>
+    ensures shown { IfOk result (λ shown. ShowsRegisters text.items shown.items) }
+    ensures refused { IfErr result (IsRefusedFor text.items) }
 {
     let bytes = match decode_hexadecimal(alloc, text) {
         Ok(bytes) => bytes,

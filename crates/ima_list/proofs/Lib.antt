@@ -1,5 +1,6 @@
 pub mod EntryLaws
 pub mod ListLaws
+pub mod PieceLaws
 pub mod TemplateLaws
 pub mod ReplayLaws
 pub mod FieldsLaws

@@ -10,6 +10,7 @@ pub mod Lines
 pub mod Aggregates
 pub mod Entries
 pub mod Writing
+pub mod Pieces
 pub mod Binding
 pub use Rattle.byte_streams.specs.Streams
 pub use Rattle.byte_streams.specs.Memory

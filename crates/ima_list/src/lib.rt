@@ -6,10 +6,12 @@
 
 mod aggregate;
 mod entry;
+mod entry_ref;
 mod fault;
 mod fields;
 pub mod laws;
 mod line;
+mod list_reader;
 mod payload;
 mod pieces;
 mod reading;
@@ -20,8 +22,10 @@ mod writing;
 pub use aggregate::boot_aggregate;
 pub use byte_streams::{Failed, Sink, SliceSource, Source, VecSink, send, send_pieces};
 pub use entry::Entry;
+pub use entry_ref::EntryRef;
 pub use fault::ListFault;
 pub use fields::Fields;
+pub use list_reader::ListReader;
 pub use reading::read_list;
 pub use replaying::{ReplayFault, replay};
 pub use template::{EntryFault, Template};

@@ -1,8 +1,8 @@
 //! Many entries and large ones, of each register and of each algorithm: a body that gives up without cause fails here.
 
 use super::{
-    MEASUREMENT, REGISTER_PLACE, append_entry, entry_of, joined, line_of, list_of, measured,
-    measurement_with, once_more, spelling_of, violated,
+    MEASUREMENT, OTHER_HEAD, REGISTER_PLACE, append_entry, entry_of, joined, line_of, list_of,
+    measured, measurement_with, once_more, spelling_of, violated,
 };
 use ima_list::{Fields, Template, replay};
 use pcr_banks::{Alg, AlgSet, Banks, Digest, REGISTERS, hash};
@@ -71,11 +71,6 @@ fn twelve_thousand_entries(rt: HostRuntime) -> Result<(), Fail> {
     assert_eq!(rt; banks.read(Alg::Sha256, 10), Some(value));
     Ok(())
 }
-
-/// An entry of register 10 whose template digest is zero and whose name is `ima-xx`, up to the length of its payload.
-const OTHER_HEAD: &[u8] = b"\x0a\x00\x00\x00\
-    \x00\x00\x00\x00\x00\x00\x00\x00\x00\x00\x00\x00\x00\x00\x00\x00\x00\x00\x00\x00\
-    \x06\x00\x00\x00ima-xx";
 
 /// The line of this entry, up to its payload.
 const OTHER_FRONT: &[u8] = b"10 0000000000000000000000000000000000000000 ima-xx ";

@@ -1,0 +1,247 @@
+//! Reports on lists that come from a source, piece by piece.
+
+ghost use Rattle.std.specs.Prelude.{None};
+
+use super::devices::{bytes_of, joined, once_more};
+use super::logs::{EVENT, HEADER};
+use super::real_boot::FIRMWARE_LOG;
+use super::real_boot_list::{REGISTER, list_bytes};
+use super::show::{MEASUREMENT, VIOLATION};
+use super::verdicts::{EXPECTED, log_and_list};
+use boot_log::LogFault;
+use byte_streams::{Failed, SliceSource, Source, VecSink};
+use ima_agent::{Expected, Report, VerifyFault, read_expected, verify, verify_from, write_report};
+use ima_list::{ListFault, ReplayFault};
+use std::alloc::Global;
+use std::test::Fail;
+
+/// Gives so many bytes at a time at most, fails after some reads, and tells no bytes.
+#[derive(Clone, Copy)]
+struct PieceSource<'a> {
+    rest: &'a [u8],
+    most: usize,
+    reads: usize,
+    failures: u64,
+}
+
+impl<'a> PieceSource<'a> {
+    /// Gives these bytes, and never fails.
+    fn new(bytes: &'a [u8], most: usize) -> Self {
+        PieceSource {
+            rest: bytes,
+            most,
+            reads: usize::MAX,
+            failures: 0,
+        }
+    }
+}
+
+impl Source for PieceSource<'_> {
+    ghost state = { λ source. record { remaining = None; failures = source.failures } };
+
+    fn read(&mut self, buffer: &mut [u8]) -> Result<usize, Failed> {
+        if self.reads == 0 {
+            self.failures = self.failures.saturating_add(1);
+            return Err(Failed);
+        }
+        self.reads -= 1;
+        let count = self.rest.len().min(self.most).min(buffer.len());
+        let (front, rest) = self.rest.split_at(count);
+        buffer[..count].copy_from_slice(front);
+        self.rest = rest;
+        Ok(count)
+    }
+}
+
+/// The report on a list that stands in memory, through a source; once more where an allocation was refused.
+fn report_within(
+    alloc: Global,
+    log: &[u8],
+    list: &[u8],
+    limit: u64,
+    expected: &[Expected],
+) -> Result<Report, VerifyFault> {
+    once_more(|| verify_from(alloc, log, &mut SliceSource::new(list), limit, expected))
+}
+
+/// The report on a list that comes in pieces; once more where an allocation was refused.
+fn report_in_pieces(
+    alloc: Global,
+    log: &[u8],
+    list: &[u8],
+    most: usize,
+    expected: &[Expected],
+) -> Result<Report, VerifyFault> {
+    once_more(|| {
+        let mut source = PieceSource::new(list, most);
+        verify_from(alloc, log, &mut source, u64::MAX, expected)
+    })
+}
+
+/// Why there is no report on what a source gives, and how often it failed; once more where an allocation was refused.
+fn fault_of(alloc: Global, log: &[u8], source: PieceSource<'_>) -> (Option<VerifyFault>, u64) {
+    let mut first = source;
+    let fault = verify_from(alloc, log, &mut first, u64::MAX, &[]).err();
+    if fault != Some(VerifyFault::Memory) {
+        return (fault, first.failures);
+    }
+    let mut second = source;
+    let fault = verify_from(alloc, log, &mut second, u64::MAX, &[]).err();
+    (fault, second.failures)
+}
+
+/// The text of a report.
+fn written(alloc: Global, report: &Report) -> Result<Vec<u8>, Failed> {
+    once_more(|| {
+        let mut sink = VecSink::new(Vec::new(alloc));
+        write_report(report, &mut sink)?;
+        Ok(sink.into_bytes())
+    })
+}
+
+/// The report on the list of three entries, with a row of each state.
+const REPORT: &[u8] = b"\
+events 1 locality 0
+entries 3
+boot_aggregate good
+sha256 10 match
+sha256 0 differ 0000000000000000000000000000000000000000000000000000000000000000
+sha1 10 absent
+verdict differ
+";
+
+/// The report is the same from a source, whatever pieces it gives, and a limit of ten bytes ends it.
+#[test]
+fn report_on_a_list_from_a_source(rt: HostRuntime) -> Result<(), Fail> {
+    let alloc = rt.alloc();
+    let (log, list) = log_and_list(alloc)?;
+    let expected = once_more(|| read_expected(alloc, EXPECTED.as_bytes()))?;
+    let report = report_within(alloc, &log, &list, u64::MAX, &expected)?;
+    assert_eq!(rt; written(alloc, &report)?.as_slice(), REPORT);
+    for most in [1, 7, 100, 4_096] {
+        let report = report_in_pieces(alloc, &log, &list, most, &expected)?;
+        assert_eq!(rt; written(alloc, &report)?.as_slice(), REPORT, "{most}");
+    }
+    let fault = report_within(alloc, &log, &list, 10, &expected).err();
+    assert_eq!(rt; fault, Some(VerifyFault::TooLong));
+    Ok(())
+}
+
+/// A limit counts whole bytes, and a fault of the bytes before it comes first; a fault of the log comes before the source is
+/// asked for anything.
+#[test]
+fn pieces_limits_and_faults(rt: HostRuntime) -> Result<(), Fail> {
+    let alloc = rt.alloc();
+    let log = bytes_of(alloc, &[HEADER])?;
+    let report = report_within(alloc, &log, MEASUREMENT, 94, &[])?;
+    assert_eq!(rt; report.entries, 1);
+    let foreign = joined(alloc, &[b"\x18\x00\x00\x00", MEASUREMENT])?;
+    for (list, limit, fault) in [
+        (MEASUREMENT, 93, VerifyFault::TooLong),
+        (MEASUREMENT, 0, VerifyFault::TooLong),
+        (
+            foreign.as_slice(),
+            10,
+            VerifyFault::List(ListFault::BadRegister { entry: 0 }),
+        ),
+        (foreign.as_slice(), 3, VerifyFault::TooLong),
+    ] {
+        let answer = report_within(alloc, &log, list, limit, &[]).err();
+        assert_eq!(rt; answer, Some(fault), "limit {limit}");
+    }
+    let failing = PieceSource {
+        reads: 0,
+        ..PieceSource::new(MEASUREMENT, 94)
+    };
+    let (fault, failures) = fault_of(alloc, b"", failing);
+    let torn = VerifyFault::Log(LogFault::Truncated { event: 0 });
+    assert_eq!(rt; fault, Some(torn));
+    assert_eq!(rt; failures, 0);
+    let (fault, failures) = fault_of(alloc, &log, failing);
+    assert_eq!(rt; fault, Some(VerifyFault::Source));
+    assert_eq!(rt; failures, 1);
+    Ok(())
+}
+
+/// Each read that fails is answered, and is one failure; where none fails there is a report. The list of 289 bytes comes in six
+/// pieces, and a seventh read says that it ends.
+#[test]
+fn failing_read_of_a_list(rt: HostRuntime) -> Result<(), Fail> {
+    let alloc = rt.alloc();
+    let (log, list) = log_and_list(alloc)?;
+    assert_eq!(rt; list.len(), 289);
+    for reads in 0..8 {
+        let source = PieceSource {
+            reads,
+            ..PieceSource::new(&list, 50)
+        };
+        let (fault, failures) = fault_of(alloc, &log, source);
+        let wanted = if reads < 7 {
+            (Some(VerifyFault::Source), 1)
+        } else {
+            (None, 0)
+        };
+        assert_eq!(rt; fault, wanted.0, "{reads} reads");
+        assert_eq!(rt; failures, wanted.1, "{reads} reads");
+    }
+    Ok(())
+}
+
+/// The real boot's list in pieces, which cut most entries: the report is that on the whole list.
+#[test]
+fn real_boot_list_in_pieces(rt: HostRuntime) -> Result<(), Fail> {
+    let alloc = rt.alloc();
+    let log = bytes_of(alloc, &[FIRMWARE_LOG])?;
+    let list = list_bytes(alloc)?;
+    let text = joined(alloc, &[b"sha256 10 ", REGISTER])?;
+    let expected = once_more(|| read_expected(alloc, &text))?;
+    let whole = once_more(|| verify(alloc, &log, &list, &expected))?;
+    let whole = written(alloc, &whole)?;
+    assert_eq!(rt;
+        whole.as_slice(),
+        b"events 24 locality 0\n\
+        entries 99\n\
+        boot_aggregate good\n\
+        sha256 10 match\n\
+        verdict match\n"
+            .as_slice()
+    );
+    for most in [53, 4_096] {
+        let report = report_in_pieces(alloc, &log, &list, most, &expected)?;
+        assert_eq!(rt;
+            written(alloc, &report)?.as_slice(),
+            whole.as_slice(),
+            "{most}"
+        );
+    }
+    Ok(())
+}
+
+/// An entry with a wrong template digest is named only where a list ends after it: what follows it may be no list.
+#[test]
+fn list_fault_behind_a_forged_entry(rt: HostRuntime) -> Result<(), Fail> {
+    let alloc = rt.alloc();
+    let log = bytes_of(alloc, &[HEADER, EVENT])?;
+    let forged = joined(alloc, &[VIOLATION, &MEASUREMENT[..93], b"\x01"])?;
+    for (behind, fault) in [
+        (
+            b"".as_slice(),
+            VerifyFault::Replay(ReplayFault::BadTemplateDigest { entry: 1 }),
+        ),
+        (
+            b"\x18\x00\x00\x00",
+            VerifyFault::List(ListFault::BadRegister { entry: 2 }),
+        ),
+        (
+            b"\x0a\x00",
+            VerifyFault::List(ListFault::Truncated { entry: 2 }),
+        ),
+    ] {
+        let list = joined(alloc, &[&forged, behind])?;
+        for most in [1, 100, 4_096] {
+            let answer = report_in_pieces(alloc, &log, &list, most, &[]).err();
+            assert_eq!(rt; answer, Some(fault), "{most}");
+        }
+    }
+    Ok(())
+}

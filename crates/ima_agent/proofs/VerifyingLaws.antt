@@ -1,0 +1,147 @@
+-- The list of a verdict that was read from the source of an input: what it says of the input.
+use Rattle.std.proofs.Common.{◌≡◌, ◌⊎◌, ℕ, ◌+◌, ◌<◌, ◌≤◌, List, [], ◌++◌, length, Option, None, Some, Ok, Err, refl, sym, ap, subst, ◌∙◌, append_assoc, append-nil, arith, inl, inr}
+use Rattle.std.specs.Prelude.{IfSome, IfOk, IfErr, Result}
+use Rattle.std.specs.Io.KnownBytes.{Consumes, IsAtEnd}
+use Rattle.std.proofs.lemmas.List.{length-append}
+use Rattle.ima_list.specs.declared.fault.ListFault.{ListFault}
+use Rattle.ima_list.specs.declared.fault.ListFault.TheVariants as lists
+use Rattle.ima_list.specs.Spelling.{IsReading}
+use Rattle.boot_verdict.specs.declared.verifier.VerifyFault.{VerifyFault}
+use Rattle.boot_verdict.specs.declared.verifier.VerifyFault.TheVariants as verdicts
+use Rattle.boot_verdict.specs.ListSources.{CameFrom, CameWhole, FailsFor, IsListFault}
+use Rattle.boot_verdict.specs.Verdicts.{IsSomeLog, IsVerifyFault, IsVerifyFaultFrom}
+use Rattle.boot_verdict.specs.declared.expected.Expected.{Expected}
+use Rattle.boot_verdict.specs.ExpectedTexts.{IsExpectedText}
+use Rattle.ima_agent.specs.declared.fault.RunFault.{RunFault}
+use Rattle.ima_agent.specs.declared.output.Output.{Output}
+use Rattle.ima_agent.specs.Faults.{IsFaultOfVerdict}
+use Rattle.ima_agent.specs.Loading.{Inputs, Holds, IsNotRead, IsTooLong, input_limit}
+use Rattle.ima_agent.specs.Verifying.{HoldsLog, IsListInputFault, IsNoVerdict, IsNoVerdictFrom, IsReportFault, IsReportFrom, ShowsReport}
+
+-- The source has just what the input holds to give.
+abbrev pub HasAll : Option (List ℕ) → Option (List ℕ) → Type 0
+HasAll told remaining = IfSome told (λ all. remaining ≡ Some all)
+
+-- ---- the list that came, and the input that it came from
+
+whole_from : (all : List ℕ) (new : Option (List ℕ)) (list : List ℕ) → Consumes (Some all) new (list ++ []) → IsAtEnd new → list ≡ all
+whole_from all None list lost end = absurd lost
+whole_from all (Some rest) list lost end =
+    sym (lost ∙ ap (λ (r : List ℕ). (list ++ []) ++ r) end ∙ append-nil (list ++ []) ∙ append-nil list)
+
+-- A list that came whole is the input.
+pub held_whole : (told old new : Option (List ℕ)) (limit : ℕ) (list : List ℕ) → HasAll told old → CameWhole old new limit list
+    → IfSome told (λ all. list ≡ all)
+held_whole None old new limit list has whole = tt
+held_whole (Some all) old new limit list has whole =
+    whole_from all new list (subst (λ (o : Option (List ℕ)). Consumes o new (list ++ [])) has whole.came.lost) whole.end
+
+-- An input that begins with these bytes.
+record HeldMore (told : Option (List ℕ)) (list : List ℕ) : Type 0 where
+  pub all : List ℕ
+  pub more : List ℕ
+  pub held : IfSome told (λ bytes. all ≡ bytes)
+  pub parts : all ≡ list ++ more
+
+more_from : (bytes : List ℕ) (new : Option (List ℕ)) (list over : List ℕ) → Consumes (Some bytes) new (list ++ over) → HeldMore (Some bytes) list
+more_from bytes None list over lost = absurd lost
+more_from bytes (Some rest) list over lost =
+    record { all = bytes; more = over ++ rest; held = refl; parts = lost ∙ append_assoc list over rest }
+
+-- The input begins with a list of which some bytes came.
+held_more : (told old new : Option (List ℕ)) (limit : ℕ) (list over : List ℕ) → HasAll told old → CameFrom old new limit list over
+    → HeldMore told list
+held_more None old new limit list over has came = record { all = list; more = []; held = tt; parts = sym (append-nil list) }
+held_more (Some bytes) old new limit list over has came =
+    more_from bytes new list over (subst (λ (o : Option (List ℕ)). Consumes o new (list ++ over)) has came.lost)
+
+-- Some input.
+held_any : (told : Option (List ℕ)) → (all : List ℕ) × IfSome told (λ bytes. all ≡ bytes)
+held_any None = ([], tt)
+held_any (Some bytes) = (bytes, refl)
+
+longer : (bytes : List ℕ) (new : Option (List ℕ)) (limit : ℕ) (list over : List ℕ) → Consumes (Some bytes) new (list ++ over)
+    → length list ≡ limit → 0 < length over → limit < length bytes
+longer bytes None limit list over lost full some = absurd lost
+longer bytes (Some rest) limit list over lost full some =
+    omega (arith, ap (λ (l : List ℕ). length l) lost, length-append (list ++ over) rest, length-append list over, full, some)
+
+-- An input of which more bytes came than the limit has more.
+held_longer : (told old new : Option (List ℕ)) (limit : ℕ) (list over : List ℕ) → HasAll told old → CameFrom old new limit list over
+    → length list ≡ limit → 0 < length over → IfSome told (λ all. limit < length all)
+held_longer None old new limit list over has came full some = tt
+held_longer (Some bytes) old new limit list over has came full some =
+    longer bytes new limit list over (subst (λ (o : Option (List ℕ)). Consumes o new (list ++ over)) has came.lost) full some
+
+-- ---- why there is no report
+
+module _ (inputs : Inputs) (log_name list_name text_name log : List ℕ) (old new : Option (List ℕ)) (fault : RunFault)
+    (held : Holds inputs (Some log_name) log) (has : HasAll (inputs (Some list_name)) old) where
+  no_verdict : (list : List ℕ) (first : VerifyFault) → Holds inputs (Some list_name) list → IsVerifyFault log list first
+      → IsFaultOfVerdict list_name first fault → IsReportFault inputs log_name list_name text_name fault
+  no_verdict list first list-held is says = inr (inr (inr (inr (inl (record {
+    log = log;
+    list = list;
+    log_held = held;
+    list_held = list-held;
+    cause = inl (first, is, says);
+  })))))
+
+  list_fails : (first : ListFault) → IsSomeLog log
+      → ((list : List ℕ) × (over : List ℕ) × CameFrom old new input_limit list over × FailsFor list first)
+      → IsFaultOfVerdict list_name (verdicts.List first) fault → IsReportFault inputs log_name list_name text_name fault
+  list_fails first is fails says =
+      let more = held_more (inputs (Some list_name)) old new input_limit fails.0 fails.1 has fails.2 in
+      no_verdict more.all (verdicts.List first) more.held
+      (is, rw more.parts (fails.3.1 more.more)) says
+
+  pub report_fault : IsNoVerdictFrom list_name log old new fault → IsReportFault inputs log_name list_name text_name fault
+  report_fault (inr memory) = inr (inr (inr (inr (inr memory))))
+  report_fault (inl (verdicts.Log first, is, says)) =
+      let any = held_any (inputs (Some list_name)) in
+      no_verdict any.0 (verdicts.Log first) any.1 is.0 says
+  report_fault (inl (verdicts.List (lists.Truncated entry), is, says)) =
+      no_verdict is.1.0 (verdicts.List (lists.Truncated entry))
+      (held_whole (inputs (Some list_name)) old new input_limit is.1.0 has is.1.1) (is.0, is.1.2) says
+  report_fault (inl (verdicts.List (lists.BadRegister entry), is, says)) = list_fails (lists.BadRegister entry) is.0 is.1 says
+  report_fault (inl (verdicts.List (lists.NameTooLong entry), is, says)) = list_fails (lists.NameTooLong entry) is.0 is.1 says
+  report_fault (inl (verdicts.List lists.Memory, is, says)) = list_fails lists.Memory is.0 is.1 says
+  report_fault (inl (verdicts.Replay first, is, says)) =
+      no_verdict is.1.0 (verdicts.Replay first) (held_whole (inputs (Some list_name)) old new input_limit is.1.0 has is.1.1)
+      (is.0, is.1.2) says
+  report_fault (inl (verdicts.Source, is, inl says)) = inr (inl (inr (inl says)))
+  report_fault (inl (verdicts.Source, is, inr memory)) = inr (inl (inr (inr memory)))
+  report_fault (inl (verdicts.TooLong, is, inl says)) =
+      inr (inl (inl (
+        says,
+        held_longer (inputs (Some list_name)) old new input_limit is.1.0 is.1.1 has is.1.2 is.1.3 is.1.4,
+        record { log = log; log_held = held; log_is = is.0 },
+      )))
+  report_fault (inl (verdicts.TooLong, is, inr memory)) = inr (inl (inr (inr memory)))
+  report_fault (inl (verdicts.Memory, is, says)) = inr (inr (inr (inr (inr says))))
+
+-- ---- what the program shows
+
+pub shown_from : (inputs : Inputs) (log_name list_name text_name log text : List ℕ) (expected : List Expected) (old new : Option (List ℕ))
+    (result : Result Output RunFault) → Holds inputs (Some log_name) log → Holds inputs (Some text_name) text → IsExpectedText text expected
+    → HasAll (inputs (Some list_name)) old → IfOk result (λ output. IsReportFrom log old new expected output.text.items output.status)
+    → IfOk result (λ output. ShowsReport inputs log_name list_name text_name output.text.items output.status)
+shown_from inputs log_name list_name text_name log text expected old new (Ok output) log-held text-held states has shows = record {
+  log = log;
+  list = shows.list;
+  text = text;
+  expected = expected;
+  log_held = log-held;
+  list_held = held_whole (inputs (Some list_name)) old new input_limit shows.list has shows.came;
+  text_held = text-held;
+  expected_is = states;
+  report = shows.report;
+}
+shown_from inputs log_name list_name text_name log text expected old new (Err fault) log-held text-held states has shows = tt
+
+pub refused_from : (inputs : Inputs) (log_name list_name text_name log : List ℕ) (old new : Option (List ℕ)) (result : Result Output RunFault)
+    → Holds inputs (Some log_name) log → HasAll (inputs (Some list_name)) old → IfErr result (IsNoVerdictFrom list_name log old new)
+    → IfErr result (IsReportFault inputs log_name list_name text_name)
+refused_from inputs log_name list_name text_name log old new (Ok output) held has none = tt
+refused_from inputs log_name list_name text_name log old new (Err fault) held has none =
+    report_fault inputs log_name list_name text_name log old new fault held has none
