@@ -1,5 +1,5 @@
 -- A list that comes from a source: what was taken of it, and why it is not read. All of this is this project's choice.
-use Rattle.std.specs.Prelude.{◌≡◌, ◌⊎◌, ℕ, ◌<◌, ◌≤◌, List, [], ◌++◌, length, Option, Result, Ok, Err}
+use Rattle.std.specs.Prelude.{◌≡◌, ◌⊎◌, ℕ, ◌<◌, ◌≤◌, List, [], ◌++◌, length, Option, Some, Result, Ok, Err}
 use Rattle.std.specs.Io.KnownBytes.{Consumes, IsAtEnd}
 use Rattle.byte_streams.specs.Streams.{failures_after}
 use Rattle.ima_list.specs.declared.fault.ListFault.{ListFault}
@@ -7,6 +7,7 @@ use Rattle.ima_list.specs.declared.fault.ListFault.TheVariants as lists
 use Rattle.ima_list.specs.ListEntry.{ListEntry}
 use Rattle.ima_list.specs.Spelling.{IsReading}
 use Rattle.ima_list.specs.Pieces.{IsLasting}
+use Rattle.ima_list.specs.Replaying.{AreGenuine}
 use Rattle.boot_verdict.specs.declared.verifier.VerifyFault.{VerifyFault}
 use Rattle.boot_verdict.specs.declared.verifier.VerifyFault.TheVariants as faults
 
@@ -41,6 +42,14 @@ IsListFault old new limit faults.Source = (list : List ℕ) × CameFrom old new 
 IsListFault old new limit faults.TooLong =
     (list : List ℕ) × (over : List ℕ) × CameFrom old new limit list over × (length list ≡ limit) × (0 < length over) × IsSound list
 IsListFault old new limit faults.Memory = Unit {0}
+
+-- All that the source has left is at most `limit` bytes, and is a list of these entries, each of them genuine.
+pub record HoldsGenuineList (remaining : Option (List ℕ)) (limit : ℕ) (entries : List ListEntry) : Type 0 where
+  pub list : List ℕ
+  pub told : remaining ≡ Some list
+  pub within : length list ≤ limit
+  pub list_is : IsReading list (Ok entries)
+  pub genuine : AreGenuine entries
 
 -- How many failures the source counts after the list was read from it: a fault of the source is one more, and nothing else is.
 abbrev pub failures_after_list : {A : Type 0} → Result A VerifyFault → ℕ → ℕ

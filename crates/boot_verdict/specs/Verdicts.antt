@@ -21,7 +21,7 @@ use Rattle.ima_list.specs.declared.fault.ListFault.{ListFault}
 use Rattle.ima_list.specs.declared.fault.ListFault.TheVariants as lists
 use Rattle.ima_list.specs.declared.replaying.ReplayFault.{ReplayFault}
 use Rattle.ima_list.specs.ListEntry.{ListEntry}
-use Rattle.ima_list.specs.Spelling.{BeginsWithEntry, IsReading}
+use Rattle.ima_list.specs.Spelling.{IsReading}
 use Rattle.ima_list.specs.Digesting.{is_violation}
 use Rattle.ima_list.specs.Fields.{FileFields, fields_of}
 use Rattle.ima_list.specs.Aggregates.{aggregated, joined_values}
@@ -157,10 +157,9 @@ pub record IsGenuineList (list : List ℕ) : Type 0 where
   pub list_is : IsReading list (Ok entries)
   pub genuine : AreGenuine entries
 
--- There is something to keep in memory: an event, at the front of the log; or, after a log, an entry, at the front of the list, or
--- rows, after a list of genuine entries.
+-- There is something to keep in memory: an event, at the front of the log; or rows, after a log and a list of genuine entries.
 abbrev pub HasSomethingToKeep : List ℕ → List ℕ → Type 0
-HasSomethingToKeep log list = BeginsWithEvent log ⊎ (IsSomeLog log × (BeginsWithEntry list ⊎ IsGenuineList list))
+HasSomethingToKeep log list = BeginsWithEvent log ⊎ (IsSomeLog log × IsGenuineList list)
 
 -- Why there is no verdict: the first of these that holds, the log before the list, and the list before its entries; or memory ran out.
 abbrev pub IsVerifyFault : List ℕ → List ℕ → VerifyFault → Type 0

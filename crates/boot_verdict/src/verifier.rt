@@ -4,6 +4,7 @@ ghost use Rattle.std.specs.Prelude.{◌≡◌, ◌⊎◌, List, map, option_map,
 ghost use Rattle.pcr_banks.specs.declared.sets.AlgSet.{AlgSet};
 ghost use Rattle.pcr_banks.specs.Digests.{alg_of, bytes_of};
 ghost use Rattle.byte_fields.specs.Reading.{ReadsInMemory};
+ghost use Rattle.byte_streams.specs.Streams.{LosesFront};
 ghost use Rattle.boot_log.specs.declared.header.Row.{Row as TableRow};
 ghost use Rattle.boot_log.specs.BootLog.{algs_of, events_of};
 ghost use Rattle.boot_log.specs.Spelling.{LogEvent, BeginsWithEvent, IsLog, algs_in};
@@ -13,7 +14,7 @@ ghost use Rattle.ima_list.specs.Spelling.{IsReading};
 ghost use Rattle.ima_list.specs.Replaying.{AreGenuine};
 ghost use Rattle.boot_verdict.specs.declared.verifier.VerifyFault.TheVariants.{Memory, Replay};
 ghost use Rattle.boot_verdict.specs.Verdicts.{HasSomethingToKeep, IsSomeLog, IsVerdict, IsVerdictFrom, IsVerifyFault, IsVerifyFaultFrom, aggregate_of, compared, fault_of_list, fault_of_log, fault_of_reading, row_of, verdict_of, verdict_on};
-ghost use Rattle.boot_verdict.specs.ListSources.{failures_after_list};
+ghost use Rattle.boot_verdict.specs.ListSources.{HoldsGenuineList, failures_after_list};
 ghost use Rattle.boot_verdict.specs.ListReplays.{IsReportFault, Replays};
 
 use crate::expected::Expected;
@@ -21,7 +22,7 @@ use crate::list_replay::ListReplay;
 use crate::report::{Aggregate, Report, Row, State};
 use boot_log::{BootLog, LogFault, read_log};
 use byte_streams::{ReadFault, Source};
-use ima_list::laws::list_has_one_reading;
+use ima_list::laws::{list_has_one_reading, no_bytes_have_two_readings};
 use ima_list::{ListFault, ReplayFault, boot_aggregate};
 use pcr_banks::{Banks, Digest};
 use std::alloc::{AllocError, Global};
@@ -103,8 +104,7 @@ impl From<AllocError> for VerifyFault {
 ///
 /// The log is read first, then the list, and then it is replayed: an entry that is neither a violation nor has the template
 /// digest of its own bytes is refused. Each expected register is then compared, in their order. [`VerifyFault::Memory`]
-/// comes only where an event stands at the front of the log; or, after a log, an entry at the front of the list, or where all
-/// entries are genuine.
+/// comes only where an event stands at the front of the log, or after a log and a list whose entries are all genuine.
 pub fn verify(
     alloc: Global,
     log: &[u8],
@@ -143,12 +143,21 @@ pub fn verify_from<R: Source>(
 ) -> Result<Report, VerifyFault>
     // The report is the verdict on the log, all bytes that the source had left, and the expected registers.
     ensures report { IfOk result (λ report. IsVerdictFrom log.now (R.state list.old).remaining (R.state list.new).remaining limit expected.now (verdict_of report)) }
+    // Where the log is one, and all that the source has left is a list of genuine entries, within the limit, there is a report, unless
+    // the source fails or memory runs out.
+    ensures only { (table : List TableRow) (events : List LogEvent) (entries : List ListEntry)
+        → IsLog log.now table events → HoldsGenuineList (R.state list.old).remaining limit entries
+        → IsErrOf result VerifyFault.Source
+        ⊎ ReadsInMemory VerifyFault.Memory verdict_of result (Ok (verdict_on (algs_in table) events entries expected.now)) }
     // Any fault is the first cause.
     ensures fault { IfErr result (IsVerifyFaultFrom log.now (R.state list.old).remaining (R.state list.new).remaining limit) }
     ensures memory { IsErrOf result VerifyFault.Memory → BeginsWithEvent log.now ⊎ IsSomeLog log.now }
+    // Whatever is answered, the source has lost bytes from its front, and nothing else.
+    ensures front { LosesFront (R.state list.old).remaining (R.state list.new).remaining }
     ensures telling { is_some (R.state list.new).remaining ≡ is_some (R.state list.old).remaining }
     ensures counts { (R.state list.new).failures ≡ failures_after_list result (R.state list.old).failures }
 {
+    no_bytes_have_two_readings();
     let firmware = read_log(alloc, log)?;
     let start = firmware.registers();
     let replay = ListReplay::of_source(alloc, start, list, limit)?;

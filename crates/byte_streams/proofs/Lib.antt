@@ -1,3 +1,3 @@
 pub mod SinkLaws
 pub mod PieceLaws
-pub mod ReadLaws
+pub mod SourceLaws

@@ -52,13 +52,23 @@ pub record Sends {A E : Type 0} (old new : SinkState) (result : Result A E) (tex
 
 -- ---- reading piece by piece
 
--- These bytes were read from the source's front, and put behind those before them; how many they are is told, and none came only
--- where none remain.
+-- The most bytes that one piece has: 64 KiB.
+abbrev pub piece_limit : ℕ
+piece_limit = 65536
+
+-- A source lost some bytes from its front, and nothing else.
+pub record LosesFront (old new : Option (List ℕ)) : Type 0 where
+  pub front : List ℕ
+  pub lost : Consumes old new front
+
+-- These bytes were read from the source's front, and put behind those before them; how many they are is told, at most one piece, and
+-- none came only where none remain.
 pub record GivesPiece (old new : Option (List ℕ)) (before after : List ℕ) (count : ℕ) : Type 0 where
   pub came : List ℕ
   pub lost : Consumes old new came
   pub added : after ≡ before ++ came
   pub count_is : length came ≡ count
+  pub within : count ≤ piece_limit
   pub end : count ≡ 0 → IsAtEnd new
 
 -- How many failures the source counts after a piece was asked for: a fault of the source is one more, and nothing else is.

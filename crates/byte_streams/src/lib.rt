@@ -11,6 +11,6 @@ mod sending;
 mod streams;
 
 pub use memory::{SliceSource, VecSink};
-pub use pieces::{ReadFault, read_piece};
+pub use pieces::{PieceReader, ReadFault};
 pub use sending::{send, send_pieces};
 pub use streams::{Failed, Sink, Source};

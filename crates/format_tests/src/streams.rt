@@ -1,7 +1,11 @@
-//! Sinks and sources that fail, and what is sent to them.
+//! Sinks and sources that fail, what is sent to them, and what is read piece by piece.
+
+ghost use Rattle.std.specs.Prelude.{None};
 
 use crate::sinks::ShortSink;
-use byte_streams::{Failed, Sink, SliceSource, Source, VecSink, send, send_pieces};
+use byte_streams::{
+    Failed, PieceReader, ReadFault, Sink, SliceSource, Source, VecSink, send, send_pieces,
+};
 use std::test::Fail;
 
 /// How many bytes a sink has room for, how many of the text it then takes, and how often it fails.
@@ -83,5 +87,68 @@ fn failed_says_so(rt: HostRuntime) -> Result<(), Fail> {
         Err(_) => format!(in rt.alloc(); "{Failed}")?,
     };
     assert_eq!(rt; text.as_str(), "the device failed");
+    Ok(())
+}
+
+/// Reads a piece; once more where an allocation was refused, before which nothing was read.
+fn read_once_more<R: Source>(
+    pieces: &mut PieceReader,
+    source: &mut R,
+    bytes: &mut Vec<u8>,
+) -> Result<usize, ReadFault> {
+    match pieces.read(source, bytes) {
+        Err(ReadFault::Memory) => pieces.read(source, bytes),
+        answer => answer,
+    }
+}
+
+/// Pieces have 64 KiB, but for the last, and stand behind one another.
+#[test]
+fn piece_reader_reads_all_bytes(rt: HostRuntime) -> Result<(), Fail> {
+    let mut text = Vec::new(rt.alloc());
+    for number in 0..200_000_usize {
+        let byte = (number % 251) as u8;
+        if text.push(byte).is_err() {
+            text.push(byte)?;
+        }
+    }
+    let mut source = SliceSource::new(&text);
+    let mut pieces = PieceReader::new();
+    let mut bytes = Vec::new(rt.alloc());
+    for count in [65_536, 65_536, 65_536, 3_392, 0, 0] {
+        let read = read_once_more(&mut pieces, &mut source, &mut bytes);
+        assert_eq!(rt; read, Ok(count));
+    }
+    assert!(rt; bytes.as_slice() == text.as_slice());
+    Ok(())
+}
+
+/// A source that fails at once.
+#[derive(Drop)]
+struct FailingSource {
+    failures: u64,
+}
+
+impl Source for FailingSource {
+    ghost state = { λ source. record { remaining = None; failures = source.failures } };
+
+    fn read(&mut self, _buffer: &mut [u8]) -> Result<usize, Failed> {
+        self.failures = self.failures.saturating_add(1);
+        Err(Failed)
+    }
+}
+
+/// After a fault the bytes before it are there still.
+#[test]
+fn piece_reader_keeps_what_it_read(rt: HostRuntime) -> Result<(), Fail> {
+    let mut pieces = PieceReader::new();
+    let mut bytes = Vec::new(rt.alloc());
+    let read = read_once_more(&mut pieces, &mut SliceSource::new(b"abc"), &mut bytes);
+    assert_eq!(rt; read, Ok(3));
+    let mut source = FailingSource { failures: 0 };
+    let read = read_once_more(&mut pieces, &mut source, &mut bytes);
+    assert_eq!(rt; read, Err(ReadFault::Source));
+    assert_eq!(rt; source.failures, 1);
+    assert_eq!(rt; bytes.as_slice(), b"abc".as_slice());
     Ok(())
 }

@@ -60,18 +60,16 @@ held_any : (told : Option (List ℕ)) → (all : List ℕ) × IfSome told (λ by
 held_any None = ([], tt)
 held_any (Some bytes) = (bytes, refl)
 
-longer : (bytes : List ℕ) (new : Option (List ℕ)) (limit : ℕ) (list over : List ℕ) → Consumes (Some bytes) new (list ++ over)
-    → length list ≡ limit → 0 < length over → limit < length bytes
-longer bytes None limit list over lost full some = absurd lost
-longer bytes (Some rest) limit list over lost full some =
-    omega (arith, ap (λ (l : List ℕ). length l) lost, length-append (list ++ over) rest, length-append list over, full, some)
-
--- An input of which more bytes came than the limit has more.
-held_longer : (told old new : Option (List ℕ)) (limit : ℕ) (list over : List ℕ) → HasAll told old → CameFrom old new limit list over
-    → length list ≡ limit → 0 < length over → IfSome told (λ all. limit < length all)
-held_longer None old new limit list over has came full some = tt
-held_longer (Some bytes) old new limit list over has came full some =
-    longer bytes new limit list over (subst (λ (o : Option (List ℕ)). Consumes o new (list ++ over)) has came.lost) full some
+-- An input of which some bytes came, and more after them.
+longer : (told old new : Option (List ℕ)) (limit : ℕ) (list over : List ℕ) → HasAll told old → CameFrom old new limit list over
+    → 0 < length over → IfSome told (λ all. (rest : List ℕ) × (0 < length rest) × (all ≡ list ++ rest))
+longer None old new limit list over has came some = tt
+longer (Some bytes) old None limit list over has came some = absurd (rw has at came.lost)
+longer (Some bytes) old (Some rest) limit list over has came some = (
+  over ++ rest,
+  omega (arith, some, length-append over rest),
+  subst (λ (o : Option (List ℕ)). Consumes o (Some rest) (list ++ over)) has came.lost ∙ append_assoc list over rest,
+)
 
 -- ---- why there is no report
 
@@ -114,7 +112,12 @@ module _ (inputs : Inputs) (log_name list_name text_name log : List ℕ) (old ne
   report_fault (inl (verdicts.TooLong, is, inl says)) =
       inr (inl (inl (
         says,
-        held_longer (inputs (Some list_name)) old new input_limit is.1.0 is.1.1 has is.1.2 is.1.3 is.1.4,
+        record {
+          list = is.1.0;
+          sound = is.1.5;
+          size = is.1.3;
+          more = longer (inputs (Some list_name)) old new input_limit is.1.0 is.1.1 has is.1.2 is.1.4;
+        },
         record { log = log; log_held = held; log_is = is.0 },
       )))
   report_fault (inl (verdicts.TooLong, is, inr memory)) = inr (inl (inr (inr memory)))

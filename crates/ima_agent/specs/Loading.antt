@@ -1,7 +1,6 @@
 -- What loading takes from a source, and why an input is not loaded.
 use Rattle.std.specs.Prelude.{◌≡◌, ℕ, ◌+◌, ◌<◌, ◌⊎◌, List, length, codes, Option, None, Some, ⊤, Result, Ok, Err, IfSome, String, string_bytes}
 use Rattle.std.specs.Global.{Global}
-use Rattle.std.specs.Io.KnownBytes.{Consumes}
 use Rattle.byte_streams.specs.declared.pieces.ReadFault.{ReadFault}
 use Rattle.byte_streams.specs.declared.pieces.ReadFault.TheVariants as reads
 use Rattle.byte_streams.specs.Streams.{SourceState, failures_after}
@@ -21,11 +20,6 @@ failures_after_load (Ok bytes) failures = failures
 failures_after_load (Err TooLong) failures = failures
 failures_after_load (Err Source) failures = failures_after {A = ℕ} (Err Source) failures
 failures_after_load (Err Memory) failures = failures
-
--- A source lost some bytes from its front, and nothing else.
-pub record LosesFront (old new : Option (List ℕ)) : Type 0 where
-  pub front : List ℕ
-  pub lost : Consumes old new front
 
 -- A source that tells its bytes lost more bytes than this count.
 abbrev pub LosesMoreThan : ℕ → Option (List ℕ) → Option (List ℕ) → Type 0

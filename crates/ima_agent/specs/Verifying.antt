@@ -1,16 +1,16 @@
 -- The report on a log, a list and expected registers, as the program writes it. All of this is this project's choice.
-use Rattle.std.specs.Prelude.{◌≡◌, ℕ, ◌⊎◌, if◌then◌else◌, List, Option, Some}
+use Rattle.std.specs.Prelude.{◌≡◌, ℕ, ◌<◌, ◌⊎◌, if◌then◌else◌, List, ◌++◌, length, Option, Some, IfSome}
 use Rattle.boot_verdict.specs.declared.expected.Expected.{Expected}
 use Rattle.boot_verdict.specs.declared.expected.ExpectFault.{ExpectFault}
 use Rattle.boot_verdict.specs.declared.verifier.VerifyFault.{VerifyFault}
 use Rattle.boot_verdict.specs.ExpectedTexts.{IsExpectedText, HasFirstFault}
-use Rattle.boot_verdict.specs.ListSources.{CameWhole}
+use Rattle.boot_verdict.specs.ListSources.{CameWhole, IsSound}
 use Rattle.boot_verdict.specs.Verdicts.{Verdict, IsSomeLog, IsVerdict, IsVerifyFault, IsVerifyFaultFrom, matches}
 use Rattle.boot_verdict.specs.ReportTexts.{report_text}
 use Rattle.ima_agent.specs.declared.fault.RunFault.{RunFault}
 use Rattle.ima_agent.specs.declared.fault.RunFault.TheVariants as runs
 use Rattle.ima_agent.specs.Faults.{IsFaultOfVerdict, fault_of_expected}
-use Rattle.ima_agent.specs.Loading.{Inputs, Holds, HoldsTooMuch, IsInputFault, IsNotRead, IsTooLong, input_limit}
+use Rattle.ima_agent.specs.Loading.{Inputs, Holds, IsInputFault, IsNotRead, IsTooLong, input_limit}
 
 -- The exit status of a verdict: 0 where all matches, else 1.
 abbrev pub verdict_status : Verdict → ℕ
@@ -56,17 +56,24 @@ pub record IsNoVerdict (inputs : Inputs) (log_name list_name : List ℕ) (fault 
   pub list_held : Holds inputs (Some list_name) list
   pub cause : IsNoVerdictOn list_name log list fault
 
+-- The first bytes of the input of this name, as many as an input may have, read as a list, or as one that is torn; and more follow.
+pub record HoldsSoundBytesAndMore (inputs : Inputs) (name : List ℕ) : Type 0 where
+  pub list : List ℕ
+  pub sound : IsSound list
+  pub size : length list ≡ input_limit
+  pub more : IfSome (inputs (Some name)) (λ all. (over : List ℕ) × (0 < length over) × (all ≡ list ++ over))
+
 -- The input of this name is a firmware event log.
 pub record HoldsLog (inputs : Inputs) (name : List ℕ) : Type 0 where
   pub log : List ℕ
   pub log_held : Holds inputs (Some name) log
   pub log_is : IsSomeLog log
 
--- Why the list of this name was not had: after a log that is one it has too many bytes; or it could not be opened, or failed; or memory ran
--- out.
+-- Why the list of this name was not had: after a log that is one it has too many bytes, and no entry of those that are allowed is refused; or
+-- it could not be opened, or failed; or memory ran out.
 abbrev pub IsListInputFault : Inputs → List ℕ → List ℕ → RunFault → Type 0
 IsListInputFault inputs log list fault =
-    (IsTooLong list fault × HoldsTooMuch inputs (Some list) × HoldsLog inputs log) ⊎ IsNotRead list fault ⊎ (fault ≡ runs.Memory)
+    (IsTooLong list fault × HoldsSoundBytesAndMore inputs list × HoldsLog inputs log) ⊎ IsNotRead list fault ⊎ (fault ≡ runs.Memory)
 
 -- Why there is no report on the files of these names: one was not had, the text states no expected registers, there is no verdict, or
 -- memory ran out.

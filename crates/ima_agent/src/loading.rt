@@ -2,9 +2,10 @@
 
 ghost use Rattle.std.specs.Prelude.{◌≡◌, ◌<◌, ◌≤◌, length, vec_len, is_some, IfOk, IfSome, IsErrOf, OnOk};
 ghost use Rattle.std.specs.Io.KnownBytes.{IsAtEnd};
-ghost use Rattle.ima_agent.specs.Loading.{failures_after_load, fault_of_reading, LosesFront, LosesMoreThan};
+ghost use Rattle.byte_streams.specs.Streams.{LosesFront};
+ghost use Rattle.ima_agent.specs.Loading.{failures_after_load, fault_of_reading, LosesMoreThan};
 
-use byte_streams::{ReadFault, Source, read_piece};
+use byte_streams::{PieceReader, ReadFault, Source};
 use std::alloc::Global;
 use thiserror::Error;
 
@@ -48,9 +49,10 @@ pub fn load<R: Source>(alloc: Global, source: &mut R, limit: u64) -> Result<Vec<
     ensures telling { is_some (R.state source.new).remaining ≡ is_some (R.state source.old).remaining }
     ensures counts { (R.state source.new).failures ≡ failures_after_load result (R.state source.old).failures }
 {
+    let mut pieces = PieceReader::new();
     let mut bytes = Vec::new(alloc);
     loop {
-        let count = read_piece(source, &mut bytes)?;
+        let count = pieces.read(source, &mut bytes)?;
         if count == 0 {
             return Ok(bytes);
         }

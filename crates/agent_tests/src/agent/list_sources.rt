@@ -2,15 +2,17 @@
 
 ghost use Rattle.std.specs.Prelude.{None};
 
-use super::devices::{bytes_of, joined, once_more};
-use super::logs::{EVENT, HEADER};
+use super::devices::{bytes_of, joined, once_more, ran_over, words_of};
+use super::logs::{EVENT, EXTENDED_LINE, HEADER};
 use super::real_boot::FIRMWARE_LOG;
 use super::real_boot_list::{REGISTER, list_bytes};
 use super::show::{MEASUREMENT, VIOLATION};
 use super::verdicts::{EXPECTED, log_and_list};
 use boot_log::LogFault;
 use byte_streams::{Failed, SliceSource, Source, VecSink};
-use ima_agent::{Expected, Report, VerifyFault, read_expected, verify, verify_from, write_report};
+use ima_agent::{
+    Expected, Files, Report, VerifyFault, read_expected, verify, verify_from, write_report,
+};
 use ima_list::{ListFault, ReplayFault};
 use std::alloc::Global;
 use std::test::Fail;
@@ -206,7 +208,7 @@ fn real_boot_list_in_pieces(rt: HostRuntime) -> Result<(), Fail> {
         verdict match\n"
             .as_slice()
     );
-    for most in [53, 4_096] {
+    for most in [1, 7, 4_096, usize::MAX] {
         let report = report_in_pieces(alloc, &log, &list, most, &expected)?;
         assert_eq!(rt;
             written(alloc, &report)?.as_slice(),
@@ -223,25 +225,114 @@ fn list_fault_behind_a_forged_entry(rt: HostRuntime) -> Result<(), Fail> {
     let alloc = rt.alloc();
     let log = bytes_of(alloc, &[HEADER, EVENT])?;
     let forged = joined(alloc, &[VIOLATION, &MEASUREMENT[..93], b"\x01"])?;
-    for (behind, fault) in [
+    let foreign = joined(alloc, &[&forged, b"\x18\x00\x00\x00"])?;
+    let torn = joined(alloc, &[&forged, b"\x0a\x00"])?;
+    for (list, fault) in [
         (
-            b"".as_slice(),
+            forged.as_slice(),
             VerifyFault::Replay(ReplayFault::BadTemplateDigest { entry: 1 }),
         ),
         (
-            b"\x18\x00\x00\x00",
+            &foreign,
             VerifyFault::List(ListFault::BadRegister { entry: 2 }),
         ),
-        (
-            b"\x0a\x00",
-            VerifyFault::List(ListFault::Truncated { entry: 2 }),
-        ),
+        (&torn, VerifyFault::List(ListFault::Truncated { entry: 2 })),
     ] {
-        let list = joined(alloc, &[&forged, behind])?;
         for most in [1, 100, 4_096] {
-            let answer = report_in_pieces(alloc, &log, &list, most, &[]).err();
+            let answer = report_in_pieces(alloc, &log, list, most, &[]).err();
             assert_eq!(rt; answer, Some(fault), "{most}");
         }
+    }
+    Ok(())
+}
+
+/// Nor where the source fails, or gives more than it may, behind such an entry.
+#[test]
+fn source_fault_behind_a_forged_entry(rt: HostRuntime) -> Result<(), Fail> {
+    let alloc = rt.alloc();
+    let log = bytes_of(alloc, &[HEADER, EVENT])?;
+    let forged = joined(alloc, &[&MEASUREMENT[..93], b"\x01", VIOLATION])?;
+    let size = forged.len();
+    for most in [1, 94, size] {
+        let failing = PieceSource {
+            reads: size.div_ceil(most),
+            ..PieceSource::new(&forged, most)
+        };
+        let (fault, failures) = fault_of(alloc, &log, failing);
+        assert_eq!(rt; fault, Some(VerifyFault::Source), "{most}");
+        assert_eq!(rt; failures, 1, "{most}");
+    }
+    let replay = VerifyFault::Replay(ReplayFault::BadTemplateDigest { entry: 0 });
+    let limit = size as u64;
+    for (limit, fault) in [
+        (limit, replay),
+        (limit - 1, VerifyFault::TooLong),
+        (94, VerifyFault::TooLong),
+    ] {
+        let answer = report_within(alloc, &log, &forged, limit, &[]).err();
+        assert_eq!(rt; answer, Some(fault), "limit {limit}");
+    }
+    Ok(())
+}
+
+/// An empty list, with a limit of no bytes and with one of any.
+#[test]
+fn empty_list_from_a_source(rt: HostRuntime) -> Result<(), Fail> {
+    let alloc = rt.alloc();
+    let log = bytes_of(alloc, &[HEADER, EVENT])?;
+    let expected = once_more(|| read_expected(alloc, EXTENDED_LINE))?;
+    for limit in [0, 1, u64::MAX] {
+        let report = report_within(alloc, &log, b"", limit, &expected)?;
+        assert_eq!(rt;
+            written(alloc, &report)?.as_slice(),
+            b"events 1 locality 0\n\
+            entries 0\n\
+            boot_aggregate missing\n\
+            sha256 4 match\n\
+            verdict differ\n"
+                .as_slice()
+        );
+    }
+    Ok(())
+}
+
+/// A log, no expected registers, and a list that fails at its first read.
+#[derive(Drop)]
+struct FailingList<'a> {
+    log: &'a [u8],
+}
+
+impl<'a> Files for FailingList<'a> {
+    type Src = PieceSource<'a>;
+
+    fn source(&mut self, name: Option<&str>) -> Result<PieceSource<'a>, Failed> {
+        let name = name.ok_or(Failed)?;
+        let whole = if name == "log" { self.log } else { b"" };
+        let reads = if name == "list" { 0 } else { usize::MAX };
+        Ok(PieceSource {
+            reads,
+            ..PieceSource::new(whole, usize::MAX)
+        })
+    }
+}
+
+/// The program tells that a list cannot be read after what is wrong with the log.
+#[test]
+fn list_that_cannot_be_read(rt: HostRuntime) -> Result<(), Fail> {
+    let alloc = rt.alloc();
+    let log = bytes_of(alloc, &[HEADER])?;
+    let words = words_of(alloc, &["verify", "log", "list", "expected"])?;
+    for (log, status, line) in [
+        (
+            b"x".as_slice(),
+            2,
+            b"refused: log fault 1 at event 0\n".as_slice(),
+        ),
+        (&log, 3, b"failed: read list\n"),
+    ] {
+        let answer = ran_over(&rt, &words, &mut FailingList { log });
+        assert_eq!(rt; answer.0, status);
+        assert_eq!(rt; answer.1.as_slice(), line);
     }
     Ok(())
 }
