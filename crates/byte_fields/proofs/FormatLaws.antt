@@ -8,7 +8,7 @@ use Rattle.std.proofs.lemmas.List.{length-take, take_at, drop_at, append-nil, ta
 use Rattle.std.proofs.lemmas.List.Concat.{flat_map-cons}
 use Rattle.byte_fields.specs.Reading.{◌>>=◌, number_at, part_at, byte_at, sized_at, items_at}
 use Rattle.byte_fields.specs.Formats.{Format, Begins, IsRead, number, part, byte, ◌followed_by◌, seen, viewed, unless, telling, mapped, sized_by, sized, read_by, either, within, whole, AreInTurn, spelled_in_turn, FailInTurn, counted}
-use Rattle.byte_fields.proofs.Steps.{IsBytes, IsBytes-drop, IsBytes-take, bind_ok, guard_ok, test_ok, the_ok, ok_is}
+use Rattle.byte_fields.proofs.Steps.{IsBytes, IsBytes-drop, IsBytes-take, bind_ok, guard_ok, test_ok, same_fault, the_ok, ok_is}
 use Rattle.byte_fields.proofs.FieldLaws.{IsWide, wide16, wide32, number_again, part_again}
 
 -- What the reader finds is what stands at the front, nothing else is, and each fault is one of these.
@@ -28,6 +28,10 @@ module _ {X E : Type 0} {P : E → Type 0} {format : Format X E} (f : Exact P fo
 
   pub again : (x : X) (rest : List ℕ) → format.Is x → format.at (format.spell x ++ rest) ≡ Ok (x, rest)
   again x rest is = f.only (format.spell x ++ rest) (Ok (x, rest)) (record { is = is; parts = refl })
+
+  -- Bytes fail with one fault.
+  pub fails_once : (bytes : List ℕ) (c d : E) → format.Fails bytes c → format.Fails bytes d → c ≡ d
+  fails_once bytes c d x y = same_fault {A = X × List ℕ} c d (sym (f.only bytes (Err c) x) ∙ f.only bytes (Err d) y)
 
 -- The bytes after a front.
 pub IsBytes-behind : (bytes front rest : List ℕ) → bytes ≡ front ++ rest → IsBytes bytes → IsBytes rest

@@ -5,7 +5,7 @@ use Rattle.std.proofs.lemmas.List.{length-append, append-nil}
 use Rattle.byte_fields.specs.Reading.{◌>>=◌, items_within, items_from}
 use Rattle.byte_fields.specs.Items.{AreItems, BeginsWithItems, HasNoItem, FailsAtItem}
 use Rattle.byte_fields.proofs.Steps.{IsBytes, ok_is, ok_not_err}
-use Rattle.byte_fields.proofs.SequenceLaws.{Shortens, items_none, with_front, with_none, with_first, from_first}
+use Rattle.byte_fields.proofs.SequenceLaws.{Shortens, items_none, from_first}
 use Rattle.byte_fields.proofs.FormatLaws.{IsBytes-behind}
 
 -- What a reader took is an item.
@@ -159,27 +159,12 @@ module _ {X E : Type 0} {item_at : ℕ → List ℕ → Result (X × List ℕ) E
       let down = no_longer ys xs bytes [] [] begins-b none_in_nothing begins-a in
       (same_items xs ys bytes [] [] (omega (arith, up, down)) begins-a begins-b).0
 
-  -- ---- what reading gives after items at the front
-
-  pub after_items : (lost : ℕ → E) (xs : List X) (k : ℕ) (bytes rest : List ℕ) → IsBytes bytes → BeginsWithItems Is bytes xs rest
-      → items_from item_at lost k bytes ≡ with_front xs (items_from item_at lost (length xs + k) rest)
-  after_items lost [] k bytes rest fits begins =
-      let none : 0 + k ≡ k = omega arith in
-      rw (none_left bytes rest begins, none) (sym (with_none (items_from item_at lost k rest)))
-  after_items lost (x ∷ xs) k bytes rest fits begins =
-      let p = first_of bytes x xs rest begins in
-      let size = r.some p.0 x p.3 in
-      let some : 0 < length bytes = omega (arith, size, ap length p.2, length-append p.0 p.1) in
-      let read : item_at k bytes ≡ Ok (x, p.1) = ap (item_at k) p.2 ∙ r.again k p.0 x p.1 p.3 in
-      let others = after_items lost xs (k + 1) p.1 rest (IsBytes-behind bytes p.0 p.1 p.2 fits) p.4 in
-      let count : length xs + (k + 1) ≡ length (x ∷ xs) + k = omega arith in
-      from_first item_at lost (shortens r.takes r.some) k bytes x p.1 fits some read
-      ∙ ap (λ (y : Result (List X) E). y >>= λ ys. Ok (x ∷ ys)) others
-      ∙ rw count (with_first x xs (items_from item_at lost (length (x ∷ xs) + k) rest))
-
   -- Items are read.
   pub items_again : (lost : ℕ → E) (k : ℕ) (bytes : List ℕ) (items : List X) → IsBytes bytes → AreItems Is bytes items
       → items_from item_at lost k bytes ≡ Ok items
-  items_again lost k bytes items fits are =
-      after_items lost items k bytes [] fits (record { front = bytes; parts = sym (append-nil bytes); are = are })
-      ∙ ap (with_front items) (items_none item_at lost 0 (length items + k)) ∙ ap (λ (xs : List X). Ok xs) (append-nil items)
+  items_again lost k bytes [] fits none = rw none (items_none item_at lost 0 k)
+  items_again lost k bytes (x ∷ items) fits are =
+      let some : 0 < length bytes = omega (arith, r.some are.0 x are.3, ap length are.2, length-append are.0 are.1) in
+      let read : item_at k bytes ≡ Ok (x, are.1) = ap (item_at k) are.2 ∙ r.again k are.0 x are.1 are.3 in
+      from_first item_at lost (shortens r.takes r.some) k bytes x are.1 fits some read
+      ∙ rw (items_again lost (k + 1) are.1 items (IsBytes-behind bytes are.0 are.1 are.2 fits) are.4) refl

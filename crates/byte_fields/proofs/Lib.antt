@@ -4,3 +4,4 @@ pub mod SequenceLaws
 pub mod FormatLaws
 pub mod ItemLaws
 pub mod LastingLaws
+pub mod PieceLaws

@@ -81,11 +81,6 @@ with_one_more : {X E : Type 0} (front : List X) (item : X) (r : Result (List X) 
 with_one_more {X} front item (Ok others) = ap (λ (xs : List X). Ok xs) (sym (append_assoc front (item ∷ []) others))
 with_one_more front item (Err fault) = refl
 
-pub with_first : {X E : Type 0} (item : X) (front : List X) (r : Result (List X) E)
-    → (with_front front r >>= λ others. Ok (item ∷ others)) ≡ with_front (item ∷ front) r
-with_first item front (Ok others) = refl
-with_first item front (Err fault) = refl
-
 -- The first item of what is left, and the rest.
 pub from_first : {X E : Type 0} (item_at : ℕ → List ℕ → Result (X × List ℕ) E) (lost : ℕ → E) → Shortens item_at
     → (k : ℕ) (rest : List ℕ) (item : X) (after : List ℕ) → IsBytes rest → 0 < length rest → item_at k rest ≡ Ok (item, after)
