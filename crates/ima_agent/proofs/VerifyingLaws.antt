@@ -1,22 +1,21 @@
 -- The list of a verdict that was read from the source of an input: what it says of the input.
-use Rattle.std.proofs.Common.{◌≡◌, ◌⊎◌, ℕ, ◌+◌, ◌<◌, ◌≤◌, List, [], ◌++◌, length, Option, None, Some, Ok, Err, refl, sym, ap, subst, ◌∙◌, append_assoc, append-nil, arith, inl, inr}
+use Rattle.std.proofs.Common.{◌≡◌, ℕ, ◌<◌, List, [], ◌++◌, length, Option, None, Some, Ok, Err, refl, sym, ap, subst, ◌∙◌, append_assoc, append-nil, arith, inl, inr}
 use Rattle.std.specs.Prelude.{IfSome, IfOk, IfErr, Result}
 use Rattle.std.specs.Io.KnownBytes.{Consumes, IsAtEnd}
 use Rattle.std.proofs.lemmas.List.{length-append}
 use Rattle.ima_list.specs.declared.fault.ListFault.{ListFault}
 use Rattle.ima_list.specs.declared.fault.ListFault.TheVariants as lists
-use Rattle.ima_list.specs.Spelling.{IsReading}
 use Rattle.boot_verdict.specs.declared.verifier.VerifyFault.{VerifyFault}
 use Rattle.boot_verdict.specs.declared.verifier.VerifyFault.TheVariants as verdicts
-use Rattle.boot_verdict.specs.ListSources.{CameFrom, CameWhole, FailsFor, IsListFault}
-use Rattle.boot_verdict.specs.Verdicts.{IsSomeLog, IsVerifyFault, IsVerifyFaultFrom}
+use Rattle.boot_verdict.specs.ListSources.{CameFrom, CameWhole, FailsFor}
+use Rattle.boot_verdict.specs.Verdicts.{IsSomeLog, IsVerifyFault}
 use Rattle.boot_verdict.specs.declared.expected.Expected.{Expected}
 use Rattle.boot_verdict.specs.ExpectedTexts.{IsExpectedText}
 use Rattle.ima_agent.specs.declared.fault.RunFault.{RunFault}
 use Rattle.ima_agent.specs.declared.output.Output.{Output}
 use Rattle.ima_agent.specs.Faults.{IsFaultOfVerdict}
-use Rattle.ima_agent.specs.Loading.{Inputs, Holds, IsNotRead, IsTooLong, input_limit}
-use Rattle.ima_agent.specs.Verifying.{HoldsLog, IsListInputFault, IsNoVerdict, IsNoVerdictFrom, IsReportFault, IsReportFrom, ShowsReport}
+use Rattle.ima_agent.specs.Loading.{Inputs, Holds, input_limit}
+use Rattle.ima_agent.specs.Verifying.{IsNoVerdictFrom, IsReportFault, IsReportFrom, ShowsReport}
 
 -- The source has just what the input holds to give.
 abbrev pub HasAll : Option (List ℕ) → Option (List ℕ) → Type 0

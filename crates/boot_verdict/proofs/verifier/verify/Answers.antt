@@ -1,9 +1,8 @@
-use Rattle.std.proofs.Common.{List, Ok, Err, ap, sym, ◌∙◌, inl, inr}
+use Rattle.std.proofs.Common.{List, Ok, Err, ap, sym, inl, inr}
 use Rattle.std.proofs.lemmas.Result.{err_from_is_err_and}
 use Rattle.pcr_banks.specs.declared.sets.AlgSet.{AlgSet}
 use Rattle.boot_log.specs.Spelling.{LogEvent, algs_in}
 use Rattle.boot_log.specs.BootLog.{algs_of, events_of}
-use Rattle.ima_list.specs.ListEntry.{ListEntry}
 use Rattle.boot_verdict.specs.Verdicts.{fault_of_log, verdict_on}
 use Rattle.boot_verdict.proofs.ReplayLaws.{report_read}
 use Rattle.boot_verdict.proofs.VerdictLaws.{ok_same, verdict_on_same}

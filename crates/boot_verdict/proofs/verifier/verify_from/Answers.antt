@@ -1,4 +1,4 @@
-use Rattle.std.proofs.Common.{◌≡◌, List, Ok, Err, ap, refl, sym, ◌∙◌, inl, inr}
+use Rattle.std.proofs.Common.{List, ap, refl, sym, inl, inr}
 use Rattle.std.proofs.lemmas.Result.{err_from_is_err_and}
 use Rattle.pcr_banks.specs.declared.sets.AlgSet.{AlgSet}
 use Rattle.boot_log.specs.Spelling.{LogEvent, algs_in}

@@ -1,4 +1,3 @@
-use Rattle.std.proofs.Common.{◌≡◌, ◌∙◌}
 use Rattle.ima_agent.proofs.VerifyingLaws.{refused_from, shown_from}
 use Rattle.ima_agent.proofs.verifying.verified.Goals as goal
 
