@@ -102,7 +102,7 @@ fn read_once_more<R: Source>(
     }
 }
 
-/// Pieces have 64 KiB, but for the last, and stand behind one another.
+/// Pieces have up to 64 KiB, the first ones less, and stand behind one another.
 #[test]
 fn piece_reader_reads_all_bytes(rt: HostRuntime) -> Result<(), Fail> {
     let mut text = Vec::new(rt.alloc());
@@ -113,9 +113,9 @@ fn piece_reader_reads_all_bytes(rt: HostRuntime) -> Result<(), Fail> {
         }
     }
     let mut source = SliceSource::new(&text);
-    let mut pieces = PieceReader::new();
+    let mut pieces = PieceReader::new(rt.alloc());
     let mut bytes = Vec::new(rt.alloc());
-    for count in [65_536, 65_536, 65_536, 3_392, 0, 0] {
+    for count in [4_096, 16_384, 65_536, 65_536, 48_448, 0, 0] {
         let read = read_once_more(&mut pieces, &mut source, &mut bytes);
         assert_eq!(rt; read, Ok(count));
     }
@@ -141,7 +141,7 @@ impl Source for FailingSource {
 /// After a fault the bytes before it are there still.
 #[test]
 fn piece_reader_keeps_what_it_read(rt: HostRuntime) -> Result<(), Fail> {
-    let mut pieces = PieceReader::new();
+    let mut pieces = PieceReader::new(rt.alloc());
     let mut bytes = Vec::new(rt.alloc());
     let read = read_once_more(&mut pieces, &mut SliceSource::new(b"abc"), &mut bytes);
     assert_eq!(rt; read, Ok(3));

@@ -49,7 +49,7 @@ pub fn load<R: Source>(alloc: Global, source: &mut R, limit: u64) -> Result<Vec<
     ensures telling { is_some (R.state source.new).remaining ≡ is_some (R.state source.old).remaining }
     ensures counts { (R.state source.new).failures ≡ failures_after_load result (R.state source.old).failures }
 {
-    let mut pieces = PieceReader::new();
+    let mut pieces = PieceReader::new(alloc);
     let mut bytes = Vec::new(alloc);
     loop {
         let count = pieces.read(source, &mut bytes)?;
