@@ -252,10 +252,10 @@ fn source_fault_behind_a_forged_entry(rt: HostRuntime) -> Result<(), Fail> {
     let alloc = rt.alloc();
     let log = bytes_of(alloc, &[HEADER, EVENT])?;
     let forged = joined(alloc, &[&MEASUREMENT[..93], b"\x01", VIOLATION])?;
-    let size = forged.len();
-    for most in [1, 94, size] {
+    assert_eq!(rt; forged.len(), 187);
+    for (most, reads) in [(1, 187), (94, 2), (187, 1)] {
         let failing = PieceSource {
-            reads: size.div_ceil(most),
+            reads,
             ..PieceSource::new(&forged, most)
         };
         let (fault, failures) = fault_of(alloc, &log, failing);
@@ -263,10 +263,9 @@ fn source_fault_behind_a_forged_entry(rt: HostRuntime) -> Result<(), Fail> {
         assert_eq!(rt; failures, 1, "{most}");
     }
     let replay = VerifyFault::Replay(ReplayFault::BadTemplateDigest { entry: 0 });
-    let limit = size as u64;
     for (limit, fault) in [
-        (limit, replay),
-        (limit - 1, VerifyFault::TooLong),
+        (187, replay),
+        (186, VerifyFault::TooLong),
         (94, VerifyFault::TooLong),
     ] {
         let answer = report_within(alloc, &log, &forged, limit, &[]).err();
