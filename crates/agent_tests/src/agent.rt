@@ -3,6 +3,7 @@
 mod commands;
 mod devices;
 mod expected;
+mod failing_devices;
 mod inputs;
 mod large_inputs;
 mod list_sources;
@@ -16,7 +17,9 @@ mod real_boot;
 mod real_boot_book;
 mod real_boot_lines;
 mod real_boot_list;
+mod real_boot_turned;
 mod real_boot_verdict;
+mod refusals;
 mod replaying;
 mod seventy_files;
 mod show;

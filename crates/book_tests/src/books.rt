@@ -1,6 +1,7 @@
 //! Worked examples, and what they are made of.
 
 mod books;
+mod each_refused;
 mod exports;
 mod gathering;
 mod large_books;

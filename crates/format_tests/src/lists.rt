@@ -1,6 +1,8 @@
 //! Worked examples, and lists of many and of large entries. Each test holds with any one allocation refused too.
 
 mod aggregates;
+mod cuts;
+mod each_refused;
 mod entries;
 mod fields;
 mod large_lists;

@@ -3,6 +3,7 @@
 mod batches;
 mod claims;
 mod counts;
+mod each_refused;
 mod many;
 mod operations;
 mod overlap;

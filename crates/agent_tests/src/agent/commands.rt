@@ -10,7 +10,7 @@ use std::test::Fail;
 use std::thread::Threads;
 
 /// The value of PCR 10 after the boot aggregate of registers at reset and the measurement of `abc` as `/bin/sh`.
-const SHELL_LINE: &[u8] =
+pub const SHELL_LINE: &[u8] =
     b"sha256 10 5fcef84d490a160058b8f1b7e33abea9f2df325f2b7ccb294d1d28f3459db9d5\n";
 
 /// The entry of a log that leaves the registers at reset.

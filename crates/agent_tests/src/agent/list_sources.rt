@@ -19,7 +19,7 @@ use std::test::Fail;
 
 /// Gives so many bytes at a time at most, fails after some reads, and tells no bytes.
 #[derive(Clone, Copy)]
-struct PieceSource<'a> {
+pub struct PieceSource<'a> {
     rest: &'a [u8],
     most: usize,
     reads: usize,
@@ -29,12 +29,22 @@ struct PieceSource<'a> {
 impl<'a> PieceSource<'a> {
     /// Gives these bytes, and never fails.
     fn new(bytes: &'a [u8], most: usize) -> Self {
+        PieceSource::failing(bytes, most, usize::MAX)
+    }
+
+    /// Gives these bytes, and fails from the read on that comes after so many.
+    pub fn failing(bytes: &'a [u8], most: usize, reads: usize) -> Self {
         PieceSource {
             rest: bytes,
             most,
-            reads: usize::MAX,
+            reads,
             failures: 0,
         }
+    }
+
+    /// How many reads failed.
+    pub fn failures(&self) -> u64 {
+        self.failures
     }
 }
 
@@ -56,7 +66,7 @@ impl Source for PieceSource<'_> {
 }
 
 /// The report on a list that stands in memory, through a source; once more where an allocation was refused.
-fn report_within(
+pub fn report_within(
     alloc: Global,
     log: &[u8],
     list: &[u8],
@@ -81,7 +91,7 @@ fn report_in_pieces(
 }
 
 /// Why there is no report on what a source gives, and how often it failed; once more where an allocation was refused.
-fn fault_of(alloc: Global, log: &[u8], source: PieceSource<'_>) -> (Option<VerifyFault>, u64) {
+pub fn fault_of(alloc: Global, log: &[u8], source: PieceSource<'_>) -> (Option<VerifyFault>, u64) {
     let mut first = source;
     let fault = verify_from(alloc, log, &mut first, u64::MAX, &[]).err();
     if fault != Some(VerifyFault::Memory) {
@@ -93,7 +103,7 @@ fn fault_of(alloc: Global, log: &[u8], source: PieceSource<'_>) -> (Option<Verif
 }
 
 /// The text of a report.
-fn written(alloc: Global, report: &Report) -> Result<Vec<u8>, Failed> {
+pub fn written(alloc: Global, report: &Report) -> Result<Vec<u8>, Failed> {
     once_more(|| {
         let mut sink = VecSink::new(Vec::new(alloc));
         write_report(report, &mut sink)?;
@@ -102,7 +112,7 @@ fn written(alloc: Global, report: &Report) -> Result<Vec<u8>, Failed> {
 }
 
 /// The report on the list of three entries, with a row of each state.
-const REPORT: &[u8] = b"\
+pub const REPORT: &[u8] = b"\
 events 1 locality 0
 entries 3
 boot_aggregate good
@@ -151,10 +161,7 @@ fn pieces_limits_and_faults(rt: HostRuntime) -> Result<(), Fail> {
         let answer = report_within(alloc, &log, list, limit, &[]).err();
         assert_eq!(rt; answer, Some(fault), "limit {limit}");
     }
-    let failing = PieceSource {
-        reads: 0,
-        ..PieceSource::new(MEASUREMENT, 94)
-    };
+    let failing = PieceSource::failing(MEASUREMENT, 94, 0);
     let (fault, failures) = fault_of(alloc, b"", failing);
     let torn = VerifyFault::Log(LogFault::Truncated { event: 0 });
     assert_eq!(rt; fault, Some(torn));
@@ -162,30 +169,6 @@ fn pieces_limits_and_faults(rt: HostRuntime) -> Result<(), Fail> {
     let (fault, failures) = fault_of(alloc, &log, failing);
     assert_eq!(rt; fault, Some(VerifyFault::Source));
     assert_eq!(rt; failures, 1);
-    Ok(())
-}
-
-/// Each read that fails is answered, and is one failure; where none fails there is a report. The list of 289 bytes comes in six
-/// pieces, and a seventh read says that it ends.
-#[test]
-fn failing_read_of_a_list(rt: HostRuntime) -> Result<(), Fail> {
-    let alloc = rt.alloc();
-    let (log, list) = log_and_list(alloc)?;
-    assert_eq!(rt; list.len(), 289);
-    for reads in 0..8 {
-        let source = PieceSource {
-            reads,
-            ..PieceSource::new(&list, 50)
-        };
-        let (fault, failures) = fault_of(alloc, &log, source);
-        let wanted = if reads < 7 {
-            (Some(VerifyFault::Source), 1)
-        } else {
-            (None, 0)
-        };
-        assert_eq!(rt; fault, wanted.0, "{reads} reads");
-        assert_eq!(rt; failures, wanted.1, "{reads} reads");
-    }
     Ok(())
 }
 
@@ -254,10 +237,7 @@ fn source_fault_behind_a_forged_entry(rt: HostRuntime) -> Result<(), Fail> {
     let forged = joined(alloc, &[&MEASUREMENT[..93], b"\x01", VIOLATION])?;
     assert_eq!(rt; forged.len(), 187);
     for (most, reads) in [(1, 187), (94, 2), (187, 1)] {
-        let failing = PieceSource {
-            reads,
-            ..PieceSource::new(&forged, most)
-        };
+        let failing = PieceSource::failing(&forged, most, reads);
         let (fault, failures) = fault_of(alloc, &log, failing);
         assert_eq!(rt; fault, Some(VerifyFault::Source), "{most}");
         assert_eq!(rt; failures, 1, "{most}");
@@ -308,10 +288,7 @@ impl<'a> Files for FailingList<'a> {
         let name = name.ok_or(Failed)?;
         let whole = if name == "log" { self.log } else { b"" };
         let reads = if name == "list" { 0 } else { usize::MAX };
-        Ok(PieceSource {
-            reads,
-            ..PieceSource::new(whole, usize::MAX)
-        })
+        Ok(PieceSource::failing(whole, usize::MAX, reads))
     }
 }
 

@@ -23,12 +23,12 @@ fn report_on(
 }
 
 /// The registers after a header and one event.
-fn registers_of(alloc: Global, log: &[u8]) -> Result<Banks, LogFault> {
+pub fn registers_of(alloc: Global, log: &[u8]) -> Result<Banks, LogFault> {
     once_more(|| Ok(read_log(alloc, log)?.registers()))
 }
 
 /// A book over these registers in which a file was measured, again, and with other content.
-fn book_of(alloc: Global, start: Banks) -> Result<Book, BookFault> {
+pub fn book_of(alloc: Global, start: Banks) -> Result<Book, BookFault> {
     let origin = Origin {
         start,
         template: Template::ImaNg,
@@ -61,7 +61,7 @@ sha1 10 0000000000000000000000000000000000000000
 ";
 
 /// The entries of that list: the boot aggregate of the registers after the log, and `/bin/sh` with `abc` and with nothing.
-const LIST: &str = "
+pub const LIST: &str = "
 0a000000 510d89a2e5404ad12d2b950133f6621fb82f931a 06000000 696d612d6e67 3f000000
 28000000 7368613235363a00 3ef781bb9b62116d8b9e7c9e9136670fb2d7b7b9cca79a98ddc7fbdec1f68768
 0f000000 626f6f745f61676772656761746500

@@ -15,22 +15,23 @@ use std::alloc::{AllocError, Global};
 use std::test::Fail;
 
 /// PCR 10 after the boot aggregate of registers at reset.
-const AFTER_OPENING: &str = "bf0d858e3904704b36740bc2ddcf4820b93a9323c1098338b7c38e338735257b";
+pub const AFTER_OPENING: &str = "bf0d858e3904704b36740bc2ddcf4820b93a9323c1098338b7c38e338735257b";
 
 /// PCR 10 after this entry and the measurement of `/bin/sh` with the content `abc`; then also with no content.
-const AFTER_TWO: &str = "5fcef84d490a160058b8f1b7e33abea9f2df325f2b7ccb294d1d28f3459db9d5";
+pub const AFTER_TWO: &str = "5fcef84d490a160058b8f1b7e33abea9f2df325f2b7ccb294d1d28f3459db9d5";
 
-const AFTER_THREE: &str = "8969ed91a785f4fbb88b785dd3e6cf2d5bf6d1ba1550c61a202e9d644685bf9c";
+pub const AFTER_THREE: &str = "8969ed91a785f4fbb88b785dd3e6cf2d5bf6d1ba1550c61a202e9d644685bf9c";
 
 /// PCR 10 after the boot aggregate and a violation of `/etc/x`; then also after the measurement of this path with a digest
 /// of zero bytes, and a second violation.
-const AFTER_VIOLATION: &str = "f452d7d9f5e9d973174411f620ab7dace63a48de8c1cccdca0830ac7d06a0146";
+pub const AFTER_VIOLATION: &str =
+    "f452d7d9f5e9d973174411f620ab7dace63a48de8c1cccdca0830ac7d06a0146";
 
 const AFTER_TWO_VIOLATIONS: &str =
     "438c0bc73f9e938c832f47438e12b63e37f7520ecb0c992c71b251192b8c50d2";
 
 /// An entry's spelling; once more where an allocation was refused.
-fn spelling_of(alloc: Global, entry: &Entry) -> Result<Vec<u8>, AllocError> {
+pub fn spelling_of(alloc: Global, entry: &Entry) -> Result<Vec<u8>, AllocError> {
     let mut bytes = Vec::new(alloc);
     if write_entry(entry, &mut bytes).is_err() {
         write_entry(entry, &mut bytes)?;

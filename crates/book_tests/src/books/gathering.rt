@@ -49,7 +49,7 @@ fn receipt_for(outcomes: &[Outcome], place: u32) -> Option<&Receipt> {
 }
 
 /// Copies of the receipts that were answered for these places, in this order.
-fn group(alloc: Global, answered: &[Outcome], places: &[u32]) -> Result<Vec<Outcome>, Fail> {
+pub fn group(alloc: Global, answered: &[Outcome], places: &[u32]) -> Result<Vec<Outcome>, Fail> {
     let mut outcomes = group_with_room(alloc, places.len())?;
     for place in places {
         let done = receipt_for(answered, *place).ok_or("no receipt")?;
@@ -59,14 +59,14 @@ fn group(alloc: Global, answered: &[Outcome], places: &[u32]) -> Result<Vec<Outc
 }
 
 /// A group of one outcome.
-fn group_of(alloc: Global, outcome: Outcome) -> Result<Vec<Outcome>, AllocError> {
+pub fn group_of(alloc: Global, outcome: Outcome) -> Result<Vec<Outcome>, AllocError> {
     let mut outcomes = group_with_room(alloc, 1)?;
     outcomes.push(outcome)?;
     Ok(outcomes)
 }
 
 /// The book of the first worked example, which three measurements were done on, and what became of these.
-fn book_of_three(alloc: Global) -> Result<(Book, Vec<Outcome>), BookFault> {
+pub fn book_of_three(alloc: Global) -> Result<(Book, Vec<Outcome>), BookFault> {
     let mut outcomes = Vec::new(alloc);
     let book = run_on_new(
         alloc,

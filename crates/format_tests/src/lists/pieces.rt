@@ -17,7 +17,7 @@ fn feed(reader: &mut ListReader, piece: &[u8]) -> Result<(), ListFault> {
 }
 
 /// A reader that took the bytes in pieces of this size.
-fn fed(alloc: Global, bytes: &[u8], size: usize) -> Result<ListReader, ListFault>
+pub fn fed(alloc: Global, bytes: &[u8], size: usize) -> Result<ListReader, ListFault>
     requires { 0 < size }
 {
     let mut reader = ListReader::new(alloc);
@@ -28,7 +28,7 @@ fn fed(alloc: Global, bytes: &[u8], size: usize) -> Result<ListReader, ListFault
 }
 
 /// What entries are spelled as.
-fn spelled(alloc: Global, entries: &[Entry]) -> Result<Vec<u8>, AllocError> {
+pub fn spelled(alloc: Global, entries: &[Entry]) -> Result<Vec<u8>, AllocError> {
     let mut bytes = Vec::new(alloc);
     for entry in entries {
         append_entry(entry, &mut bytes)?;
@@ -66,28 +66,6 @@ fn pieces_limits_and_faults(rt: HostRuntime) -> Result<(), Fail> {
     assert_eq!(rt; reader.entries().len(), 1);
     assert!(rt; reader.finish()?.as_slice() == list_of(alloc, MEASUREMENT)?.as_slice());
     assert_eq!(rt; ListReader::new(alloc).finish()?.len(), 0);
-    Ok(())
-}
-
-/// The first bytes of two entries, byte by byte and as a whole: the entries that are there, and the end.
-#[test]
-fn two_entries_cut_anywhere(rt: HostRuntime) -> Result<(), Fail> {
-    let alloc = rt.alloc();
-    let bytes = joined(alloc, &[MEASUREMENT, VIOLATION])?;
-    for length in 0..188 {
-        let front = bytes.get(..length).ok_or("too few bytes")?;
-        let (count, fault) = match length {
-            0 => (0, None),
-            94 => (1, None),
-            187 => (2, None),
-            1..94 => (0, Some(ListFault::Truncated { entry: 0 })),
-            _ => (1, Some(ListFault::Truncated { entry: 1 })),
-        };
-        let reader = fed(alloc, front, 1)?;
-        assert_eq!(rt; reader.entries().len(), count, "{length} bytes");
-        assert_eq!(rt; reader.finish().err(), fault, "{length} bytes");
-        assert_eq!(rt; list_of(alloc, front).err(), fault, "{length} bytes");
-    }
     Ok(())
 }
 

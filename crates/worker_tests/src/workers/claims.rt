@@ -62,6 +62,18 @@ fn claims_of_three(rt: HostRuntime) -> Result<(), Fail> {
     Ok(())
 }
 
+#[test]
+fn each_allocation_refused_in_claims(rt: HostRuntime) -> Result<(), Fail> {
+    let alloc = rt.alloc();
+    let (claims, mut seat) = match Claims::new(alloc, 3, 2) {
+        Ok(made) => made,
+        Err(AllocError) => Claims::new(alloc, 3, 2)?,
+    };
+    assert_eq!(rt; (seat.places(), seat.ended()), (2, false));
+    assert_eq!(rt; claims.draw(&mut seat), Some(0));
+    Ok(())
+}
+
 /// What one thread drew, until none was left; whether there was memory to keep all of it.
 #[derive(Drop)]
 struct Drawn {
