@@ -1,0 +1,153 @@
+#!/usr/bin/env python3
+"""Refuses each allocation in turn, in the tests that are made for it and in the program.
+
+faults/sweep.py [ROOT]: the tree whose test binaries and program `rt ci` has made, or else the one that this file is in.
+
+A test whose name has `each_allocation_refused` in it, and each command below, runs again and again: in the Nth run its Nth
+allocation is refused (faults/refuse.c), until a run comes to its end with none refused. A test must pass each time; a command must
+answer as it does with ample memory, or with `failed: memory` and status 3. Whatever has none of its allocations refused fails, as
+does a run that crashes, or takes longer than a minute. The last line is 'N passed, M failed'."""
+
+import hashlib
+import os
+import struct
+import subprocess
+import sys
+import tempfile
+from concurrent.futures import ThreadPoolExecutor
+from dataclasses import dataclass
+from pathlib import Path
+
+SECONDS = 60
+MOST_REFUSALS = 100_000
+TESTS = "each_allocation_refused"
+OUT_OF_MEMORY = (3, b"failed: memory\n")
+
+
+@dataclass
+class Run:
+    """What is run, what is on its standard input, and the status and the output (None for any) that it is to have."""
+
+    title: str
+    words: list
+    input: bytes
+    answers: list
+
+
+def with_length(data):
+    return struct.pack("<I", len(data)) + data
+
+
+def first_lines(expected, path, content):
+    """The lines of a list that begins with the boot aggregate of these expected registers, and then has a file."""
+    values = [bytes.fromhex(line.split()[2]) for line in expected.splitlines()[:10]]
+    files = ((b"boot_aggregate", b"".join(values)), (path, content))
+    for name, data in files:
+        digest = hashlib.sha256(data)
+        payload = with_length(b"sha256:\0" + digest.digest()) + with_length(name + b"\0")
+        yield f"10 {hashlib.sha1(payload).hexdigest()} ima-ng sha256:{digest.hexdigest()} {name.decode()}\n"
+
+
+def shown(text):
+    """The kernel's text of the sample's list, as the program shows it: the one entry by SHA-512 has no fields that are known."""
+    for line in text.splitlines(keepends=True):
+        before, mark, rest = line.partition(b"sha512:")
+        if mark:
+            digest, path = rest.rstrip(b"\n").split(b" ", 1)
+            fields = with_length(mark + b"\0" + bytes.fromhex(digest.decode())) + with_length(path + b"\0")
+            line = before + fields.hex().encode() + b"\n"
+        yield line
+
+
+def command_runs(root, folder):
+    """The program's commands, on the samples."""
+    program = root / "crates/ima_agent_program/out/ima_agent_program"
+    boot = root / "samples/real-boot"
+    log, listed, expected = (boot / name for name in ("firmware.log", "ima.list", "expected.txt"))
+    file = folder / "abc"
+    file.write_bytes(b"abc")
+    lines = expected.read_text()
+    report = "events 24 locality 0\nentries 99\nboot_aggregate good\n"
+    report += "".join(" ".join(line.split()[:2]) + " match\n" for line in lines.splitlines()) + "verdict match\n"
+    other = folder / "other"
+    other.write_text("sha1 10 " + 40 * "0")
+    absent = "events 24 locality 0\nentries 99\nboot_aggregate good\nsha1 10 absent\nverdict differ\n"
+    entries = "".join(first_lines(lines, str(file).encode(), b"abc"))
+    for title, words, given, status, output in (
+        ("registers", [], log.read_bytes().hex().encode(), 0, (boot / "registers.txt").read_bytes()),
+        ("no text of a log", [], b"Z", 2, b"refused: not hexadecimal\n"),
+        ("a verdict", ["verify", log, listed, expected], b"", 0, report.encode()),
+        ("a verdict that differs", ["verify", log, listed, other], b"", 1, absent.encode()),
+        ("a list shown", ["show", listed], b"", 0, b"".join(shown((boot / "ima.ascii").read_bytes()))),
+        ("a file measured", ["measure", log, file], b"", 0, entries.encode()),
+        ("a file measured by one worker", ["measure", "--workers=1", log, file], b"", 0, entries.encode()),
+        ("a file that is not there", ["show", folder / "none"], b"", 3, f"failed: read {folder}/none\n".encode()),
+        ("words that are wrong", ["verify", log], b"", 2, b"refused: command line\n"),
+        ("help", ["--help"], b"", 0, None),
+    ):
+        yield Run(f"ima-agent: {title}", [program, *words], given, [(status, output), OUT_OF_MEMORY])
+
+
+def test_runs(root):
+    """The tests of every crate that are made to have an allocation refused."""
+    for binary in sorted(root.glob("crates/*_tests/out/*_tests")):
+        listing = subprocess.run([binary, "--list"], capture_output=True, timeout=SECONDS, check=True)
+        for line in listing.stdout.decode().splitlines():
+            name = line.removesuffix(": test").strip()
+            if TESTS in name:
+                yield Run(f"{binary.name}: {name}", [binary, name], b"", [(0, None)])
+
+
+def refused(run, number, library, folder):
+    """Runs once with this allocation refused: what is wrong, if anything, and whether an allocation was refused."""
+    met = folder / f"met-{os.urandom(8).hex()}"
+    given = {"LD_PRELOAD": str(library), "REFUSED_ALLOCATION": str(number), "REFUSAL_MET": str(met)}
+    try:
+        ended = subprocess.run(
+            run.words, input=run.input, capture_output=True, timeout=SECONDS, env={**os.environ, **given}
+        )
+    except subprocess.TimeoutExpired:
+        return f"more than {SECONDS} seconds", met.exists()
+    is_refused = met.exists()
+    met.unlink(missing_ok=True)
+    answers = run.answers if is_refused else run.answers[:1]
+    if any(ended.returncode == status and output in (None, ended.stdout) for status, output in answers):
+        return None, is_refused
+    return f"status {ended.returncode}, {(ended.stdout + ended.stderr)[-500:]!r}", is_refused
+
+
+def sweep(run, library, folder):
+    """How many allocations were refused, and what was wrong with the first run that was not right."""
+    for number in range(1, MOST_REFUSALS):
+        fault, is_refused = refused(run, number, library, folder)
+        if fault is not None:
+            return number, f"allocation {number}: {fault}"
+        if not is_refused:
+            return number - 1, None if number > 1 else "no allocation was refused"
+    return MOST_REFUSALS, "there is no end to it"
+
+
+def main():
+    root = Path(sys.argv[1] if len(sys.argv) > 1 else Path(__file__).parent.parent).resolve()
+    with tempfile.TemporaryDirectory() as name, ThreadPoolExecutor(os.cpu_count()) as pool:
+        folder = Path(name)
+        library = folder / "refuse.so"
+        source = Path(__file__).parent / "refuse.c"
+        subprocess.run(["cc", "-O2", "-shared", "-fPIC", "-o", library, source, "-ldl"], check=True)
+        tests, commands = list(test_runs(root)), list(command_runs(root, folder))
+        runs = tests + commands
+        failed = 0 if tests else 1
+        total = 0
+        for run, (refusals, fault) in zip(runs, pool.map(lambda run: sweep(run, library, folder), runs)):
+            total += refusals
+            failed += fault is not None
+            print(f"{refusals:6} refused, {fault or 'ok'}: {run.title}", flush=True)
+        if not tests:
+            print("no test is made to have an allocation refused")
+        passed = len(runs) + (not tests) - failed
+        print(f"{total} allocations were refused\n{passed} passed, {failed} failed")
+    return 1 if failed else 0
+
+
+if __name__ == "__main__":
+    sys.exit(main())
