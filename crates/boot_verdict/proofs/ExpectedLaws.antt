@@ -8,10 +8,10 @@ use Rattle.std.specs.Str.Parse.{AllDigits}
 use Rattle.std.proofs.lemmas.Fmt.{decimal_is_IsNumeral, decimal_injective}
 use Rattle.std.proofs.lemmas.Str.Parse.{digit_from_value}
 use Rattle.pcr_banks.specs.declared.alg.Alg.{Alg}
-use Rattle.pcr_banks.specs.declared.alg.Alg.TheVariants.{Sha1, Sha256, Sha384}
 use Rattle.pcr_banks.specs.Hashing.{name_of, size_of}
 use Rattle.pcr_banks.specs.Digests.{bytes_of}
 use Rattle.pcr_banks.specs.Registers.{register_count}
+use Rattle.pcr_banks.proofs.AlgLaws.{every_alg, same_name_is}
 use Rattle.hex.specs.Hex.{is_hex_digit}
 use Rattle.hex.proofs.HexLemmas.{decode_of-ok}
 use Rattle.boot_verdict.specs.declared.expected.Expected.{Expected}
@@ -65,9 +65,7 @@ lacks_above [] all = tt
 lacks_above (first ∷ bytes) all = (λ e. absurd (omega (arith, e, all.0)), lacks_above bytes all.1)
 
 name_above : (alg : Alg) → AllAbove (name_of alg)
-name_above Sha1 = search rules
-name_above Sha256 = search rules
-name_above Sha384 = search rules
+name_above = every_alg _ (search rules)
 
 pub name_lacks : (alg : Alg) → Lacks 32 (name_of alg)
 name_lacks alg = lacks_above (name_of alg) (name_above alg)
@@ -122,17 +120,6 @@ if_none None P p = p
 if_none (Some a) P p = tt
 
 -- Names are those of one algorithm each.
-same_name : (a b : Alg) → name_of a ≡ name_of b → a ≡ b
-same_name Sha1 Sha1 e = refl
-same_name Sha1 Sha256 e = let bad : ◌≡◌ {A = ℕ} 4 6 = ap length e in absurd (omega arith)
-same_name Sha1 Sha384 e = let bad : ◌≡◌ {A = ℕ} 4 6 = ap length e in absurd (omega arith)
-same_name Sha256 Sha1 e = let bad : ◌≡◌ {A = ℕ} 6 4 = ap length e in absurd (omega arith)
-same_name Sha256 Sha256 e = refl
-same_name Sha256 Sha384 e = let bad : ◌≡◌ {A = ℕ} 50 51 = ap (λ (l : List ℕ). slice_index l 3) e in absurd (omega arith)
-same_name Sha384 Sha1 e = let bad : ◌≡◌ {A = ℕ} 6 4 = ap length e in absurd (omega arith)
-same_name Sha384 Sha256 e = let bad : ◌≡◌ {A = ℕ} 51 50 = ap (λ (l : List ℕ). slice_index l 3) e in absurd (omega arith)
-same_name Sha384 Sha384 e = refl
-
 pub no_number : (line name rest : List ℕ) (e : Expected) → IsCutAt 32 line name rest → LacksByte 32 rest → IsRegisterLine line e → ⊥
 no_number line name rest e cut lacks is = rest_has_space rest is.digits e.register lacks (name_first line name rest e cut is).1
 
@@ -158,7 +145,7 @@ pub no_value : (line name rest number digits : List ℕ) (alg : Alg) (e : Expect
     → ((length digits ≡ 2 * size_of alg) × AllPass is_hex_digit digits → ⊥) → IsRegisterLine line e → ⊥
 no_value line name rest number digits alg e cut next named none is =
     let three = words line name rest number digits e cut next is in
-    let same : alg ≡ e.alg = same_name alg e.alg (named ∙ three.0) in
+    let same : alg ≡ e.alg = same_name_is alg e.alg (named ∙ three.0) in
     let spelled = decode_of-ok is.digits (bytes_of e.value) is.value_is in
     let size : length is.digits ≡ 2 * size_of e.alg = spelled.2 ∙ ap (λ (n : ℕ). 2 * n) is.value_size in
     none (rw (same, three.2) (size, spelled.1))
@@ -171,7 +158,7 @@ one_register line e other is another =
     (decimal other.register ++ (codes " " ++ another.digits)) (name_lacks e.alg) (name_lacks other.alg) (sym is.spelled ∙ another.spelled) in
     let number = one_cut 32 (decimal e.register) (decimal other.register) is.digits another.digits
     (decimal_lacks e.register (omega (arith, is.exists))) (decimal_lacks other.register (omega (arith, another.exists))) name.1 in (
-      same_name e.alg other.alg name.0,
+      same_name_is e.alg other.alg name.0,
       decimal_injective e.register other.register (omega (arith, is.exists)) (omega (arith, another.exists)) number.0,
     )
 

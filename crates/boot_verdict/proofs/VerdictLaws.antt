@@ -1,13 +1,13 @@
 -- The verdict: registers of the log and of the list, and which fault comes first.
 use Rattle.std.proofs.Common.{◌≡◌, ◌⊎◌, ℕ, List, length, map, Option, None, Some, option_map, Result, Ok, Err, refl, ap, ◌∙◌, inl, inr}
 use Rattle.pcr_banks.specs.declared.alg.Alg.{Alg}
-use Rattle.pcr_banks.specs.declared.alg.Alg.TheVariants.{Sha1, Sha256, Sha384}
 use Rattle.pcr_banks.specs.declared.banks.Banks.{Banks}
 use Rattle.pcr_banks.specs.declared.digest.Digest.{Digest}
 use Rattle.pcr_banks.specs.declared.sets.AlgSet.{AlgSet}
 use Rattle.pcr_banks.specs.Hashing.{hash_of}
 use Rattle.pcr_banks.specs.Digests.{alg_of, bytes_of, digest_of}
 use Rattle.pcr_banks.specs.Registers.{value_at, extended_by_all}
+use Rattle.pcr_banks.proofs.SetLaws.{same_bytes}
 use Rattle.boot_log.specs.declared.fault.LogFault.{LogFault}
 use Rattle.boot_log.specs.declared.fault.LogFault.TheVariants as logs
 use Rattle.boot_log.specs.Spelling.{LogEvent}
@@ -38,18 +38,12 @@ booted_same algs events banks alg firmware =
     ap (λ (f : ℕ → Option (List ℕ)). option_map (hash_of alg) (joined_values f (aggregated alg)))
     (fun_same (value_at banks alg) (booted_value algs events alg) (λ r. firmware.values alg r))
 
-bytes_back : (alg : Alg) (value : Option (List ℕ)) → option_map bytes_of (option_map (digest_of alg) value) ≡ value
-bytes_back alg None = refl
-bytes_back Sha1 (Some value) = refl
-bytes_back Sha256 (Some value) = refl
-bytes_back Sha384 (Some value) = refl
-
 pub aggregate_same : (algs : AlgSet) (events : List LogEvent) (start : Banks) (stated : Digest) (value : Option Digest) (alg : Alg)
     → IsFirmware algs events start → alg ≡ alg_of stated → value ≡ option_map (digest_of alg) (boot_aggregate_of start alg)
     → compared (bytes_of stated) (option_map bytes_of value) ≡ aggregate_of algs events (Some (alg_of stated, bytes_of stated))
 aggregate_same algs events start stated value alg firmware by is =
     ap (λ (o : Option Digest). compared (bytes_of stated) (option_map bytes_of o)) is
-    ∙ ap (compared (bytes_of stated)) (bytes_back alg (boot_aggregate_of start alg) ∙ booted_same algs events start alg firmware)
+    ∙ ap (compared (bytes_of stated)) (same_bytes alg (boot_aggregate_of start alg) ∙ booted_same algs events start alg firmware)
     ∙ ap (λ (a : Alg). compared (bytes_of stated) (booted_aggregate algs events a)) by
 
 -- A register after the log and the list.

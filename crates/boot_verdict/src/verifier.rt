@@ -1,8 +1,8 @@
 //! The verdict on a firmware event log, a measurement list and expected registers.
 
-ghost use Rattle.std.specs.Prelude.{◌≡◌, ◌⊎◌, List, map, option_map, is_some, Ok, IfOk, IfErr, IsErrOf};
+ghost use Rattle.std.specs.Prelude.{◌≡◌, ◌⊎◌, ℕ, List, Option, map, option_map, is_some, Ok, IfOk, IfErr, IsErrOf};
 ghost use Rattle.pcr_banks.specs.declared.sets.AlgSet.{AlgSet};
-ghost use Rattle.pcr_banks.specs.Digests.{alg_of, bytes_of};
+ghost use Rattle.pcr_banks.specs.Digests.{alg_of, bytes_of, digest_of};
 ghost use Rattle.byte_fields.specs.Reading.{ReadsInMemory};
 ghost use Rattle.byte_streams.specs.Streams.{LosesFront};
 ghost use Rattle.boot_log.specs.declared.header.Row.{Row as TableRow};
@@ -13,7 +13,7 @@ ghost use Rattle.ima_list.specs.ListEntry.{ListEntry};
 ghost use Rattle.ima_list.specs.Spelling.{IsReading};
 ghost use Rattle.ima_list.specs.Replaying.{AreGenuine};
 ghost use Rattle.boot_verdict.specs.declared.verifier.VerifyFault.TheVariants.{Memory, Replay};
-ghost use Rattle.boot_verdict.specs.Verdicts.{HasSomethingToKeep, IsSomeLog, IsVerdict, IsVerdictFrom, IsVerifyFault, IsVerifyFaultFrom, aggregate_of, compared, fault_of_list, fault_of_log, fault_of_reading, row_of, verdict_of, verdict_on};
+ghost use Rattle.boot_verdict.specs.Verdicts.{HasSomethingToKeep, IsSomeLog, IsVerdict, IsVerdictFrom, IsVerifyFault, IsVerifyFaultFrom, aggregate_of, compared, fault_of_list, fault_of_log, fault_of_reading, row_of, state_for, verdict_of, verdict_on};
 ghost use Rattle.boot_verdict.specs.ListSources.{HoldsGenuineList, failures_after_list};
 ghost use Rattle.boot_verdict.specs.ListReplays.{IsReportFault, Replays};
 
@@ -203,14 +203,20 @@ fn rows_on(alloc: Global, now: &Banks, expected: &[Expected]) -> Result<Vec<Row>
 fn row_on(now: &Banks, expected: &Expected) -> Row
     ensures { result ≡ row_of now.now expected.now }
 {
-    let state = match now.read(expected.alg, expected.register) {
+    Row {
+        expected: *expected,
+        state: state_of(expected, now.read(expected.alg, expected.register)),
+    }
+}
+
+// What is said of an expected register that has this value, or is absent.
+fn state_of(expected: &Expected, value: Option<Digest>) -> State
+    ensures { (bytes : Option (List ℕ)) → value ≡ option_map (digest_of expected.now.alg) bytes → result ≡ state_for expected.now bytes }
+{
+    match value {
         None => State::Absent,
         Some(value) if value == expected.value => State::Match,
         Some(value) => State::Differ(value),
-    };
-    Row {
-        expected: *expected,
-        state,
     }
 }
 

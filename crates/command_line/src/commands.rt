@@ -6,10 +6,8 @@ ghost use Rattle.clap.specs.declared.builder.ValueParser.{ValueParser};
 ghost use Rattle.command_line.specs.Commands.{IsArgument, IsCommand, Parsers, commands, measure_app, optional, program_app, repeated, required, show_app, verify_app};
 
 use clap::{Arg, ArgAction, Command, value_parser};
+use pcr_banks::Alg;
 use std::alloc::{AllocError, Global};
-
-/// The names of the algorithms that files are measured by.
-static ALGS: [&str; 3] = ["sha1", "sha256", "sha384"];
 
 /// The names of the templates of entries.
 static TEMPLATES: [&str; 2] = ["ima", "ima-ng"];
@@ -28,11 +26,14 @@ Exit status:
   2  the words or an input are refused
   3  memory ran out, or a device failed";
 
-// The commands, as clap reads them.
-pub(crate) fn all_commands<'a>(alloc: Global) -> Result<Command<'a>, AllocError>
+// The commands, as clap reads them. Files are measured by an algorithm of one of these names.
+pub(crate) fn all_commands<'a>(
+    alloc: Global,
+    algs: &'a [&'a str],
+) -> Result<Command<'a>, AllocError>
     ensures { IfOk result (λ program. (parsers : Parsers) × IsCommand (commands parsers) program) }
 {
-    let measure = measure_command(alloc)?;
+    let measure = measure_command(alloc, algs)?;
     let verify = verify_command(alloc)?;
     let show = show_command(alloc)?;
     let program = program(alloc)?.subcommand(measure)?;
@@ -63,10 +64,10 @@ fn command<'a>(alloc: Global, name: &'a str, about: &'a str) -> Command<'a>
     Command::new(alloc, name).about(about).after_help(STATUSES)
 }
 
-fn measure_command<'a>(alloc: Global) -> Result<Command<'a>, AllocError>
+fn measure_command<'a>(alloc: Global, algs: &'a [&'a str]) -> Result<Command<'a>, AllocError>
     ensures { IfOk result (λ command. (parsers : Parsers) × IsCommand (measure_app parsers) command) }
 {
-    let algs = "Hash algorithm of the files' digests\n";
+    let digests = "Hash algorithm of the files' digests\n";
     let templates = "Template of the list's entries\n";
     let prints = "\
 What to print: the list as text, the binary list, or the registers that
@@ -75,7 +76,7 @@ differ from their reset values\n";
     let about =
         "Measures files into the registers that a firmware event log makes, and prints the result";
     command(alloc, "measure", about)
-        .arg(choice(alloc, "alg", "A", "sha256", &ALGS, algs))?
+        .arg(choice(alloc, "alg", "A", Alg::Sha256.name(), algs, digests))?
         .arg(choice(alloc, "template", "T", "ima-ng", &TEMPLATES, templates))?
         .arg(workers_option(alloc))?
         .arg(limit_option(alloc))?

@@ -46,7 +46,8 @@ pub fn words_after_name(alloc: Global, words: Args) -> Result<Vec<String>, Alloc
 fn plan_in(alloc: Global, words: &[String], command: &str) -> Result<Plan, WordsFault>
     ensures { IfOk result (λ plan. ((IsOfCommand command.now plan × IsMatched (map string_bytes words.now) plan) ⊎ (HasHelpWord words.now × IsHelp plan)) × IsWithinRanges plan) }
 {
-    match all_commands(alloc)?.try_get_matches_from(words) {
+    let algs: Vec<&str> = Alg::ALL.iter().map(|alg| alg.name()).collect(alloc)?;
+    match all_commands(alloc, &algs)?.try_get_matches_from(words) {
         Ok(matches) => plan_of(alloc, command, &matches),
         Err(error) => help_of(alloc, words, &error),
     }

@@ -198,3 +198,22 @@ fn extend_changes_one_register(rt: HostRuntime) {
         }
     }
 }
+
+/// A value for each algorithm: those of a function, one that is put beside the others, and one for all; digests by bank likewise.
+#[test]
+fn values_by_algorithm(rt: HostRuntime) {
+    let mut sizes = PerAlg::of(|alg: Alg| alg.size());
+    for put in Alg::ALL {
+        sizes.set(put, 7);
+        for alg in Alg::ALL {
+            let size = if alg == put { 7 } else { alg.size() };
+            assert_eq!(rt; *sizes.get(alg), size);
+        }
+        sizes.set(put, put.size());
+    }
+    assert!(rt; PerAlg::all(true) == PerAlg::of(|_alg: Alg| true));
+    let zeros = PerBank::of(|alg: Alg| Some(Digest::zero(alg)));
+    for alg in Alg::ALL {
+        assert_eq!(rt; zeros.get(alg), Some(Digest::zero(alg)));
+    }
+}

@@ -1,11 +1,11 @@
 -- All algorithms: what holds of each of the list holds of every one.
-use Rattle.std.proofs.Common.{◌≡◌, ℕ, ◌==◌, ◌&&◌, Bool, true, false, List, [], ◌∷◌, Option, Some, refl, sym, ap, ◌∙◌, inl, inr}
-use Rattle.std.specs.Prelude.{find}
+use Rattle.std.proofs.Common.{rules, ◌≡◌, ℕ, zero, suc, ◌<◌, length, take, get_or, arith, ◌==◌, ◌&&◌, Bool, true, false, List, [], ◌∷◌, Option, Some, refl, sym, ap, ◌∙◌, inl, inr}
+use Rattle.std.specs.Prelude.{bytes_eq, find}
 use Rattle.std.specs.List.{list_all, list_any, AllByRecursion}
 use Rattle.std.proofs.lemmas.Bool.{and_parts, and_from, or_cases, or_left, or_right, eqb-true, eq-eqb, both_ways, false_from_ne_true, cases_Bool}
 use Rattle.pcr_banks.specs.declared.alg.Alg.{Alg}
 use Rattle.pcr_banks.specs.declared.alg.Alg.TheVariants.{Sha1, Sha256, Sha384}
-use Rattle.pcr_banks.specs.Hashing.{tpm_id_of, all_algs, same_alg}
+use Rattle.pcr_banks.specs.Hashing.{name_of, tpm_id_of, all_algs, same_alg}
 
 -- What holds of each algorithm of the list holds of every one.
 pub every_alg : (P : Alg → Type 0) → AllByRecursion P all_algs → (alg : Alg) → P alg
@@ -25,12 +25,25 @@ abbrev alg_by : ℕ → List Alg → Option Alg
 alg_by id algs = find (λ alg. tpm_id_of alg == id) algs
 
 found_by_identifier : (alg : Alg) → alg_by (tpm_id_of alg) all_algs ≡ Some alg
-found_by_identifier = every_alg _ (refl, (refl, (refl, tt)))
+found_by_identifier = every_alg _ (search rules)
 
 pub same_alg_is : (a b : Alg) → same_alg a b ≡ true → a ≡ b
 same_alg_is a b e =
     let ids : tpm_id_of a ≡ tpm_id_of b = eqb-true (tpm_id_of a) (tpm_id_of b) e in
     let found : Some a ≡ Some b = sym (found_by_identifier a) ∙ ap (λ (id : ℕ). alg_by id all_algs) ids ∙ found_by_identifier b in
+    cc
+
+-- The algorithm of a name, where there is one.
+abbrev alg_named : List ℕ → List Alg → Option Alg
+alg_named name algs = find (λ alg. bytes_eq (name_of alg) name) algs
+
+found_by_name : (alg : Alg) → alg_named (name_of alg) all_algs ≡ Some alg
+found_by_name = every_alg _ (search rules)
+
+-- Algorithms of one name are one.
+pub same_name_is : (a b : Alg) → name_of a ≡ name_of b → a ≡ b
+same_name_is a b e =
+    let found : Some a ≡ Some b = sym (found_by_name a) ∙ ap (λ (name : List ℕ). alg_named name all_algs) e ∙ found_by_name b in
     cc
 
 pub same_alg_here : (alg : Alg) → same_alg alg alg ≡ true
@@ -75,7 +88,7 @@ any_has test alg (first ∷ algs) passes e =
     ]
 
 pub is_listed : (alg : Alg) → list_any (same_alg alg) all_algs ≡ true
-is_listed = every_alg _ (refl, (refl, (refl, tt)))
+is_listed = every_alg _ (search rules)
 
 pub list_has : (test : Alg → Bool) (alg : Alg) → test alg ≡ true → list_any test all_algs ≡ true
 list_has test alg passes = any_has test alg all_algs passes (is_listed alg)
@@ -99,3 +112,12 @@ one_of_all test a =
           let passes : test a ≡ true = rw (same_alg_is a alg parts.0) parts.1 in
           both_ways (test a) fails passes)) ∙ sym fails
     ]
+
+-- ---- one algorithm after another
+
+pub one_more : (P : Alg → Type 0) (algs : List Alg) (index : ℕ) (alg : Alg) → index < length algs → AllByRecursion P (take index algs)
+    → get_or algs index alg ≡ alg → P alg → AllByRecursion P (take (suc index) algs)
+one_more P [] index alg lt before is holds = absurd (omega (arith, lt))
+one_more P (first ∷ algs) zero alg lt before is holds = (rw is holds, tt)
+one_more P (first ∷ algs) (suc index) alg lt before is holds =
+    (before.0, one_more P algs index alg (omega (arith, lt)) before.1 is holds)

@@ -1,5 +1,5 @@
 -- What hashes are: as many bytes as their algorithm has.
-use Rattle.std.proofs.Common.{◌≡◌, ℕ, List, length, refl}
+use Rattle.std.proofs.Common.{rules, ◌≡◌, ℕ, List, length, refl}
 use Rattle.sha1.specs.Sha1 as sha1
 use Rattle.sha2.specs.Sha256 as sha256
 use Rattle.sha2.specs.Sha512 as sha512
@@ -9,4 +9,4 @@ use Rattle.pcr_banks.proofs.AlgLaws.{every_alg}
 
 pub hash_size : (alg : Alg) (bytes : List ℕ) → length (hash_of alg bytes) ≡ size_of alg
 unfolding sha1.sha1 sha1.digest_bytes sha256.sha256 sha256.digest_bytes sha512.sha384 sha512.digest_bytes
-hash_size = every_alg _ (λ bytes. refl, (λ bytes. refl, (λ bytes. refl, tt)))
+hash_size = every_alg _ (search rules)

@@ -5,3 +5,5 @@ pub mod ExtendLaws
 pub mod HashLaws
 pub mod BankLaws
 pub mod BindingLaws
+pub mod PlaceLaws
+pub mod EqualityLaws

@@ -12,23 +12,26 @@ hash_of Sha1 bytes = sha1 bytes
 hash_of Sha256 bytes = sha256 bytes
 hash_of Sha384 bytes = sha384 bytes
 
--- How many bytes a hash has (FIPS 180-4, section 1, figure 1: message digest size).
+-- A row of the table of algorithms: how many bytes a hash has (FIPS 180-4, section 1, figure 1: message digest size), the
+-- TPM_ALG_ID (TCG Algorithm Registry, 'TPM_ALG_ID'), and the name in texts, in lower case as the Linux kernel's crypto API has it.
+pub record AlgRow : Type 0 where
+  pub size : ℕ
+  pub tpm_id : ℕ
+  pub name : List ℕ
+
+abbrev pub row_of : Alg → AlgRow
+row_of Sha1 = record { size = 20; tpm_id = 0x0004; name = codes "sha1" }
+row_of Sha256 = record { size = 32; tpm_id = 0x000B; name = codes "sha256" }
+row_of Sha384 = record { size = 48; tpm_id = 0x000C; name = codes "sha384" }
+
 abbrev pub size_of : Alg → ℕ
-size_of Sha1 = 20
-size_of Sha256 = 32
-size_of Sha384 = 48
+size_of alg = (row_of alg).size
 
--- The algorithm's TPM_ALG_ID (TCG Algorithm Registry, 'TPM_ALG_ID').
 abbrev pub tpm_id_of : Alg → ℕ
-tpm_id_of Sha1 = 0x0004
-tpm_id_of Sha256 = 0x000B
-tpm_id_of Sha384 = 0x000C
+tpm_id_of alg = (row_of alg).tpm_id
 
--- The algorithm's name in texts, in lower case as the Linux kernel's crypto API has it.
 abbrev pub name_of : Alg → List ℕ
-name_of Sha1 = codes "sha1"
-name_of Sha256 = codes "sha256"
-name_of Sha384 = codes "sha384"
+name_of alg = (row_of alg).name
 
 -- All algorithms, in order.
 abbrev pub all_algs : List Alg

@@ -1,4 +1,4 @@
-ghost use Rattle.std.specs.Prelude.{◌≡◌, ◌≢◌, IfSome, IfNone};
+ghost use Rattle.std.specs.Prelude.{◌≡◌, ◌≢◌, ◌≤◌, ◌↔◌, true, false, IfSome, IfNone, IsTrue};
 ghost use Rattle.pcr_banks.specs.declared.alg.Alg.{Alg};
 ghost use Rattle.pcr_banks.specs.Hashing.{size_of, tpm_id_of, name_of};
 
@@ -17,37 +17,40 @@ impl Alg {
     /// All algorithms, each once, in order.
     pub const ALL: [Alg; 3] = [Alg::Sha1, Alg::Sha256, Alg::Sha384];
 
+    // The algorithm's row.
+    fn row(self) -> Row
+        ensures size { result.size ≡ size_of self }
+        ensures tpm_id { result.tpm_id ≡ tpm_id_of self }
+        ensures name { result.name.now ≡ name_of self }
+    {
+        let (size, tpm_id, name) = match self {
+            Alg::Sha1 => (20, 0x0004, "sha1"),
+            Alg::Sha256 => (32, 0x000B, "sha256"),
+            Alg::Sha384 => (48, 0x000C, "sha384"),
+        };
+        Row { size, tpm_id, name }
+    }
+
     /// How many bytes a digest has.
     pub fn size(self) -> usize
-        ensures { result ≡ size_of self }
+        ensures value { result ≡ size_of self }
+        ensures most { result ≤ 64 }
     {
-        match self {
-            Alg::Sha1 => 20,
-            Alg::Sha256 => 32,
-            Alg::Sha384 => 48,
-        }
+        self.row().size
     }
 
     /// The `TPM_ALG_ID` (TCG Algorithm Registry).
     pub fn tpm_id(self) -> u16
         ensures { result ≡ tpm_id_of self }
     {
-        match self {
-            Alg::Sha1 => 0x0004,
-            Alg::Sha256 => 0x000B,
-            Alg::Sha384 => 0x000C,
-        }
+        self.row().tpm_id
     }
 
     /// The name, in lower case as the Linux kernel writes it.
     pub fn name(self) -> &'static str
         ensures { result.now ≡ name_of self }
     {
-        match self {
-            Alg::Sha1 => "sha1",
-            Alg::Sha256 => "sha256",
-            Alg::Sha384 => "sha384",
-        }
+        self.row().name
     }
 
     /// The algorithm with this `TPM_ALG_ID`, or `None` for an identifier that this project does not know.
@@ -55,12 +58,7 @@ impl Alg {
         ensures found { IfSome result (λ alg. tpm_id_of alg ≡ id) }
         ensures unknown { IfNone result ((alg : Alg) → tpm_id_of alg ≢ id) }
     {
-        match id {
-            0x0004 => Some(Alg::Sha1),
-            0x000B => Some(Alg::Sha256),
-            0x000C => Some(Alg::Sha384),
-            _ => None,
-        }
+        Alg::first(|alg| alg.tpm_id() == id)
     }
 
     /// The algorithm with this name, or `None` for a name that this project does not know. Names are in lower case.
@@ -68,11 +66,36 @@ impl Alg {
         ensures found { IfSome result (λ alg. name_of alg ≡ name.now) }
         ensures unknown { IfNone result ((alg : Alg) → name_of alg ≢ name.now) }
     {
-        match name {
-            b"sha1" => Some(Alg::Sha1),
-            b"sha256" => Some(Alg::Sha256),
-            b"sha384" => Some(Alg::Sha384),
-            _ => None,
-        }
+        Alg::first(|alg| alg.has_name(name))
     }
+
+    // The first algorithm that passes a test.
+    #[tactic(auto, using(crate::proofs::AlgLaws::one_more, crate::proofs::AlgLaws::every_alg))]
+    fn first<F: Fn(Alg) -> bool + Drop>(test: F) -> Option<Self>
+        requires { F.IsAlwaysCallable test }
+        ensures found { IfSome result (λ alg. F.post test alg true) }
+        ensures none { IfNone result ((alg : Alg) → F.post test alg false) }
+    {
+        for alg in Alg::ALL {
+            if test(alg) {
+                return Some(alg);
+            }
+        }
+        None
+    }
+
+    // Whether this is the algorithm's name.
+    fn has_name(self, name: &[u8]) -> bool
+        ensures { IsTrue result ↔ (name_of self ≡ name.now) }
+    {
+        self.name().as_bytes() == name
+    }
+}
+
+// A row of the table of algorithms: how long a digest is, and what the TPM and the texts call the algorithm.
+#[derive(Drop)]
+struct Row {
+    size: usize,
+    tpm_id: u16,
+    name: &'static str,
 }

@@ -1,11 +1,10 @@
 ghost use Rattle.std.specs.Prelude.{◌≡◌, ℕ, ◌<◌, ◌&&◌, nat_lt, if◌then◌else◌, slice_get, option_map, Some, None, is_some, IsTrue, IsSome};
-ghost use Rattle.pcr_banks.specs.declared.alg.Alg.TheVariants as algs;
-ghost use Rattle.pcr_banks.specs.Digests.{digest_of};
-ghost use Rattle.pcr_banks.specs.Registers.{register_count, IsReset, Extends, ExtendsBank, is_active, value_at, in_bank, reset_bytes};
+ghost use Rattle.pcr_banks.specs.Digests.{bytes_of, digest_of};
+ghost use Rattle.pcr_banks.specs.Registers.{register_count, IsReset, Extends, ExtendsBank, extended_value, is_active, value_at, value_in, in_bank, reset_value};
 
-use crate::{Alg, AlgSet, Digest, PerBank};
-use sha1::Sha1;
-use sha2::{Digest as Hashes, Sha256, Sha384};
+use crate::digest::MOST_BYTES;
+use crate::per_alg::PerAlg;
+use crate::{Alg, AlgSet, Digest, Hasher, PerBank};
 
 /// How many registers a bank has, numbered from 0 (PC Client Platform TPM Profile, 'PCR Attributes').
 pub const REGISTERS: u32 = 24;
@@ -13,12 +12,15 @@ pub const REGISTERS: u32 = 24;
 // The same, as a length.
 const PLACES: usize = REGISTERS as usize;
 
+// A register: its value is at the front, as many bytes as the algorithm's size.
+type Register = [u8; MOST_BYTES];
+
+type Bank = [Register; PLACES];
+
 /// The register banks of a TPM: for each active algorithm the values of PCR 0 to 23.
 #[derive(Clone, Copy, Debug, PartialEq, Eq)]
 pub struct Banks {
-    sha1: Option<[[u8; 20]; PLACES]>,
-    sha256: Option<[[u8; 32]; PLACES]>,
-    sha384: Option<[[u8; 48]; PLACES]>,
+    banks: PerAlg<Option<Bank>>,
 }
 
 impl Banks {
@@ -29,9 +31,7 @@ impl Banks {
         ensures { IsReset algs locality result }
     {
         Banks {
-            sha1: reset_bank(algs.has(Alg::Sha1), locality),
-            sha256: reset_bank(algs.has(Alg::Sha256), locality),
-            sha384: reset_bank(algs.has(Alg::Sha384), locality),
+            banks: PerAlg::of(|alg| reset_bank(alg, algs.has(alg), locality)),
         }
     }
 
@@ -39,11 +39,7 @@ impl Banks {
     pub fn active(&self, alg: Alg) -> bool
         ensures { result ≡ is_active self.now alg }
     {
-        match alg {
-            Alg::Sha1 => self.sha1.is_some(),
-            Alg::Sha256 => self.sha256.is_some(),
-            Alg::Sha384 => self.sha384.is_some(),
-        }
+        self.banks.get(alg).is_some()
     }
 
     /// The value of a register, or `None` where the bank is not active or the register is not below [`REGISTERS`].
@@ -51,12 +47,8 @@ impl Banks {
         ensures value { result ≡ option_map (digest_of alg) (value_at self.now alg register) }
         ensures found { IsTrue (is_active self.now alg) → register < register_count → IsSome result }
     {
-        let index = register as usize;
-        match alg {
-            Alg::Sha1 => Some(Digest::Sha1(*self.sha1.as_ref()?.get(index)?)),
-            Alg::Sha256 => Some(Digest::Sha256(*self.sha256.as_ref()?.get(index)?)),
-            Alg::Sha384 => Some(Digest::Sha384(*self.sha384.as_ref()?.get(index)?)),
-        }
+        let register = self.banks.get(alg).as_ref()?.get(register as usize)?;
+        Digest::from_bytes(alg, &register[..alg.size()])
     }
 
     /// Extends a register in each active bank that has a digest among these: the new value is the hash of the old
@@ -66,86 +58,89 @@ impl Banks {
         ensures { Extends self.old self.new register digests.now }
     {
         let index = register as usize;
-        extend_sha1(&mut self.sha1, index, digests.sha1);
-        extend_sha256(&mut self.sha256, index, digests.sha256);
-        extend_sha384(&mut self.sha384, index, digests.sha384);
+        let banks = &mut self.banks;
+        extend_bank(Alg::Sha1, &mut banks.sha1, index, digests.digest(Alg::Sha1));
+        extend_bank(
+            Alg::Sha256,
+            &mut banks.sha256,
+            index,
+            digests.digest(Alg::Sha256),
+        );
+        extend_bank(
+            Alg::Sha384,
+            &mut banks.sha384,
+            index,
+            digests.digest(Alg::Sha384),
+        );
     }
 }
 
-// The bank of an algorithm of N bytes after a start from the locality, where the algorithm is active.
-fn reset_bank<const N: usize>(active: bool, locality: u8) -> Option<[[u8; N]; PLACES]>
-    requires { 0 < N }
+// The bank of an algorithm after a start from the locality, where the algorithm is active.
+fn reset_bank(alg: Alg, active: bool, locality: u8) -> Option<Bank>
     ensures active { is_some result ≡ active }
-    ensures values { (r : ℕ) → in_bank result r
-        ≡ (if active && nat_lt r register_count then Some (reset_bytes N r locality) else None) }
+    ensures values { (r : ℕ) → in_bank alg result r
+        ≡ (if active && nat_lt r register_count then Some (reset_value alg r locality) else None) }
 {
     if active {
-        Some(reset_registers(locality))
+        Some(reset_registers(alg, locality))
     } else {
         None
     }
 }
 
-// The registers of a bank of N bytes after a start from the locality.
-fn reset_registers<const N: usize>(locality: u8) -> [[u8; N]; PLACES]
-    requires { 0 < N }
-    ensures { (r : ℕ) → r < register_count → slice_get result r ≡ Some (reset_bytes N r locality) }
+// The registers of a bank after a start from the locality.
+fn reset_registers(alg: Alg, locality: u8) -> Bank
+    ensures { (r : ℕ) → r < register_count
+        → option_map (value_in alg) (slice_get result r) ≡ Some (reset_value alg r locality) }
 {
-    let mut registers = [[0x00; N]; PLACES];
+    let mut registers = [[0x00; MOST_BYTES]; PLACES];
     for register in 0..PLACES {
-        registers[register] = reset_register(register, locality);
+        registers[register] = reset_register(alg, register, locality);
     }
     registers
 }
 
-// A register of N bytes after a start from the locality.
-fn reset_register<const N: usize>(register: usize, locality: u8) -> [u8; N]
-    requires { 0 < N }
-    ensures { result ≡ reset_bytes N register locality }
+// A register after a start from the locality.
+fn reset_register(alg: Alg, register: usize, locality: u8) -> Register
+    ensures { value_in alg result ≡ reset_value alg register locality }
 {
     match register {
         0 => {
-            let mut value = [0x00; N];
-            value[N - 1] = locality;
+            let mut value = [0x00; MOST_BYTES];
+            value[alg.size() - 1] = locality;
             value
         }
-        17..=22 => [0xFF; N],
-        _ => [0x00; N],
+        17..=22 => [0xFF; MOST_BYTES],
+        _ => [0x00; MOST_BYTES],
     }
 }
 
-fn extend_sha1(bank: &mut Option<[[u8; 20]; PLACES]>, index: usize, digest: Option<[u8; 20]>)
+// Extends a register of the algorithm's bank, where there are a bank and a digest.
+#[tactic(auto, using(crate::proofs::PlaceLaws::extends_none))]
+fn extend_bank(alg: Alg, bank: &mut Option<Bank>, index: usize, digest: &Option<Digest>)
     requires { index < register_count }
-    ensures { ExtendsBank algs.Sha1 bank.old bank.new index digest }
+    ensures { ExtendsBank alg bank.old bank.new index (option_map bytes_of digest.now) }
 {
     if let (Some(registers), Some(digest)) = (bank, digest) {
-        let mut hasher = Sha1::new();
-        hasher.update(&registers[index]);
-        hasher.update(&digest);
-        registers[index] = hasher.finalize();
+        extend_registers(alg, registers, index, digest);
     }
 }
 
-fn extend_sha256(bank: &mut Option<[[u8; 32]; PLACES]>, index: usize, digest: Option<[u8; 32]>)
+// Extends a register of the algorithm's bank by a digest.
+fn extend_registers(alg: Alg, registers: &mut Bank, index: usize, digest: &Digest)
     requires { index < register_count }
-    ensures { ExtendsBank algs.Sha256 bank.old bank.new index digest }
+    ensures { ExtendsBank alg (Some registers.old) (Some registers.new) index (Some (bytes_of digest.now)) }
 {
-    if let (Some(registers), Some(digest)) = (bank, digest) {
-        let mut hasher = Sha256::new();
-        hasher.update(registers[index]);
-        hasher.update(digest);
-        registers[index] = hasher.finalize();
-    }
+    extend_register(alg, &mut registers[index], digest);
 }
 
-fn extend_sha384(bank: &mut Option<[[u8; 48]; PLACES]>, index: usize, digest: Option<[u8; 48]>)
-    requires { index < register_count }
-    ensures { ExtendsBank algs.Sha384 bank.old bank.new index digest }
+// Extends a register by a digest.
+fn extend_register(alg: Alg, register: &mut Register, digest: &Digest)
+    ensures { value_in alg register.new ≡ extended_value alg (value_in alg register.old) (bytes_of digest.now) }
 {
-    if let (Some(registers), Some(digest)) = (bank, digest) {
-        let mut hasher = Sha384::new();
-        hasher.update(registers[index]);
-        hasher.update(digest);
-        registers[index] = hasher.finalize();
-    }
+    let value = &mut register[..alg.size()];
+    let mut hasher = Hasher::new(alg);
+    hasher.update(value);
+    hasher.update(digest.bytes());
+    value.copy_from_slice(hasher.finish().bytes());
 }

@@ -7,8 +7,11 @@ ghost use Rattle.pcr_banks.specs.Digests.{alg_of, bytes_of, digest_of};
 use crate::Alg;
 use hex::FromHex;
 
-/// The most hexadecimal digits that a digest has: those of SHA-512, the longest hash of FIPS 180-4.
-pub const MOST_DIGITS: usize = 128;
+/// The most bytes that a digest has: those of SHA-512, the longest hash of FIPS 180-4.
+pub(crate) const MOST_BYTES: usize = 64;
+
+/// The most hexadecimal digits that a digest has.
+pub const MOST_DIGITS: usize = 2 * MOST_BYTES;
 
 /// The digest of a message: an algorithm, and as many bytes as its hash has.
 #[derive(Clone, Copy, Debug, PartialEq, Eq)]

@@ -12,11 +12,9 @@ use sha2::{Digest as Hashes, Sha256, Sha384};
 pub fn hash(alg: Alg, bytes: &[u8]) -> Digest
     ensures { result ≡ digest_of alg (hash_of alg bytes.now) }
 {
-    match alg {
-        Alg::Sha1 => Digest::Sha1(Sha1::digest(bytes)),
-        Alg::Sha256 => Digest::Sha256(Sha256::digest(bytes)),
-        Alg::Sha384 => Digest::Sha384(Sha384::digest(bytes)),
-    }
+    let mut hasher = Hasher::new(alg);
+    hasher.update(bytes);
+    hasher.finish()
 }
 
 /// A hash of bytes that come in pieces: the hash of all pieces joined (FIPS 180-4).

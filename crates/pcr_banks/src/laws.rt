@@ -8,7 +8,7 @@ ghost use Rattle.pcr_banks.specs.declared.alg.TheConstants.Alg.{ALL};
 ghost use Rattle.pcr_banks.specs.declared.sets.AlgSet.{AlgSet};
 ghost use Rattle.pcr_banks.specs.declared.sets.PerBank.{PerBank};
 ghost use Rattle.pcr_banks.specs.Hashing.{all_algs, same_alg, size_of};
-ghost use Rattle.pcr_banks.specs.Sets.{has_alg, digest_in};
+ghost use Rattle.pcr_banks.specs.Sets.{has_alg, digest_for};
 ghost use Rattle.pcr_banks.specs.Registers.{extended_by_all, value_at};
 ghost use Rattle.pcr_banks.specs.Binding.{ExtendsBreakHash};
 
@@ -33,7 +33,7 @@ pub fn same_alg_is_equality()
 pub fn sets_are_what_they_have()
     ensures sets { (first second : AlgSet) → ((a : Alg) → has_alg first a ≡ has_alg second a) → first ≡ second }
     ensures digests { (first second : PerBank)
-        → ((a : Alg) → digest_in first a ≡ digest_in second a) → first ≡ second }
+        → ((a : Alg) → digest_for first a ≡ digest_for second a) → first ≡ second }
 {}
 
 /// The value of a register has as many bytes as a hash of its bank's algorithm.

@@ -1,8 +1,10 @@
 //! The lines of registers.
 
-ghost use Rattle.pcr_banks.specs.Digests.{alg_of, bytes_of};
+ghost use Rattle.std.specs.Prelude.{◌≡◌, ℕ, List, Option, option_map};
+ghost use Rattle.pcr_banks.specs.declared.alg.Alg.{Alg};
+ghost use Rattle.pcr_banks.specs.Digests.{alg_of, bytes_of, digest_of};
 ghost use Rattle.byte_streams.specs.Streams.{Sends};
-ghost use Rattle.boot_verdict.specs.RegisterTexts.{register_line, register_change, bank_text, registers_text};
+ghost use Rattle.boot_verdict.specs.RegisterTexts.{register_line, register_change, change_line, bank_text, registers_text};
 
 use byte_streams::{Failed, Sink, send_pieces};
 use itoa::Buffer;
@@ -28,7 +30,25 @@ fn write_register<S: Sink>(
 ) -> Result<(), Failed>
     ensures { Sends (S.state sink.old) (S.state sink.new) result (register_change now.now start.now alg register) }
 {
-    match (now.read(alg, register), start.read(alg, register)) {
+    write_change(
+        register,
+        start.read(alg, register),
+        now.read(alg, register),
+        sink,
+    )
+}
+
+// The line of a register that has a value other than before.
+fn write_change<S: Sink>(
+    register: u32,
+    before: Option<Digest>,
+    now: Option<Digest>,
+    sink: &mut S,
+) -> Result<(), Failed>
+    ensures { (alg : Alg) (old new : Option (List ℕ)) → before ≡ option_map (digest_of alg) old → now ≡ option_map (digest_of alg) new
+        → Sends (S.state sink.old) (S.state sink.new) result (change_line alg register old new) }
+{
+    match (now, before) {
         (None, _) => Ok(()),
         (Some(value), Some(before)) if value == before => Ok(()),
         (Some(value), _) => write_register_line(register, &value, sink),

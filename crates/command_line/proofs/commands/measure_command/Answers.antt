@@ -1,10 +1,14 @@
+use Rattle.std.proofs.Common.{ℕ, List, codes, subst}
 use Rattle.std.proofs.lemmas.Result.{IfOk-weaker}
+use Rattle.command_line.specs.Commands.{IsArgument, optional}
 use Rattle.command_line.proofs.CommandLemmas.{one_argument_more}
 use Rattle.command_line.proofs.commands.measure_command.Goals as goal
 
 pub returns : goal.returns
 returns c =
-    let alg = one_argument_more _ _ _ _ _ c.command.ensures c.choice.ensures.1 c.in_ok-arg.ensures in
+    let default = subst (λ (name : List ℕ). IsArgument (optional (codes "alg") name c.choice.ensures.0) c.choice.result) c.name.ensures
+    c.choice.ensures.1 in
+    let alg = one_argument_more _ _ _ _ _ c.command.ensures default c.in_ok-arg.ensures in
     let template = one_argument_more _ _ _ _ _ alg c.choice-2.ensures.1 c.in_ok-arg-2.ensures in
     let workers = one_argument_more _ _ _ _ _ template c.workers_option.ensures.1 c.in_ok-arg-3.ensures in
     let limit = one_argument_more _ _ _ _ _ workers c.limit_option.ensures.1 c.in_ok-arg-4.ensures in
