@@ -1,5 +1,5 @@
 -- What hashes are: as many bytes as their algorithm has.
-use Rattle.std.proofs.Common.{rules, ◌≡◌, ℕ, List, length, refl}
+use Rattle.std.proofs.Common.{rules, ◌≡◌, ℕ, List, length}
 use Rattle.sha1.specs.Sha1 as sha1
 use Rattle.sha2.specs.Sha256 as sha256
 use Rattle.sha2.specs.Sha512 as sha512

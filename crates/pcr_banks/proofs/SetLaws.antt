@@ -1,6 +1,6 @@
 -- Sets of algorithms, and digests of all banks, are what they have for each algorithm.
 use Rattle.std.proofs.Common.{rules, ◌≡◌, ℕ, Bool, List, Option, Some, None, refl, sym, ap, ◌∙◌}
-use Rattle.std.specs.Prelude.{option_map, ◌&&◌}
+use Rattle.std.specs.Prelude.{option_map}
 use Rattle.std.specs.Bool.{Decides}
 use Rattle.std.proofs.lemmas.Bool.Decides.{Decides-and, Decides-like}
 use Rattle.pcr_banks.specs.declared.alg.Alg.{Alg}

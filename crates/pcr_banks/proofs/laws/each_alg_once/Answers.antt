@@ -1,4 +1,4 @@
-use Rattle.std.proofs.Common.{rules, refl}
+use Rattle.std.proofs.Common.{rules}
 use Rattle.pcr_banks.proofs.AlgLaws.{every_alg, every_passes, list_passes, some_passes, list_has}
 use Rattle.pcr_banks.proofs.laws.each_alg_once.Goals as goal
 

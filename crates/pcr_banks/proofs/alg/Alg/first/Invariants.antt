@@ -1,6 +1,5 @@
-use Rattle.std.proofs.Common.{◌≡◌, true, false, take}
+use Rattle.std.proofs.Common.{false, take}
 use Rattle.std.specs.List.{AllByRecursion}
-use Rattle.pcr_banks.specs.declared.alg.Alg.{Alg}
 use Rattle.pcr_banks.specs.Hashing.{all_algs}
 use Rattle.pcr_banks.proofs.alg.Alg.first.Given as goal
 
