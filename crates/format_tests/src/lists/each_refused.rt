@@ -31,6 +31,20 @@ const IMA_VIOLATION_PAYLOAD: &[u8] =
 const VIOLATION_LINE: &[u8] = b"10 0000000000000000000000000000000000000000 ima-ng \
     sha256:0000000000000000000000000000000000000000000000000000000000000000 /etc/x\n";
 
+/// The path of an entry of the template `ima`, as long as there is one.
+const LONGEST: [u8; 255] = [b'a'; 255];
+
+/// The spelling of this entry up to its path: register 10, its template digest, the template, the SHA-1 of `abc`, and the length.
+const LONGEST_HEAD: &[u8] = b"\x0a\x00\x00\x00\
+    \x30\x96\x76\x5f\x34\x89\x0c\x22\x8b\x38\xc2\x22\xdd\x13\xf3\xe7\x9e\x24\x1c\x7c\
+    \x03\x00\x00\x00ima\
+    \xa9\x99\x3e\x36\x47\x06\x81\x6a\xba\x3e\x25\x71\x78\x50\xc2\x6c\x9c\xd0\xd8\x9d\
+    \xff\x00\x00\x00";
+
+/// Its line up to its path.
+const LONGEST_LINE: &[u8] = b"10 3096765f34890c228b38c222dd13f3e79e241c7c ima \
+    a9993e364706816aba3e25717850c26c9cd0d89d ";
+
 /// What stands in a vector before something is appended to it.
 const FRONT: &[u8] = b"front";
 
@@ -153,6 +167,57 @@ fn each_allocation_refused_in_line(rt: HostRuntime) -> Result<(), Fail> {
         }
         assert_appended(&rt, &out, line);
     }
+    Ok(())
+}
+
+/// The entry with the longest path of the template `ima`.
+fn longest(alloc: Global) -> Result<Entry, Fail> {
+    let file = hash(Alg::Sha1, b"abc");
+    measured(alloc, 10, Template::Ima, &file, &LONGEST)
+}
+
+#[test]
+fn each_allocation_refused_in_write_entry_of_ima(rt: HostRuntime) -> Result<(), Fail> {
+    let alloc = rt.alloc();
+    let entry = longest(alloc)?;
+    let spelling = joined(alloc, &[LONGEST_HEAD, &LONGEST])?;
+    assert_eq!(rt; spelling.len(), 310);
+    let mut out = joined(alloc, &[FRONT])?;
+    if write_entry(&entry, &mut out).is_err() {
+        assert_eq!(rt; out.as_slice(), FRONT);
+        write_entry(&entry, &mut out)?;
+    }
+    assert_appended(&rt, &out, &spelling);
+    Ok(())
+}
+
+/// The file's digest, the path, and one zero byte.
+#[test]
+fn each_allocation_refused_in_hashed_bytes_of_ima(rt: HostRuntime) -> Result<(), Fail> {
+    let alloc = rt.alloc();
+    let entry = longest(alloc)?;
+    let hashed = joined(alloc, &[&IMA_PAYLOAD[..20], &LONGEST, b"\0"])?;
+    assert_eq!(rt; hashed.len(), 276);
+    let mut out = joined(alloc, &[FRONT])?;
+    if entry.hashed_bytes(&mut out).is_err() {
+        assert_eq!(rt; out.as_slice(), FRONT);
+        entry.hashed_bytes(&mut out)?;
+    }
+    assert_appended(&rt, &out, &hashed);
+    Ok(())
+}
+
+#[test]
+fn each_allocation_refused_in_line_of_ima(rt: HostRuntime) -> Result<(), Fail> {
+    let alloc = rt.alloc();
+    let entry = longest(alloc)?;
+    let line = joined(alloc, &[LONGEST_LINE, &LONGEST, b"\n"])?;
+    let mut out = joined(alloc, &[FRONT])?;
+    if entry.line(&mut out).is_err() {
+        assert_eq!(rt; out.as_slice(), FRONT);
+        entry.line(&mut out)?;
+    }
+    assert_appended(&rt, &out, &line);
     Ok(())
 }
 
