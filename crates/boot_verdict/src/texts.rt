@@ -1,5 +1,6 @@
 //! Registers and reports as text.
 
+mod digits;
 mod registers;
 mod report;
 

@@ -6,19 +6,20 @@ ghost use Rattle.pcr_banks.specs.Digests.{alg_of, bytes_of, digest_of};
 ghost use Rattle.byte_streams.specs.Streams.{Sends};
 ghost use Rattle.boot_verdict.specs.RegisterTexts.{register_line, register_change, change_line, bank_text, registers_text};
 
+use super::digits::digits_of;
 use byte_streams::{Failed, Sink, send_pieces};
 use itoa::Buffer;
-use pcr_banks::{Alg, Banks, Digest, REGISTERS};
+use pcr_banks::{Alg, Banks, Digest, MOST_DIGITS, REGISTERS};
 
 fn write_register_line<S: Sink>(register: u32, value: &Digest, sink: &mut S) -> Result<(), Failed>
     ensures { Sends (S.state sink.old) (S.state sink.new) result (register_line (alg_of value.now) register (bytes_of value.now)) }
 {
-    let mut digits = [0; 128];
-    let count = value.hex_into(&mut digits);
+    let mut room = [0; MOST_DIGITS];
+    let digits = digits_of(value, &mut room);
     let mut number = Buffer::new();
     let register = number.format(register).as_bytes();
     let name = value.alg().name().as_bytes();
-    send_pieces(&[name, b" ", register, b" ", &digits[..count], b"\n"], sink)
+    send_pieces(&[name, b" ", register, b" ", digits, b"\n"], sink)
 }
 
 fn write_register<S: Sink>(

@@ -5,6 +5,7 @@ ghost use Rattle.byte_streams.specs.Streams.{Sends};
 ghost use Rattle.boot_verdict.specs.Verdicts.{verdict_of};
 ghost use Rattle.boot_verdict.specs.ReportTexts.{aggregate_word, heading_text, register_words, report_text, row_line, row_text, verdict_text};
 
+use super::digits::digits_of;
 use crate::expected::Expected;
 use crate::report::{Aggregate, Report, Row, State};
 use byte_streams::{Failed, Sink, send, send_pieces};
@@ -71,9 +72,8 @@ fn write_row<S: Sink>(row: &Row, sink: &mut S) -> Result<(), Failed>
     match row.state {
         State::Match => write_line(&row.expected, "match", b"", sink),
         State::Differ(value) => {
-            let mut digits = [0; MOST_DIGITS];
-            let count = value.hex_into(&mut digits);
-            write_line(&row.expected, "differ ", &digits[..count], sink)
+            let mut room = [0; MOST_DIGITS];
+            write_line(&row.expected, "differ ", digits_of(&value, &mut room), sink)
         }
         State::Absent => write_line(&row.expected, "absent", b"", sink),
     }
