@@ -12,8 +12,8 @@ from functools import lru_cache
 from pathlib import Path
 
 EV_NO_ACTION = 3
-SIZES = {0x0004: 20, 0x000B: 32, 0x000C: 48}
-HASHES = {0x0004: hashlib.sha1, 0x000B: hashlib.sha256, 0x000C: hashlib.sha384}
+SIZES = {0x0004: 20, 0x000B: 32, 0x000C: 48, 0x000D: 64}
+HASHES = {0x0004: hashlib.sha1, 0x000B: hashlib.sha256, 0x000C: hashlib.sha384, 0x000D: hashlib.sha512}
 
 
 class Fault(Exception):

@@ -4,6 +4,7 @@ mod commands;
 mod devices;
 mod expected;
 mod failing_devices;
+mod four_banks;
 mod inputs;
 mod large_inputs;
 mod list_sources;

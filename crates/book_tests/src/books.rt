@@ -8,6 +8,7 @@ mod large_books;
 mod memory;
 mod origins;
 mod refusals;
+mod sha512;
 mod values;
 
 use exports::{list_of, spellings};

@@ -11,7 +11,7 @@ const SHA256_OF_64_ZEROS: &[u8] =
 
 #[test]
 fn published_hash_values(rt: HostRuntime) {
-    let published: [(Alg, &[u8], &[u8]); 5] = [
+    let published: [(Alg, &[u8], &[u8]); 6] = [
         (
             Alg::Sha1,
             b"abc",
@@ -27,6 +27,12 @@ fn published_hash_values(rt: HostRuntime) {
             b"abc",
             b"cb00753f45a35e8bb5a03d699ac65007272c32ab0eded1631a8b605a43ff5bed\
               8086072ba1e7cc2358baeca134c825a7",
+        ),
+        (
+            Alg::Sha512,
+            b"abc",
+            b"ddaf35a193617abacc417349ae20413112e6fa4e89a97ea20a9eeee64b55d39a\
+              2192992a274fc1a836ba3c23a3feebbd454d4423643ce80e2a9ac94fa54ca49f",
         ),
         (Alg::Sha256, b"", SHA256_OF_NOTHING),
         (Alg::Sha256, &[0; 64], SHA256_OF_64_ZEROS),
@@ -62,6 +68,7 @@ fn algorithms_in_numbers_and_texts(rt: HostRuntime) {
         (Alg::Sha1, 0x0004, 20, "sha1"),
         (Alg::Sha256, 0x000B, 32, "sha256"),
         (Alg::Sha384, 0x000C, 48, "sha384"),
+        (Alg::Sha512, 0x000D, 64, "sha512"),
     ];
     assert_eq!(rt; Alg::ALL, expected.map(|(alg, _, _, _)| alg));
     for (alg, id, size, name) in expected {
@@ -71,10 +78,13 @@ fn algorithms_in_numbers_and_texts(rt: HostRuntime) {
         assert_eq!(rt; alg.name(), name);
         assert_eq!(rt; Alg::from_name(name.as_bytes()), Some(alg));
     }
-    // SHA-512, which no bank uses.
-    assert_eq!(rt; Alg::from_id(0x000D), None);
+    // SM3 and SHA3-512, which no bank uses.
+    for id in [0x0012, 0x0029] {
+        assert_eq!(rt; Alg::from_id(id), None);
+    }
     for name in [
-        b"sha512".as_slice(),
+        b"sm3".as_slice(),
+        b"sha3-512",
         b"SHA1",
         b"sha1 ",
         b"sha25",
@@ -131,6 +141,8 @@ fn digits_at_the_front_of_the_room(rt: HostRuntime) {
     let (digits, rest) = room.split_at(64);
     assert_eq!(rt; digits, SHA256_OF_64_ZEROS);
     assert_eq!(rt; rest, [b'-'; 64].as_slice());
+    assert_eq!(rt; Digest::ones(Alg::Sha512).hex_into(&mut room), 128);
+    assert_eq!(rt; room, [b'f'; 128]);
 }
 
 #[test]
@@ -149,10 +161,12 @@ fn digests_of_each_bank(rt: HostRuntime) {
     let digests = PerBank::empty()
         .with(Digest::ones(Alg::Sha1))
         .with(Digest::zero(Alg::Sha384))
+        .with(Digest::ones(Alg::Sha512))
         .with(Digest::zero(Alg::Sha1));
     assert_eq!(rt; digests.get(Alg::Sha1), Some(Digest::zero(Alg::Sha1)));
     assert_eq!(rt; digests.get(Alg::Sha256), None);
     assert_eq!(rt; digests.get(Alg::Sha384), Some(Digest::zero(Alg::Sha384)));
+    assert_eq!(rt; digests.get(Alg::Sha512), Some(Digest::ones(Alg::Sha512)));
 }
 
 #[test]

@@ -4,7 +4,7 @@ use Rattle.std.specs.Prelude.{bytes_eq, find}
 use Rattle.std.specs.List.{list_all, list_any, AllByRecursion}
 use Rattle.std.proofs.lemmas.Bool.{and_parts, and_from, or_cases, or_left, or_right, eqb-true, eq-eqb, both_ways, false_from_ne_true, cases_Bool}
 use Rattle.pcr_banks.specs.declared.alg.Alg.{Alg}
-use Rattle.pcr_banks.specs.declared.alg.Alg.TheVariants.{Sha1, Sha256, Sha384}
+use Rattle.pcr_banks.specs.declared.alg.Alg.TheVariants.{Sha1, Sha256, Sha384, Sha512}
 use Rattle.pcr_banks.specs.Hashing.{name_of, tpm_id_of, all_algs, same_alg}
 
 -- What holds of each algorithm of the list holds of every one.
@@ -12,6 +12,7 @@ pub every_alg : (P : Alg → Type 0) → AllByRecursion P all_algs → (alg : Al
 every_alg P each Sha1 = each.0
 every_alg P each Sha256 = each.1.0
 every_alg P each Sha384 = each.1.1.0
+every_alg P each Sha512 = each.1.1.1.0
 
 -- What holds of every algorithm holds of each of a list.
 pub each_of : (P : Alg → Type 0) → ((alg : Alg) → P alg) → (algs : List Alg) → AllByRecursion P algs

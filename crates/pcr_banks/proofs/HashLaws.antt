@@ -8,5 +8,5 @@ use Rattle.pcr_banks.specs.Hashing.{hash_of, size_of}
 use Rattle.pcr_banks.proofs.AlgLaws.{every_alg}
 
 pub hash_size : (alg : Alg) (bytes : List ℕ) → length (hash_of alg bytes) ≡ size_of alg
-unfolding sha1.sha1 sha1.digest_bytes sha256.sha256 sha256.digest_bytes sha512.sha384 sha512.digest_bytes
+unfolding sha1.sha1 sha1.digest_bytes sha256.sha256 sha256.digest_bytes sha512.sha384 sha512.sha512 sha512.digest_bytes
 hash_size = every_alg _ (search rules)

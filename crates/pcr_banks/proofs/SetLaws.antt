@@ -4,7 +4,7 @@ use Rattle.std.specs.Prelude.{option_map}
 use Rattle.std.specs.Bool.{Decides}
 use Rattle.std.proofs.lemmas.Bool.Decides.{Decides-and, Decides-like}
 use Rattle.pcr_banks.specs.declared.alg.Alg.{Alg}
-use Rattle.pcr_banks.specs.declared.alg.Alg.TheVariants.{Sha1, Sha256, Sha384}
+use Rattle.pcr_banks.specs.declared.alg.Alg.TheVariants.{Sha1, Sha256, Sha384, Sha512}
 use Rattle.pcr_banks.specs.declared.per_alg.PerAlg.{PerAlg}
 use Rattle.pcr_banks.specs.declared.sets.AlgSet.{AlgSet}
 use Rattle.pcr_banks.specs.declared.sets.PerBank.{PerBank}
@@ -19,7 +19,7 @@ use Rattle.pcr_banks.proofs.AlgLaws.{every_alg}
 
 -- Values are those that a function of the algorithm gives, where each is.
 pub per_alg_is : {T : Type 0} (values : PerAlg T) (value : Alg → T) → ((alg : Alg) → at values alg ≡ value alg) → values ≡ per_alg value
-per_alg_is values value same = rw (← same Sha1, ← same Sha256, ← same Sha384) refl
+per_alg_is values value same = rw (← same Sha1, ← same Sha256, ← same Sha384, ← same Sha512) refl
 
 -- The values that a function gives are these.
 pub at_given : {T : Type 0} (value : Alg → T) (alg : Alg) → at (per_alg value) alg ≡ value alg
@@ -29,20 +29,29 @@ at_given value = every_alg _ (search rules)
 pub same_values : {T : Type 0} (first second : PerAlg T) → ((alg : Alg) → at first alg ≡ at second alg) → first ≡ second
 same_values first second same = per_alg_is first (at second) same ∙ sym (per_alg_is second (at second) (λ alg. refl))
 
-abbrev values_of : {T : Type 0} → T → T → T → PerAlg T
-values_of a b c = record { sha1 = a; sha256 = b; sha384 = c }
+abbrev values_of : {T : Type 0} → T → T → T → T → PerAlg T
+values_of a b c d = record { sha1 = a; sha256 = b; sha384 = c; sha512 = d }
 
-values_alike : {T : Type 0} (a a' b b' c c' : T) → a ≡ a' → b ≡ b' → c ≡ c' → values_of a b c ≡ values_of a' b' c'
-values_alike a a' b b' c c' e f g = cc
+values_alike : {T : Type 0} (a a' b b' c c' d d' : T) → a ≡ a' → b ≡ b' → c ≡ c' → d ≡ d'
+    → values_of a b c d ≡ values_of a' b' c' d'
+values_alike a a' b b' c c' d d' e f g h = cc
 
 -- The test by each algorithm decides whether two are one, where it does so of the values.
 pub per_alg_decided : {T : Type 0} (same : T → T → Bool) → ((a b : T) → Decides (same a b) (a ≡ b)) → (x y : PerAlg T)
     → Decides (same_per_alg same x y) (x ≡ y)
 per_alg_decided {T = T} same each x y =
     Decides-like (same_per_alg same x y)
-    (λ parts. values_alike x.sha1 y.sha1 x.sha256 y.sha256 x.sha384 y.sha384 parts.0 parts.1.0 parts.1.1)
-    (λ e. (ap (λ (v : PerAlg T). v.sha1) e, (ap (λ (v : PerAlg T). v.sha256) e, ap (λ (v : PerAlg T). v.sha384) e)))
-    (Decides-and _ _ (each x.sha1 y.sha1) (Decides-and _ _ (each x.sha256 y.sha256) (each x.sha384 y.sha384)))
+    (λ parts. values_alike x.sha1 y.sha1 x.sha256 y.sha256 x.sha384 y.sha384 x.sha512 y.sha512
+    parts.0 parts.1.0 parts.1.1.0 parts.1.1.1)
+    (λ e. (
+      ap (λ (v : PerAlg T). v.sha1) e,
+      (
+        ap (λ (v : PerAlg T). v.sha256) e,
+        (ap (λ (v : PerAlg T). v.sha384) e, ap (λ (v : PerAlg T). v.sha512) e),
+      ),
+    ))
+    (Decides-and _ _ (each x.sha1 y.sha1) (Decides-and _ _ (each x.sha256 y.sha256)
+    (Decides-and _ _ (each x.sha384 y.sha384) (each x.sha512 y.sha512))))
 
 -- ---- sets and digests
 
@@ -62,6 +71,7 @@ pub digest_again : (digest : Digest) → digest_of (alg_of digest) (bytes_of dig
 digest_again (digests.Sha1 bytes) = refl
 digest_again (digests.Sha256 bytes) = refl
 digest_again (digests.Sha384 bytes) = refl
+digest_again (digests.Sha512 bytes) = refl
 
 pub same_bytes : (alg : Alg) (bytes : Option (List ℕ)) → option_map bytes_of (option_map (digest_of alg) bytes) ≡ bytes
 same_bytes alg None = refl

@@ -1,7 +1,7 @@
 -- What a hasher has taken.
 use Rattle.std.specs.Prelude.{ℕ, List}
 use Rattle.sha1.specs.Sha1.{Holds}
-use Rattle.sha2.specs.Hashers.{Holds256, Holds384}
+use Rattle.sha2.specs.Hashers.{Holds256, Holds384, Holds512}
 use Rattle.pcr_banks.specs.declared.alg.Alg.{Alg}
 use Rattle.pcr_banks.specs.declared.alg.Alg.TheVariants as algs
 use Rattle.pcr_banks.specs.declared.hashing.Hasher.{Hasher}
@@ -13,6 +13,7 @@ abbrev pub StateAfter : State → Alg → List ℕ → Type 0
 StateAfter (states.Sha1 hasher) algs.Sha1 taken = Holds hasher taken
 StateAfter (states.Sha256 hasher) algs.Sha256 taken = Holds256 hasher taken
 StateAfter (states.Sha384 hasher) algs.Sha384 taken = Holds384 hasher taken
+StateAfter (states.Sha512 hasher) algs.Sha512 taken = Holds512 hasher taken
 StateAfter state alg taken = ⊥
 
 -- The hasher is one of this algorithm, and these bytes are the pieces that it took, joined.

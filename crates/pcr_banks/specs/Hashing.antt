@@ -2,15 +2,16 @@
 use Rattle.std.specs.Prelude.{ℕ, Bool, ◌==◌, List, [], ◌∷◌, codes}
 use Rattle.sha1.specs.Sha1.{sha1}
 use Rattle.sha2.specs.Sha256.{sha256}
-use Rattle.sha2.specs.Sha512.{sha384}
+use Rattle.sha2.specs.Sha512.{sha384, sha512}
 use Rattle.pcr_banks.specs.declared.alg.Alg.{Alg}
-use Rattle.pcr_banks.specs.declared.alg.Alg.TheVariants.{Sha1, Sha256, Sha384}
+use Rattle.pcr_banks.specs.declared.alg.Alg.TheVariants.{Sha1, Sha256, Sha384, Sha512}
 
--- The hash of the bytes by the algorithm (FIPS 180-4, sections 6.1, 6.2 and 6.5).
+-- The hash of the bytes by the algorithm (FIPS 180-4, sections 6.1, 6.2, 6.5 and 6.4).
 abbrev pub hash_of : Alg → List ℕ → List ℕ
 hash_of Sha1 bytes = sha1 bytes
 hash_of Sha256 bytes = sha256 bytes
 hash_of Sha384 bytes = sha384 bytes
+hash_of Sha512 bytes = sha512 bytes
 
 -- A row of the table of algorithms: how many bytes a hash has (FIPS 180-4, section 1, figure 1: message digest size), the
 -- TPM_ALG_ID (TCG Algorithm Registry, 'TPM_ALG_ID'), and the name in texts, in lower case as the Linux kernel's crypto API has it.
@@ -23,6 +24,7 @@ abbrev pub row_of : Alg → AlgRow
 row_of Sha1 = record { size = 20; tpm_id = 0x0004; name = codes "sha1" }
 row_of Sha256 = record { size = 32; tpm_id = 0x000B; name = codes "sha256" }
 row_of Sha384 = record { size = 48; tpm_id = 0x000C; name = codes "sha384" }
+row_of Sha512 = record { size = 64; tpm_id = 0x000D; name = codes "sha512" }
 
 abbrev pub size_of : Alg → ℕ
 size_of alg = (row_of alg).size
@@ -35,7 +37,7 @@ name_of alg = (row_of alg).name
 
 -- All algorithms, in order.
 abbrev pub all_algs : List Alg
-all_algs = Sha1 ∷ Sha256 ∷ Sha384 ∷ []
+all_algs = Sha1 ∷ Sha256 ∷ Sha384 ∷ Sha512 ∷ []
 
 -- Whether two algorithms are one: they have one identifier.
 abbrev pub same_alg : Alg → Alg → Bool

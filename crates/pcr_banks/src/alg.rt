@@ -11,11 +11,13 @@ pub enum Alg {
     Sha256,
     /// SHA-384, of 48 bytes (FIPS 180-4, section 6.5).
     Sha384,
+    /// SHA-512, of 64 bytes (FIPS 180-4, section 6.4).
+    Sha512,
 }
 
 impl Alg {
     /// All algorithms, each once, in order.
-    pub const ALL: [Alg; 3] = [Alg::Sha1, Alg::Sha256, Alg::Sha384];
+    pub const ALL: [Alg; 4] = [Alg::Sha1, Alg::Sha256, Alg::Sha384, Alg::Sha512];
 
     // The algorithm's row.
     fn row(self) -> Row
@@ -27,6 +29,7 @@ impl Alg {
             Alg::Sha1 => (20, 0x0004, "sha1"),
             Alg::Sha256 => (32, 0x000B, "sha256"),
             Alg::Sha384 => (48, 0x000C, "sha384"),
+            Alg::Sha512 => (64, 0x000D, "sha512"),
         };
         Row { size, tpm_id, name }
     }

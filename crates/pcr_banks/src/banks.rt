@@ -72,6 +72,12 @@ impl Banks {
             index,
             digests.digest(Alg::Sha384),
         );
+        extend_bank(
+            Alg::Sha512,
+            &mut banks.sha512,
+            index,
+            digests.digest(Alg::Sha512),
+        );
     }
 }
 

@@ -19,6 +19,7 @@ pub enum Digest {
     Sha1([u8; 20]),
     Sha256([u8; 32]),
     Sha384([u8; 48]),
+    Sha512([u8; 64]),
 }
 
 impl Digest {
@@ -30,6 +31,7 @@ impl Digest {
             Digest::Sha1(_) => Alg::Sha1,
             Digest::Sha256(_) => Alg::Sha256,
             Digest::Sha384(_) => Alg::Sha384,
+            Digest::Sha512(_) => Alg::Sha512,
         }
     }
 
@@ -42,6 +44,7 @@ impl Digest {
             Digest::Sha1(bytes) => bytes,
             Digest::Sha256(bytes) => bytes,
             Digest::Sha384(bytes) => bytes,
+            Digest::Sha512(bytes) => bytes,
         }
     }
 
@@ -53,6 +56,7 @@ impl Digest {
             Alg::Sha1 => Digest::Sha1([0x00; 20]),
             Alg::Sha256 => Digest::Sha256([0x00; 32]),
             Alg::Sha384 => Digest::Sha384([0x00; 48]),
+            Alg::Sha512 => Digest::Sha512([0x00; 64]),
         }
     }
 
@@ -64,6 +68,7 @@ impl Digest {
             Alg::Sha1 => Digest::Sha1([0xFF; 20]),
             Alg::Sha256 => Digest::Sha256([0xFF; 32]),
             Alg::Sha384 => Digest::Sha384([0xFF; 48]),
+            Alg::Sha512 => Digest::Sha512([0xFF; 64]),
         }
     }
 
@@ -76,6 +81,7 @@ impl Digest {
             Alg::Sha1 => Some(Digest::Sha1(bytes.try_into().ok()?)),
             Alg::Sha256 => Some(Digest::Sha256(bytes.try_into().ok()?)),
             Alg::Sha384 => Some(Digest::Sha384(bytes.try_into().ok()?)),
+            Alg::Sha512 => Some(Digest::Sha512(bytes.try_into().ok()?)),
         }
     }
 
@@ -90,6 +96,7 @@ impl Digest {
             Alg::Sha1 => Some(Digest::Sha1(decode_array(text)?)),
             Alg::Sha256 => Some(Digest::Sha256(decode_array(text)?)),
             Alg::Sha384 => Some(Digest::Sha384(decode_array(text)?)),
+            Alg::Sha512 => Some(Digest::Sha512(decode_array(text)?)),
         }
     }
 

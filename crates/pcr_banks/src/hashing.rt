@@ -6,7 +6,7 @@ ghost use Rattle.pcr_banks.specs.Hashers.{HasTaken};
 
 use crate::{Alg, Digest};
 use sha1::Sha1;
-use sha2::{Digest as Hashes, Sha256, Sha384};
+use sha2::{Digest as Hashes, Sha256, Sha384, Sha512};
 
 /// The hash of the bytes (FIPS 180-4).
 pub fn hash(alg: Alg, bytes: &[u8]) -> Digest
@@ -28,6 +28,7 @@ enum State {
     Sha1(Sha1),
     Sha256(Sha256),
     Sha384(Sha384),
+    Sha512(Sha512),
 }
 
 impl Hasher {
@@ -39,6 +40,7 @@ impl Hasher {
             Alg::Sha1 => State::Sha1(Sha1::new()),
             Alg::Sha256 => State::Sha256(Sha256::new()),
             Alg::Sha384 => State::Sha384(Sha384::new()),
+            Alg::Sha512 => State::Sha512(Sha512::new()),
         };
         Hasher { state }
     }
@@ -51,6 +53,7 @@ impl Hasher {
             State::Sha1(hasher) => hasher.update(bytes),
             State::Sha256(hasher) => hasher.update(bytes),
             State::Sha384(hasher) => hasher.update(bytes),
+            State::Sha512(hasher) => hasher.update(bytes),
         }
     }
 
@@ -62,6 +65,7 @@ impl Hasher {
             State::Sha1(hasher) => Digest::Sha1(hasher.finalize()),
             State::Sha256(hasher) => Digest::Sha256(hasher.finalize()),
             State::Sha384(hasher) => Digest::Sha384(hasher.finalize()),
+            State::Sha512(hasher) => Digest::Sha512(hasher.finalize()),
         }
     }
 }

@@ -11,6 +11,7 @@ pub struct PerAlg<T> {
     pub(crate) sha1: T,
     pub(crate) sha256: T,
     pub(crate) sha384: T,
+    pub(crate) sha512: T,
 }
 
 impl<T> PerAlg<T> {
@@ -23,6 +24,7 @@ impl<T> PerAlg<T> {
             sha1: value(Alg::Sha1),
             sha256: value(Alg::Sha256),
             sha384: value(Alg::Sha384),
+            sha512: value(Alg::Sha512),
         }
     }
 
@@ -34,6 +36,7 @@ impl<T> PerAlg<T> {
             Alg::Sha1 => &self.sha1,
             Alg::Sha256 => &self.sha256,
             Alg::Sha384 => &self.sha384,
+            Alg::Sha512 => &self.sha512,
         }
     }
 }
@@ -47,6 +50,7 @@ impl<T: Copy> PerAlg<T> {
             sha1: value,
             sha256: value,
             sha384: value,
+            sha512: value,
         }
     }
 
@@ -58,6 +62,7 @@ impl<T: Copy> PerAlg<T> {
             Alg::Sha1 => self.sha1 = value,
             Alg::Sha256 => self.sha256 = value,
             Alg::Sha384 => self.sha384 = value,
+            Alg::Sha512 => self.sha512 = value,
         }
     }
 }

@@ -56,7 +56,7 @@ fn measure_prints_registers(rt: HostRuntime) -> Result<(), Fail> {
 }
 
 /// Words, and the status and the output that they get.
-static COMMANDS: [(&[&str], u8, &[u8]); 28] = [
+static COMMANDS: [(&[&str], u8, &[u8]); 29] = [
     (
         &["verify", "log", "forged", "expected"],
         2,
@@ -84,6 +84,11 @@ static COMMANDS: [(&[&str], u8, &[u8]); 28] = [
     ),
     (
         &["measure", "--alg", "sha512", "L"],
+        2,
+        b"refused: book fault 2\n",
+    ),
+    (
+        &["measure", "--alg", "sm3", "L"],
         2,
         b"refused: command line\n",
     ),

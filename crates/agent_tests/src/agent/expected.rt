@@ -11,6 +11,10 @@ use std::test::Fail;
 /// The digits of a SHA-256 digest, of both cases.
 const DIGITS: &str = "f5a5fd42d16a20302798ef6ed309979b43003d2320d9f0e8ea9831a92759FB4B";
 
+/// The digits of a SHA-512 digest.
+const SHA512_DIGITS: &str = "ab942f526272e456ed68a979f50202905ca903a141ed98443567b11ef0bf25a5\
+    52d639051a01be58558122c58e3de07d749ee59ded36acf0c55cd91924d6ba11";
+
 /// Reads the text that these parts make; once more where an allocation was refused.
 fn expected_of(alloc: Global, parts: &[&str]) -> Result<Vec<Expected>, ExpectFault> {
     let text = text_of(alloc, parts).map_err(|_| ExpectFault::Memory)?;
@@ -46,6 +50,7 @@ fn lines_of_no_register(rt: HostRuntime) -> Result<(), Fail> {
         ("SHA256 4 ", "", ExpectFault::BadLine { line: 1 }),
         ("sha1 4 ", "", ExpectFault::BadLine { line: 1 }),
         ("sha512 4 ", "", ExpectFault::BadLine { line: 1 }),
+        ("sm3_256 4 ", "", ExpectFault::BadLine { line: 1 }),
         ("sha256 4 ", "0", ExpectFault::BadLine { line: 1 }),
         ("sha256 4 ", " ", ExpectFault::BadLine { line: 1 }),
         ("sha256 4 ", "\r\r\n", ExpectFault::BadLine { line: 1 }),
@@ -58,13 +63,24 @@ fn lines_of_no_register(rt: HostRuntime) -> Result<(), Fail> {
     Ok(())
 }
 
-/// Three registers of two banks, with line ends of both kinds and empty lines, and this end of the last line.
-fn three_registers(alloc: Global, end: &str) -> Result<Vec<Expected>, ExpectFault> {
+/// Four registers of three banks, with line ends of both kinds and empty lines, and this end of the last line.
+fn four_registers(alloc: Global, end: &str) -> Result<Vec<Expected>, ExpectFault> {
     let zeros = "0000000000000000000000000000000000000000";
     let (first, second) = ("\nsha256 4 ", "\r\n\r\n\nsha1 4 ");
+    let (third, last) = ("\nsha512 4 ", "\nsha256 23 ");
     expected_of(
         alloc,
-        &[first, DIGITS, second, zeros, "\nsha256 23 ", DIGITS, end],
+        &[
+            first,
+            DIGITS,
+            second,
+            zeros,
+            third,
+            SHA512_DIGITS,
+            last,
+            DIGITS,
+            end,
+        ],
     )
 }
 
@@ -72,14 +88,16 @@ fn three_registers(alloc: Global, end: &str) -> Result<Vec<Expected>, ExpectFaul
 #[test]
 fn expected_registers_in_their_order(rt: HostRuntime) -> Result<(), Fail> {
     let value = Digest::from_hex(Alg::Sha256, DIGITS.as_bytes()).ok_or("no digest")?;
+    let longest = Digest::from_hex(Alg::Sha512, SHA512_DIGITS.as_bytes()).ok_or("no digest")?;
     let wanted = [
         (Alg::Sha256, 4, value),
         (Alg::Sha1, 4, Digest::zero(Alg::Sha1)),
+        (Alg::Sha512, 4, longest),
         (Alg::Sha256, 23, value),
     ];
     for end in ["", "\n", "\r\n", "\n\n", "\r"] {
-        let read = three_registers(rt.alloc(), end)?;
-        assert_eq!(rt; read.len(), 3);
+        let read = four_registers(rt.alloc(), end)?;
+        assert_eq!(rt; read.len(), 4);
         for (found, (alg, register, value)) in read.iter().zip(wanted) {
             let wanted = Expected {
                 alg,
@@ -102,7 +120,7 @@ fn registers_text(alloc: Global, now: &Banks, start: &Banks) -> Result<Vec<u8>, 
 #[test]
 fn written_registers_are_read_back(rt: HostRuntime) -> Result<(), Fail> {
     let alloc = rt.alloc();
-    let now = Banks::new(AlgSet::empty().with(Alg::Sha1).with(Alg::Sha384), 3);
+    let now = Banks::new(AlgSet::empty().with(Alg::Sha1).with(Alg::Sha512), 3);
     let start = Banks::new(AlgSet::empty(), 0);
     let text = once_more(|| registers_text(alloc, &now, &start))?;
     let read = once_more(|| read_expected(alloc, &text))?;

@@ -33,7 +33,7 @@ struct Asked {
 }
 
 /// Words without options, with each option alone, and with all of them: each algorithm, template and print.
-static MEASUREMENTS: [Asked; 10] = [
+static MEASUREMENTS: [Asked; 11] = [
     Asked {
         words: &["measure", "L"],
         alg: Alg::Sha256,
@@ -173,6 +173,16 @@ static MEASUREMENTS: [Asked; 10] = [
         print: Print::Registers,
         log: "log",
         files: &["one", "two"],
+    },
+    Asked {
+        words: &["measure", "--alg", "sha512", "log"],
+        alg: Alg::Sha512,
+        template: Template::ImaNg,
+        workers: 2,
+        limit: 100_000,
+        print: Print::Ascii,
+        log: "log",
+        files: &[],
     },
 ];
 

@@ -3,7 +3,7 @@
 use super::devices::{bytes_of, once_more};
 use super::real_boot::FIRMWARE_LOG;
 use super::real_boot_list::{REGISTER, entries_of, list_bytes, log_of};
-use ima_list::{Entry, Template};
+use ima_list::{Entry, Fields, Template};
 use measure_book::{Answer, Book, BookFault, Op, Origin, Receipt};
 use pcr_banks::{Alg, Banks, Digest, REGISTERS};
 use std::alloc::{AllocError, Global};
@@ -23,21 +23,17 @@ fn applied(book: &mut Book, op: &Op) -> Result<Receipt, BookFault> {
     }
 }
 
-/// The operation that an entry comes of, where its file's digest is by an algorithm that we know; once more where an
-/// allocation was refused.
-fn operation_of(alloc: Global, entry: &Entry) -> Result<Option<Op>, AllocError> {
-    let Some(fields) = entry.fields() else {
-        return Ok(None);
-    };
+/// The operation that an entry with these fields comes of; once more where an allocation was refused.
+fn operation_of(alloc: Global, entry: &Entry, fields: &Fields) -> Result<Op, AllocError> {
     let path = once_more(|| Vec::from_slice(alloc, fields.path))?;
-    Ok(Some(if entry.is_violation() {
+    Ok(if entry.is_violation() {
         Op::Violation { path }
     } else {
         Op::Measure {
             path,
             digest: fields.file,
         }
-    }))
+    })
 }
 
 /// PCR 10 after the list's entries but the one that is left out, computed apart from the list's bytes.
@@ -62,8 +58,8 @@ fn assert_registers(rt: &impl Abort, banks: &Banks, start: &Banks) {
 /// as violations, makes these very entries.
 ///
 /// Compared are: the book's first entry, which is the book's own boot aggregate, with the list's; each later entry, in
-/// order, with the list's, but for the one entry whose digest is by SHA-512, which is no algorithm of ours and is left out;
-/// and PCR 10. With the entry that was left out put back in its place, the replay gives the PCR 10 that the TPM had
+/// order, with the list's, but for the one entry whose digest is by SHA-512, which a book of SHA-256 refuses; and PCR 10.
+/// With the entry that was left out put back in its place, the replay gives the PCR 10 that the TPM had
 /// (`samples/real-boot/expected.txt`). All other registers are those after the log.
 #[test]
 fn real_boot_book(rt: HostRuntime) -> Result<(), Fail> {
@@ -81,9 +77,12 @@ fn real_boot_book(rt: HostRuntime) -> Result<(), Fail> {
     let mut whole = start;
     for (place, entry) in list.iter().enumerate() {
         entry.replay_into(&mut whole);
-        let Some(op) = operation_of(alloc, entry)? else {
+        let fields = entry.fields().ok_or("no fields")?;
+        let op = operation_of(alloc, entry, &fields)?;
+        if fields.file.alg() == Alg::Sha512 {
+            assert_eq!(rt; book.apply(&op).err(), Some(BookFault::WrongHash));
             continue;
-        };
+        }
         if place > 0 {
             let answer = applied(&mut book, &op)?.answer;
             assert!(rt; matches!(answer, Answer::Added(_)), "entry {place}");
@@ -91,8 +90,7 @@ fn real_boot_book(rt: HostRuntime) -> Result<(), Fail> {
         let made = book.entries().last().ok_or("no entry")?;
         assert!(rt; made == entry, "entry {place}");
     }
-    let told = list.iter().filter(|entry| entry.fields().is_some());
-    assert_eq!(rt; told.count(), 98);
+    assert_eq!(rt; list.len(), 99);
     assert_eq!(rt; book.entries().len(), 98);
     assert_registers(&rt, book.banks(), &start);
     assert_eq!(rt;

@@ -4,37 +4,14 @@ use super::devices::answered;
 use super::real_boot_list::list_bytes;
 use std::test::Fail;
 
-/// Where `samples/real-boot/ima.ascii` has the line of the one entry with a digest of SHA-512, which we do not know.
-const SHA512_PLACE: usize = 1934;
-
-/// This line, of an entry that we show without fields.
-const SHA512_LINE: &[u8] = b"10 fa6b82ad7e00492fa118047c04a9c08dd307cc4b ima-ng \
-    sha512:cfa2697d25bd7fa4333bc4935b3f910ae203fe202d3c248d9a24c86715cb9a07\
-    3cd320082b4361aa063f5f5ed693e9f68bd4da62d9ed2d148a297edbd75bf0bf \
-    /mnt/a_signed_name.txt\n";
-
-/// How we show it: its payload in hexadecimal.
-const SHOWN_LINE: &[u8] = b"10 fa6b82ad7e00492fa118047c04a9c08dd307cc4b ima-ng \
-    480000007368613531323a00\
-    cfa2697d25bd7fa4333bc4935b3f910ae203fe202d3c248d9a24c86715cb9a07\
-    3cd320082b4361aa063f5f5ed693e9f68bd4da62d9ed2d148a297edbd75bf0bf\
-    170000002f6d6e742f615f7369676e65645f6e616d652e74787400\n";
-
-/// The path of one entry has a line feed in it: the text is compared whole but for this one line.
+/// Each entry has the text that the kernel wrote. The path of one has a line feed in it, and one has a digest by SHA-512.
 #[test]
 fn real_boot_lines(rt: HostRuntime) -> Result<(), Fail> {
     let alloc = rt.alloc();
     let list = list_bytes(alloc)?;
     let (status, output) = answered(&rt, &["show", "ima.list"], &[("ima.list", &list)])?;
     assert_eq!(rt; status, 0);
-    let (before, rest) = ASCII.split_at(SHA512_PLACE);
-    let after = rest.strip_prefix(SHA512_LINE).ok_or("no line")?;
-    assert_eq!(rt; before.iter().filter(|byte| **byte == b'\n').count(), 14);
-    assert_eq!(rt; after.iter().filter(|byte| **byte == b'\n').count(), 85);
-    let (first, rest) = output.split_at(before.len().min(output.len()));
-    assert!(rt; first == before);
-    let rest = rest.strip_prefix(SHOWN_LINE).ok_or("not in hexadecimal")?;
-    assert!(rt; rest == after);
+    assert!(rt; output.as_slice() == ASCII);
     Ok(())
 }
 

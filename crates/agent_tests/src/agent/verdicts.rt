@@ -1,7 +1,7 @@
 //! Reports on logs, lists and expected registers.
 
 use super::devices::{answered, bytes_of, once_more};
-use super::logs::{EVENT, EXTENDED_LINE, HEADER};
+use super::logs::{EVENT, EXTENDED_LINE, HEADER, HEADER_WITH_SHA512};
 use super::show::VIOLATION;
 use boot_log::{LogFault, read_log};
 use byte_streams::{Failed, VecSink};
@@ -210,6 +210,32 @@ fn first_entry(alloc: Global, path: &[u8], digest: &Digest) -> Result<Vec<u8>, A
 
 /// The boot aggregate of the registers after the log of one event.
 const AGGREGATE: &[u8] = b"3ef781bb9b62116d8b9e7c9e9136670fb2d7b7b9cca79a98ddc7fbdec1f68768";
+
+/// The boot aggregate of registers of SHA-512 at reset.
+const SHA512_AGGREGATE: &[u8] = b"aa79444dee5810832cae9935b883c71557be3d3b048ae1005c5104a43559345b\
+    bea963771375065c88210ab12e14b25b83930d9f75f9666028aa1fd0df7c2225";
+
+/// A first entry by SHA-512 speaks of the bank of SHA-512, where the log has it.
+#[test]
+fn aggregates_by_sha512(rt: HostRuntime) -> Result<(), Fail> {
+    let alloc = rt.alloc();
+    let good = Digest::from_hex(Alg::Sha512, SHA512_AGGREGATE).ok_or("no digest")?;
+    for (header, digest, aggregate) in [
+        (HEADER_WITH_SHA512, good, Aggregate::Good),
+        (
+            HEADER_WITH_SHA512,
+            Digest::zero(Alg::Sha512),
+            Aggregate::Wrong,
+        ),
+        (HEADER, good, Aggregate::NoBank),
+    ] {
+        let log = bytes_of(alloc, &[header])?;
+        let list = once_more(|| first_entry(alloc, b"boot_aggregate", &digest))?;
+        let report = report_on(alloc, &log, &list, &[])?;
+        assert_eq!(rt; report.aggregate, aggregate);
+    }
+    Ok(())
+}
 
 /// What the first entry says of the log's registers.
 #[test]

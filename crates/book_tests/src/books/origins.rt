@@ -14,10 +14,10 @@ use std::test::Fail;
 struct Form {
     template: Template,
     alg: Alg,
-    values: [(Alg, &'static str); 3],
+    values: [(Alg, &'static str); 4],
 }
 
-const FORMS: [Form; 4] = [
+const FORMS: [Form; 5] = [
     Form {
         template: Template::Ima,
         alg: Alg::Sha1,
@@ -30,6 +30,10 @@ const FORMS: [Form; 4] = [
             (
                 Alg::Sha384,
                 "291398907bfdd42a6e6a8a8910da470d505384bdb3fc788babf81340f79a2670522ab466854ea93660616708a5161168",
+            ),
+            (
+                Alg::Sha512,
+                "06fe496d2647acdd260d1970308c1b4a11b4cd5cd2e46bfeba63b2c4f07482329d3ffe09431c37520b601b9c7d7b0395b06707d15f8ee5bfb8f88cf1b07cb795",
             ),
         ],
     },
@@ -46,6 +50,10 @@ const FORMS: [Form; 4] = [
                 Alg::Sha384,
                 "d40b2e479a8ed1690167fbc94c89b02e5e939c263435fc55060502a054e7ea2d13b06b432a190912a135723c157da74c",
             ),
+            (
+                Alg::Sha512,
+                "6598f57d901c97ff8ac3721c38e382e125d91a23dc36ccef75215dbe6429eb12727053017339a3d462de186de08eeb1daf88c4e7c20c7bfaf99033e4ad6d9524",
+            ),
         ],
     },
     Form {
@@ -61,6 +69,10 @@ const FORMS: [Form; 4] = [
                 Alg::Sha384,
                 "202ce28daaf97e2ae1fb49ba0ff75b79a5c66c24caa11c4eb357db67a0dcb936023ee2f64fadc099de29f344903a3969",
             ),
+            (
+                Alg::Sha512,
+                "c52dd18b12c3aa80b753a65bb7b6317c2fdb36bd7b29f880a18dfe608859a7a4c1676b475765ec2565b163ecc2641e1b5fde22e287d2eaf5ab238bd40e0cdccc",
+            ),
         ],
     },
     Form {
@@ -75,6 +87,29 @@ const FORMS: [Form; 4] = [
             (
                 Alg::Sha384,
                 "a172a832fc1b935e6720a93f89b850bee8398ae5a4533864e63731386cbade4a8b677be0e169da4886e8b85345c4db4b",
+            ),
+            (
+                Alg::Sha512,
+                "2b40e1fabd8891b915a98289fb4d0a8d92684470d9ac0d5bf8664e6fa538b791127bf5aa224037b0ff8dfa88726b71a0400187e3328f5037ec4e789ca9f58263",
+            ),
+        ],
+    },
+    Form {
+        template: Template::ImaNg,
+        alg: Alg::Sha512,
+        values: [
+            (Alg::Sha1, "b8853826ebd8f9c484a5540a0296eb4bf9d14d28"),
+            (
+                Alg::Sha256,
+                "524f1e3dfc54df4e186975e07f522b5bb5e4dd4c366b3de0790fa51d7674e25f",
+            ),
+            (
+                Alg::Sha384,
+                "bd763da5901333938038e6779b7fd05f3899cabc14364e011b1f3bb81cc21771f075b44b28a6f6b865bc4704aa764234",
+            ),
+            (
+                Alg::Sha512,
+                "3528986b45692e4aa2f93d7681211869900245810e1fbc9c8e315b74b6833a084db67d9303c96a49be485bb99baed8319eec005ec7e6db0d747791a4b0709424",
             ),
         ],
     },
@@ -125,11 +160,11 @@ fn each_form_over_one_bank(rt: HostRuntime) -> Result<(), Fail> {
 }
 
 #[test]
-fn each_form_over_three_banks(rt: HostRuntime) -> Result<(), Fail> {
-    let all = AlgSet::empty()
-        .with(Alg::Sha1)
-        .with(Alg::Sha256)
-        .with(Alg::Sha384);
+fn each_form_over_all_banks(rt: HostRuntime) -> Result<(), Fail> {
+    let mut all = AlgSet::empty();
+    for alg in Alg::ALL {
+        all = all.with(alg);
+    }
     for form in &FORMS {
         assert_book(&rt, rt.alloc(), form, all)?;
     }

@@ -56,10 +56,18 @@ fn books_that_are_not_opened(rt: HostRuntime) {
     let alloc = rt.alloc();
     for (other, fault) in [
         (ima_origin(Alg::Sha384, 0), BookFault::WrongHash),
+        (ima_origin(Alg::Sha512, 0), BookFault::WrongHash),
         (ima_origin(Alg::Sha1, 0), BookFault::NoBank),
         (
             Origin {
                 alg: Alg::Sha384,
+                ..origin(0)
+            },
+            BookFault::NoBank,
+        ),
+        (
+            Origin {
+                alg: Alg::Sha512,
                 ..origin(0)
             },
             BookFault::NoBank,

@@ -4,8 +4,8 @@ use ima_list::boot_aggregate;
 use pcr_banks::{Alg, AlgSet, Banks, Digest};
 use std::test::Fail;
 
-/// The boot aggregate of registers at reset: the hash of 160, of 320 and of 480 zero bytes.
-pub const RESET_AGGREGATES: [(Alg, &[u8]); 3] = [
+/// The boot aggregate of registers at reset: the hash of 160, of 320, of 480 and of 640 zero bytes.
+pub const RESET_AGGREGATES: [(Alg, &[u8]); 4] = [
     (Alg::Sha1, b"9797edf8d0eed36b1cf92547816051c8af4e45ee"),
     (
         Alg::Sha256,
@@ -15,6 +15,11 @@ pub const RESET_AGGREGATES: [(Alg, &[u8]); 3] = [
         Alg::Sha384,
         b"112397cbc0c7fc31a4acd54403f62cf0807330f380d4b5586391fcfdf1629d7b\
           fd4a9e2c4dc33d88119480978230f8f3",
+    ),
+    (
+        Alg::Sha512,
+        b"aa79444dee5810832cae9935b883c71557be3d3b048ae1005c5104a43559345b\
+          bea963771375065c88210ab12e14b25b83930d9f75f9666028aa1fd0df7c2225",
     ),
 ];
 

@@ -54,6 +54,7 @@ fn payloads_without_fields(rt: HostRuntime) -> Result<(), Fail> {
         (FRONT, 31, PATH, 55),
         (b"\x28\0\0\0sha999:\0", 32, PATH, 56),
         (b"\x28\0\0\0sha384:\0", 32, PATH, 56),
+        (b"\x28\0\0\0sha512:\0", 32, PATH, 56),
         (b"\x28\0\0\0SHA256:\0", 32, PATH, 56),
         (b"\x28\0\0\0sha256\0:", 32, PATH, 56),
         (b"\x27\0\0\0sha256:\0", 31, PATH, 55),
@@ -76,6 +77,7 @@ fn fields_by_each_algorithm(rt: HostRuntime) -> Result<(), Fail> {
         (Alg::Sha1, b"\x1a\0\0\0sha1:\0".as_slice(), 42),
         (Alg::Sha256, FRONT, 56),
         (Alg::Sha384, b"\x38\0\0\0sha384:\0", 72),
+        (Alg::Sha512, b"\x48\0\0\0sha512:\0", 88),
     ] {
         let file = hash(alg, b"abc");
         let entry = entry_with(alloc, length, front, file.bytes(), PATH)?;

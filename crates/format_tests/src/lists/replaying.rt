@@ -71,7 +71,7 @@ fn assert_replayed(
         };
         assert_eq!(rt; banks.read(Alg::Sha256, register), expected);
     }
-    for alg in [Alg::Sha1, Alg::Sha384] {
+    for alg in [Alg::Sha1, Alg::Sha384, Alg::Sha512] {
         assert!(rt; !banks.active(alg));
     }
     Ok(())

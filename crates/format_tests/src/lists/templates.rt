@@ -16,6 +16,7 @@ fn paths_up_to_a_length(rt: HostRuntime) {
         (Template::ImaNg, Alg::Sha1, 0, Ok(())),
         (Template::ImaNg, Alg::Sha256, 256, Ok(())),
         (Template::ImaNg, Alg::Sha384, 4_095, Ok(())),
+        (Template::ImaNg, Alg::Sha512, 4_095, Ok(())),
         (
             Template::ImaNg,
             Alg::Sha256,
@@ -52,6 +53,7 @@ fn template_faults_in_order(rt: HostRuntime) {
         ),
         (Template::Ima, Alg::Sha256, b"\0", EntryFault::WrongHash),
         (Template::Ima, Alg::Sha384, &long, EntryFault::WrongHash),
+        (Template::Ima, Alg::Sha512, b"/", EntryFault::WrongHash),
         (Template::Ima, Alg::Sha1, b"\0", EntryFault::NulInPath),
         (Template::Ima, Alg::Sha1, b"a\0", EntryFault::NulInPath),
         (
