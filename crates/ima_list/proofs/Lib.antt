@@ -1,6 +1,8 @@
 pub mod EntryLaws
 pub mod ListLaws
 pub mod PieceLaws
+pub mod KindLaws
+pub mod RowLaws
 pub mod TemplateLaws
 pub mod ReplayLaws
 pub mod FieldsLaws

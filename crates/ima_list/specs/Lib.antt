@@ -2,8 +2,10 @@ pub mod ListEntry
 pub mod ListFaults
 pub mod Spelling
 pub mod Reading
-pub mod Templates
 pub mod Digesting
+pub mod FieldKinds
+pub mod Rows
+pub mod Templates
 pub mod Replaying
 pub mod Fields
 pub mod Lines

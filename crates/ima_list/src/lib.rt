@@ -8,6 +8,7 @@ mod aggregate;
 mod entry;
 mod entry_ref;
 mod fault;
+mod field_kind;
 mod fields;
 pub mod laws;
 mod line;
