@@ -25,7 +25,7 @@ pub use byte_streams::{Failed, Sink, SliceSource, Source, VecSink, send, send_pi
 pub use entry::Entry;
 pub use entry_ref::EntryRef;
 pub use fault::ListFault;
-pub use fields::Fields;
+pub use fields::{Fields, Sig};
 pub use list_reader::ListReader;
 pub use reading::read_list;
 pub use replaying::{ReplayFault, replay};
