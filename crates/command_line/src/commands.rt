@@ -6,11 +6,9 @@ ghost use Rattle.clap.specs.declared.builder.ValueParser.{ValueParser};
 ghost use Rattle.command_line.specs.Commands.{IsArgument, IsCommand, Parsers, commands, measure_app, optional, program_app, repeated, required, show_app, verify_app};
 
 use clap::{Arg, ArgAction, Command, value_parser};
+use ima_list::Template;
 use pcr_banks::Alg;
 use std::alloc::{AllocError, Global};
-
-/// The names of the templates of entries.
-static TEMPLATES: [&str; 2] = ["ima", "ima-ng"];
 
 /// The names of what is printed.
 static PRINTS: [&str; 3] = ["ascii", "binary", "registers"];
@@ -26,14 +24,16 @@ Exit status:
   2  the words or an input are refused
   3  memory ran out, or a device failed";
 
-// The commands, as clap reads them. Files are measured by an algorithm of one of these names.
+// The commands, as clap reads them. Files are measured by an algorithm of one of these names, into entries of a template of one
+// of these names.
 pub(crate) fn all_commands<'a>(
     alloc: Global,
     algs: &'a [&'a str],
+    templates: &'a [&'a str],
 ) -> Result<Command<'a>, AllocError>
     ensures { IfOk result (λ program. (parsers : Parsers) × IsCommand (commands parsers) program) }
 {
-    let measure = measure_command(alloc, algs)?;
+    let measure = measure_command(alloc, algs, templates)?;
     let verify = verify_command(alloc)?;
     let show = show_command(alloc)?;
     let program = program(alloc)?.subcommand(measure)?;
@@ -64,11 +64,15 @@ fn command<'a>(alloc: Global, name: &'a str, about: &'a str) -> Command<'a>
     Command::new(alloc, name).about(about).after_help(STATUSES)
 }
 
-fn measure_command<'a>(alloc: Global, algs: &'a [&'a str]) -> Result<Command<'a>, AllocError>
+fn measure_command<'a>(
+    alloc: Global,
+    algs: &'a [&'a str],
+    templates: &'a [&'a str],
+) -> Result<Command<'a>, AllocError>
     ensures { IfOk result (λ command. (parsers : Parsers) × IsCommand (measure_app parsers) command) }
 {
     let digests = "Hash algorithm of the files' digests\n";
-    let templates = "Template of the list's entries\n";
+    let entries = "Template of the list's entries\n";
     let prints = "\
 What to print: the list as text, the binary list, or the registers that
 differ from their reset values\n";
@@ -77,7 +81,14 @@ differ from their reset values\n";
         "Measures files into the registers that a firmware event log makes, and prints the result";
     command(alloc, "measure", about)
         .arg(choice(alloc, "alg", "A", Alg::Sha256.name(), algs, digests))?
-        .arg(choice(alloc, "template", "T", "ima-ng", &TEMPLATES, templates))?
+        .arg(choice(
+            alloc,
+            "template",
+            "T",
+            Template::ImaNg.name(),
+            templates,
+            entries,
+        ))?
         .arg(workers_option(alloc))?
         .arg(limit_option(alloc))?
         .arg(choice(alloc, "print", "P", "ascii", &PRINTS, prints))?

@@ -2,7 +2,6 @@
 
 ghost use Rattle.std.specs.Prelude.{◌≡◌, ◌≤◌, ◌⊎◌, [], Ok, Some, codes, drop, map, string_bytes, unwrap_or, IfOk};
 ghost use Rattle.clap.specs.Words.{all_of, first_of, found_of, rows_of, subcommand_rows_of};
-ghost use Rattle.ima_list.specs.Templates.{template_name};
 ghost use Rattle.command_line.specs.Commands.{HasNumber, HasValues, HasValuesIn, IsMatched, print_name};
 ghost use Rattle.std.specs.Vec.Iter.{into_iter_items};
 ghost use Rattle.command_line.specs.Plans.{HasHelpWord, IsAskedBy, IsHelp, IsOfCommand, IsWithinRanges, asks_help};
@@ -47,7 +46,11 @@ fn plan_in(alloc: Global, words: &[String], command: &str) -> Result<Plan, Words
     ensures { IfOk result (λ plan. ((IsOfCommand command.now plan × IsMatched (map string_bytes words.now) plan) ⊎ (HasHelpWord words.now × IsHelp plan)) × IsWithinRanges plan) }
 {
     let algs: Vec<&str> = Alg::ALL.iter().map(|alg| alg.name()).collect(alloc)?;
-    match all_commands(alloc, &algs)?.try_get_matches_from(words) {
+    let templates: Vec<&str> = Template::ALL
+        .iter()
+        .map(|template| template.name())
+        .collect(alloc)?;
+    match all_commands(alloc, &algs, &templates)?.try_get_matches_from(words) {
         Ok(matches) => plan_of(alloc, command, &matches),
         Err(error) => help_of(alloc, words, &error),
     }
@@ -73,7 +76,9 @@ fn measure_of(alloc: Global, matches: &ArgMatches) -> Result<Plan, WordsFault>
     ensures { IfOk result (λ plan. IsOfCommand (codes "measure") plan × IsWithinRanges plan × HasValues (rows_of (found_of matches.now)) plan) }
 {
     let alg = Alg::from_name(text_of(matches, "alg")?.as_bytes()).ok_or(WordsFault::Usage)?;
-    let template = template_named(text_of(matches, "template")?)?;
+    let template = Template::from_name(text_of(matches, "template")?.as_bytes()).ok_or(
+        WordsFault::Usage,
+    )?;
     let workers = workers_of(matches)?;
     let limit = limit_of(matches)?;
     let print = print_named(text_of(matches, "print")?)?;
@@ -111,17 +116,6 @@ fn show_of(alloc: Global, matches: &ArgMatches) -> Result<Plan, WordsFault>
     Ok(Plan::Show {
         list: name_of(alloc, matches, "LIST")?,
     })
-}
-
-// The template of this name.
-fn template_named(name: &str) -> Result<Template, WordsFault>
-    ensures { IfOk result (λ template. template_name template ≡ name.now) }
-{
-    match name {
-        "ima" => Ok(Template::Ima),
-        "ima-ng" => Ok(Template::ImaNg),
-        _ => Err(WordsFault::Usage),
-    }
 }
 
 // What is printed for this name.

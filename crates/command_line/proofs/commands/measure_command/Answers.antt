@@ -6,10 +6,12 @@ use Rattle.command_line.proofs.commands.measure_command.Goals as goal
 
 pub returns : goal.returns
 returns c =
-    let default = subst (λ (name : List ℕ). IsArgument (optional (codes "alg") name c.choice.ensures.0) c.choice.result) c.name.ensures
+    let sha256 = subst (λ (name : List ℕ). IsArgument (optional (codes "alg") name c.choice.ensures.0) c.choice.result) c.name.ensures
     c.choice.ensures.1 in
-    let alg = one_argument_more _ _ _ _ _ c.command.ensures default c.in_ok-arg.ensures in
-    let template = one_argument_more _ _ _ _ _ alg c.choice-2.ensures.1 c.in_ok-arg-2.ensures in
+    let ima_ng = subst (λ (name : List ℕ). IsArgument (optional (codes "template") name c.choice-2.ensures.0) c.choice-2.result)
+    c.name-2.ensures c.choice-2.ensures.1 in
+    let alg = one_argument_more _ _ _ _ _ c.command.ensures sha256 c.in_ok-arg.ensures in
+    let template = one_argument_more _ _ _ _ _ alg ima_ng c.in_ok-arg-2.ensures in
     let workers = one_argument_more _ _ _ _ _ template c.workers_option.ensures.1 c.in_ok-arg-3.ensures in
     let limit = one_argument_more _ _ _ _ _ workers c.limit_option.ensures.1 c.in_ok-arg-4.ensures in
     let print = one_argument_more _ _ _ _ _ limit c.choice-3.ensures.1 c.in_ok-arg-5.ensures in
