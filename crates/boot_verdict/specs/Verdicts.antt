@@ -23,7 +23,8 @@ use Rattle.ima_list.specs.declared.replaying.ReplayFault.{ReplayFault}
 use Rattle.ima_list.specs.ListEntry.{ListEntry}
 use Rattle.ima_list.specs.Spelling.{IsReading}
 use Rattle.ima_list.specs.Digesting.{is_violation}
-use Rattle.ima_list.specs.Fields.{FileFields, fields_of}
+use Rattle.ima_list.specs.FieldKinds.{FileFields}
+use Rattle.ima_list.specs.Fields.{fields_of}
 use Rattle.ima_list.specs.Aggregates.{aggregated, joined_values}
 use Rattle.ima_list.specs.Replaying.{digests_of, AreGenuine, IsReplayFault}
 use Rattle.boot_verdict.specs.declared.expected.Expected.{Expected}

@@ -2,15 +2,15 @@
 use Rattle.std.specs.Prelude.{List, map}
 use Rattle.pcr_banks.specs.declared.alg.Alg.{Alg}
 use Rattle.pcr_banks.specs.Hashing.{hash_of}
-use Rattle.pcr_banks.specs.Digests.{digest_of}
 use Rattle.measure_book.specs.Operations.{BookOp, measure, violation, read}
 use Rattle.hash_workers.specs.declared.job.Job.{Job}
 use Rattle.hash_workers.specs.declared.job.Job.TheVariants as jobs
 
--- The operation of a job: a file is the measurement of its path with the hash of its content by the algorithm, and a
--- violation or a read is itself.
+-- The operation of a job: a file is the measurement of its path with the hash of its content by the algorithm and with its
+-- signature, and a violation or a read is itself.
 abbrev pub operation_of : Alg → Job → BookOp
-operation_of alg (jobs.File path content) = measure path.items (digest_of alg (hash_of alg content.items))
+operation_of alg (jobs.File path content sig) = measure
+    (record { alg = alg; digest = hash_of alg content.items; path = path.items; sig = sig })
 operation_of alg (jobs.Violation path) = violation path.items
 operation_of alg (jobs.Read bank register) = read bank register
 

@@ -1,5 +1,5 @@
 -- Files, measured into the registers of a log. All of this is this project's choice.
-use Rattle.std.specs.Prelude.{◌≡◌, ℕ, ◌<◌, ◌⊎◌, List, All, map, flat_map, slice_get, Option, Some, None}
+use Rattle.std.specs.Prelude.{◌≡◌, ℕ, ◌<◌, ◌⊎◌, List, [], All, map, flat_map, slice_get, Option, Some, None}
 use Rattle.pcr_banks.specs.declared.alg.Alg.{Alg}
 use Rattle.pcr_banks.specs.declared.banks.Banks.{Banks}
 use Rattle.pcr_banks.specs.Registers.{IsReset}
@@ -36,13 +36,13 @@ use Rattle.ima_agent.specs.Loading.{Inputs, Holds, IsInputFault}
 
 -- The path of a job that is a file.
 abbrev pub path_of : Job → Option (List ℕ)
-path_of (jobs.File path content) = Some path.items
+path_of (jobs.File path content sig) = Some path.items
 path_of (jobs.Violation path) = None
 path_of (jobs.Read alg register) = None
 
--- The job is a file, whose content are all bytes of the input that its path names.
+-- The job is a file, whose content are all bytes of the input that its path names, without a signature.
 abbrev pub HasItsContent : Inputs → Job → Type 0
-HasItsContent inputs (jobs.File path content) = Holds inputs (Some path.items) content.items
+HasItsContent inputs (jobs.File path content sig) = Holds inputs (Some path.items) content.items × (sig ≡ [])
 HasItsContent inputs (jobs.Violation path) = ⊥
 HasItsContent inputs (jobs.Read alg register) = ⊥
 

@@ -16,7 +16,7 @@ use boot_verdict::write_registers;
 use byte_streams::VecSink;
 use command_line::Print;
 use hash_workers::{Job, NoGate, measure_files};
-use ima_list::Template;
+use ima_list::{Sig, Template};
 use measure_book::{Book, BookFault, Origin, Outcome};
 use pcr_banks::{Alg, Banks};
 use std::alloc::{AllocError, Global};
@@ -86,7 +86,7 @@ fn measured_over<R: Threads + Wait + Sync, F: Files>(
     Ok(printed(alloc, asked.print, &book, &log.reset_registers())?)
 }
 
-// The files of these names, loaded in their order.
+// The files of these names, loaded in their order, without signatures: extended attributes are not read.
 fn jobs_of<F: Files>(alloc: Global, files: &mut F, names: &[String]) -> Result<Vec<Job>, RunFault>
     ensures jobs { IfOk result (λ jobs. AreFiles (F.told files.old) (map string_bytes names.now) jobs.items) }
     ensures fault { IfErr result (IsFileFault (F.told files.old) (map string_bytes names.now)) }
@@ -95,7 +95,8 @@ fn jobs_of<F: Files>(alloc: Global, files: &mut F, names: &[String]) -> Result<V
     for name in names {
         let content = loaded(alloc, files, Some(name))?;
         let path = Vec::from_slice(alloc, name.as_bytes())?;
-        jobs.push(Job::File { path, content })?;
+        let sig = Sig::empty(alloc);
+        jobs.push(Job::File { path, content, sig })?;
     }
     Ok(jobs)
 }

@@ -7,7 +7,7 @@ use crate::claims::Claims;
 use crate::gate::Gate;
 use crate::job::Job;
 use crate::recorder::{ForeignBook, Recorder, enter};
-use ima_list::Template;
+use ima_list::{Sig, Template};
 use measure_book::{Book, BookFault, Op, Origin, Outcome};
 use pcr_banks::{Alg, AlgSet, Banks};
 use std::alloc::{AllocError, Global};
@@ -94,13 +94,14 @@ fn no_work(alloc: Global) -> Result<Work, AllocError> {
 fn jobs(alloc: Global) -> Result<[Job; 3], AllocError> {
     let path = Vec::from_slice(alloc, b"/bin/sh")?;
     let content = Vec::from_slice(alloc, b"abc")?;
+    let sig = Sig::empty(alloc);
     let other = Vec::from_slice(alloc, b"/etc/x")?;
     let read = Job::Read {
         alg: Alg::Sha256,
         register: 10,
     };
     Ok([
-        Job::File { path, content },
+        Job::File { path, content, sig },
         Job::Violation { path: other },
         read,
     ])
