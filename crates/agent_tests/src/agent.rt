@@ -24,6 +24,7 @@ mod refusals;
 mod replaying;
 mod seventy_files;
 mod show;
+mod signatures;
 mod system;
 mod texts;
 mod verdicts;

@@ -9,10 +9,11 @@ mod memory;
 mod origins;
 mod refusals;
 mod sha512;
+mod signatures;
 mod values;
 
 use exports::{list_of, spellings};
-use ima_list::{Entry, Template};
+use ima_list::{Entry, Sig, Template};
 use measure_book::{Answer, Book, BookFault, Op, Origin, Outcome, Receipt, Record};
 use pcr_banks::{Alg, AlgSet, Banks, Digest, hash};
 use std::alloc::{AllocError, Global};
@@ -69,9 +70,20 @@ fn value(digits: &str) -> Option<Digest> {
     Digest::from_hex(Alg::Sha256, digits.as_bytes())
 }
 
+/// A copy of the signature; once more where an allocation was refused.
+fn copied_sig(sig: &Sig) -> Result<Sig, AllocError> {
+    sig.copy().or_else(|_| sig.copy())
+}
+
+/// The measurement of a file without a signature.
 fn measure(alloc: Global, path: &[u8], digest: Digest) -> Result<Op, AllocError> {
+    measure_with(alloc, path, digest, &Sig::empty(alloc))
+}
+
+fn measure_with(alloc: Global, path: &[u8], digest: Digest, sig: &Sig) -> Result<Op, AllocError> {
     let path = copied(alloc, path)?;
-    Ok(Op::Measure { path, digest })
+    let sig = copied_sig(sig)?;
+    Ok(Op::Measure { path, digest, sig })
 }
 
 fn violation(alloc: Global, path: &[u8]) -> Result<Op, AllocError> {
@@ -135,7 +147,7 @@ fn three_measurements(alloc: Global) -> Result<[Op; 3], AllocError> {
 /// A copy of the operation; once more where an allocation was refused.
 fn copied_op(alloc: Global, op: &Op) -> Result<Op, AllocError> {
     match op {
-        Op::Measure { path, digest } => measure(alloc, path, *digest),
+        Op::Measure { path, digest, sig } => measure_with(alloc, path, *digest, sig),
         Op::Violation { path } => violation(alloc, path),
         Op::Read { alg, register } => Ok(read(*alg, *register)),
     }

@@ -12,9 +12,11 @@ mod lists;
 mod pieces;
 mod replaying;
 mod sending;
+mod signatures;
+mod signed_lists;
 mod templates;
 
-use ima_list::{Entry, ListFault, Template, read_list, write_entry};
+use ima_list::{Entry, ListFault, Sig, Template, read_list, write_entry};
 use pcr_banks::{Alg, Digest, Hasher, REGISTERS};
 use std::alloc::{AllocError, Global};
 use std::fmt::Display;
@@ -117,7 +119,13 @@ fn entry_of(alloc: Global, bytes: &[u8]) -> Result<Entry, Fail> {
     Ok(list_of(alloc, bytes)?.pop().ok_or("no entry")?)
 }
 
-/// The entry of a file that was measured.
+/// The signature of these bytes.
+fn sig_of(alloc: Global, bytes: &[u8]) -> Result<Sig, Fail> {
+    let bytes = joined(alloc, &[bytes])?;
+    Ok(Sig::new(bytes).ok().ok_or("no signature")?)
+}
+
+/// The entry of a file that was measured, without a signature.
 fn measured(
     alloc: Global,
     register: u32,
@@ -125,12 +133,24 @@ fn measured(
     file: &Digest,
     path: &[u8],
 ) -> Result<Entry, Fail> {
+    measured_with(alloc, register, template, file, path, &Sig::empty(alloc))
+}
+
+/// The entry of a file that was measured, with this signature.
+fn measured_with(
+    alloc: Global,
+    register: u32,
+    template: Template,
+    file: &Digest,
+    path: &[u8],
+    sig: &Sig,
+) -> Result<Entry, Fail> {
     template.check(file.alg(), path)?;
     if register >= REGISTERS {
         return Err(Fail::new("no register"));
     }
     let entry = once_more(AllocError, || {
-        Entry::measurement(alloc, register, template, file, path)
+        Entry::measurement(alloc, register, template, file, path, sig)
     })?;
     Ok(entry)
 }

@@ -8,13 +8,15 @@ mod many;
 mod operations;
 mod overlap;
 mod refusals;
+mod signatures;
 
 use hash_workers::{AgentFault, Batch, Job, NoGate, measure_files};
-use ima_list::Template;
+use ima_list::{Sig, Template};
 use measure_book::{BookFault, Op, Origin, Outcome, Receipt};
 use pcr_banks::{Alg, AlgSet, Banks, Digest, hash};
 use std::alloc::{AllocError, Global};
 use std::sync::Wait;
+use std::test::Fail;
 use std::thread::Threads;
 
 /// How many jobs a batch may have.
@@ -43,7 +45,20 @@ fn copied(alloc: Global, bytes: &[u8]) -> Result<Vec<u8>, AllocError> {
 fn file(alloc: Global, path: &[u8], content: &[u8]) -> Result<Job, AllocError> {
     let path = copied(alloc, path)?;
     let content = copied(alloc, content)?;
-    Ok(Job::File { path, content })
+    let sig = Sig::empty(alloc);
+    Ok(Job::File { path, content, sig })
+}
+
+/// A signature; once more where an allocation was refused.
+fn sig_of(alloc: Global, bytes: &[u8]) -> Result<Sig, Fail> {
+    Ok(Sig::new(copied(alloc, bytes)?).ok().ok_or("no signature")?)
+}
+
+fn signed_file(alloc: Global, path: &[u8], content: &[u8], sig: &[u8]) -> Result<Job, Fail> {
+    let path = copied(alloc, path)?;
+    let content = copied(alloc, content)?;
+    let sig = sig_of(alloc, sig)?;
+    Ok(Job::File { path, content, sig })
 }
 
 fn violation(alloc: Global, path: &[u8]) -> Result<Job, AllocError> {
@@ -55,10 +70,18 @@ fn read(alg: Alg, register: u32) -> Job {
     Job::Read { alg, register }
 }
 
-/// The operation of a file with this digest.
+/// The operation of a file with this digest, without a signature.
 fn measured(alloc: Global, path: &[u8], digest: Digest) -> Result<Op, AllocError> {
     let path = copied(alloc, path)?;
-    Ok(Op::Measure { path, digest })
+    let sig = Sig::empty(alloc);
+    Ok(Op::Measure { path, digest, sig })
+}
+
+/// The operation of a file with this digest and this signature.
+fn measured_with(alloc: Global, path: &[u8], digest: Digest, sig: &[u8]) -> Result<Op, Fail> {
+    let path = copied(alloc, path)?;
+    let sig = sig_of(alloc, sig)?;
+    Ok(Op::Measure { path, digest, sig })
 }
 
 /// The batch of these jobs; once more where an allocation was refused.

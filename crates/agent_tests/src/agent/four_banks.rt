@@ -2,7 +2,7 @@
 //!
 //! No machine with four banks was at hand. So the log is that of the real boot, in which each event has four digests: its own by
 //! SHA-256, and by every other algorithm the hash of that one. The list is as the kernel wrote it: a list is the same, whatever
-//! the banks are.
+//! the banks are. An emulated TPM with four banks, extended with these digests, had the registers that are expected.
 
 use super::devices::{answered, bytes_of};
 use super::real_boot::FIRMWARE_LOG;

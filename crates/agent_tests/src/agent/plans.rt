@@ -33,7 +33,7 @@ struct Asked {
 }
 
 /// Words without options, with each option alone, and with all of them: each algorithm, template and print.
-static MEASUREMENTS: [Asked; 11] = [
+static MEASUREMENTS: [Asked; 12] = [
     Asked {
         words: &["measure", "L"],
         alg: Alg::Sha256,
@@ -173,6 +173,16 @@ static MEASUREMENTS: [Asked; 11] = [
         print: Print::Registers,
         log: "log",
         files: &["one", "two"],
+    },
+    Asked {
+        words: &["measure", "--template", "ima-sig", "log"],
+        alg: Alg::Sha256,
+        template: Template::ImaSig,
+        workers: 2,
+        limit: 100_000,
+        print: Print::Ascii,
+        log: "log",
+        files: &[],
     },
     Asked {
         words: &["measure", "--alg", "sha512", "log"],

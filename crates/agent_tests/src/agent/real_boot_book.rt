@@ -3,7 +3,7 @@
 use super::devices::{bytes_of, once_more};
 use super::real_boot::FIRMWARE_LOG;
 use super::real_boot_list::{REGISTER, entries_of, list_bytes, log_of};
-use ima_list::{Entry, Fields, Template};
+use ima_list::{Entry, Fields, Sig, Template};
 use measure_book::{Answer, Book, BookFault, Op, Origin, Receipt};
 use pcr_banks::{Alg, Banks, Digest, REGISTERS};
 use std::alloc::{AllocError, Global};
@@ -32,6 +32,7 @@ fn operation_of(alloc: Global, entry: &Entry, fields: &Fields) -> Result<Op, All
         Op::Measure {
             path,
             digest: fields.file,
+            sig: Sig::empty(alloc),
         }
     })
 }

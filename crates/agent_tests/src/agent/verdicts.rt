@@ -6,10 +6,11 @@ use super::show::VIOLATION;
 use boot_log::{LogFault, read_log};
 use byte_streams::{Failed, VecSink};
 use ima_agent::{Aggregate, Expected, Report, State, VerifyFault, verify};
-use ima_list::{Entry, Template, write_entry};
+use ima_list::{Entry, Sig, Template, write_entry};
 use measure_book::{Book, BookFault, Op, Origin};
 use pcr_banks::{Alg, Banks, Digest, hash};
 use std::alloc::{AllocError, Global};
+use std::process::Abort;
 use std::test::Fail;
 
 /// The report; once more where an allocation was refused.
@@ -39,7 +40,8 @@ pub fn book_of(alloc: Global, start: Banks) -> Result<Book, BookFault> {
     for content in [b"abc".as_slice(), b"abc", b""] {
         let path = Vec::from_slice(alloc, b"/bin/sh")?;
         let digest = hash(Alg::Sha256, content);
-        book.apply(&Op::Measure { path, digest })?;
+        let sig = Sig::empty(alloc);
+        book.apply(&Op::Measure { path, digest, sig })?;
     }
     Ok(book)
 }
@@ -197,13 +199,19 @@ fn thousand_and_one_expected_registers(rt: HostRuntime) -> Result<(), Fail> {
     Ok(())
 }
 
-/// The spelling of an entry with this path and this digest.
-fn first_entry(alloc: Global, path: &[u8], digest: &Digest) -> Result<Vec<u8>, AllocError> {
+/// The spelling of an entry of this template with this path and this digest.
+fn first_entry(
+    alloc: Global,
+    template: Template,
+    path: &[u8],
+    digest: &Digest,
+) -> Result<Vec<u8>, AllocError> {
     let mut bytes = Vec::new(alloc);
-    if Template::ImaNg.check(digest.alg(), path).is_err() {
+    if template.check(digest.alg(), path).is_err() {
         return Ok(bytes);
     }
-    let entry = Entry::measurement(alloc, 10, Template::ImaNg, digest, path)?;
+    let sig = Sig::empty(alloc);
+    let entry = Entry::measurement(alloc, 10, template, digest, path, &sig)?;
     write_entry(&entry, &mut bytes)?;
     Ok(bytes)
 }
@@ -230,17 +238,15 @@ fn aggregates_by_sha512(rt: HostRuntime) -> Result<(), Fail> {
         (HEADER, good, Aggregate::NoBank),
     ] {
         let log = bytes_of(alloc, &[header])?;
-        let list = once_more(|| first_entry(alloc, b"boot_aggregate", &digest))?;
+        let list = once_more(|| first_entry(alloc, Template::ImaNg, b"boot_aggregate", &digest))?;
         let report = report_on(alloc, &log, &list, &[])?;
         assert_eq!(rt; report.aggregate, aggregate);
     }
     Ok(())
 }
 
-/// What the first entry says of the log's registers.
-#[test]
-fn aggregates_of_first_entries(rt: HostRuntime) -> Result<(), Fail> {
-    let alloc = rt.alloc();
+/// What the first entry of a list of this template says of the log's registers.
+fn assert_aggregates(rt: &impl Abort, alloc: Global, template: Template) -> Result<(), Fail> {
     let log = bytes_of(alloc, &[HEADER, EVENT])?;
     let good = Digest::from_hex(Alg::Sha256, AGGREGATE).ok_or("no digest")?;
     let none = Digest::zero(Alg::Sha384);
@@ -250,11 +256,20 @@ fn aggregates_of_first_entries(rt: HostRuntime) -> Result<(), Fail> {
         (b"boot_aggregate", none, Aggregate::NoBank),
         (b"boot_aggregat", good, Aggregate::Missing),
     ] {
-        let list = once_more(|| first_entry(alloc, path, &digest))?;
+        let list = once_more(|| first_entry(alloc, template, path, &digest))?;
         let report = report_on(alloc, &log, &list, &[])?;
         assert_eq!(rt; report.aggregate, aggregate);
         assert_eq!(rt; report.matches(), aggregate == Aggregate::Good);
     }
+    Ok(())
+}
+
+#[test]
+fn aggregates_of_first_entries(rt: HostRuntime) -> Result<(), Fail> {
+    let alloc = rt.alloc();
+    assert_aggregates(&rt, alloc, Template::ImaNg)?;
+    assert_aggregates(&rt, alloc, Template::ImaSig)?;
+    let log = bytes_of(alloc, &[HEADER, EVENT])?;
     let report = report_on(alloc, &log, VIOLATION, &[])?;
     assert_eq!(rt; report.aggregate, Aggregate::Missing);
     Ok(())

@@ -57,14 +57,24 @@ fn assert_book(
 }
 
 /// The newest entry of the book has this spelling.
-fn assert_newest(rt: &impl Abort, alloc: Global, book: &Book, spelling: &[u8]) -> Result<(), Fail> {
+pub fn assert_newest(
+    rt: &impl Abort,
+    alloc: Global,
+    book: &Book,
+    spelling: &[u8],
+) -> Result<(), Fail> {
     let newest = book.entries().last().ok_or("no entry")?;
     assert_eq!(rt; spelling_of(alloc, newest)?.as_slice(), spelling);
     Ok(())
 }
 
 /// Does the operation by one call. Where memory was refused the book is as before, and the operation is done by another.
-fn applied_once(rt: &impl Abort, alloc: Global, book: &mut Book, op: &Op) -> Result<Receipt, Fail> {
+pub fn applied_once(
+    rt: &impl Abort,
+    alloc: Global,
+    book: &mut Book,
+    op: &Op,
+) -> Result<Receipt, Fail> {
     let before = shown_by(alloc, book)?;
     match book.apply(op) {
         Err(BookFault::Memory) => {

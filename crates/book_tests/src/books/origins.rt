@@ -17,7 +17,7 @@ struct Form {
     values: [(Alg, &'static str); 4],
 }
 
-const FORMS: [Form; 5] = [
+const FORMS: [Form; 9] = [
     Form {
         template: Template::Ima,
         alg: Alg::Sha1,
@@ -110,6 +110,82 @@ const FORMS: [Form; 5] = [
             (
                 Alg::Sha512,
                 "3528986b45692e4aa2f93d7681211869900245810e1fbc9c8e315b74b6833a084db67d9303c96a49be485bb99baed8319eec005ec7e6db0d747791a4b0709424",
+            ),
+        ],
+    },
+    Form {
+        template: Template::ImaSig,
+        alg: Alg::Sha1,
+        values: [
+            (Alg::Sha1, "190dce75019db4815eb126de7519c8ef5b8a73c8"),
+            (
+                Alg::Sha256,
+                "c91c0c3111b1845289613d5401f9b9f99c961d305f5c2aee87de28c4cfc57f35",
+            ),
+            (
+                Alg::Sha384,
+                "d7bf9a62bd0a3e28a5988e3c6de3b76b5500d7379ce079985bff40b6fcae494b0f0a6eec0f2c5a7ff352ed89d4d363c1",
+            ),
+            (
+                Alg::Sha512,
+                "78b30762a89b9a00dd148ba50e431e49dbe5146e7ead6b3e00cbce0629dd14933d618a74d2b4689ce3d20f2027fb7d75b6199d6d303fe375889ba7269d737d3f",
+            ),
+        ],
+    },
+    Form {
+        template: Template::ImaSig,
+        alg: Alg::Sha256,
+        values: [
+            (Alg::Sha1, "8ac9b5feb51b00b64a7bb03279e7b90785d26680"),
+            (
+                Alg::Sha256,
+                "097a10d1585b458c31ef977a75a2aceb8a26e253cddd8266d717bd80b5357831",
+            ),
+            (
+                Alg::Sha384,
+                "8c0bec74aaa3ffd6fbda4f2858ff5fbd77d7b036be16c9ab3f35d50309b72ed90b6584d22e3246aa7c259ea422b3e001",
+            ),
+            (
+                Alg::Sha512,
+                "a9c257f915e759f9ffc82ea6dbf3c754bd902df409c0e755d22705bfd6dc40f82bfb884ae328e2bd68fa91b98c36f8e3ebd9dcaba6d433ead6454efc4a4dfd11",
+            ),
+        ],
+    },
+    Form {
+        template: Template::ImaSig,
+        alg: Alg::Sha384,
+        values: [
+            (Alg::Sha1, "483372eccfdd8616f48866f3d4045bb657a12b79"),
+            (
+                Alg::Sha256,
+                "f6409fcbaa0c0bdb9e277bf69ebdf870a7691ef04b9af00d0363faae9742c570",
+            ),
+            (
+                Alg::Sha384,
+                "365229b7e84bc143643c4dea31e24af106f92012511bbc315e4d08bf7324c4b72c63e60559bc27377b9012d3086ce63f",
+            ),
+            (
+                Alg::Sha512,
+                "a706705c11b9a932c661ff741f51df62a609fb6592481c5a86082e5949aa2272975bcc92711a7f2d7e4c81ca0fdb713c1bba3b4cec5a1dbf2b6b9b15d6c1ef34",
+            ),
+        ],
+    },
+    Form {
+        template: Template::ImaSig,
+        alg: Alg::Sha512,
+        values: [
+            (Alg::Sha1, "418f6ca49721a17d159c1cb9c7dd86502e3aa8a6"),
+            (
+                Alg::Sha256,
+                "95c6d0c2eafd7b44169d1479ba5159a21bb0e633b792b08983a2d8a637f67602",
+            ),
+            (
+                Alg::Sha384,
+                "31e3f7d74a04410e3c8a2dac9e4e531637993a797a4fe3fc83166b35885120c30297bdc08c921b4c281ee241e8e747bc",
+            ),
+            (
+                Alg::Sha512,
+                "7fe04a0ada61b7877b135d7910b567ea69dba1fab0b73f658448785b3da322a10bcf66d39a03aa17e1b5853d1a777fb09fc7310a66e4dac8a7e453915376259b",
             ),
         ],
     },

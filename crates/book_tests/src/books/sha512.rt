@@ -42,8 +42,9 @@ fn sha512_bank_in_a_book(rt: HostRuntime) -> Result<(), Fail> {
     let mut book = opened(alloc, origin(Template::ImaNg))?;
     let file = Digest::from_hex(Alg::Sha512, AGGREGATE).ok_or("no digest")?;
     let path = b"boot_aggregate";
+    let sig = b"";
     let first = book.entries().first().ok_or("no entry")?;
-    assert_eq!(rt; first.fields(), Some(Fields { file, path }));
+    assert_eq!(rt; first.fields(), Some(Fields { file, path, sig }));
     let measured = measure(alloc, b"/bin/sh", hash(Alg::Sha512, b"abc"))?;
     assert_eq!(rt; applied(&mut book, &measured)?.answer, Answer::Added(1));
     let other = measure(alloc, b"/bin/ls", hash(Alg::Sha256, b"abc"))?;
@@ -55,7 +56,7 @@ fn sha512_bank_in_a_book(rt: HostRuntime) -> Result<(), Fail> {
     };
     let file = Digest::zero(Alg::Sha512);
     let path = b"/etc/x";
-    assert_eq!(rt; last.fields(), Some(Fields { file, path }));
+    assert_eq!(rt; last.fields(), Some(Fields { file, path, sig }));
     assert!(rt; last.is_violation() && !shell.is_violation());
     let spelled = spellings(alloc, &book.entries()[1..2])?;
     assert_eq!(rt; spelled.len(), 126);

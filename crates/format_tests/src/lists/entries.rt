@@ -55,7 +55,8 @@ fn ima_ng_entry_layout(rt: HostRuntime) -> Result<(), Fail> {
     assert_eq!(rt; payload.len(), 56);
     assert_eq!(rt; Digest::Sha1(entry.digest()), hash(Alg::Sha1, payload));
     assert_eq!(rt; hashed_of(alloc, &entry)?.as_slice(), payload);
-    assert_eq!(rt; entry.fields(), Some(Fields { file, path }));
+    let sig = b"";
+    assert_eq!(rt; entry.fields(), Some(Fields { file, path, sig }));
     assert_eq!(rt; line_of(alloc, &entry)?.as_slice(), MEASUREMENT_LINE);
     assert_eq!(rt; list_of(alloc, MEASUREMENT)?.as_slice(), [entry].as_slice());
     let cut = list_of(alloc, &MEASUREMENT[..93]).err();

@@ -82,7 +82,8 @@ fn fields_by_each_algorithm(rt: HostRuntime) -> Result<(), Fail> {
         let file = hash(alg, b"abc");
         let entry = entry_with(alloc, length, front, file.bytes(), PATH)?;
         let path = b"/bin/sh";
-        assert_eq!(rt; entry.fields(), Some(Fields { file, path }));
+        let sig = b"";
+        assert_eq!(rt; entry.fields(), Some(Fields { file, path, sig }));
     }
     Ok(())
 }

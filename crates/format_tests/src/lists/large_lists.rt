@@ -42,7 +42,8 @@ fn violations_with_the_longest_path(rt: HostRuntime) -> Result<(), Fail> {
         assert!(rt; entry.is_violation());
         let file = Digest::zero(alg);
         let path = path.as_slice();
-        assert_eq!(rt; entry.fields(), Some(Fields { file, path }));
+        let sig = b"";
+        assert_eq!(rt; entry.fields(), Some(Fields { file, path, sig }));
         let read = entry_of(alloc, &spelling_of(alloc, &entry)?)?;
         assert!(rt; read == entry, "{alg:?}");
         assert!(rt; line_of(alloc, &entry)?.len() > 4_095);

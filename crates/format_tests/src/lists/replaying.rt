@@ -82,8 +82,9 @@ fn assert_replayed(
 fn assert_fields(rt: &impl Abort, alloc: Global) -> Result<(), Fail> {
     let file = hash(Alg::Sha256, b"abc");
     let path = b"/bin/sh";
+    let sig = b"";
     let entry = entry_of(alloc, MEASUREMENT)?;
-    assert_eq!(rt; entry.fields(), Some(Fields { file, path }));
+    assert_eq!(rt; entry.fields(), Some(Fields { file, path, sig }));
     let last = measurement_with(alloc, MEASUREMENT.len() - 1, 1)?;
     let longer = measurement_with(alloc, PAYLOAD_LENGTH, 57)?;
     let longer = joined(alloc, &[&longer, b"\0"])?;
@@ -102,9 +103,10 @@ fn assert_empty_path(rt: &impl Abort, alloc: Global) -> Result<(), Fail> {
     let digest = &MEASUREMENT[PAYLOAD_PLACE..82];
     let bytes = joined(alloc, &[front, b"\x31\0\0\0", digest, b"\x01\0\0\0\0"])?;
     let path = b"";
+    let sig = b"";
     assert_eq!(rt;
         entry_of(alloc, &bytes)?.fields(),
-        Some(Fields { file, path })
+        Some(Fields { file, path, sig })
     );
     Ok(())
 }

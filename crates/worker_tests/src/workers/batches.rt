@@ -3,6 +3,7 @@
 use super::many::{Wanted, wrong_in};
 use super::{batch_of, copied, file, measured, origin, read, receipt_of, sha256, violation};
 use hash_workers::{Batch, Job};
+use ima_list::Sig;
 use measure_book::{Answer, Op};
 use pcr_banks::{Alg, Digest};
 use std::alloc::{AllocError, Global};
@@ -104,9 +105,10 @@ fn contents_in_the_list(rt: HostRuntime) -> Result<(), Fail> {
     let alloc = rt.alloc();
     let path = copied(alloc, b"/large")?;
     let content = large_content(alloc)?;
+    let sig = Sig::empty(alloc);
     let jobs = [
         file(alloc, b"/a", b"one")?,
-        Job::File { path, content },
+        Job::File { path, content, sig },
         file(alloc, b"/b", b"two")?,
         file(alloc, b"/c", b"three")?,
     ];

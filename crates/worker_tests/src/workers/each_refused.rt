@@ -1,6 +1,8 @@
 //! Calls that are made once plainly, and once more where an allocation was refused in the first one.
 
-use super::{copied, file, measured, origin, read, receipt_of, violation};
+use super::{
+    copied, file, measured, measured_with, origin, read, receipt_of, signed_file, violation,
+};
 use hash_workers::{AgentFault, Batch, Job, NoGate, measure_files, op_of};
 use measure_book::{Answer, BookFault, Op, Outcome};
 use pcr_banks::{Alg, Digest};
@@ -66,7 +68,9 @@ fn found_of_two(batch: &Batch, ops: &[Op; 2], workers: u32) -> Result<[Found; 2]
 /// Whether the file is as it was made.
 fn is_file(job: &Job, wanted: &[u8], bytes: &[u8]) -> bool {
     match job {
-        Job::File { path, content } => path.as_slice() == wanted && content.as_slice() == bytes,
+        Job::File { path, content, sig } => {
+            path.as_slice() == wanted && content.as_slice() == bytes && sig.bytes().is_empty()
+        }
         _ => false,
     }
 }
@@ -93,6 +97,31 @@ fn each_allocation_refused_in_op_of(rt: HostRuntime) -> Result<(), Fail> {
     };
     assert_eq!(rt; op, wanted);
     Ok(())
+}
+
+/// The file is as it was made where memory was refused, and its signature too.
+#[test]
+fn each_allocation_refused_in_op_of_a_signed_file(rt: HostRuntime) -> Result<(), Fail> {
+    let alloc = rt.alloc();
+    let job = signed_file(alloc, b"/bin/sh", b"abc", b"\x03\x02\x04")?;
+    let op = match op_of(alloc, &job, Alg::Sha256) {
+        Ok(op) => op,
+        Err(AllocError) => {
+            assert!(rt; job_sig(&job) == Some(b"\x03\x02\x04".as_slice()));
+            op_of(alloc, &job, Alg::Sha256)?
+        }
+    };
+    let wanted = measured_with(alloc, b"/bin/sh", digest_of(ABC)?, b"\x03\x02\x04")?;
+    assert_eq!(rt; op, wanted);
+    Ok(())
+}
+
+/// The signature of a file.
+fn job_sig(job: &Job) -> Option<&[u8]> {
+    match job {
+        Job::File { sig, .. } => Some(sig.bytes()),
+        _ => None,
+    }
 }
 
 #[test]

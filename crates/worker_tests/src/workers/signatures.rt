@@ -1,0 +1,69 @@
+//! Files with signatures.
+
+use super::{batch_of, measured_with, origin, receipt_of, sha256, signed_file};
+use hash_workers::{Job, op_of};
+use ima_list::Template;
+use measure_book::{Answer, Op, Origin};
+use pcr_banks::{Alg, Digest};
+use std::alloc::{AllocError, Global};
+use std::test::Fail;
+
+/// A signature.
+const THREE_BYTES: &[u8] = b"\x03\x02\x04";
+
+/// The operation of a job; once more where an allocation was refused.
+fn operation(alloc: Global, job: &Job) -> Result<Op, AllocError> {
+    op_of(alloc, job, Alg::Sha256).or_else(|_| op_of(alloc, job, Alg::Sha256))
+}
+
+/// The operation of a file has its signature, none and the longest too.
+#[test]
+fn operations_of_signed_files(rt: HostRuntime) -> Result<(), Fail> {
+    let alloc = rt.alloc();
+    let longest = [7; 65_536];
+    for sig in [b"".as_slice(), THREE_BYTES, &longest] {
+        let job = signed_file(alloc, b"/bin/sh", b"abc", sig)?;
+        let wanted = measured_with(alloc, b"/bin/sh", sha256(b"abc"), sig)?;
+        let op = operation(alloc, &job)?;
+        assert!(rt; op == wanted);
+        let Op::Measure { sig: copied, .. } = &op else {
+            return Err("no measurement".into());
+        };
+        assert!(rt; copied.bytes() == sig);
+    }
+    Ok(())
+}
+
+/// PCR 10 after the boot aggregate of registers at reset, and `/bin/sh` with the content `abc`, without a signature and with one.
+const AFTER_SIGNED: &[u8] = b"e6c150967e16f38eba5623c9195907955f304a32182c5359ccd7d59e055103f4";
+
+/// One worker records the files in their order; a file that differs by its signature alone is added.
+#[test]
+fn signed_files_are_recorded(rt: HostRuntime) -> Result<(), Fail> {
+    let alloc = rt.alloc();
+    let jobs = [
+        signed_file(alloc, b"/bin/sh", b"abc", b"")?,
+        signed_file(alloc, b"/bin/sh", b"abc", THREE_BYTES)?,
+        signed_file(alloc, b"/bin/sh", b"abc", b"")?,
+    ];
+    let origin = Origin {
+        template: Template::ImaSig,
+        ..origin(100)
+    };
+    let batch = batch_of(&rt, alloc, origin, &jobs, 1)?;
+    for (job, answer) in [
+        (0, Answer::Added(1)),
+        (1, Answer::Added(2)),
+        (2, Answer::Known(1)),
+    ] {
+        let done = receipt_of(&batch, job).ok_or("no receipt")?;
+        assert_eq!(rt; done.answer, answer, "job {job}");
+    }
+    let done = receipt_of(&batch, 1).ok_or("no receipt")?;
+    let wanted = measured_with(alloc, b"/bin/sh", sha256(b"abc"), THREE_BYTES)?;
+    assert!(rt; done.op == wanted);
+    let after = Digest::from_hex(Alg::Sha256, AFTER_SIGNED);
+    assert!(rt; after.is_some());
+    assert_eq!(rt; batch.book.banks().read(Alg::Sha256, 10), after);
+    Ok(())
+}
