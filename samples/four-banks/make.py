@@ -1,8 +1,9 @@
 #!/usr/bin/env python3
-"""Prints what tpm2_pcrread would print of a TPM with four banks after the real boot, where each event of the log has a digest for
+"""Prints what tpm2_pcrread prints of a TPM with four banks after the real boot, where each event of the log has a digest for
 each bank: its own by SHA-256, and by every other algorithm the hash of that one. The list's entries are extended into every
 bank, as Linux 5.8 and later do: by the bank's hash of the payload, a violation by bytes 0xFF. The SHA-256 bank is that of the
-real boot (`expected.txt`), which this script checks.
+real boot (`expected.txt`), which this script checks. An emulated TPM (swtpm), extended by tpm2_pcrextend with these digests, printed
+the same text.
 
 samples/four-banks/make.py > samples/four-banks/tpm2_pcrread.txt"""
 
