@@ -16,9 +16,9 @@ use Rattle.measure_book.specs.Groups as groups
 use Rattle.measure_book.specs.Groups.{groups_of, outcome_at, HasReceipt, AccountsForAll, IsNamed, SaysFull}
 use Rattle.measure_book.specs.Books.{BookState}
 use Rattle.hash_workers.specs.Taking.{Took, RiseForEach}
-use Rattle.hash_workers.specs.Working.{IsOutcomeOfJob}
+use Rattle.hash_workers.specs.Working.{IsOutcomeOf}
 use Rattle.hash_workers.specs.Scattering.{items_of, got_at, ArePairs, AreScattered}
-use Rattle.hash_workers.specs.Batches.{IsReceiptOfJob, IsRefusalOfJob, IsBatch}
+use Rattle.hash_workers.specs.Batches.{IsReceiptOfJob, IsRefusalOfJob, IsBatchOf}
 use Rattle.hash_workers.proofs.ListLaws.{map_at, at_map, list_at, at_list, within_at}
 use Rattle.hash_workers.proofs.TakingLaws.{TakeEach}
 
@@ -152,38 +152,54 @@ same_source book origin gs worker other i k receipt another accounts has also sa
   ]
 ]
 
-done_op : (origin : Origin) (ops : List BookOp) (job : ℕ) (receipt : BookReceipt) → IsOutcomeOfJob origin ops job (done receipt)
-    → IsReceiptOfJob ops job receipt
-done_op origin ops job receipt of = record { op = of.op; has = of.has; operation = of.becomes }
+not_refused : (receipt : BookReceipt) → done receipt ≡ refused Memory → ⊥
+not_refused receipt is = absurd cc
 
-refused_op : (origin : Origin) (ops : List BookOp) (count job : ℕ) (fault : BookFault) → IsOutcomeOfJob origin ops job (refused fault)
-    → fault ≢ Memory
-    → (fault ≡ Full → count ≡ origin.limit) → IsRefusalOfJob origin ops count job fault
-refused_op origin ops count job fault of not_memory full = elim of.becomes [
-  | inl memory ↦ absurd (not_memory memory)
-  | inr cause ↦ record { op = of.op; has = of.has; refusal = refusal_at_end origin cause.0 count of.op fault cause.1 full }
+done_op : (origin : Origin) (count : ℕ) (Makes : ℕ → BookOp → Type 0) (job : ℕ) (receipt : BookReceipt)
+    → IsOutcomeOf origin count Makes job (done receipt) → IsReceiptOfJob Makes job receipt
+done_op origin count Makes job receipt of = elim of.becomes [
+  | inl memory ↦ absurd (not_refused receipt memory)
+  | inr made ↦ record { op = made.0; has = made.1; operation = made.2 }
+]
+
+same_refusal : (one other : BookFault) → refused one ≡ refused other → one ≡ other
+same_refusal one other is = cc
+
+refused_op : (origin : Origin) (count : ℕ) (Makes : ℕ → BookOp → Type 0) (records job : ℕ) (fault : BookFault)
+    → IsOutcomeOf origin count Makes job (refused fault) → fault ≢ Memory
+    → (fault ≡ Full → records ≡ origin.limit) → IsRefusalOfJob origin Makes records job fault
+refused_op origin count Makes records job fault of not_memory full = elim of.becomes [
+  | inl memory ↦ absurd (not_memory (same_refusal fault Memory memory))
+  | inr made ↦ elim made.2 [
+    | inl memory ↦ absurd (not_memory memory)
+    | inr cause ↦ record {
+      op = made.0;
+      has = made.1;
+      refusal = refusal_at_end origin cause.0 records made.0 fault cause.1 full;
+    }
+  ]
 ]
 
 -- All that is known once the outcomes are scattered.
-pub record IsSettled (origin : Origin) (ops : List BookOp) (workers : ℕ) (book : BookState) (takings : List (List ℕ))
+pub record IsSettled (origin : Origin) (count : ℕ) (Makes : ℕ → BookOp → Type 0) (workers : ℕ) (book : BookState) (takings : List (List ℕ))
     (gs : List (Vec Outcome Global))
     (outcomes : List Outcome) (by : List ℕ) : Type 0 where
   pub one_each : length takings ≡ workers
   pub of_jobs : (worker i job : ℕ) (outcome : BookOutcome) → Took takings worker i job → outcome_at (groups_of gs) worker i ≡ Some outcome
-      → IsOutcomeOfJob origin ops job outcome
-  pub hands : TakeEach (length ops) takings
+      → IsOutcomeOf origin count Makes job outcome
+  pub hands : TakeEach count takings
   pub rises : RiseForEach takings
   pub pairs : ArePairs takings (map items_of gs)
   pub scattered : AreScattered takings (map items_of gs) 0 outcomes by
   pub accounts : AccountsForAll book origin (groups_of gs)
-  pub outcomes_len : length outcomes ≡ length ops
-  pub by_len : length by ≡ length ops
+  pub outcomes_len : length outcomes ≡ count
+  pub by_len : length by ≡ count
 
-below_workers : (origin : Origin) (ops : List BookOp) (workers : ℕ) (book : BookState) (takings : List (List ℕ))
+below_workers : (origin : Origin) (count : ℕ) (Makes : ℕ → BookOp → Type 0) (workers : ℕ) (book : BookState) (takings : List (List ℕ))
     (gs : List (Vec Outcome Global))
-    (outcomes : List Outcome) (by : List ℕ) (job worker : ℕ) → IsSettled origin ops workers book takings gs outcomes by
+    (outcomes : List Outcome) (by : List ℕ) (job worker : ℕ) → IsSettled origin count Makes workers book takings gs outcomes by
     → slice_get by job ≡ Some worker → worker < workers
-below_workers origin ops workers book takings gs outcomes by job worker s has =
+below_workers origin count Makes workers book takings gs outcomes by job worker s has =
     let within = slice_get_within by job worker has in
     let by_len = s.by_len in
     let taken = s.hands.each job (omega arith) in
@@ -195,20 +211,20 @@ below_workers origin ops workers book takings gs outcomes by job worker s has =
     let one_each = s.one_each in
     omega arith
 
-source : (origin : Origin) (ops : List BookOp) (workers : ℕ) (book : BookState) (takings : List (List ℕ))
+source : (origin : Origin) (count : ℕ) (Makes : ℕ → BookOp → Type 0) (workers : ℕ) (book : BookState) (takings : List (List ℕ))
     (gs : List (Vec Outcome Global))
     (outcomes : List Outcome) (by : List ℕ) (job : ℕ) (outcome : BookOutcome)
-    → IsSettled origin ops workers book takings gs outcomes by
+    → IsSettled origin count Makes workers book takings gs outcomes by
     → slice_get (map book_outcome_of outcomes) job ≡ Some outcome → Source takings gs by job outcome
-source origin ops workers book takings gs outcomes by job outcome s has =
-    source_of (length ops) takings gs outcomes by job outcome s.hands s.pairs s.scattered s.outcomes_len has
+source origin count Makes workers book takings gs outcomes by job outcome s has =
+    source_of count takings gs outcomes by job outcome s.hands s.pairs s.scattered s.outcomes_len has
 
-of_source : (origin : Origin) (ops : List BookOp) (workers : ℕ) (book : BookState) (takings : List (List ℕ))
+of_source : (origin : Origin) (count : ℕ) (Makes : ℕ → BookOp → Type 0) (workers : ℕ) (book : BookState) (takings : List (List ℕ))
     (gs : List (Vec Outcome Global))
     (outcomes : List Outcome) (by : List ℕ) (job : ℕ) (outcome : BookOutcome)
-    → IsSettled origin ops workers book takings gs outcomes by
-    → Source takings gs by job outcome → IsOutcomeOfJob origin ops job outcome
-of_source origin ops workers book takings gs outcomes by job outcome s from =
+    → IsSettled origin count Makes workers book takings gs outcomes by
+    → Source takings gs by job outcome → IsOutcomeOf origin count Makes job outcome
+of_source origin count Makes workers book takings gs outcomes by job outcome s from =
     s.of_jobs from.worker from.index job outcome from.took from.has
 
 rise_by : (book : BookState) (origin : Origin) (takings : List (List ℕ)) (gs : List (Vec Outcome Global)) (worker i k first second : ℕ)
@@ -227,24 +243,24 @@ rise_by book origin takings gs worker i k first second earlier later accounts ri
   ]
 ]
 
-pub batch_of : (origin : Origin) (ops : List BookOp) (workers : ℕ) (book : BookState) (takings : List (List ℕ))
+pub batch_of : (origin : Origin) (count : ℕ) (Makes : ℕ → BookOp → Type 0) (workers : ℕ) (book : BookState) (takings : List (List ℕ))
     (gs : List (Vec Outcome Global))
-    (outcomes : List Outcome) (by : List ℕ) → IsSettled origin ops workers book takings gs outcomes by
-    → IsBatch origin ops workers book (map book_outcome_of outcomes) by
-batch_of origin ops workers book takings gs outcomes by s = record {
+    (outcomes : List Outcome) (by : List ℕ) → IsSettled origin count Makes workers book takings gs outcomes by
+    → IsBatchOf origin count Makes workers book (map book_outcome_of outcomes) by
+batch_of origin count Makes workers book takings gs outcomes by s = record {
   origin_is = s.accounts.origin_is;
   outcomes_of_all = length-map outcomes book_outcome_of ∙ s.outcomes_len;
   workers_of_all = s.by_len;
-  worker_below = λ job worker has. below_workers origin ops workers book takings gs outcomes by job worker s has;
+  worker_below = λ job worker has. below_workers origin count Makes workers book takings gs outcomes by job worker s has;
   receipts = λ job receipt has.
-      let from = source origin ops workers book takings gs outcomes by job (done receipt) s has in
-      done_op origin ops job receipt (of_source origin ops workers book takings gs outcomes by job (done receipt) s from);
+      let from = source origin count Makes workers book takings gs outcomes by job (done receipt) s has in
+      done_op origin count Makes job receipt (of_source origin count Makes workers book takings gs outcomes by job (done receipt) s from);
   names = λ job receipt has.
-      let from = source origin ops workers book takings gs outcomes by job (done receipt) s has in
+      let from = source origin count Makes workers book takings gs outcomes by job (done receipt) s has in
       s.accounts.names.each from.worker from.index receipt from.has;
   apart = λ job other receipt another has also same.
-      let from = source origin ops workers book takings gs outcomes by job (done receipt) s has in
-      let there = source origin ops workers book takings gs outcomes by other (done another) s also in
+      let from = source origin count Makes workers book takings gs outcomes by job (done receipt) s has in
+      let there = source origin count Makes workers book takings gs outcomes by other (done another) s also in
       let one = same_source book origin gs from.worker there.worker from.index there.index receipt another s.accounts from.has there.has
       same in
       let At : ℕ → Type 0 = λ w. Took takings w from.index job in
@@ -262,8 +278,8 @@ batch_of origin ops workers book takings gs outcomes by s = record {
         place_is = named.place_is;
       };
   rise = λ worker first second earlier later order by_first by_second has also.
-      let from = source origin ops workers book takings gs outcomes by first (done earlier) s has in
-      let there = source origin ops workers book takings gs outcomes by second (done later) s also in
+      let from = source origin count Makes workers book takings gs outcomes by first (done earlier) s has in
+      let there = source origin count Makes workers book takings gs outcomes by second (done later) s also in
       let one : from.worker ≡ there.worker = same_Some from.worker there.worker (sym from.by_is ∙ by_first ∙ sym by_second ∙ there.by_is)
       in
       let At : ℕ → Type 0 = λ w. Took takings w from.index first in
@@ -271,9 +287,9 @@ batch_of origin ops workers book takings gs outcomes by s = record {
       rise_by book origin takings gs there.worker from.index there.index first second earlier later s.accounts s.rises order
       (subst At one from.took) there.took (subst Of one from.has) there.has;
   refusals = λ job fault has not_memory.
-      let from = source origin ops workers book takings gs outcomes by job (refused fault) s has in
+      let from = source origin count Makes workers book takings gs outcomes by job (refused fault) s has in
       let Says : BookFault → Type 0 = λ f. outcome_at (groups_of gs) from.worker from.index ≡ Some (refused f) in
-      refused_op origin ops (length book.records) job fault (of_source origin ops workers book takings gs outcomes by job
+      refused_op origin count Makes (length book.records) job fault (of_source origin count Makes workers book takings gs outcomes by job
       (refused fault) s from) not_memory
       (λ full. s.accounts.full (record { group = from.worker; index = from.index; stands = subst Says full from.has }) ∙ ap
       (λ (o : Origin). o.limit) s.accounts.origin_is);

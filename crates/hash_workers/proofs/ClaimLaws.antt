@@ -1,6 +1,6 @@
 -- Each step on the claims' word keeps the claim rule.
-use Rattle.std.proofs.Common.{◌≡◌, ℕ, suc, ◌+◌, ◌-◌, ◌%◌, ◌<◌, ◌≤◌, ◌⊎◌, min, Bool, true, false, cond, ltb, ◌||◌, List, [], ◌∷◌, ◌++◌, get_or, set, map, sym, refl, ap, ◌∙◌, subst, inl, inr, ⊎_elim, arith, length-set, get_or-set_same}
-use Rattle.std.specs.List.{concat}
+use Rattle.std.proofs.Common.{◌≡◌, ℕ, suc, ◌+◌, ◌-◌, ◌%◌, ◌<◌, ◌≤◌, ◌⊎◌, max, min, Bool, true, false, cond, ltb, ◌||◌, List, [], ◌∷◌, ◌++◌, get_or, set, map, sym, refl, ap, ◌∙◌, subst, inl, inr, ⊎_elim, arith, length-set, get_or-set_same}
+use Rattle.std.specs.List.{concat, range_with_len}
 use Rattle.std.proofs.lemmas.Bool.Decides.{nat_tests}
 use mathlib.Core.Logic.{dite}
 use mathlib.Core.Option.{none, some}
@@ -11,8 +11,8 @@ use Rattle.atomic_table.proofs.Lists.{at_set, at_snoc, set_again, set_else}
 use Rattle.hash_workers.specs.declared.claims.view.SeatView.{SeatView}
 use Rattle.hash_workers.specs.declared.claims.view.Allotment.{Allotment}
 use Rattle.hash_workers.specs.Claims.{HandsOutEach, times}
-use Rattle.hash_workers.specs.ClaimRule.{KeepsRule, AreClaimed, IsViewOf, view_of, spent, draws_of, places_of, ended_places_of, total, giver, taker, merged, drawn_view, MayDraw, Looks}
-use Rattle.hash_workers.proofs.ClaimSums.{total-set, total-push, total_at, ended_within, times_of, times-append, times-concat, once_below, below_one_more, is_below, each_once, hands_out}
+use Rattle.hash_workers.specs.ClaimRule.{KeepsRule, AreClaimed, IsViewOf, view_of, spent, draws_of, places_of, ended_places_of, total, giver, taker, merged, drawn_view, emptied_view, MayDraw, MayDrawAll, Looks}
+use Rattle.hash_workers.proofs.ClaimSums.{total-set, total-push, total_at, ended_within, times_of, times-append, times-range, times-concat, once_below, below_one_more, is_below, each_once, hands_out}
 
 abbrev Holder : Type 0
 Holder = Me (Unit {0}) SeatView
@@ -91,6 +91,49 @@ past_kept seats word views seat view rule here same placed going past =
           let no_end : ended_places_of view ≡ 0 = rw going refl in omega arith;
     }
 
+-- What is a view of the claims stays one where the word is made as great as the number of jobs.
+past_view : (jobs seats word : ℕ) (view : SeatView) → IsViewOf jobs seats word view → IsViewOf jobs seats (max word jobs) view
+past_view jobs seats word view (inl is) = inl is
+past_view jobs seats word view (inr known) = inr (known.0, known.1, known.2, λ ended. let past = known.3 ended in omega arith)
+
+-- How often a number is among those that are left.
+left_times : (number jobs word : ℕ)
+    → times number (range_with_len word (jobs - word)) + once_below number (min word jobs) ≡ once_below number jobs
+left_times number jobs word = dite (dec_le jobs word)
+    (λ past.
+    let none : jobs - word ≡ 0 = omega arith in
+    let least : min word jobs ≡ jobs = omega arith in
+    rw (none, least) (omega arith))
+    (λ not_past.
+    let least : min word jobs ≡ word = omega arith in
+    let end : word + (jobs - word) ≡ jobs = omega arith in
+    let sums = times-range number word (jobs - word) in
+    let last : once_below number (word + (jobs - word)) ≡ once_below number jobs = ap (once_below number) end in
+    let first : once_below number (min word jobs) ≡ once_below number word = ap (once_below number) least in
+    omega arith)
+
+emptied_kept : (seats word : ℕ) (views : List SeatView) (seat : ℕ) (view : SeatView) → AreClaimed view.jobs seats word views
+    → get_elem? views seat ≡ some view → view.seats ≡ seats → 1 ≤ view.places → view.ended ≡ false
+    → AreClaimed view.jobs seats (max word view.jobs) (set views seat (emptied_view view word))
+emptied_kept seats word views seat view rule here same placed going =
+    let new : SeatView = emptied_view view word in
+    record {
+      few = rule.few;
+      each = λ other found is. ⊎_elim
+          (λ at. subst (IsViewOf view.jobs seats (max word view.jobs)) at.1 (inr (refl, same, placed, λ _. omega arith)))
+          (λ at. past_view view.jobs seats word found (rule.each other found at.1)) (at_set views seat other new found is);
+      places = let sums = total-set places_of views seat view new here in let places = rule.places in omega arith;
+      drawn = let next : min (max word view.jobs) view.jobs ≡ view.jobs = omega arith in
+          rw next (handed view.jobs (set views seat new) (λ number.
+          let sums = total-set (times_of number) views seat view new here in
+          let known = counted (min word view.jobs) views rule.drawn number in
+          let longer = times-append number view.draws (range_with_len word (view.jobs - word)) in
+          let left = left_times number view.jobs word in
+          omega arith));
+      bound = let sums = total-set ended_places_of views seat view new here in let bound = rule.bound in
+          let no_end : ended_places_of view ≡ 0 = rw going refl in omega arith;
+    }
+
 -- The word never wraps.
 never_wraps : (jobs seats word : ℕ) (views : List SeatView) → AreClaimed jobs seats word views
     → (word + 1) % 18446744073709551616 ≡ word + 1
@@ -140,6 +183,21 @@ module _ (allotment : Allotment) (slots seat : ℕ) (holder : Holder) where
       )
 
 module _ (allotment : Allotment) (slots seat : ℕ) (holder : Holder) where
+  pub empties : holder.0.jobs ≡ allotment.jobs → holder.0.seats ≡ allotment.seats → 1 ≤ holder.0.places → holder.0.ended ≡ false
+      → MayDrawAll allotment slots seat holder
+  empties jobs_are seats_are placed going state kept _ here _ =
+      let view : SeatView = holder.0 in
+      let word : ℕ = get_or state.words 0 0 in
+      let rule : AreClaimed view.jobs allotment.seats word state.views = rw jobs_are kept.1 in
+      let Of : ℕ → Type 0 = λ n. AreClaimed n allotment.seats (max word n) (set state.views seat (emptied_view view word)) in
+      let done : Of allotment.jobs = subst Of jobs_are (emptied_kept allotment.seats word state.views seat view rule here seats_are placed going) in (
+        emptied_view view word,
+        keeps,
+        tt,
+        moved allotment slots seat holder state (emptied_view view word) (max word allotment.jobs) kept done,
+        (refl, refl, drawn_before allotment.jobs allotment.seats word state.views seat view kept.1 here),
+      )
+
   unmoved : (state : State (Unit {0}) SeatView) → get_elem? state.views seat ≡ some holder.0 → KeepsRule allotment state
       → KeepsRule allotment (stepped state 0 (get_or state.words 0 0) seat holder.1 holder.0 keeps)
   unmoved state here kept =

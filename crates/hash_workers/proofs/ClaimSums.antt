@@ -1,13 +1,15 @@
 -- Sums over all views of claims, and how often numbers stand in what was drawn.
-use Rattle.std.proofs.Common.{◌≡◌, ℕ, zero, suc, ◌+◌, ◌<◌, ◌≤◌, cond, eqb, ltb, true, false, List, [], ◌∷◌, ◌++◌, length, get_or, set, map, sym, refl, ap, ◌∙◌, arith}
-use Rattle.std.specs.List.{All, concat}
+use Rattle.std.proofs.Common.{◌≡◌, ℕ, zero, suc, ◌+◌, ◌-◌, ◌<◌, ◌≤◌, cond, eqb, ltb, true, false, List, [], ◌∷◌, ◌++◌, length, get_or, set, map, sym, refl, ap, ◌∙◌, subst, arith}
+use Rattle.std.specs.List.{All, concat, range_with_len}
+use Rattle.std.proofs.lemmas.List.FromFn.{length-range_with_len, get_or-range_with_len}
+use Rattle.std.proofs.lemmas.List.{append-nil}
 use Rattle.std.proofs.lemmas.Bool.Decides.{nat_tests}
 use mathlib.Core.Logic.{dite}
 use mathlib.Core.Option.{some, some-injective, some-ne-none}
 use native.Mathlib.Decide.{dec_le}
 use lib.ListN.{get_elem?}
 use Rattle.hash_workers.specs.declared.claims.view.SeatView.{SeatView}
-use Rattle.hash_workers.specs.Claims.{HandsOutEach, times}
+use Rattle.hash_workers.specs.Claims.{DrawsMore, HandsOutEach, times}
 use Rattle.hash_workers.specs.ClaimRule.{total, draws_of, places_of, ended_places_of}
 
 -- ---- sums
@@ -84,6 +86,26 @@ hands_out count draws each = record {
   others = λ number past. each number ∙ once_is_none number count past;
 }
 
+-- ---- numbers one after another
+
+-- How often a number stands among so many from one on.
+pub times-range : (number first count : ℕ)
+    → times number (range_with_len first count) + once_below number first ≡ once_below number (first + count)
+times-range number first zero =
+    let same : once_below number (first + 0) ≡ once_below number first = ap (once_below number) (omega arith) in omega arith
+times-range number first (suc count) =
+    let rest = times-range number (first + 1) count in
+    let here = below_one_more number first in
+    let same : (first + 1) + count ≡ first + suc count = omega arith in
+    let last : once_below number ((first + 1) + count) ≡ once_below number (first + suc count) = ap (once_below number) same in
+    omega arith
+
+below_range : (first count : ℕ) (P : ℕ → Type 0) → ((more : ℕ) → more < count → P (first + more)) → All P (range_with_len first count)
+below_range first count P each = λ index d within.
+    let size = length-range_with_len first count in
+    let inside : index < count = omega arith in
+    subst P (sym (get_or-range_with_len first count index d inside)) (each index inside)
+
 -- ---- all numbers of a list are below one
 
 times_here : (draws : List ℕ) (index d : ℕ) → index < length draws → 1 ≤ times (get_or draws index d) draws
@@ -94,3 +116,22 @@ times_here (number ∷ draws) (suc index) d within = let rest = times_here draws
 pub all_below : (number : ℕ) (draws : List ℕ) → ((drawn : ℕ) → 1 ≤ times drawn draws → drawn < number)
     → All (λ drawn. drawn < number) draws
 all_below number draws known = λ index d within. known (get_or draws index d) (times_here draws index d within)
+
+-- A seat that found this number in the word draws the numbers from it on, below that of the jobs.
+pub draws_more : (jobs number : ℕ) (draws now_draws : List ℕ) → now_draws ≡ draws ++ range_with_len number (jobs - number)
+    → ((drawn : ℕ) → 1 ≤ times drawn draws → drawn < number) → DrawsMore jobs draws now_draws
+draws_more jobs number draws now_draws is above = record {
+  rest = range_with_len number (jobs - number);
+  draws_are = is;
+  below = below_range number (jobs - number) (λ n. n < jobs) (λ more within. omega arith);
+  beyond = below_range number (jobs - number) (λ n. All (λ drawn. drawn < n) draws)
+      (λ more within. all_below (number + more) draws (λ drawn some_times. let below = above drawn some_times in omega arith));
+}
+
+pub draws_none : (jobs : ℕ) (draws now_draws : List ℕ) → now_draws ≡ draws → DrawsMore jobs draws now_draws
+draws_none jobs draws now_draws is = record {
+  rest = [];
+  draws_are = is ∙ sym (append-nil draws);
+  below = λ index d within. absurd (omega arith);
+  beyond = λ index d within. absurd (omega arith);
+}

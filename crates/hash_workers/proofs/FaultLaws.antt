@@ -10,8 +10,8 @@ use Rattle.measure_book.specs.declared.fault.BookFault.{BookFault}
 use Rattle.measure_book.specs.declared.fault.BookFault.TheVariants.{WrongHash, NoBank, BadRegister, NulInPath, PathTooLong, ZeroDigest, Full, Memory}
 use Rattle.measure_book.specs.Histories.{open_refusal_of, opens_with_zero_digest}
 use Rattle.hash_workers.specs.declared.batch.Batch.{Batch}
-use Rattle.hash_workers.specs.declared.fault.AgentFault.{AgentFault}
-use Rattle.hash_workers.specs.Faults.{IsNumberOfWorkers, MayBegin, IsFaultOf, fault_of_book}
+use Rattle.hash_workers.specs.declared.fault.JobsFault.{JobsFault}
+use Rattle.hash_workers.specs.Faults.{IsNumberOfWorkers, MayBegin, IsFaultOf, IsJobsFaultOf, fault_of_book, jobs_fault_of_book}
 
 never_of : (a b d e : Bool)
     → (if a then Some WrongHash else if b then Some NoBank else if d then Some ZeroDigest else if e then Some Full else None) ≡ Some
@@ -49,10 +49,10 @@ fault_of workers origin fault (Some other) some number is =
     subst At (sym is) (book_fault workers origin other (λ memory. never_memory origin (some ∙ ap (λ (f : BookFault). Some f) memory))
     number some)
 
-pub opening_fault : (workers : ℕ) (origin : Origin) (fault : BookFault) (result : Result Batch AgentFault) → IsNumberOfWorkers workers
-    → fault ≡ unwrap_or (open_refusal_of origin) Memory → IsErrAnd result (λ f. f ≡ fault_of_book fault)
-    → MatchResult result (λ _. MayBegin workers origin) (IsFaultOf workers origin)
+pub opening_fault : (workers : ℕ) (origin : Origin) (fault : BookFault) (result : Result Batch JobsFault) → IsNumberOfWorkers workers
+    → fault ≡ unwrap_or (open_refusal_of origin) Memory → IsErrAnd result (λ f. f ≡ jobs_fault_of_book fault)
+    → MatchResult result (λ _. MayBegin workers origin) (IsJobsFaultOf workers origin)
 opening_fault workers origin fault (Ok batch) number is gives = absurd gives
 opening_fault workers origin fault (Err found) number is gives =
-    let At : AgentFault → Type 0 = λ f. IsFaultOf workers origin f in
+    let At : JobsFault → Type 0 = λ f. IsJobsFaultOf workers origin f in
     subst At (sym gives) (fault_of workers origin fault (open_refusal_of origin) refl number is)

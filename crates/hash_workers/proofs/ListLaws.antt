@@ -14,6 +14,23 @@ slice_get_snoc [] x y (suc i) has = absurd (none-some y has)
 slice_get_snoc (z ∷ xs) x y zero has = inl has
 slice_get_snoc (z ∷ xs) x y (suc i) has = elim (slice_get_snoc xs x y i has) [ inl old ↦ inl old | inr new ↦ inr (ap suc new.0, new.1) ]
 
+-- What stood in a list stands there with one element more, which stands last.
+pub at_longer : {X : Type 0} → (xs : List X) (x : X) (i : ℕ) (y : X) → slice_get xs i ≡ Some y → slice_get (xs ++ x ∷ []) i ≡ Some y
+at_longer [] x i y has = absurd (none-some y has)
+at_longer (z ∷ xs) x zero y has = has
+at_longer (z ∷ xs) x (suc i) y has = at_longer xs x i y has
+
+-- What stands in two lists joined stands in one of them.
+pub in_either : {X : Type 0} → (xs ys : List X) (i : ℕ) (x : X) → slice_get (xs ++ ys) i ≡ Some x
+    → (slice_get xs i ≡ Some x) ⊎ ((at : ℕ) × (slice_get ys at ≡ Some x))
+in_either [] ys i x has = inr (i, has)
+in_either (z ∷ xs) ys zero x has = inl has
+in_either (z ∷ xs) ys (suc i) x has = in_either xs ys i x has
+
+pub at_last : {X : Type 0} → (xs : List X) (x : X) → slice_get (xs ++ x ∷ []) (length xs) ≡ Some x
+at_last [] x = refl
+at_last (y ∷ xs) x = at_last xs x
+
 pub length_snoc : {X : Type 0} → (xs : List X) (x : X) → length (xs ++ x ∷ []) ≡ length xs + 1
 length_snoc xs x = length-append xs (x ∷ [])
 

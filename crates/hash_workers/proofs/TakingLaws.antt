@@ -8,15 +8,9 @@ use Rattle.std.proofs.lemmas.Option.{same_Some, none-some}
 use mathlib.Core.Logic.{dite}
 use native.Mathlib.Decide.{dec_le, ℕ_discrete}
 use Rattle.hash_workers.specs.Claims.{HandsOutEach, times}
-use Rattle.hash_workers.specs.Taking.{Took}
+use Rattle.hash_workers.specs.Taking.{IsTaken, Took}
 use Rattle.hash_workers.proofs.ClaimSums.{hit, times-append}
 use Rattle.hash_workers.proofs.ListLaws.{list_at, at_list}
-
--- Some worker took this job.
-pub record IsTaken (takings : List (List ℕ)) (job : ℕ) : Type 0 where
-  pub worker : ℕ
-  pub index : ℕ
-  pub took : Took takings worker index job
 
 -- Each job below the count is some worker's at some index, and no other's, and no other job is.
 pub record TakeEach (count : ℕ) (takings : List (List ℕ)) : Type 0 where
@@ -83,14 +77,14 @@ took_some takings worker index job took =
     let in_list = stands taken.0 index job taken.2 in
     let in_all = here takings worker taken.0 job taken.1 in omega arith
 
-found_by : (takings : List (List ℕ)) (job : ℕ) → 1 ≤ times job (concat takings) → IsTaken takings job
-found_by [] job some_times = absurd (omega arith)
-found_by (one ∷ takings) job some_times =
+pub drawn_by : (takings : List (List ℕ)) (job : ℕ) → 1 ≤ times job (concat takings) → IsTaken takings job
+drawn_by [] job some_times = absurd (omega arith)
+drawn_by (one ∷ takings) job some_times =
     let joined = times-append job one (concat takings) in
     dite (dec_le 1 (times job one))
     (λ in_one. let at = found one job in_one in
     record { worker = 0; index = at.0; took = at_list (one ∷ takings) 0 at.0 one job refl at.1 })
-    (λ none. let rest = found_by takings job (omega arith) in
+    (λ none. let rest = drawn_by takings job (omega arith) in
     let taken = list_at takings rest.worker rest.index job rest.took in
     record {
       worker = suc rest.worker;
@@ -152,6 +146,6 @@ take_each count takings hands = record {
   below = λ worker index job took. dite (dec_le count job)
       (λ past. let none = hands.others job past in let some_times = took_some takings worker index job took in absurd (omega arith))
       (λ not_past. omega arith);
-  each = λ job below. let one = hands.once job below in found_by takings job (omega arith);
+  each = λ job below. let one = hands.once job below in drawn_by takings job (omega arith);
   once = λ worker other index at job took also. once_taken count takings worker other index at job hands took also;
 }

@@ -3,6 +3,7 @@ use Rattle.std.proofs.Common.{◌≡◌, ◌≢◌, ℕ, zero, suc, ◌+◌, ◌
 use Rattle.std.specs.Prelude.{◌⊎◌, slice_get, unwrap_or, IfSome, option_map, MatchResult, Result, Ok, Err}
 use Rattle.std.specs.Option.{option_copied}
 use Rattle.std.proofs.lemmas.List.{map_push, length-map}
+use Rattle.std.proofs.Math.Nat.{le_refl}
 use denote.Ref.{Bor}
 use Rattle.pcr_banks.specs.declared.alg.Alg.{Alg}
 use Rattle.measure_book.specs.declared.op.Op.{Op}
@@ -18,14 +19,16 @@ use Rattle.measure_book.specs.Runs.{records_after}
 use Rattle.measure_book.specs.Books.{BookState}
 use Rattle.hash_workers.specs.declared.recorder.ForeignBook.{ForeignBook}
 use Rattle.hash_workers.specs.declared.work.End.{End}
-use Rattle.hash_workers.specs.declared.work.End.TheVariants.{NoneLeft, OutOfMemory}
+use Rattle.hash_workers.specs.declared.work.End.TheVariants.{NoneLeft, OutOfMemory, NoOperation}
 use Rattle.hash_workers.specs.declared.work.End.TheVariants as ends
 use Rattle.hash_workers.specs.declared.job.Job.{Job}
 use Rattle.hash_workers.specs.Jobs.{operation_of, operations_of}
 use Rattle.hash_workers.specs.Taking.{Rise}
-use Rattle.hash_workers.specs.Working.{MayBecome, IsOutcomeOfJob, IsWorked, IsEntered, Records, IsForeign, IsDoneAfter, AreDoneInOrder}
-use Rattle.hash_workers.specs.Ending.{Becomes, TellsOp, KeepsOne, LeavesJob, TellsJob, TakesOne, TellsAll, StopsFor}
-use Rattle.hash_workers.proofs.ListLaws.{slice_get_snoc, length_snoc, within_at}
+use Rattle.hash_workers.specs.Working.{MayBecome, IsOutcomeOf, IsWorked, IsEntered, Records, IsForeign, IsDoneAfter, AreDoneInOrder}
+use Rattle.hash_workers.specs.declared.fault.JobFault.{JobFault}
+use Rattle.hash_workers.specs.declared.work.Lack.{Lack}
+use Rattle.hash_workers.specs.Ending.{AreHad, Becomes, IsFrom, IsHad, IsLack, IsLackAfter, IsNoted, TellsOp, KeepsOne, LeavesJob, TellsJob, TakesOne, TellsAll, StopsFor}
+use Rattle.hash_workers.proofs.ListLaws.{at_last, at_longer, slice_get_snoc, length_snoc, within_at}
 
 -- ---- one operation
 
@@ -108,81 +111,60 @@ keeps_one origin op job taken reserved now_taken outcomes room now_outcomes outc
 
 -- ---- one job
 
-job_without_memory : (origin : Origin) (ops : List BookOp) (job : ℕ) (op : BookOp) (outcome : BookOutcome) → slice_get ops job ≡ Some op
-    → outcome ≡ refused Memory → IsOutcomeOfJob origin ops job outcome
-job_without_memory origin ops job op outcome has is =
-    let At : BookOutcome → Type 0 = λ o. MayBecome origin op o in
-    record { op = op; has = has; becomes = subst At (sym is) (inl refl) }
+with_none : (origin : Origin) (count : ℕ) (Makes : ℕ → BookOp → Type 0) (job : ℕ) (outcome : BookOutcome) → job < count
+    → outcome ≡ refused Memory → IsOutcomeOf origin count Makes job outcome
+with_none origin count Makes job outcome within is = record { within = within; becomes = inl is }
 
-left_without_memory : (origin : Origin) (ops : List BookOp) (book after : BookState) (job : ℕ) (op : BookOp) (outcome : BookOutcome)
-    → slice_get ops job ≡ Some op → outcome ≡ refused Memory → after ≡ book → LeavesJob origin ops book after job outcome
-left_without_memory origin ops book after job op outcome has is same =
+left_with_none : (origin : Origin) (Makes : ℕ → BookOp → Type 0) (book after : BookState) (job : ℕ) (outcome : BookOutcome)
+    → outcome ≡ refused Memory → after ≡ book → LeavesJob origin Makes book after job outcome
+left_with_none origin Makes book after job outcome is same =
     let At : BookOutcome → Type 0 = λ o. after.records ≡ records_after book.records o in
-    record {
-      records = subst At (sym is) (ap (λ (b : BookState). b.records) same);
-      is_done = record { op = op; has = has; becomes = inl is };
-    }
+    record { records = subst At (sym is) (ap (λ (b : BookState). b.records) same); is_done = inl is }
 
-left_with_op : (origin : Origin) (ops : List BookOp) (book after : BookState) (job : ℕ) (op : BookOp) (outcome : BookOutcome)
-    → slice_get ops job ≡ Some op → IsEntered origin book after op outcome → LeavesJob origin ops book after job outcome
-left_with_op origin ops book after job op outcome has entered = record {
-  records = entered.runs.1;
-  is_done = record { op = op; has = has; becomes = inr entered.runs.0 };
-}
+left_with_op : (origin : Origin) (Makes : ℕ → BookOp → Type 0) (book after : BookState) (job : ℕ) (op : BookOp) (outcome : BookOutcome)
+    → Makes job op → IsEntered origin book after op outcome → LeavesJob origin Makes book after job outcome
+left_with_op origin Makes book after job op outcome has entered =
+    record { records = entered.runs.1; is_done = inr (op, has, entered.runs.0) }
 
--- The operation that was made for a job, if memory was found, is the job's.
-pub takes_one : (origin : Origin) (ops : List BookOp) (made : Option BookOp) (op : BookOp) (job : ℕ) (taken now_taken : List ℕ)
-    (outcomes now_outcomes : List BookOutcome) (told now_told : Option BookState)
-    → slice_get ops job ≡ Some op → IfSome made (λ o. slice_get ops job ≡ Some o)
-    → KeepsOne origin made job taken now_taken outcomes now_outcomes told now_told
-    → TakesOne origin ops job taken now_taken outcomes now_outcomes told now_told
-takes_one origin ops None op job taken now_taken outcomes now_outcomes told now_told has made keeps = record {
+-- A job whose operation was made.
+pub takes_made : (origin : Origin) (count : ℕ) (Makes : ℕ → BookOp → Type 0) (op : BookOp) (job : ℕ) (taken now_taken : List ℕ)
+    (outcomes now_outcomes : List BookOutcome) (told now_told : Option BookState) → job < count → Makes job op
+    → KeepsOne origin (Some op) job taken now_taken outcomes now_outcomes told now_told
+    → TakesOne origin count Makes job taken now_taken outcomes now_outcomes told now_told
+takes_made origin count Makes op job taken now_taken outcomes now_outcomes told now_told within has keeps = record {
   outcome = keeps.outcome;
   takes = keeps.takes;
   keeps = keeps.keeps;
-  of_job = job_without_memory origin ops job op keeps.outcome has keeps.becomes;
+  of_job = record { within = within; becomes = inr (op, has, keeps.becomes) };
   tells = record {
     each = λ book is. let turned = keeps.tells.each book is in
         record {
           after = turned.after;
           tells = turned.tells;
-          holds = left_without_memory origin ops book turned.after job op keeps.outcome has turned.holds.0 turned.holds.1;
+          holds = left_with_op origin Makes book turned.after job op keeps.outcome has turned.holds;
         };
   };
 }
-takes_one origin ops (Some other) op job taken now_taken outcomes now_outcomes told now_told has made keeps =
-    record {
-      outcome = keeps.outcome;
-      takes = keeps.takes;
-      keeps = keeps.keeps;
-      of_job = record { op = other; has = made; becomes = keeps.becomes };
-      tells = record {
-        each = λ book is. let turned = keeps.tells.each book is in
-            record {
-              after = turned.after;
-              tells = turned.tells;
-              holds = left_with_op origin ops book turned.after job other keeps.outcome made turned.holds;
-            };
-      };
-    }
 
--- The operation that was made is that of the job, also where it is lent.
-made_at : (ops : List BookOp) (job : ℕ) (made : Option Op) → IfSome made (λ o. slice_get ops job ≡ Some (book_op_of o))
-    → IfSome (option_map book_op_of made) (λ o. slice_get ops job ≡ Some o)
-made_at ops job None known = tt
-made_at ops job (Some one) known = known
-
-pub made_of : (ops : List BookOp) (job : ℕ) (lent made : Option Op) → lent ≡ made
-    → IfSome made (λ o. slice_get ops job ≡ Some (book_op_of o)) → IfSome (option_map book_op_of lent) (λ o. slice_get ops job ≡ Some o)
-made_of ops job lent made is known =
-    let At : Option Op → Type 0 = λ o. IfSome (option_map book_op_of o) (λ p. slice_get ops job ≡ Some p) in
-    subst At (sym is) (made_at ops job made known)
-
-pub op_at : (alg : Alg) (jobs : List Job) (number : ℕ) → number < length jobs
-    → (op : BookOp) × (slice_get (operations_of alg jobs) number ≡ Some op)
-op_at alg jobs number within =
-    let many : length (operations_of alg jobs) ≡ length jobs = length-map jobs (operation_of alg) in
-    within_at (operations_of alg jobs) number (omega arith)
+-- A job whose operation could not be had.
+pub takes_none : (origin : Origin) (count : ℕ) (Makes : ℕ → BookOp → Type 0) (job : ℕ) (taken now_taken : List ℕ)
+    (outcomes now_outcomes : List BookOutcome) (told now_told : Option BookState) → job < count
+    → KeepsOne origin None job taken now_taken outcomes now_outcomes told now_told
+    → TakesOne origin count Makes job taken now_taken outcomes now_outcomes told now_told
+takes_none origin count Makes job taken now_taken outcomes now_outcomes told now_told within keeps = record {
+  outcome = keeps.outcome;
+  takes = keeps.takes;
+  keeps = keeps.keeps;
+  of_job = with_none origin count Makes job keeps.outcome within keeps.becomes;
+  tells = record {
+    each = λ book is. let turned = keeps.tells.each book is in
+        record {
+          after = turned.after;
+          tells = turned.tells;
+          holds = left_with_none origin Makes book turned.after job keeps.outcome turned.holds.0 turned.holds.1;
+        };
+  };
+}
 
 pub op_of_job : (alg : Alg) (jobs : List Job) (number : ℕ) (job : Job) → number < length jobs → job ≡ get_or jobs number job
     → slice_get (operations_of alg jobs) number ≡ Some (operation_of alg job)
@@ -190,17 +172,75 @@ op_of_job alg jobs number job within is =
     slice_get-map (operation_of alg) jobs number ∙ ap (option_map (operation_of alg))
     (slice_get_read jobs (length jobs) number job refl within is)
 
-pub match_ok : {T : Type 0} (result : Result T End) (P Q : Type 0) (S : End → Type 0) → (P → Q) → MatchResult result (λ _. P) S
-    → MatchResult result (λ _. Q) S
-match_ok (Ok done') P Q S turns known = turns known
-match_ok (Err end) P Q S turns known = known
+-- ---- jobs whose operation could not be had
+
+still_had : (Makes : ℕ → BookOp → Type 0) (old new : Option Lack) (job : ℕ) → new ≡ old → IsHad Makes old job → IsHad Makes new job
+still_had Makes old new job same had = let At : Option Lack → Type 0 = λ lack. IsHad Makes lack job in subst At (sym same) had
+
+-- A lack of these jobs is one of them with one more.
+longer_lack : (count : ℕ) (Lacks : ℕ → JobFault → Type 0) (taken : List ℕ) (job : ℕ) (lack : Option Lack)
+    → IfSome lack (IsLack count Lacks taken) → IfSome lack (IsLack count Lacks (taken ++ job ∷ []))
+longer_lack count Lacks taken job None right = tt
+longer_lack count Lacks taken job (Some lack) right = record {
+  index = right.index;
+  stands = at_longer taken job right.index lack.job right.stands;
+  within = right.within;
+  cause = right.cause;
+}
+
+taken_lack : (count : ℕ) (Lacks : ℕ → JobFault → Type 0) (taken now_taken : List ℕ) (job : ℕ) (lack : Option Lack)
+    → now_taken ≡ taken ++ job ∷ [] → IfSome lack (IsLack count Lacks taken) → IfSome lack (IsLack count Lacks now_taken)
+taken_lack count Lacks taken now_taken job lack takes right =
+    let At : List ℕ → Type 0 = λ xs. IfSome lack (IsLack count Lacks xs) in
+    subst At (sym takes) (longer_lack count Lacks taken job lack right)
+
+-- Of a job whose operation was made, the first lack is as before.
+pub lack_made : (count : ℕ) (Makes : ℕ → BookOp → Type 0) (Lacks : ℕ → JobFault → Type 0) (job : ℕ) (op : BookOp) (taken now_taken : List ℕ)
+    (old new : Option Lack) → Makes job op → now_taken ≡ taken ++ job ∷ [] → new ≡ old
+    → IsLackAfter count Makes Lacks job taken now_taken old new
+lack_made count Makes Lacks job op taken now_taken old new has takes same = record {
+  had = λ _. inl (op, has);
+  before = λ earlier had. still_had Makes old new earlier same had;
+  right = λ right.
+      let At : Option Lack → Type 0 = λ lack. IfSome lack (IsLack count Lacks now_taken) in
+      subst At (sym same) (taken_lack count Lacks taken now_taken job old takes right);
+}
+
+-- Of one whose operation could not be had it is the one before, where there was one, or this job's.
+pub lack_noted : (count : ℕ) (Makes : ℕ → BookOp → Type 0) (Lacks : ℕ → JobFault → Type 0) (job : ℕ) (fault : JobFault)
+    (taken now_taken : List ℕ) (old new : Option Lack) → job < count → Lacks job fault → now_taken ≡ taken ++ job ∷ []
+    → IsNoted job fault old new → IsLackAfter count Makes Lacks job taken now_taken old new
+lack_noted count Makes Lacks job fault taken now_taken None new within cause takes noted =
+    let first : Lack = record { job = job; fault = fault } in
+    let From : Option Lack → Type 0 = λ lack. IsFrom lack job in
+    let At : Option Lack → Type 0 = λ lack. IfSome lack (IsLack count Lacks now_taken) in
+    let On : List ℕ → Type 0 = λ xs. slice_get xs (length taken) ≡ Some job in
+    let one : IsLack count Lacks now_taken first = record {
+      index = length taken;
+      stands = subst On (sym takes) (at_last taken job);
+      within = within;
+      cause = cause;
+    } in
+    record {
+      had = λ _. inr (subst From (sym noted) (le_refl job));
+      before = λ earlier had. elim had [ inl made ↦ inl made | inr never ↦ absurd never ];
+      right = λ _. subst At (sym noted) one;
+    }
+lack_noted count Makes Lacks job fault taken now_taken (Some lack) new within cause takes noted =
+    let From : Option Lack → Type 0 = λ first. IsFrom first job in
+    let At : Option Lack → Type 0 = λ first. IfSome first (IsLack count Lacks now_taken) in
+    record {
+      had = λ before. inr (subst From (sym noted) before);
+      before = λ earlier had. still_had Makes (Some lack) new earlier noted had;
+      right = λ right. subst At (sym noted) (taken_lack count Lacks taken now_taken job (Some lack) takes right);
+    }
 
 -- ---- all jobs of a worker
 
 pub rise_none : Rise []
 rise_none = record { each = λ first second earlier later order has also. absurd (none-some earlier has) }
 
-below_at : (taken : List ℕ) (index number job : ℕ) → All (λ drawn. drawn < job) taken → slice_get taken index ≡ Some number → number < job
+pub below_at : (taken : List ℕ) (index number job : ℕ) → All (λ drawn. drawn < job) taken → slice_get taken index ≡ Some number → number < job
 below_at taken index number job all has =
     let At : ℕ → Type 0 = λ n. n < job in
     subst At (get_or_from_slice_get taken index number 0 has) (all index 0 (slice_get_within taken index number has))
@@ -249,13 +289,13 @@ turn_smaller taken now_taken count job rise above below is =
     let few = count_of taken (length taken) job refl rise above in
     omega arith
 
-pub worked_none : (origin : Origin) (ops : List BookOp) → IsWorked origin ops [] []
-worked_none origin ops = record { pairs = refl; each = λ index job outcome took has. absurd (none-some job took) }
+pub worked_none : (origin : Origin) (count : ℕ) (Makes : ℕ → BookOp → Type 0) → IsWorked origin count Makes [] []
+worked_none origin count Makes = record { pairs = refl; each = λ index job outcome took has. absurd (none-some job took) }
 
-pub worked_more : (origin : Origin) (ops : List BookOp) (taken : List ℕ) (outcomes : List BookOutcome) (job : ℕ) (outcome : BookOutcome)
-    → IsWorked origin ops taken outcomes → IsOutcomeOfJob origin ops job outcome
-    → IsWorked origin ops (taken ++ job ∷ []) (outcomes ++ outcome ∷ [])
-worked_more origin ops taken outcomes job outcome worked of_job = record {
+pub worked_more : (origin : Origin) (count : ℕ) (Makes : ℕ → BookOp → Type 0) (taken : List ℕ) (outcomes : List BookOutcome) (job : ℕ) (outcome : BookOutcome)
+    → IsWorked origin count Makes taken outcomes → IsOutcomeOf origin count Makes job outcome
+    → IsWorked origin count Makes (taken ++ job ∷ []) (outcomes ++ outcome ∷ [])
+worked_more origin count Makes taken outcomes job outcome worked of_job = record {
   pairs = length_snoc outcomes outcome ∙ ap (λ (n : ℕ). n + 1) worked.pairs ∙ sym (length_snoc taken job);
   each = λ index other result took has.
       elim (slice_get_snoc taken job other index took) [
@@ -268,45 +308,62 @@ worked_more origin ops taken outcomes job outcome worked of_job = record {
           | inl known ↦ let within = slice_get_within outcomes index result known in let at : index ≡ length taken = new.0 in let pairs =
               worked.pairs in absurd (omega arith)
           | inr last ↦
-              let At : ℕ → Type 0 = λ j. IsOutcomeOfJob origin ops j result in
-              let Of : BookOutcome → Type 0 = λ o. IsOutcomeOfJob origin ops job o in
+              let At : ℕ → Type 0 = λ j. IsOutcomeOf origin count Makes j result in
+              let Of : BookOutcome → Type 0 = λ o. IsOutcomeOf origin count Makes job o in
               subst At (sym new.1) (subst Of (sym last.1) of_job)
         ]
       ];
 }
 
-pub done_more : (origin : Origin) (ops : List BookOp) (old middle : List BookRecord) (taken : List ℕ) (outcomes : List BookOutcome)
-    (job : ℕ) (outcome : BookOutcome)
-    → AreDoneInOrder origin ops old taken outcomes middle → IsDoneAfter origin ops middle job outcome
-    → AreDoneInOrder origin ops old (taken ++ job ∷ []) (outcomes ++ outcome ∷ []) (records_after middle outcome)
-done_more origin ops old middle [] [] job outcome first last =
-    let At : List BookRecord → Type 0 = λ records. IsDoneAfter origin ops records job outcome in
-    (subst At first last, ap (λ (records : List BookRecord). records_after records outcome) first)
-done_more origin ops old middle [] (other ∷ outcomes) job outcome first last = absurd first
-done_more origin ops old middle (one ∷ taken) [] job outcome first last = absurd first
-done_more origin ops old middle (one ∷ taken) (other ∷ outcomes) job outcome first last =
-    (first.0, done_more origin ops (records_after old other) middle taken outcomes job outcome first.1 last)
+-- No job was taken, and so each was had.
+pub had_none : (Makes : ℕ → BookOp → Type 0) → AreHad Makes [] None
+had_none Makes = record { each = λ index job took. absurd (none-some job took) }
 
-pub tells_none : (origin : Origin) (ops : List BookOp) (told : Option BookState) → TellsAll origin ops told told [] [] NoneLeft
-tells_none origin ops told = record {
+-- One job more is taken, and what was had stays so.
+pub had_more : (Makes : ℕ → BookOp → Type 0) (taken now_taken : List ℕ) (job : ℕ) (old new : Option Lack) → AreHad Makes taken old
+    → now_taken ≡ taken ++ job ∷ [] → IsHad Makes new job → ((earlier : ℕ) → IsHad Makes old earlier → IsHad Makes new earlier)
+    → AreHad Makes now_taken new
+had_more Makes taken now_taken job old new had takes here before =
+    let At : List ℕ → Type 0 = λ xs. AreHad Makes xs new in
+    subst At (sym takes) (record {
+      each = λ index other took. elim (slice_get_snoc taken job other index took) [
+        | inl older ↦ before other (had.each index other older)
+        | inr last ↦ let Of : ℕ → Type 0 = λ j. IsHad Makes new j in subst Of (sym last.1) here
+      ];
+    })
+
+pub done_more : (origin : Origin) (Makes : ℕ → BookOp → Type 0) (old middle : List BookRecord) (taken : List ℕ) (outcomes : List BookOutcome)
+    (job : ℕ) (outcome : BookOutcome)
+    → AreDoneInOrder origin Makes old taken outcomes middle → IsDoneAfter origin Makes middle job outcome
+    → AreDoneInOrder origin Makes old (taken ++ job ∷ []) (outcomes ++ outcome ∷ []) (records_after middle outcome)
+done_more origin Makes old middle [] [] job outcome first last =
+    let At : List BookRecord → Type 0 = λ records. IsDoneAfter origin Makes records job outcome in
+    (subst At first last, ap (λ (records : List BookRecord). records_after records outcome) first)
+done_more origin Makes old middle [] (other ∷ outcomes) job outcome first last = absurd first
+done_more origin Makes old middle (one ∷ taken) [] job outcome first last = absurd first
+done_more origin Makes old middle (one ∷ taken) (other ∷ outcomes) job outcome first last =
+    (first.0, done_more origin Makes (records_after old other) middle taken outcomes job outcome first.1 last)
+
+pub tells_none : (origin : Origin) (Makes : ℕ → BookOp → Type 0) (told : Option BookState) → TellsAll origin Makes told told [] [] NoneLeft
+tells_none origin Makes told = record {
   each = λ book is. record { after = book; tells = is; holds = record { are_done = refl; foreign = λ never. absurd cc } };
 }
 
-pub tells_more : (origin : Origin) (ops : List BookOp) (told middle now_told : Option BookState) (taken : List ℕ)
+pub tells_more : (origin : Origin) (Makes : ℕ → BookOp → Type 0) (told middle now_told : Option BookState) (taken : List ℕ)
     (outcomes : List BookOutcome) (job : ℕ) (outcome : BookOutcome)
-    → TellsAll origin ops told middle taken outcomes NoneLeft → TellsJob origin ops middle now_told job outcome
-    → TellsAll origin ops told now_told (taken ++ job ∷ []) (outcomes ++ outcome ∷ []) NoneLeft
-tells_more origin ops told middle now_told taken outcomes job outcome all one = record {
+    → TellsAll origin Makes told middle taken outcomes NoneLeft → TellsJob origin Makes middle now_told job outcome
+    → TellsAll origin Makes told now_told (taken ++ job ∷ []) (outcomes ++ outcome ∷ []) NoneLeft
+tells_more origin Makes told middle now_told taken outcomes job outcome all one = record {
   each = λ book is.
       let first = all.each book is in
       let last = one.each first.after first.tells in
       let At : List BookRecord
-      → Type 0 = λ records. AreDoneInOrder origin ops book.records (taken ++ job ∷ []) (outcomes ++ outcome ∷ []) records in
+      → Type 0 = λ records. AreDoneInOrder origin Makes book.records (taken ++ job ∷ []) (outcomes ++ outcome ∷ []) records in
       record {
         after = last.after;
         tells = last.tells;
         holds = record {
-          are_done = subst At (sym last.holds.records) (done_more origin ops book.records first.after.records taken outcomes job outcome
+          are_done = subst At (sym last.holds.records) (done_more origin Makes book.records first.after.records taken outcomes job outcome
               first.holds.are_done last.holds.is_done);
           foreign = λ never. absurd cc;
         };
@@ -314,12 +371,13 @@ tells_more origin ops told middle now_told taken outcomes job outcome all one = 
 }
 
 -- A worker that stops leaves the book as its jobs left it.
-pub tells_stop : (origin : Origin) (ops : List BookOp) (told middle now_told : Option BookState) (taken : List ℕ)
+pub tells_stop : (origin : Origin) (Makes : ℕ → BookOp → Type 0) (told middle now_told : Option BookState) (taken : List ℕ)
     (outcomes : List BookOutcome) (end : End)
-    → TellsAll origin ops told middle taken outcomes NoneLeft → StopsFor origin middle now_told end
-    → TellsAll origin ops told now_told taken outcomes end
-tells_stop origin ops told middle now_told taken outcomes NoneLeft all stops = absurd stops
-tells_stop origin ops told middle now_told taken outcomes OutOfMemory all stops = record {
+    → TellsAll origin Makes told middle taken outcomes NoneLeft → StopsFor origin middle now_told end
+    → TellsAll origin Makes told now_told taken outcomes end
+tells_stop origin Makes told middle now_told taken outcomes NoneLeft all stops = absurd stops
+tells_stop origin Makes told middle now_told taken outcomes NoOperation all stops = absurd stops
+tells_stop origin Makes told middle now_told taken outcomes OutOfMemory all stops = record {
   each = λ book is. let first = all.each book is in
       record {
         after = first.after;
@@ -327,7 +385,7 @@ tells_stop origin ops told middle now_told taken outcomes OutOfMemory all stops 
         holds = record { are_done = first.holds.are_done; foreign = λ never. absurd cc };
       };
 }
-tells_stop origin ops told middle now_told taken outcomes ends.ForeignBook all stops = record {
+tells_stop origin Makes told middle now_told taken outcomes ends.ForeignBook all stops = record {
   each = λ book is.
       let first = all.each book is in
       let known = stops.tells.each first.after first.tells in
@@ -339,36 +397,56 @@ tells_stop origin ops told middle now_told taken outcomes ends.ForeignBook all s
       };
 }
 
+-- So does one that takes no other job since the operation of the last could not be had.
+pub tells_last : (origin : Origin) (Makes : ℕ → BookOp → Type 0) (told now_told : Option BookState) (taken : List ℕ)
+    (outcomes : List BookOutcome) → TellsAll origin Makes told now_told taken outcomes NoneLeft
+    → TellsAll origin Makes told now_told taken outcomes NoOperation
+tells_last origin Makes told now_told taken outcomes all = record {
+  each = λ book is. let turned = all.each book is in
+      record {
+        after = turned.after;
+        tells = turned.tells;
+        holds = record { are_done = turned.holds.are_done; foreign = λ never. absurd cc };
+      };
+}
+
+-- The first lack of jobs that are all below one is below it.
+pub lack_below : (count : ℕ) (Lacks : ℕ → JobFault → Type 0) (taken : List ℕ) (job : ℕ) (lack : Option Lack)
+    → All (λ drawn. drawn < job) taken → IfSome lack (IsLack count Lacks taken) → IfSome lack (λ first. first.job ≤ job)
+lack_below count Lacks taken job None above right = tt
+lack_below count Lacks taken job (Some lack) above right =
+    let below = below_at taken right.index lack.job job above right.stands in omega arith
+
 -- ---- one turn of a worker's loop, over the code's lists
 
-pub turn_worked : (job : ℕ) (origin : Origin) (ops : List BookOp) (taken now_taken : List ℕ) (outcomes now_outcomes : List BookOutcome)
+pub turn_worked : (job : ℕ) (origin : Origin) (count : ℕ) (Makes : ℕ → BookOp → Type 0) (taken now_taken : List ℕ) (outcomes now_outcomes : List BookOutcome)
     (told now_told : Option BookState)
-    → IsWorked origin ops taken outcomes → TakesOne origin ops job taken now_taken outcomes now_outcomes told now_told
-    → IsWorked origin ops now_taken now_outcomes
-turn_worked job origin ops taken now_taken outcomes now_outcomes told now_told worked one =
-    let At : List ℕ → Type 0 = λ xs. IsWorked origin ops xs now_outcomes in
-    let Of : List BookOutcome → Type 0 = λ os. IsWorked origin ops (taken ++ job ∷ []) os in
-    subst At (sym one.takes) (subst Of (sym one.keeps) (worked_more origin ops taken outcomes job one.outcome worked one.of_job))
+    → IsWorked origin count Makes taken outcomes → TakesOne origin count Makes job taken now_taken outcomes now_outcomes told now_told
+    → IsWorked origin count Makes now_taken now_outcomes
+turn_worked job origin count Makes taken now_taken outcomes now_outcomes told now_told worked one =
+    let At : List ℕ → Type 0 = λ xs. IsWorked origin count Makes xs now_outcomes in
+    let Of : List BookOutcome → Type 0 = λ os. IsWorked origin count Makes (taken ++ job ∷ []) os in
+    subst At (sym one.takes) (subst Of (sym one.keeps) (worked_more origin count Makes taken outcomes job one.outcome worked one.of_job))
 
-pub turn_tells : (job : ℕ) (origin : Origin) (ops : List BookOp) (taken now_taken : List ℕ) (outcomes now_outcomes : List BookOutcome)
+pub turn_tells : (job : ℕ) (origin : Origin) (count : ℕ) (Makes : ℕ → BookOp → Type 0) (taken now_taken : List ℕ) (outcomes now_outcomes : List BookOutcome)
     (first told now_told : Option BookState)
-    → TellsAll origin ops first told taken outcomes NoneLeft → TakesOne origin ops job taken now_taken outcomes now_outcomes told now_told
-    → TellsAll origin ops first now_told now_taken now_outcomes NoneLeft
-turn_tells job origin ops taken now_taken outcomes now_outcomes first told now_told all one =
-    let At : List ℕ → Type 0 = λ xs. TellsAll origin ops first now_told xs now_outcomes NoneLeft in
-    let Of : List BookOutcome → Type 0 = λ os. TellsAll origin ops first now_told (taken ++ job ∷ []) os NoneLeft in
-    subst At (sym one.takes) (subst Of (sym one.keeps) (tells_more origin ops first told now_told taken outcomes job one.outcome all
+    → TellsAll origin Makes first told taken outcomes NoneLeft → TakesOne origin count Makes job taken now_taken outcomes now_outcomes told now_told
+    → TellsAll origin Makes first now_told now_taken now_outcomes NoneLeft
+turn_tells job origin count Makes taken now_taken outcomes now_outcomes first told now_told all one =
+    let At : List ℕ → Type 0 = λ xs. TellsAll origin Makes first now_told xs now_outcomes NoneLeft in
+    let Of : List BookOutcome → Type 0 = λ os. TellsAll origin Makes first now_told (taken ++ job ∷ []) os NoneLeft in
+    subst At (sym one.takes) (subst Of (sym one.keeps) (tells_more origin Makes first told now_told taken outcomes job one.outcome all
     one.tells))
 
-pub stop_tells : (origin : Origin) (ops : List BookOp) (first told now_told : Option BookState) (taken now_taken : List ℕ)
+pub stop_tells : (origin : Origin) (Makes : ℕ → BookOp → Type 0) (first told now_told : Option BookState) (taken now_taken : List ℕ)
     (outcomes now_outcomes : List Outcome) (end : End)
-    → now_taken ≡ taken → now_outcomes ≡ outcomes → TellsAll origin ops first told taken (map book_outcome_of outcomes) NoneLeft
+    → now_taken ≡ taken → now_outcomes ≡ outcomes → TellsAll origin Makes first told taken (map book_outcome_of outcomes) NoneLeft
     → StopsFor origin told now_told end
-    → TellsAll origin ops first now_told now_taken (map book_outcome_of now_outcomes) end
-stop_tells origin ops first told now_told taken now_taken outcomes now_outcomes end same alike all stops =
-    let At : List ℕ → Type 0 = λ xs. TellsAll origin ops first now_told xs (map book_outcome_of now_outcomes) end in
-    let Of : List Outcome → Type 0 = λ os. TellsAll origin ops first now_told taken (map book_outcome_of os) end in
-    subst At (sym same) (subst Of (sym alike) (tells_stop origin ops first told now_told taken (map book_outcome_of outcomes) end all
+    → TellsAll origin Makes first now_told now_taken (map book_outcome_of now_outcomes) end
+stop_tells origin Makes first told now_told taken now_taken outcomes now_outcomes end same alike all stops =
+    let At : List ℕ → Type 0 = λ xs. TellsAll origin Makes first now_told xs (map book_outcome_of now_outcomes) end in
+    let Of : List Outcome → Type 0 = λ os. TellsAll origin Makes first now_told taken (map book_outcome_of os) end in
+    subst At (sym same) (subst Of (sym alike) (tells_stop origin Makes first told now_told taken (map book_outcome_of outcomes) end all
     stops))
 
 -- ---- a recorder that tells its book

@@ -7,21 +7,22 @@ use Rattle.measure_book.specs.Operations.{BookOp, BookReceipt, BookOutcome, done
 use Rattle.measure_book.specs.Histories.{refusal_of}
 use Rattle.measure_book.specs.Groups.{NamesRecord}
 use Rattle.measure_book.specs.Books.{BookState}
+use Rattle.hash_workers.specs.Working.{IsAt}
 
 -- The job is done, with this receipt.
 abbrev pub IsDone : List BookOutcome → ℕ → BookReceipt → Type 0
 IsDone outcomes job receipt = slice_get outcomes job ≡ Some (done receipt)
 
--- The receipt is one of this job's operation.
-pub record IsReceiptOfJob (ops : List BookOp) (job : ℕ) (receipt : BookReceipt) : Type 0 where
+-- The receipt is one of an operation of this job's.
+pub record IsReceiptOfJob (Makes : ℕ → BookOp → Type 0) (job : ℕ) (receipt : BookReceipt) : Type 0 where
   pub op : BookOp
-  pub has : slice_get ops job ≡ Some op
+  pub has : Makes job op
   pub operation : receipt.operation ≡ op
 
--- After this number of records, this is the first cause against the operation of the job.
-pub record IsRefusalOfJob (origin : Origin) (ops : List BookOp) (count job : ℕ) (fault : BookFault) : Type 0 where
+-- After this number of records, this is the first cause against an operation of the job's.
+pub record IsRefusalOfJob (origin : Origin) (Makes : ℕ → BookOp → Type 0) (count job : ℕ) (fault : BookFault) : Type 0 where
   pub op : BookOp
-  pub has : slice_get ops job ≡ Some op
+  pub has : Makes job op
   pub refusal : refusal_of origin count op ≡ Some fault
 
 -- Some job has the receipt of the record at this place.
@@ -31,17 +32,17 @@ pub record HasJob (outcomes : List BookOutcome) (place : ℕ) : Type 0 where
   pub is_done : IsDone outcomes job receipt
   pub place_is : receipt.place ≡ place
 
--- Each job has one outcome: `by` has the worker of each job.
-pub record IsBatch (origin : Origin) (ops : List BookOp) (workers : ℕ) (book : BookState) (outcomes : List BookOutcome) (by : List ℕ) :
-    Type 0 where
+-- Each of so many jobs has one outcome: `by` has the worker of each job. Which operation a job becomes is said by `Makes`.
+pub record IsBatchOf (origin : Origin) (count : ℕ) (Makes : ℕ → BookOp → Type 0) (workers : ℕ) (book : BookState)
+    (outcomes : List BookOutcome) (by : List ℕ) : Type 0 where
   -- The book has the given origin.
   pub origin_is : book.origin ≡ origin
   -- There is one outcome and one worker for each job.
-  pub outcomes_of_all : length outcomes ≡ length ops
-  pub workers_of_all : length by ≡ length ops
+  pub outcomes_of_all : length outcomes ≡ count
+  pub workers_of_all : length by ≡ count
   pub worker_below : (job worker : ℕ) → slice_get by job ≡ Some worker → worker < workers
   -- Each receipt is one of its job's operation, and names its record.
-  pub receipts : (job : ℕ) (receipt : BookReceipt) → IsDone outcomes job receipt → IsReceiptOfJob ops job receipt
+  pub receipts : (job : ℕ) (receipt : BookReceipt) → IsDone outcomes job receipt → IsReceiptOfJob Makes job receipt
   pub names : (job : ℕ) (receipt : BookReceipt) → IsDone outcomes job receipt → NamesRecord book.records receipt
   -- Receipts and records from place 1 on correspond one to one: no two jobs have one record, and each record is a job's.
   pub apart : (job other : ℕ) (receipt another : BookReceipt) → IsDone outcomes job receipt → IsDone outcomes other another
@@ -53,4 +54,8 @@ pub record IsBatch (origin : Origin) (ops : List BookOp) (workers : ℕ) (book :
       → IsDone outcomes first earlier → IsDone outcomes second later → earlier.place < later.place
   -- Each refusal but that of an operation for which memory ran out is the first cause against the job's operation at the book's end.
   pub refusals : (job : ℕ) (fault : BookFault) → slice_get outcomes job ≡ Some (refused fault) → fault ≢ Memory
-      → IsRefusalOfJob origin ops (length book.records) job fault
+      → IsRefusalOfJob origin Makes (length book.records) job fault
+
+-- The same, of jobs that become these operations.
+abbrev pub IsBatch : Origin → List BookOp → ℕ → BookState → List BookOutcome → List ℕ → Type 0
+IsBatch origin ops workers book outcomes by = IsBatchOf origin (length ops) (IsAt ops) workers book outcomes by

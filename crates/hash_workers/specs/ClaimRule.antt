@@ -1,7 +1,7 @@
 -- The claim rule: what holds of the word that counts the draws and of all seats' views between any two steps, and what
 -- each step tells (this project's choice, over the words of `atomic_table`).
-use Rattle.std.specs.Prelude.{◌≡◌, ℕ, ◌+◌, ◌-◌, ◌%◌, ◌^◌, ◌<◌, ◌≤◌, ◌⊎◌, min, ◌||◌, if◌then◌else◌, nat_lt, Bool, true, false, List, [], ◌∷◌, ◌++◌, length, map, slice_index}
-use Rattle.std.specs.List.{concat}
+use Rattle.std.specs.Prelude.{◌≡◌, ℕ, ◌+◌, ◌-◌, ◌%◌, ◌^◌, ◌<◌, ◌≤◌, ◌⊎◌, max, min, ◌||◌, if◌then◌else◌, nat_lt, Bool, true, false, List, [], ◌∷◌, ◌++◌, length, map, slice_index}
+use Rattle.std.specs.List.{concat, range_with_len}
 use mathlib.Core.Option.{none, some}
 use lib.ListN.{get_elem?}
 use Rattle.atomic_table.specs.Table.{State, Me, Step, Allows, step}
@@ -84,9 +84,26 @@ abbrev pub Draws : Step (Unit {0}) → Holder → ℕ → Holder → Type 0
 Draws step before number after =
     (after.0 ≡ drawn_view before.0 number) × (after.1 ≡ before.1) × ((drawn : ℕ) → 1 ≤ times drawn before.0.draws → drawn < number)
 
+-- A seat draws all that is left, and finds this number in the word: it draws the numbers from this one on, below the number of jobs,
+-- and is ended.
+abbrev pub emptied_view : SeatView → ℕ → SeatView
+emptied_view view number =
+    view_of view.jobs view.seats view.places (view.draws ++ range_with_len number (view.jobs - number)) true
+
+-- What a draw of all that is left tells: the new view, and that the number is above all that the seat drew before.
+abbrev pub DrawsAll : Step (Unit {0}) → Holder → ℕ → Holder → Type 0
+DrawsAll step before number after =
+    (after.0 ≡ emptied_view before.0 number) × (after.1 ≡ before.1) × ((drawn : ℕ) → 1 ≤ times drawn before.0.draws → drawn < number)
+
 -- What a look tells: nothing changes, and the seat has no more places than there are.
 abbrev pub Looks : Step (Unit {0}) → Holder → ℕ → Holder → Type 0
 Looks step before number after = (after ≡ before) × (before.0.places ≤ before.0.seats)
+
+-- The seat may draw all that is left: whatever the word is then, the greater of it and the number of jobs keeps the rule, and tells
+-- such a draw.
+abbrev pub MayDrawAll : Allotment → ℕ → ℕ → Holder → Type 0
+MayDrawAll allotment slots seat holder =
+    Allows (KeepsRule allotment) slots seat holder 0 (λ word. max word allotment.jobs) (DrawsAll (step slots 0 allotment.jobs 0 none) holder)
 
 -- The seat may draw: whatever the word is then, one more keeps the rule, and tells a draw.
 abbrev pub MayDraw : Allotment → ℕ → ℕ → Holder → Type 0

@@ -1,5 +1,5 @@
 -- What contracts see of claims and of their seats (this project's choice).
-use Rattle.std.specs.Prelude.{◌≡◌, ℕ, ◌+◌, ◌<◌, ◌≤◌, ◌==◌, if◌then◌else◌, Bool, List, [], ◌∷◌}
+use Rattle.std.specs.Prelude.{◌≡◌, ℕ, ◌+◌, ◌<◌, ◌≤◌, ◌==◌, if◌then◌else◌, Bool, List, [], ◌∷◌, ◌++◌, All}
 use Rattle.atomic_table.specs.Seated.{TableId}
 
 -- How many jobs and seats there are, and which word counts the draws.
@@ -29,3 +29,10 @@ times number (other ∷ others) = (if number == other then 1 else 0) + times num
 pub record HandsOutEach (count : ℕ) (draws : List ℕ) : Type 0 where
   pub once : (number : ℕ) → number < count → times number draws ≡ 1
   pub others : (number : ℕ) → count ≤ number → times number draws ≡ 0
+
+-- A seat drew these numbers, and then more: numbers below that of the jobs, above all that it drew before.
+pub record DrawsMore (jobs : ℕ) (draws now_draws : List ℕ) : Type 0 where
+  pub rest : List ℕ
+  pub draws_are : now_draws ≡ draws ++ rest
+  pub below : All (λ number. number < jobs) rest
+  pub beyond : All (λ number. All (λ drawn. drawn < number) draws) rest

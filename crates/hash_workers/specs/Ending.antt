@@ -1,14 +1,16 @@
 -- What one job more makes of a worker's work, and why a worker takes no more jobs.
-use Rattle.std.specs.Prelude.{◌≡◌, ◌≢◌, ℕ, List, [], ◌∷◌, ◌++◌, true, Option, Some, None}
+use Rattle.std.specs.Prelude.{◌≡◌, ◌≢◌, ◌⊎◌, ℕ, ◌<◌, ◌≤◌, List, [], ◌∷◌, ◌++◌, All, true, Option, Some, None, IfSome, slice_get}
 use Rattle.measure_book.specs.declared.origin.Origin.{Origin}
 use Rattle.measure_book.specs.declared.fault.BookFault.TheVariants.{Memory}
 use Rattle.measure_book.specs.Operations.{BookOp, BookOutcome, refused}
 use Rattle.measure_book.specs.Runs.{records_after}
 use Rattle.measure_book.specs.Books.{BookState}
 use Rattle.hash_workers.specs.declared.work.End.{End}
-use Rattle.hash_workers.specs.declared.work.End.TheVariants.{NoneLeft, OutOfMemory, ForeignBook}
+use Rattle.hash_workers.specs.declared.work.End.TheVariants.{NoneLeft, OutOfMemory, ForeignBook, NoOperation}
+use Rattle.hash_workers.specs.declared.work.Lack.{Lack}
+use Rattle.hash_workers.specs.declared.fault.JobFault.{JobFault}
 use Rattle.hash_workers.specs.Claims.{SeatState}
-use Rattle.hash_workers.specs.Working.{MayBecome, IsOutcomeOfJob, IsEntered, IsForeign, IsDoneAfter, AreDoneInOrder}
+use Rattle.hash_workers.specs.Working.{MayBecome, IsOutcomeOf, IsEntered, IsForeign, IsDoneAfter, AreDoneInOrder}
 
 -- ---- the private book
 
@@ -22,7 +24,7 @@ pub record HasBookAfter (now_told : Option BookState) (Holds : BookState → Typ
 pub record TurnsPrivateBook (told now_told : Option BookState) (Holds : BookState → BookState → Type 0) : Type 0 where
   pub each : (before : BookState) → told ≡ Some before → HasBookAfter now_told (Holds before)
 
--- ---- an operation, or none where it found no memory
+-- ---- an operation, or none where it could not be had
 
 abbrev pub Becomes : Origin → Option BookOp → BookOutcome → Type 0
 Becomes origin None outcome = outcome ≡ refused Memory
@@ -48,49 +50,97 @@ pub record KeepsOne (origin : Origin) (op : Option BookOp) (job : ℕ) (taken no
 -- ---- a job
 
 -- What a job makes of the private book.
-pub record LeavesJob (origin : Origin) (ops : List BookOp) (before after : BookState) (job : ℕ) (outcome : BookOutcome) : Type 0 where
+pub record LeavesJob (origin : Origin) (Makes : ℕ → BookOp → Type 0) (before after : BookState) (job : ℕ) (outcome : BookOutcome) :
+    Type 0 where
   pub records : after.records ≡ records_after before.records outcome
-  pub is_done : IsDoneAfter origin ops before.records job outcome
+  pub is_done : IsDoneAfter origin Makes before.records job outcome
 
-abbrev pub TellsJob : Origin → List BookOp → Option BookState → Option BookState → ℕ → BookOutcome → Type 0
-TellsJob origin ops told now_told job outcome = TurnsPrivateBook told now_told (λ before after. LeavesJob origin ops before after job outcome)
+abbrev pub TellsJob : Origin → (ℕ → BookOp → Type 0) → Option BookState → Option BookState → ℕ → BookOutcome → Type 0
+TellsJob origin Makes told now_told job outcome =
+    TurnsPrivateBook told now_told (λ before after. LeavesJob origin Makes before after job outcome)
 
--- The job is taken, with an outcome of its own.
-pub record TakesOne (origin : Origin) (ops : List BookOp) (job : ℕ) (taken now_taken : List ℕ) (outcomes now_outcomes : List BookOutcome)
-    (told now_told : Option BookState) : Type 0 where
+-- The job, of so many, is taken, with an outcome of its own.
+pub record TakesOne (origin : Origin) (count : ℕ) (Makes : ℕ → BookOp → Type 0) (job : ℕ) (taken now_taken : List ℕ)
+    (outcomes now_outcomes : List BookOutcome) (told now_told : Option BookState) : Type 0 where
   pub outcome : BookOutcome
   pub takes : now_taken ≡ taken ++ job ∷ []
   pub keeps : now_outcomes ≡ outcomes ++ outcome ∷ []
-  pub of_job : IsOutcomeOfJob origin ops job outcome
-  pub tells : TellsJob origin ops told now_told job outcome
+  pub of_job : IsOutcomeOf origin count Makes job outcome
+  pub tells : TellsJob origin Makes told now_told job outcome
+
+-- ---- jobs whose operation could not be had
+
+-- The job is not before the first whose operation could not be had.
+abbrev pub IsFrom : Option Lack → ℕ → Type 0
+IsFrom None job = ⊥
+IsFrom (Some lack) job = lack.job ≤ job
+
+-- An operation of the job was made, or it is not before the first for which none could be.
+abbrev pub IsHad : (ℕ → BookOp → Type 0) → Option Lack → ℕ → Type 0
+IsHad Makes lack job = ((op : BookOp) × Makes job op) ⊎ IsFrom lack job
+
+pub record AreHad (Makes : ℕ → BookOp → Type 0) (taken : List ℕ) (lack : Option Lack) : Type 0 where
+  pub each : (index job : ℕ) → slice_get taken index ≡ Some job → IsHad Makes lack job
+
+-- The operation of one of these jobs, of so many, could not be had, and this is the cause.
+pub record IsLack (count : ℕ) (Lacks : ℕ → JobFault → Type 0) (taken : List ℕ) (lack : Lack) : Type 0 where
+  pub index : ℕ
+  pub stands : slice_get taken index ≡ Some lack.job
+  pub within : lack.job < count
+  pub cause : Lacks lack.job lack.fault
+
+-- The operation of this job could not be had for this cause, and that was noted, if no earlier one was.
+abbrev pub IsNoted : ℕ → JobFault → Option Lack → Option Lack → Type 0
+IsNoted job fault None new = new ≡ Some (record { job = job; fault = fault })
+IsNoted job fault (Some lack) new = new ≡ Some lack
+
+-- Whatever the cause.
+abbrev pub AnyCause : ℕ → JobFault → Type 0
+AnyCause job fault = Unit {0}
+
+-- The first lack before this job was taken, and after: what is known of it, and of the jobs before, stays known.
+pub record IsLackAfter (count : ℕ) (Makes : ℕ → BookOp → Type 0) (Lacks : ℕ → JobFault → Type 0) (job : ℕ) (taken now_taken : List ℕ)
+    (old new : Option Lack) : Type 0 where
+  pub had : IfSome old (λ lack. lack.job ≤ job) → IsHad Makes new job
+  pub before : (earlier : ℕ) → IsHad Makes old earlier → IsHad Makes new earlier
+  pub right : IfSome old (IsLack count Lacks taken) → IfSome new (IsLack count Lacks now_taken)
+
+-- A seat drew these numbers, and then numbers that are above them.
+pub record DrewBeyond (draws taken : List ℕ) : Type 0 where
+  pub rest : List ℕ
+  pub draws_are : draws ≡ taken ++ rest
+  pub beyond : All (λ number. All (λ drawn. drawn < number) taken) rest
 
 -- ---- all jobs of a worker
 
 -- What all jobs of a worker make of the private book: they were done in their order, and where the worker stopped for a
 -- book of another origin it is such a book.
-pub record LeavesAll (origin : Origin) (ops : List BookOp) (before after : BookState) (taken : List ℕ) (outcomes : List BookOutcome)
-    (end : End) : Type 0 where
-  pub are_done : AreDoneInOrder origin ops before.records taken outcomes after.records
+pub record LeavesAll (origin : Origin) (Makes : ℕ → BookOp → Type 0) (before after : BookState) (taken : List ℕ)
+    (outcomes : List BookOutcome) (end : End) : Type 0 where
+  pub are_done : AreDoneInOrder origin Makes before.records taken outcomes after.records
   pub foreign : end ≡ ForeignBook → after.origin ≢ origin
 
-abbrev pub TellsAll : Origin → List BookOp → Option BookState → Option BookState → List ℕ → List BookOutcome → End → Type 0
-TellsAll origin ops told now_told taken outcomes end =
-    TurnsPrivateBook told now_told (λ before after. LeavesAll origin ops before after taken outcomes end)
+abbrev pub TellsAll : Origin → (ℕ → BookOp → Type 0) → Option BookState → Option BookState → List ℕ → List BookOutcome → End → Type 0
+TellsAll origin Makes told now_told taken outcomes end =
+    TurnsPrivateBook told now_told (λ before after. LeavesAll origin Makes before after taken outcomes end)
 
 -- A worker stops early since memory ran out, with the book as it was, or since the book is of another origin.
 abbrev pub StopsFor : Origin → Option BookState → Option BookState → End → Type 0
 StopsFor origin told now_told NoneLeft = ⊥
 StopsFor origin told now_told OutOfMemory = now_told ≡ told
 StopsFor origin told now_told ForeignBook = IsForeign origin told now_told
+StopsFor origin told now_told NoOperation = ⊥
 
 -- A book of another origin.
 pub record IsFound (origin : Origin) : Type 0 where
   pub book : BookState
   pub other : book.origin ≢ origin
 
--- Why a worker takes no more jobs: none is left only where its seat is ended and drew what it took, and it found a book of
--- another origin only where it says so.
-abbrev pub IsEnd : Origin → SeatState → List ℕ → End → Type 0
-IsEnd origin seat taken NoneLeft = (seat.ended ≡ true) × (seat.draws ≡ taken)
-IsEnd origin seat taken OutOfMemory = Unit {0}
-IsEnd origin seat taken ForeignBook = IsFound origin
+-- Why a worker takes no more jobs. None is left only where its seat is ended and drew what it took. An operation could not be had
+-- only where there is a first such job, and then its seat drew all numbers that were left. It found a book of another origin only
+-- where it says so.
+abbrev pub IsEnd : Origin → SeatState → List ℕ → Option Lack → End → Type 0
+IsEnd origin seat taken lack NoneLeft = (seat.ended ≡ true) × (seat.draws ≡ taken)
+IsEnd origin seat taken lack NoOperation = (seat.ended ≡ true) × DrewBeyond seat.draws taken × (lack ≢ None)
+IsEnd origin seat taken lack OutOfMemory = Unit {0}
+IsEnd origin seat taken lack ForeignBook = IsFound origin

@@ -1,16 +1,18 @@
 -- The workers' seats, and what each worker hands back.
-use Rattle.std.specs.Prelude.{◌≡◌, ◌≢◌, ℕ, ◌<◌, ◌||◌, Bool, true, false, List, [], ◌∷◌, length, map, slice_get, Option, None, Some, IfSome}
+use Rattle.std.specs.Prelude.{◌≡◌, ◌≢◌, ℕ, ◌<◌, ◌≤◌, ◌⊎◌, ◌||◌, Bool, true, false, List, [], ◌∷◌, length, map, slice_get, Option, None, Some, IfSome}
 use Rattle.std.specs.List.{concat}
 use Rattle.measure_book.specs.declared.origin.Origin.{Origin}
 use Rattle.measure_book.specs.declared.op.Outcome.{Outcome}
 use Rattle.measure_book.specs.Operations.{BookOp, book_outcome_of}
+use Rattle.hash_workers.specs.declared.fault.JobFault.{JobFault}
 use Rattle.hash_workers.specs.declared.work.End.{End}
-use Rattle.hash_workers.specs.declared.work.End.TheVariants.{NoneLeft}
+use Rattle.hash_workers.specs.declared.work.End.TheVariants.{NoneLeft, NoOperation}
+use Rattle.hash_workers.specs.declared.work.Lack.{Lack}
 use Rattle.hash_workers.specs.declared.work.Work.{Work}
 use Rattle.hash_workers.specs.Claims.{ClaimsState, SeatState, IsSeat}
 use Rattle.hash_workers.specs.Taking.{Rise}
 use Rattle.hash_workers.specs.Working.{IsWorked}
-use Rattle.hash_workers.specs.Ending.{IsEnd}
+use Rattle.hash_workers.specs.Ending.{AnyCause, AreHad, DrewBeyond, IsEnd, IsFrom, IsLack}
 
 -- ---- seats
 
@@ -53,26 +55,60 @@ pub record AreJoined (claims : ClaimsState) (seats : List SeatState) (all : Opti
 
 -- ---- what workers hand back
 
--- The worker did this: it took jobs that rise, each has one outcome, its seat is still one of these claims, and this is
--- why it took no more.
-pub record IsWorkOf (origin : Origin) (ops : List BookOp) (claims : ClaimsState) (work : Work) : Type 0 where
+-- The worker did this: it took jobs that rise, each has one outcome, each before the first lack was had, its seat is still one of
+-- these claims, and this is why it took no more.
+pub record IsWorkOf (origin : Origin) (Makes : ℕ → BookOp → Type 0) (Lacks : ℕ → JobFault → Type 0) (claims : ClaimsState) (work : Work) :
+    Type 0 where
   pub rises : Rise work.taken.items
-  pub worked : IsWorked origin ops work.taken.items (map book_outcome_of work.outcomes.items)
+  pub worked : IsWorked origin claims.jobs Makes work.taken.items (map book_outcome_of work.outcomes.items)
+  pub had : AreHad Makes work.taken.items work.lack
+  pub lack : IfSome work.lack (IsLack claims.jobs Lacks work.taken.items)
   pub seat : IsSinglePlace claims work.seat
-  pub ends : IsEnd origin work.seat work.taken.items work.end
+  pub ends : IsEnd origin work.seat work.taken.items work.lack work.end
 
 -- Each worker did its work, one for each place of the claims.
-pub record AreWorksOf (origin : Origin) (ops : List BookOp) (claims : ClaimsState) (works : List Work) : Type 0 where
+pub record AreWorksOf (origin : Origin) (Makes : ℕ → BookOp → Type 0) (Lacks : ℕ → JobFault → Type 0) (claims : ClaimsState)
+    (works : List Work) : Type 0 where
   pub one_each : length works ≡ claims.seats
-  pub each : (worker : ℕ) (work : Work) → slice_get works worker ≡ Some work → IsWorkOf origin ops claims work
+  pub each : (worker : ℕ) (work : Work) → slice_get works worker ≡ Some work → IsWorkOf origin Makes Lacks claims work
 
--- Each worker hands its seat back, one for each place of the claims; where none was left it is ended, and drew what the
--- worker took.
+-- How a worker's seat ended: where none was left it drew what the worker took, and where an operation could not be had it drew
+-- numbers above these too, and there is a first lack.
+abbrev pub IsSeatEnd : Work → End → Type 0
+IsSeatEnd work NoneLeft = (work.seat.ended ≡ true) × (work.seat.draws ≡ work.taken.items)
+IsSeatEnd work NoOperation = (work.seat.ended ≡ true) × DrewBeyond work.seat.draws work.taken.items × (work.lack ≢ None)
+IsSeatEnd work end = Unit {0}
+
+-- Each worker hands its seat back, one for each place of the claims, ended in its way, and its first lack is a job that it took.
 pub record HandBack (claims : ClaimsState) (works : List Work) : Type 0 where
   pub one_each : length works ≡ claims.seats
   pub seat : (worker : ℕ) (work : Work) → slice_get works worker ≡ Some work → IsSinglePlace claims work.seat
-  pub ended : (worker : ℕ) (work : Work) → slice_get works worker ≡ Some work → work.end ≡ NoneLeft
-      → (work.seat.ended ≡ true) × (work.seat.draws ≡ work.taken.items)
+  pub ended : (worker : ℕ) (work : Work) → slice_get works worker ≡ Some work → IsSeatEnd work work.end
+  pub lack : (worker : ℕ) (work : Work) (lack : Lack) → slice_get works worker ≡ Some work → work.lack ≡ Some lack
+      → IsLack claims.jobs AnyCause work.taken.items lack
+
+-- This is the first lack of these first workers: one has it, and none has an earlier one.
+pub record HasLack (works : List Work) (lack : Lack) : Type 0 where
+  pub worker : ℕ
+  pub work : Work
+  pub stands : slice_get works worker ≡ Some work
+  pub has : work.lack ≡ Some lack
+
+pub record IsLeastLack (works : List Work) (count : ℕ) (least : Option Lack) : Type 0 where
+  pub some : IfSome least (HasLack works)
+  pub none_before : (worker : ℕ) (work : Work) (lack : Lack) → worker < count → slice_get works worker ≡ Some work
+      → work.lack ≡ Some lack → IsFrom least lack.job
+
+-- Each worker that stopped for a job whose operation could not be had has a first lack.
+abbrev pub HaveLacks : List Work → Type 0
+HaveLacks works = (worker : ℕ) (work : Work) → slice_get works worker ≡ Some work → work.end ≡ NoOperation → work.lack ≢ None
+
+-- Of two lacks this is the earlier, where there are any.
+abbrev pub IsEarlier : Option Lack → Option Lack → Option Lack → Type 0
+IsEarlier None other first = first ≡ other
+IsEarlier (Some one) None first = first ≡ Some one
+IsEarlier (Some one) (Some other) first =
+    ((first ≡ Some one) × (one.job ≤ other.job)) ⊎ ((first ≡ Some other) × (other.job ≤ one.job))
 
 -- Some worker ended so; none of the first ones did.
 pub record HasEnd (works : List Work) (end : End) : Type 0 where

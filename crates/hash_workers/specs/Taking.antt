@@ -10,6 +10,12 @@ job_at takings worker index = option_and_then (λ taken. slice_get taken index) 
 abbrev pub Took : List (List ℕ) → ℕ → ℕ → ℕ → Type 0
 Took takings worker index job = job_at takings worker index ≡ Some job
 
+-- Some worker took this job.
+pub record IsTaken (takings : List (List ℕ)) (job : ℕ) : Type 0 where
+  pub worker : ℕ
+  pub index : ℕ
+  pub took : Took takings worker index job
+
 -- The numbers of a list rise.
 pub record Rise (taken : List ℕ) : Type 0 where
   pub each : (first second earlier later : ℕ) → first < second → slice_get taken first ≡ Some earlier

@@ -1,5 +1,5 @@
 -- What one worker did: its jobs in the order in which it took them, and what became of each (this project's choice).
-use Rattle.std.specs.Prelude.{◌≡◌, ◌≢◌, ◌⊎◌, ℕ, List, [], ◌∷◌, length, slice_get, Option, Some}
+use Rattle.std.specs.Prelude.{◌≡◌, ◌≢◌, ◌⊎◌, ℕ, ◌<◌, List, [], ◌∷◌, length, slice_get, Option, Some}
 use Rattle.measure_book.specs.declared.origin.Origin.{Origin}
 use Rattle.measure_book.specs.declared.fault.BookFault.TheVariants.{Memory}
 use Rattle.measure_book.specs.Operations.{BookOp, BookRecord, BookOutcome, done, refused}
@@ -7,7 +7,14 @@ use Rattle.measure_book.specs.Histories.{refusal_of}
 use Rattle.measure_book.specs.Runs.{RunsTo, IsOutcome, records_after}
 use Rattle.measure_book.specs.Books.{BookState}
 
--- Of what becomes of an operation there are two things to say. `MayBecome`, `IsOutcomeOfJob`, and `Becomes` of an operation
+-- Which operation a job becomes is a relation, `Makes`, by the job's number: of some jobs more than one may be made, as of a file
+-- whose content nobody tells.
+
+-- The job becomes the operation of its number in the list.
+abbrev pub IsAt : List BookOp → ℕ → BookOp → Type 0
+IsAt ops job op = slice_get ops job ≡ Some op
+
+-- Of what becomes of an operation there are two things to say. `MayBecome`, `IsOutcomeOf`, and `Becomes` of an operation
 -- that may not have been made, speak of no history: they are known of a book that others use too, whatever it had before.
 -- `IsOutcome` of the book, and `IsDoneAfter`, speak of the records before: they are known only of a book whose history is.
 
@@ -17,17 +24,16 @@ abbrev pub MayBecome : Origin → BookOp → BookOutcome → Type 0
 MayBecome origin op (done receipt) = receipt.operation ≡ op
 MayBecome origin op (refused fault) = (fault ≡ Memory) ⊎ ((count : ℕ) × (refusal_of origin count op ≡ Some fault))
 
--- The outcome is one of the operation of this job.
-pub record IsOutcomeOfJob (origin : Origin) (ops : List BookOp) (job : ℕ) (outcome : BookOutcome) : Type 0 where
-  pub op : BookOp
-  pub has : slice_get ops job ≡ Some op
-  pub becomes : MayBecome origin op outcome
+-- The outcome is one of this job, of so many: refused since memory ran out, or one of an operation of the job.
+pub record IsOutcomeOf (origin : Origin) (count : ℕ) (Makes : ℕ → BookOp → Type 0) (job : ℕ) (outcome : BookOutcome) : Type 0 where
+  pub within : job < count
+  pub becomes : (outcome ≡ refused Memory) ⊎ ((op : BookOp) × Makes job op × MayBecome origin op outcome)
 
--- Each job that was taken has one outcome, which is one of its operation.
-pub record IsWorked (origin : Origin) (ops : List BookOp) (taken : List ℕ) (outcomes : List BookOutcome) : Type 0 where
+-- Each job that was taken has one outcome, which is one of it.
+pub record IsWorked (origin : Origin) (count : ℕ) (Makes : ℕ → BookOp → Type 0) (taken : List ℕ) (outcomes : List BookOutcome) : Type 0 where
   pub pairs : length outcomes ≡ length taken
   pub each : (index job : ℕ) (outcome : BookOutcome) → slice_get taken index ≡ Some job → slice_get outcomes index ≡ Some outcome
-      → IsOutcomeOfJob origin ops job outcome
+      → IsOutcomeOf origin count Makes job outcome
 
 -- An operation is done on a book of this origin: the book before runs to the book after.
 pub record IsEntered (origin : Origin) (before after : BookState) (op : BookOp) (outcome : BookOutcome) : Type 0 where
@@ -52,17 +58,16 @@ pub record IsForeign (origin : Origin) (told now_told : Option BookState) : Type
   pub other : found.origin ≢ origin
   pub tells : Tells told now_told found found
 
--- The job is done, with this outcome, in a book that has these records: it is refused since its operation found no memory,
--- or its operation has this outcome after these records.
-pub record IsDoneAfter (origin : Origin) (ops : List BookOp) (before : List BookRecord) (job : ℕ) (outcome : BookOutcome) : Type 0 where
-  pub op : BookOp
-  pub has : slice_get ops job ≡ Some op
-  pub becomes : (outcome ≡ refused Memory) ⊎ IsOutcome origin before op outcome
+-- The job is done, with this outcome, in a book that has these records: it is refused since it has no operation, or an operation
+-- of it has this outcome after these records.
+abbrev pub IsDoneAfter : Origin → (ℕ → BookOp → Type 0) → List BookRecord → ℕ → BookOutcome → Type 0
+IsDoneAfter origin Makes before job outcome =
+    (outcome ≡ refused Memory) ⊎ ((op : BookOp) × Makes job op × IsOutcome origin before op outcome)
 
 -- The jobs are done in this order, with these outcomes, in a book that has the first records, and then has the last.
-abbrev pub AreDoneInOrder : Origin → List BookOp → List BookRecord → List ℕ → List BookOutcome → List BookRecord → Type 0
-AreDoneInOrder origin ops old [] [] new = new ≡ old
-AreDoneInOrder origin ops old [] (outcome ∷ outcomes) new = ⊥
-AreDoneInOrder origin ops old (job ∷ jobs) [] new = ⊥
-AreDoneInOrder origin ops old (job ∷ jobs) (outcome ∷ outcomes) new =
-    IsDoneAfter origin ops old job outcome × AreDoneInOrder origin ops (records_after old outcome) jobs outcomes new
+abbrev pub AreDoneInOrder : Origin → (ℕ → BookOp → Type 0) → List BookRecord → List ℕ → List BookOutcome → List BookRecord → Type 0
+AreDoneInOrder origin Makes old [] [] new = new ≡ old
+AreDoneInOrder origin Makes old [] (outcome ∷ outcomes) new = ⊥
+AreDoneInOrder origin Makes old (job ∷ jobs) [] new = ⊥
+AreDoneInOrder origin Makes old (job ∷ jobs) (outcome ∷ outcomes) new =
+    IsDoneAfter origin Makes old job outcome × AreDoneInOrder origin Makes (records_after old outcome) jobs outcomes new

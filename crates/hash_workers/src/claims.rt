@@ -1,10 +1,10 @@
 //! Numbers that several threads draw, each once.
 
-ghost use Rattle.std.specs.Prelude.{◌≡◌, ◌+◌, ◌-◌, ◌<◌, ◌≤◌, ◌||◌, [], ◌∷◌, ◌++◌, true, false, All, IfOk, IfErr, IfSome, IfNone};
+ghost use Rattle.std.specs.Prelude.{◌≡◌, ◌+◌, ◌-◌, ◌<◌, ◌≤◌, ◌||◌, [], ◌∷◌, ◌++◌, ℕ, true, false, All, IfOk, IfErr, IfSome, IfNone};
 ghost use mathlib.Core.Option.{none};
 ghost use Rattle.atomic_table.specs.Table.{step};
-ghost use Rattle.hash_workers.specs.Claims.{HandsOutEach, IsSeat};
-ghost use Rattle.hash_workers.specs.ClaimRule.{Draws, MayDraw};
+ghost use Rattle.hash_workers.specs.Claims.{DrawsMore, HandsOutEach, IsSeat};
+ghost use Rattle.hash_workers.specs.ClaimRule.{Draws, DrawsAll, MayDraw, MayDrawAll};
 
 mod steps;
 mod view;
@@ -12,7 +12,7 @@ mod view;
 use atomic_table::{Seat, Shared, Table};
 use std::alloc::{AllocError, Global};
 use std::marker::Model;
-use steps::{ClaimRule, Cut, Draw, Look, Merge};
+use steps::{ClaimRule, Cut, Draw, DrawAll, Look, Merge};
 use view::{Allotment, SeatView};
 
 /// The numbers below a number of jobs, which the seats of these claims draw, each number once, whatever the schedule.
@@ -118,6 +118,22 @@ impl Claims {
         None
     }
 
+    /// Draws all numbers that are left, by one step on the word, and ends the seat: no seat draws another. A seat that is ended takes no
+    /// step, and draws nothing.
+    pub fn draw_rest(&self, seat: &mut ClaimSeat)
+        requires { seat.old.claims ≡ self.now }
+        ensures same { (seat.new.claims ≡ self.now) × (seat.new.places ≡ seat.old.places) }
+        ensures ended { seat.new.ended ≡ true }
+        // The numbers are below that of the jobs, and above all that the seat drew before.
+        ensures draws { DrawsMore self.now.jobs seat.old.draws seat.new.draws }
+    {
+        if seat.ended {
+            return;
+        }
+        take_all(&self.table.shared, &mut seat.seat, self.allotment.jobs);
+        seat.ended = true;
+    }
+
     /// Cuts one place off the seat, for a new seat, which drew nothing, and is ended where the seat is.
     ///
     /// Where the seat has one place alone, it is handed back.
@@ -209,4 +225,19 @@ fn add_one(
     ensures drawn { Draws (step shared.now.table_id.slots 0 1 0 none) seat.old.me result seat.new.me }
 {
     shared.fetch_add::<Draw>(seat, 0, 1)
+}
+
+// Makes the word as great as the number of jobs, where it is less, for a seat that draws all that is left.
+fn take_all(
+    shared: &Shared<(), SeatView, Allotment, ClaimRule>,
+    seat: &mut Seat<(), SeatView>,
+    jobs: u32,
+)
+    requires word { (seat.old.table_id ≡ shared.now.table_id) × (0 < shared.now.table_id.words) }
+    requires jobs { jobs ≡ shared.now.key.jobs }
+    requires draws { MayDrawAll shared.now.key shared.now.table_id.slots seat.old.id seat.old.me }
+    ensures same { seat.new.table_id ≡ seat.old.table_id }
+    ensures drawn { (found : ℕ) × DrawsAll (step shared.now.table_id.slots 0 shared.now.key.jobs 0 none) seat.old.me found seat.new.me }
+{
+    shared.fetch_max::<DrawAll>(seat, 0, u64::from(jobs));
 }

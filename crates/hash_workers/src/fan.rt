@@ -1,13 +1,12 @@
 //! The workers, all at once.
 
-ghost use Rattle.std.specs.Prelude.{◌≡◌, [], false, length, vec_len, All, IfOk};
-ghost use Rattle.hash_workers.specs.Jobs.{operations_of};
+ghost use Rattle.std.specs.Prelude.{◌≡◌, [], false, vec_len, All, IfOk};
 ghost use Rattle.hash_workers.specs.Claims.{IsSeat};
 ghost use Rattle.hash_workers.specs.Seats.{AreWorksOf, IsNewSeat, IsWorkOf};
 
 use crate::claims::{ClaimSeat, Claims};
 use crate::gate::Gate;
-use crate::job::Job;
+use crate::jobs::Jobs;
 use crate::recorder::SharedBook;
 use crate::work::{Work, take_jobs};
 use measure_book::{Book, Origin};
@@ -18,19 +17,19 @@ use std::thread::Threads;
 
 /// Shares the book among workers, one for each place of the first seat, lets each draw its jobs, and gives the book back
 /// with what each of them did.
-pub(crate) fn fan_out<R: Threads + Wait + Sync, G: Gate + Sync>(
+pub(crate) fn fan_out<R: Threads + Wait + Sync, J: Jobs + Sync, G: Gate + Sync>(
     rt: &R,
     alloc: Global,
     claims: &Claims,
     first: ClaimSeat,
     book: Book,
     origin: &Origin,
-    jobs: &[Job],
+    jobs: &J,
     gate: &G,
 ) -> Result<(Book, Vec<Work>), AllocError>
-    requires jobs { claims.now.jobs ≡ length jobs.now }
+    requires jobs { claims.now.jobs ≡ J.total jobs.now }
     requires first { IsSeat claims.now claims.now.seats [] false first }
-    ensures { IfOk result (λ done. AreWorksOf origin.now (operations_of origin.now.alg jobs.now) claims.now done.1.items) }
+    ensures { IfOk result (λ done. AreWorksOf origin.now (J.makes jobs.now origin.now.alg) (J.lacks jobs.now) claims.now done.1.items) }
 {
     let seats = seats_of(alloc, claims, first)?;
     let book = Mutex::new(book);
@@ -39,8 +38,8 @@ pub(crate) fn fan_out<R: Threads + Wait + Sync, G: Gate + Sync>(
         rt,
         seats,
         &|seat: ClaimSeat| -> Work
-            requires { IsNewSeat claims.now seat × (claims.now.jobs ≡ length jobs.now) }
-            ensures { IsWorkOf origin.entry.now (operations_of origin.entry.now.alg jobs.entry.now) claims.entry.now result }
+            requires { IsNewSeat claims.now seat × (claims.now.jobs ≡ J.total jobs.now) }
+            ensures { IsWorkOf origin.entry.now (J.makes jobs.entry.now origin.entry.now.alg) (J.lacks jobs.entry.now) claims.entry.now result }
         {
             let mut recorder = SharedBook { rt, book: shared };
             take_jobs(alloc, &mut recorder, origin, jobs, claims, seat, gate)

@@ -1,7 +1,7 @@
 //! Why there is no batch.
 
 ghost use Rattle.std.specs.Prelude.{◌≡◌};
-ghost use Rattle.hash_workers.specs.Faults.{fault_of_book, fault_of_gather};
+ghost use Rattle.hash_workers.specs.Faults.{fault_of_book, fault_of_gather, jobs_fault_of_book, jobs_fault_of_gather};
 
 use measure_book::{BookFault, GatherFault};
 use std::alloc::AllocError;
@@ -54,5 +54,72 @@ impl From<AllocError> for AgentFault {
 
     fn from(_refused: AllocError) -> Self {
         AgentFault::Memory
+    }
+}
+
+/// Why the operation of a job cannot be had.
+#[derive(Clone, Copy, Debug, PartialEq, Eq, Error)]
+pub enum JobFault {
+    /// What is to be hashed has more bytes than are allowed.
+    #[error("too many bytes")]
+    TooLong,
+    /// What is to be hashed could not be opened, or failed while it was read.
+    #[error("the source failed")]
+    Source,
+    /// Out of memory.
+    #[error("out of memory")]
+    Memory,
+}
+
+impl From<AllocError> for JobFault {
+    ghost use Rattle.hash_workers.specs.declared.fault.JobFault.TheVariants.{Memory};
+
+    ghost from_gives = { λ _ fault. fault ≡ Memory };
+
+    fn from(_refused: AllocError) -> Self {
+        JobFault::Memory
+    }
+}
+
+/// Why jobs of any kind are not done.
+#[derive(Clone, Copy, Debug, PartialEq, Eq, Error)]
+pub enum JobsFault {
+    /// The fault is one that jobs of a list may have too.
+    #[error("{0}")]
+    Agent(AgentFault),
+    /// The operation of this job cannot be had, and those of all jobs before it were made; never `JobFault::Memory`.
+    #[error("job {job}: {fault}")]
+    Job {
+        /// The number of the job.
+        job: u32,
+        /// Why its operation cannot be had.
+        fault: JobFault,
+    },
+}
+
+impl From<BookFault> for JobsFault {
+    ghost from_gives = { λ book_fault fault. fault ≡ jobs_fault_of_book book_fault };
+
+    fn from(fault: BookFault) -> Self {
+        JobsFault::Agent(fault.into())
+    }
+}
+
+impl From<GatherFault> for JobsFault {
+    ghost from_gives = { λ gather_fault fault. fault ≡ jobs_fault_of_gather gather_fault };
+
+    fn from(fault: GatherFault) -> Self {
+        JobsFault::Agent(fault.into())
+    }
+}
+
+impl From<AllocError> for JobsFault {
+    ghost use Rattle.hash_workers.specs.declared.fault.AgentFault.TheVariants as agents;
+    ghost use Rattle.hash_workers.specs.declared.fault.JobsFault.TheVariants.{Agent};
+
+    ghost from_gives = { λ _ fault. fault ≡ Agent agents.Memory };
+
+    fn from(_refused: AllocError) -> Self {
+        JobsFault::Agent(AgentFault::Memory)
     }
 }

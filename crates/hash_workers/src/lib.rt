@@ -7,12 +7,14 @@ mod fan;
 mod fault;
 mod gate;
 mod job;
+mod jobs;
 mod recorder;
 mod scatter;
 mod work;
 
-pub use batch::{Batch, measure_files};
+pub use batch::{Batch, measure_files, record_jobs};
 pub use claims::{ClaimSeat, Claims};
-pub use fault::AgentFault;
+pub use fault::{AgentFault, JobFault, JobsFault};
 pub use gate::{Gate, NoGate};
 pub use job::{Job, op_of};
+pub use jobs::Jobs;

@@ -1,12 +1,12 @@
 //! What one worker does.
 
-ghost use Rattle.std.specs.Prelude.{◌≡◌, ◌<◌, Some, length, map, slice_get, IfSome, OnErr, MatchResult, option_map};
+ghost use Rattle.std.specs.Prelude.{◌≡◌, ◌≢◌, ◌<◌, None, Some, map, IfOk, IfSome, OnErr, OnOk, MatchResult, option_map};
 ghost use Rattle.std.specs.Option.{option_copied};
 ghost use Rattle.measure_book.specs.Operations.{book_op_of, book_outcome_of};
-ghost use Rattle.hash_workers.specs.Jobs.{operations_of};
 ghost use Rattle.hash_workers.specs.Taking.{Rise};
 ghost use Rattle.hash_workers.specs.Working.{IsWorked};
-ghost use Rattle.hash_workers.specs.Ending.{IsEnd, KeepsOne, StopsFor, TakesOne, TellsAll};
+ghost use Rattle.hash_workers.specs.declared.work.Turn.TheVariants.{Last};
+ghost use Rattle.hash_workers.specs.Ending.{AreHad, IsEnd, IsLack, IsLackAfter, IsNoted, KeepsOne, StopsFor, TakesOne, TellsAll};
 ghost use Rattle.hash_workers.specs.Seats.{IsNewSeat, IsSinglePlace};
 
 mod all;
@@ -14,8 +14,9 @@ mod all;
 mod tests;
 
 use crate::claims::{ClaimSeat, Claims};
+use crate::fault::JobFault;
 use crate::gate::Gate;
-use crate::job::{Job, op_of};
+use crate::jobs::Jobs;
 use crate::recorder::{ForeignBook, Recorder};
 pub(crate) use all::AllWork;
 use measure_book::{BookFault, Op, Origin, Outcome};
@@ -30,6 +31,8 @@ enum End {
     OutOfMemory,
     /// The book is of another origin.
     ForeignBook,
+    /// The operation of a job could not be had, for another cause than want of memory.
+    NoOperation,
 }
 
 impl From<AllocError> for End {
@@ -52,43 +55,71 @@ impl From<ForeignBook> for End {
     }
 }
 
-/// What a worker did: its seat, the jobs that it took, in its order, the outcome of each, and why it took no more.
+/// Whether a worker takes another job.
+#[derive(Clone, Copy, Debug, PartialEq, Eq)]
+enum Turn {
+    /// It does.
+    Next,
+    /// It does not, since the operation of the last one could not be had.
+    Last,
+}
+
+/// A job whose operation could not be had, and why.
+#[derive(Clone, Copy, Debug, PartialEq, Eq)]
+pub(crate) struct Lack {
+    pub(crate) job: u32,
+    pub(crate) fault: JobFault,
+}
+
+/// What a worker did: its seat, the jobs that it took, in its order, the outcome of each, the first whose operation it could not
+/// have, and why it took no more.
 #[derive(Drop)]
 pub(crate) struct Work {
     pub(crate) seat: ClaimSeat,
     pub(crate) taken: Vec<u32>,
     pub(crate) outcomes: Vec<Outcome>,
+    lack: Option<Lack>,
     end: End,
 }
 
-/// Draws jobs from the claims and takes each, until none is left.
-pub(crate) fn take_jobs<B: Recorder, G: Gate>(
+/// Draws jobs from the claims and takes each, until none is left, or until one's operation cannot be had for another cause than want
+/// of memory. Then it draws all jobs that are left, so that no worker takes another.
+pub(crate) fn take_jobs<B: Recorder, J: Jobs, G: Gate>(
     alloc: Global,
     recorder: &mut B,
     origin: &Origin,
-    jobs: &[Job],
+    jobs: &J,
     claims: &Claims,
     seat: ClaimSeat,
     gate: &G,
 ) -> Work
-    requires jobs { claims.now.jobs ≡ length jobs.now }
+    requires jobs { claims.now.jobs ≡ J.total jobs.now }
     requires seat { IsNewSeat claims.now seat }
     ensures seat { IsSinglePlace claims.now result.seat }
     ensures taken { Rise result.taken.items }
-    ensures worked { IsWorked origin.now (operations_of origin.now.alg jobs.now) result.taken.items (map book_outcome_of result.outcomes.items) }
-    ensures end { IsEnd origin.now result.seat result.taken.items result.end }
-    ensures told { TellsAll origin.now (operations_of origin.now.alg jobs.now) (B.told recorder.old) (B.told recorder.new)
+    ensures worked { IsWorked origin.now (J.total jobs.now) (J.makes jobs.now origin.now.alg) result.taken.items
+        (map book_outcome_of result.outcomes.items) }
+    ensures had { AreHad (J.makes jobs.now origin.now.alg) result.taken.items result.lack }
+    ensures lack { IfSome result.lack (IsLack (J.total jobs.now) (J.lacks jobs.now) result.taken.items) }
+    ensures end { IsEnd origin.now result.seat result.taken.items result.lack result.end }
+    ensures told { TellsAll origin.now (J.makes jobs.now origin.now.alg) (B.told recorder.old) (B.told recorder.new)
         result.taken.items (map book_outcome_of result.outcomes.items) result.end }
 {
     let mut work = Work {
         seat,
         taken: Vec::new(alloc),
         outcomes: Vec::new(alloc),
+        lack: None,
         end: End::NoneLeft,
     };
     while let Some(number) = claims.draw(&mut work.seat) {
         match work.take(alloc, recorder, origin, jobs, number, gate) {
-            Ok(()) => (),
+            Ok(Turn::Next) => (),
+            Ok(Turn::Last) => {
+                claims.draw_rest(&mut work.seat);
+                work.end = End::NoOperation;
+                return work;
+            }
             Err(end) => {
                 work.end = end;
                 return work;
@@ -98,40 +129,56 @@ pub(crate) fn take_jobs<B: Recorder, G: Gate>(
     work
 }
 
-// The operation of a job; none where there was no memory for it.
-#[tactic(auto, using(crate::proofs::WorkLaws::op_of_job))]
-fn operation_for(alloc: Global, origin: &Origin, jobs: &[Job], number: u32) -> Option<Op>
-    requires { number < length jobs.now }
-    ensures { IfSome result (λ op. slice_get (operations_of origin.now.alg jobs.now) number ≡ Some (book_op_of op)) }
-{
-    match op_of(alloc, &jobs[number as usize], origin.alg) {
-        Ok(op) => Some(op),
-        Err(_) => None,
-    }
-}
-
 impl Work {
-    // Takes one job: makes its operation, and has it recorded.
-    fn take<B: Recorder, G: Gate>(
+    // Takes one job: makes its operation, and has it recorded. Where the operation cannot be had, this is noted, and the job has the
+    // outcome of one for which memory ran out.
+    fn take<B: Recorder, J: Jobs, G: Gate>(
         &mut self,
         alloc: Global,
         recorder: &mut B,
         origin: &Origin,
-        jobs: &[Job],
+        jobs: &J,
         number: u32,
         gate: &G,
-    ) -> Result<(), End>
-        requires { number < length jobs.now }
+    ) -> Result<Turn, End>
+        requires { number < J.total jobs.now }
         ensures takes { MatchResult result
-            (λ _. TakesOne origin.now (operations_of origin.now.alg jobs.now) number self.old.taken.items self.new.taken.items
+            (λ _. TakesOne origin.now (J.total jobs.now) (J.makes jobs.now origin.now.alg) number self.old.taken.items self.new.taken.items
             (map book_outcome_of self.old.outcomes.items) (map book_outcome_of self.new.outcomes.items)
             (B.told recorder.old) (B.told recorder.new))
             (λ end. StopsFor origin.now (B.told recorder.old) (B.told recorder.new) end) }
-        ensures refused { OnErr result ((self.new.taken.items ≡ self.old.taken.items) × (self.new.outcomes.items ≡ self.old.outcomes.items)) }
+        ensures lack { OnOk result (IsLackAfter (J.total jobs.now) (J.makes jobs.now origin.now.alg) (J.lacks jobs.now) number
+            self.old.taken.items self.new.taken.items self.old.lack self.new.lack) }
+        ensures last { IfOk result (λ turn. turn ≡ Last → self.new.lack ≢ None) }
+        ensures refused { OnErr result ((self.new.taken.items ≡ self.old.taken.items) × (self.new.outcomes.items ≡ self.old.outcomes.items)
+            × (self.new.lack ≡ self.old.lack)) }
         ensures same { (self.new.seat ≡ self.old.seat) × (self.new.end ≡ self.old.end) }
     {
-        let op = operation_for(alloc, origin, jobs, number);
-        self.pass(recorder, origin, number, op.as_ref(), gate)
+        match jobs.operation(alloc, number, origin.alg) {
+            Ok(op) => {
+                self.pass(recorder, origin, number, Some(&op), gate)?;
+                Ok(Turn::Next)
+            }
+            Err(fault) => {
+                self.pass(recorder, origin, number, None, gate)?;
+                Ok(self.note(number, fault))
+            }
+        }
+    }
+
+    // Notes that the operation of a job could not be had, if it is the first one; and whether the worker takes another.
+    fn note(&mut self, job: u32, fault: JobFault) -> Turn
+        ensures noted { IsNoted job fault self.old.lack self.new.lack }
+        ensures same { (self.new.seat ≡ self.old.seat) × (self.new.end ≡ self.old.end) × (self.new.taken ≡ self.old.taken)
+            × (self.new.outcomes ≡ self.old.outcomes) }
+    {
+        if self.lack.is_none() {
+            self.lack = Some(Lack { job, fault });
+        }
+        match fault {
+            JobFault::Memory => Turn::Next,
+            JobFault::TooLong | JobFault::Source => Turn::Last,
+        }
     }
 
     // Has the job's operation recorded, between the two calls of the gate. Both are made whatever becomes of it.
@@ -149,7 +196,7 @@ impl Work {
             (B.told recorder.old) (B.told recorder.new))
             (λ end. StopsFor origin.now (B.told recorder.old) (B.told recorder.new) end) }
         ensures refused { OnErr result ((self.new.taken.items ≡ self.old.taken.items) × (self.new.outcomes.items ≡ self.old.outcomes.items)) }
-        ensures same { (self.new.seat ≡ self.old.seat) × (self.new.end ≡ self.old.end) }
+        ensures same { (self.new.seat ≡ self.old.seat) × (self.new.end ≡ self.old.end) × (self.new.lack ≡ self.old.lack) }
     {
         gate.hashed(number, op);
         let kept = self.keep(recorder, origin, number, op);
@@ -157,8 +204,8 @@ impl Work {
         kept
     }
 
-    // Has an operation recorded, and keeps its outcome as that of this job. Where the operation found no memory it is
-    // refused for that.
+    // Has an operation recorded, and keeps its outcome as that of this job. Where there is no operation it is refused as for want of
+    // memory.
     fn keep<B: Recorder>(
         &mut self,
         recorder: &mut B,
@@ -172,7 +219,7 @@ impl Work {
             (B.told recorder.old) (B.told recorder.new))
             (λ end. StopsFor origin.now (B.told recorder.old) (B.told recorder.new) end) }
         ensures refused { OnErr result ((self.new.taken.items ≡ self.old.taken.items) × (self.new.outcomes.items ≡ self.old.outcomes.items)) }
-        ensures same { (self.new.seat ≡ self.old.seat) × (self.new.end ≡ self.old.end) }
+        ensures same { (self.new.seat ≡ self.old.seat) × (self.new.end ≡ self.old.end) × (self.new.lack ≡ self.old.lack) }
     {
         self.taken.reserve(1)?;
         self.outcomes.reserve(1)?;

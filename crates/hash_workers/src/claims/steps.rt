@@ -1,6 +1,6 @@
 //! The claim rule, and the steps that keep it.
 
-ghost use Rattle.hash_workers.specs.ClaimRule.{KeepsRule, first_view, Draws, Looks, giver, taker, merged, spent};
+ghost use Rattle.hash_workers.specs.ClaimRule.{KeepsRule, first_view, Draws, DrawsAll, Looks, giver, taker, merged, spent};
 
 use super::view::{Allotment, SeatView};
 use atomic_table::{Join, Play, Split, TableRule};
@@ -20,6 +20,13 @@ pub(crate) struct Draw;
 
 impl Play<(), SeatView> for Draw {
     ghost then = { Draws };
+}
+
+/// All numbers that are left are drawn.
+pub(crate) struct DrawAll;
+
+impl Play<(), SeatView> for DrawAll {
+    ghost then = { DrawsAll };
 }
 
 /// The word is read, and nothing changes.

@@ -1,13 +1,13 @@
 //! What all workers did.
 
-ghost use Rattle.std.specs.Prelude.{◌≡◌, ◌+◌, ◌≤◌, ◌++◌, ◌||◌, true, false, length, map, vec_len, All, IfOk, IfSome, MatchBool};
+ghost use Rattle.std.specs.Prelude.{◌≡◌, ◌≢◌, ◌+◌, ◌<◌, ◌≤◌, ◌++◌, ◌||◌, true, false, None, length, map, vec_len, All, IfOk, IfSome, MatchBool};
 ghost use Rattle.std.specs.List.{concat};
 ghost use Rattle.hash_workers.specs.Claims.{HandsOutEach, IsSeat};
-ghost use Rattle.hash_workers.specs.Seats.{AreJoined, HandBack, HasEnd, HasNoEnd, IsSinglePlace, draws_in, draws_of, ended_in, outcomes_of, places_in, seat_of, taken_of};
+ghost use Rattle.hash_workers.specs.Seats.{AreJoined, HandBack, HasEnd, HasNoEnd, HaveLacks, IsEarlier, IsLeastLack, IsSinglePlace, draws_in, draws_of, ended_in, outcomes_of, places_in, seat_of, taken_of};
 ghost use Rattle.hash_workers.specs.Scattering.{items_of};
-ghost use Rattle.hash_workers.specs.Settling.{IsMadeOf, takings_of};
+ghost use Rattle.hash_workers.specs.Settling.{AreTakenBefore, IsLackOf, IsMadeOf, takings_of};
 
-use super::{End, Work};
+use super::{End, Lack, Work};
 use crate::claims::{ClaimSeat, Claims};
 use measure_book::{BookFault, Outcome};
 use std::alloc::{AllocError, Global};
@@ -21,6 +21,8 @@ pub(crate) struct AllWork {
     pub(crate) groups: Vec<Vec<Outcome>>,
     /// Whether a worker found a book of another origin.
     pub(crate) foreign: bool,
+    /// The first job whose operation could not be had, where a worker stopped for one.
+    pub(crate) lack: Option<Lack>,
     /// A place for the outcome of each job.
     pub(crate) outcomes: Vec<Outcome>,
     /// A place for the worker of each job.
@@ -29,7 +31,7 @@ pub(crate) struct AllWork {
 
 impl AllWork {
     /// What these workers did, with places for this number of jobs. Their seats are joined, and the claims are closed, so
-    /// that each job was taken once where no worker stopped.
+    /// that each job was taken once where no worker stopped; and each before the first whose operation could not be had.
     ///
     /// Refused where a worker found no memory, or there is none for the lists and the places. How a worker ended is told by
     /// nothing else, so whatever is found of that comes after the memory.
@@ -42,12 +44,14 @@ impl AllWork {
         requires some { 1 ≤ claims.seats }
         requires works { HandBack claims works.items }
         ensures made { IfOk result (IsMadeOf works.items count) }
-        ensures each { IfOk result (λ all. all.foreign ≡ false → HandsOutEach claims.jobs (concat (takings_of all))) }
+        ensures each { IfOk result (λ all. all.foreign ≡ false → all.lack ≡ None → HandsOutEach claims.jobs (concat (takings_of all))) }
+        ensures before { IfOk result (λ all. all.foreign ≡ false → IfSome all.lack (AreTakenBefore (takings_of all))) }
     {
         if has_end(&works, End::OutOfMemory) {
             return Err(AllocError);
         }
         let foreign = has_end(&works, End::ForeignBook);
+        let lack = lack_of(&works);
         let outcomes = places(alloc, count)?;
         let by = vec![in alloc; 0u32; count]?;
         let (takings, groups, seats) = split(alloc, works)?;
@@ -56,9 +60,43 @@ impl AllWork {
             takings,
             groups,
             foreign,
+            lack,
             outcomes,
             by,
         })
+    }
+}
+
+// The first lack of these workers, where one of them stopped for one.
+fn lack_of(works: &[Work]) -> Option<Lack>
+    requires { HaveLacks works.now }
+    ensures { IsLackOf works.now result }
+{
+    if has_end(works, End::NoOperation) {
+        first_lack(works)
+    } else {
+        None
+    }
+}
+
+// The first lack of these workers, in the order of the jobs.
+fn first_lack(works: &[Work]) -> Option<Lack>
+    ensures { IsLeastLack works.now (length works.now) result }
+{
+    let mut first = None;
+    for work in works {
+        first = earlier(first, work.lack);
+    }
+    first
+}
+
+// The earlier of two lacks, where there are any.
+fn earlier(one: Option<Lack>, other: Option<Lack>) -> Option<Lack>
+    ensures { IsEarlier one other result }
+{
+    match (one, other) {
+        (Some(lack), Some(next)) => Some(if next.job < lack.job { next } else { lack }),
+        (lack, None) | (None, lack) => lack,
     }
 }
 

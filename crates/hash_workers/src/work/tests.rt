@@ -2,10 +2,11 @@
 
 ghost use Rattle.std.specs.Prelude.{Some, ◌<◌};
 
-use super::{End, Work};
+use super::{End, Turn, Work};
 use crate::claims::Claims;
 use crate::gate::Gate;
 use crate::job::Job;
+use crate::jobs::Listed;
 use crate::recorder::{ForeignBook, Recorder, enter};
 use ima_list::{Sig, Template};
 use measure_book::{Book, BookFault, Op, Origin, Outcome};
@@ -86,6 +87,7 @@ fn no_work(alloc: Global) -> Result<Work, AllocError> {
         seat,
         taken: Vec::new(alloc),
         outcomes: Vec::new(alloc),
+        lack: None,
         end: End::NoneLeft,
     })
 }
@@ -114,7 +116,7 @@ fn taken(
     jobs: &[Job; 3],
     number: u32,
     limit: u32,
-) -> Result<(Result<(), End>, u32, usize), BookFault>
+) -> Result<(Result<Turn, End>, u32, usize), BookFault>
     requires { number < 3 }
 {
     let course = Course::new();
@@ -123,7 +125,14 @@ fn taken(
         book,
         course: &course,
     };
-    let taken = work.take(alloc, &mut recorder, &origin(100), jobs, number, &course);
+    let taken = work.take(
+        alloc,
+        &mut recorder,
+        &origin(100),
+        &Listed { jobs },
+        number,
+        &course,
+    );
     let records = recorder.book.records().len();
     Ok((taken, course.step.load(Ordering::SeqCst), records))
 }
@@ -154,7 +163,7 @@ fn gate_is_told_where_a_worker_stops(rt: HostRuntime) -> Result<(), Fail> {
     let mut work = no_work(alloc)?;
     for number in 0..3 {
         let done = taken(alloc, &mut work, &jobs, number, 100)?;
-        assert_eq!(rt; done, (Ok(()), END, 2));
+        assert_eq!(rt; done, (Ok(Turn::Next), END, 2));
         let stopped = taken(alloc, &mut work, &jobs, number, 99)?;
         assert_eq!(rt; stopped, (Err(End::ForeignBook), END, 1));
         let without = passed(alloc, &mut work, number)?;

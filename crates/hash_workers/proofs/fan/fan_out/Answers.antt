@@ -1,7 +1,6 @@
 use Rattle.std.proofs.Common.{◌≡◌, ◌<◌, length, vec_len, subst, arith}
 use Rattle.std.proofs.lemmas.Option.{slice_get_within, get_or_from_slice_get}
 use Rattle.hash_workers.specs.declared.work.Work.{Work}
-use Rattle.hash_workers.specs.Jobs.{operations_of}
 use Rattle.hash_workers.specs.Seats.{IsWorkOf}
 use Rattle.hash_workers.proofs.fan.fan_out.Goals as goal
 
@@ -17,6 +16,6 @@ returns g c =
           let inside : worker < length c.in_ok-seats.seats.items = omega arith in
           let gives = (c.in_ok-works.ensures.each worker work inside).1 in
           let At : Work → Type 0 =
-          λ w. IsWorkOf c.args.origin.now (operations_of c.args.origin.now.alg c.args.jobs.now) c.args.claims.now w in
+          λ w. IsWorkOf c.args.origin.now (g.J.Jobs.makes c.args.jobs.now c.args.origin.now.alg) (g.J.Jobs.lacks c.args.jobs.now) c.args.claims.now w in
           subst At (get_or_from_slice_get c.in_ok-works.works.items worker work work here) gives.call.met;
     }

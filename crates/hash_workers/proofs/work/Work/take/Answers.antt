@@ -1,12 +1,22 @@
-use Rattle.hash_workers.specs.Jobs.{operations_of}
-use Rattle.hash_workers.proofs.WorkLaws.{match_ok, takes_one, made_of, op_at}
+use Rattle.hash_workers.proofs.WorkLaws.{takes_made, takes_none, lack_made, lack_noted}
 use Rattle.hash_workers.proofs.work.Work.take.Goals as goal
 
-pub returns-clause-takes : goal.returns-clause-takes
-returns-clause-takes g c =
-    let op = op_at c.args.origin.now.alg c.args.jobs.now c.args.number c.requires in
-    match_ok c.pass.result _ _ _
-    (takes_one _ _ _ op.0 c.args.number _ _ _ _ _ _ op.1
-    (made_of (operations_of c.args.origin.now.alg c.args.jobs.now) c.args.number _ c.operation_for-op.result c.as_ref.ensures.value
-    c.operation_for-op.ensures))
-    c.pass.ensures.keeps
+pub returns-in_ok-pass-in-Ok-clause-takes : goal.returns-in_ok-pass-in-Ok-clause-takes
+returns-in_ok-pass-in-Ok-clause-takes g c =
+    takes_made _ _ _ _ c.args.number _ _ _ _ _ _ c.requires c.in-Ok.ensures c.in_ok-pass-in-Ok.ensures.keeps
+
+pub returns-in_ok-pass-in-Ok-clause-lack : goal.returns-in_ok-pass-in-Ok-clause-lack
+returns-in_ok-pass-in-Ok-clause-lack g c =
+    let passed = c.in_ok-pass-in-Ok.ensures in
+    lack_made _ _ _ c.args.number _ _ _ _ _ c.in-Ok.ensures passed.keeps.takes passed.same.2
+
+pub returns-in_ok-pass-in-Err-clause-takes : goal.returns-in_ok-pass-in-Err-clause-takes
+returns-in_ok-pass-in-Err-clause-takes g c =
+    let same = c.note.ensures.same in
+    rw (same.2, same.3) (takes_none _ _ _ c.args.number _ _ _ _ _ _ c.requires c.in_ok-pass-in-Err.ensures.keeps)
+
+pub returns-in_ok-pass-in-Err-clause-lack : goal.returns-in_ok-pass-in-Err-clause-lack
+returns-in_ok-pass-in-Err-clause-lack g c =
+    let passed = c.in_ok-pass-in-Err.ensures in
+    rw c.note.ensures.same.2
+    (lack_noted _ _ _ c.args.number _ _ _ _ _ c.requires c.in-Err.ensures passed.keeps.takes (rw passed.same.2 at c.note.ensures.noted))
