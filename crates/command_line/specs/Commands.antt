@@ -1,18 +1,20 @@
 -- The commands as they are given to clap, and what a plan has of the matches that clap finds in the words. What words match is clap's own
 -- definition (`subcommand_of`). All of this is this project's choice.
-use Rattle.std.specs.Prelude.{◌≡◌, ℕ, false, true, List, [], ◌∷◌, codes, map, option_map, unwrap_or, Option, Some, string_bytes}
+use Rattle.std.specs.Prelude.{◌≡◌, ℕ, false, true, List, [], ◌∷◌, codes, map, option_map, unwrap_or, Option, None, Some, string_bytes}
 use Rattle.std.specs.Str.Parse.{digits_value, without_leading_plus}
 use Rattle.clap.specs.Words.{App, Row, Rule, Text, all_of, app_of, first_of, new_app, new_rule, one_of, rule_of, subcommand_of}
 use Rattle.clap.specs.Words.{with_rule, with_subcommand}
 use Rattle.clap.specs.Lexer.{usize_max}
 use Rattle.clap.specs.declared.builder.Arg.{Arg}
-use Rattle.clap.specs.declared.builder.ArgAction.TheVariants.{Append}
+use Rattle.clap.specs.declared.builder.ArgAction.TheVariants.{Append, SetTrue}
 use Rattle.clap.specs.declared.builder.Command.{Command}
 use Rattle.clap.specs.declared.builder.ValueParser.{ValueParser}
 use Rattle.pcr_banks.specs.Hashing.{name_of}
 use Rattle.ima_list.specs.Templates.{template_name}
+use Rattle.command_line.specs.declared.plan.NameEnd.{NameEnd}
+use Rattle.command_line.specs.declared.plan.NameEnd.TheVariants.{LineFeed, Nul}
 use Rattle.command_line.specs.declared.plan.Plan.{Plan}
-use Rattle.command_line.specs.declared.plan.Plan.TheVariants.{Registers, Measure, Verify, Show, Help}
+use Rattle.command_line.specs.declared.plan.Plan.TheVariants.{Registers, Measure, MeasureListed, Verify, Show, Help}
 use Rattle.command_line.specs.declared.plan.Print.{Print}
 use Rattle.command_line.specs.declared.plan.Print.TheVariants as prints
 
@@ -39,6 +41,14 @@ optional id default parser = record (new_rule id) {
   parser = Some parser;
 }
 
+-- An option that has no value where it is left out.
+abbrev pub without_default : Text → Rule
+without_default id = record (new_rule id) { long = Some id; value_names = 1 }
+
+-- A flag that goes only with another option. Which one that is, a plan says (`HasValues`).
+abbrev pub flag_beside : Text → Rule
+flag_beside id = record (new_rule id) { long = Some id; action = Some SetTrue; is_free = false }
+
 -- Any number of words.
 abbrev pub repeated : Text → Rule
 repeated id = record (new_rule id) {
@@ -48,12 +58,14 @@ repeated id = record (new_rule id) {
 
 abbrev pub measure_app : Parsers → App
 measure_app parsers =
-    with_rule (with_rule (with_rule (with_rule (with_rule (with_rule (with_rule (new_app (codes "measure"))
+    with_rule (with_rule (with_rule (with_rule (with_rule (with_rule (with_rule (with_rule (with_rule (new_app (codes "measure"))
     (optional (codes "alg") (codes "sha256") parsers.algs))
     (optional (codes "template") (codes "ima-ng") parsers.templates))
     (optional (codes "workers") (codes "2") parsers.workers))
     (optional (codes "limit") (codes "100000") parsers.limit))
     (optional (codes "print") (codes "ascii") parsers.prints))
+    (without_default (codes "files-from")))
+    (flag_beside (codes "null")))
     (required (codes "LOG")))
     (repeated (codes "FILE"))
 
@@ -90,6 +102,11 @@ print_name prints.Ascii = codes "ascii"
 print_name prints.Binary = codes "binary"
 print_name prints.Registers = codes "registers"
 
+-- What clap gives `--null`, by what ends a name: `true` where the words have it, and else `false`.
+abbrev pub null_value : NameEnd → Text
+null_value LineFeed = codes "false"
+null_value Nul = codes "true"
+
 -- The first value of this name is a number in decimal.
 pub record HasNumber (id : Text) (rows : List Row) (number : ℕ) : Type 0 where
   pub text : Text
@@ -106,11 +123,18 @@ pub record HasMeasure (rows : List Row) (alg template print log : Text) (workers
   pub log_is : first_of (codes "LOG") rows ≡ Some log
   pub files_is : unwrap_or (all_of (codes "FILE") rows) [] ≡ files
 
--- The plan has its options and names of these matches.
+-- The plan has its options and names of these matches. Where no text names further files, the words have neither `--files-from` nor
+-- `--null`.
 abbrev pub HasValues : List Row → Plan → Type 0
 HasValues rows Registers = ⊥
 HasValues rows (Measure alg template workers limit print log files) =
     HasMeasure rows (name_of alg) (template_name template) (print_name print) (string_bytes log) workers limit (map string_bytes files.items)
+    × (all_of (codes "files-from") rows ≡ None)
+    × (first_of (codes "null") rows ≡ Some (null_value LineFeed))
+HasValues rows (MeasureListed alg template workers limit print log files names ends) =
+    HasMeasure rows (name_of alg) (template_name template) (print_name print) (string_bytes log) workers limit (map string_bytes files.items)
+    × (first_of (codes "files-from") rows ≡ Some (string_bytes names))
+    × (first_of (codes "null") rows ≡ Some (null_value ends))
 HasValues rows (Verify log list expected) =
     (first_of (codes "LOG") rows ≡ Some (string_bytes log))
     × (first_of (codes "LIST") rows ≡ Some (string_bytes list))

@@ -4,12 +4,14 @@ use Rattle.std.specs.List.{list_any, starts_with}
 use Rattle.std.specs.Global.{Global}
 use Rattle.command_line.specs.Commands.{IsMatched}
 use Rattle.command_line.specs.declared.plan.Plan.{Plan}
-use Rattle.command_line.specs.declared.plan.Plan.TheVariants.{Registers, Measure, Verify, Show, Help}
+use Rattle.command_line.specs.declared.plan.Plan.TheVariants.{Registers, Measure, MeasureListed, Verify, Show, Help}
 
--- A measurement has 1 to 8 workers, a limit of at least one record, and fewer than 2^32 files.
+-- A measurement has 1 to 8 workers, a limit of at least one record, and fewer than 2^32 files that the words name.
 abbrev pub IsWithinRanges : Plan → Type 0
 IsWithinRanges Registers = Unit {0}
 IsWithinRanges (Measure alg template workers limit print log files) =
+    (1 ≤ workers) × (workers ≤ 8) × (1 ≤ limit) × (vec_len files < 2 ^ 32)
+IsWithinRanges (MeasureListed alg template workers limit print log files names ends) =
     (1 ≤ workers) × (workers ≤ 8) × (1 ≤ limit) × (vec_len files < 2 ^ 32)
 IsWithinRanges (Verify log list expected) = Unit {0}
 IsWithinRanges (Show list) = Unit {0}
@@ -19,6 +21,7 @@ IsWithinRanges (Help text) = Unit {0}
 abbrev pub IsOfCommand : List ℕ → Plan → Type 0
 IsOfCommand command Registers = ⊥
 IsOfCommand command (Measure alg template workers limit print log files) = command ≡ codes "measure"
+IsOfCommand command (MeasureListed alg template workers limit print log files names ends) = command ≡ codes "measure"
 IsOfCommand command (Verify log list expected) = command ≡ codes "verify"
 IsOfCommand command (Show list) = command ≡ codes "show"
 IsOfCommand command (Help text) = ⊥

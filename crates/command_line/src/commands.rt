@@ -3,7 +3,7 @@
 ghost use Rattle.std.specs.Prelude.{codes, IfOk};
 ghost use Rattle.clap.specs.Words.{new_app};
 ghost use Rattle.clap.specs.declared.builder.ValueParser.{ValueParser};
-ghost use Rattle.command_line.specs.Commands.{IsArgument, IsCommand, Parsers, commands, measure_app, optional, program_app, repeated, required, show_app, verify_app};
+ghost use Rattle.command_line.specs.Commands.{IsArgument, IsCommand, Parsers, commands, flag_beside, measure_app, optional, program_app, repeated, required, show_app, verify_app, without_default};
 
 use clap::{Arg, ArgAction, Command, value_parser};
 use ima_list::Template;
@@ -92,6 +92,8 @@ differ from their reset values\n";
         .arg(workers_option(alloc))?
         .arg(limit_option(alloc))?
         .arg(choice(alloc, "print", "P", "ascii", &PRINTS, prints))?
+        .arg(files_from_option(alloc))?
+        .arg(null_flag(alloc)?)?
         .arg(input(alloc, "LOG", log))?
         .arg(files_argument(alloc))
 }
@@ -174,6 +176,25 @@ fn limit_option<'a>(alloc: Global) -> Arg<'a>
         .value_parser(value_parser!(u32).range(1..))
         .default_value("100000")
         .help("The greatest number of records, the opening's included, 1 to 4294967295\n")
+}
+
+fn files_from_option<'a>(alloc: Global) -> Arg<'a>
+    ensures { IsArgument (without_default (codes "files-from")) result }
+{
+    Arg::new(alloc, "files-from")
+        .long("files-from")
+        .value_name("NAME")
+        .help("File with further names of files to measure, one a line, at most 64 MiB")
+}
+
+fn null_flag<'a>(alloc: Global) -> Result<Arg<'a>, AllocError>
+    ensures { IfOk result (IsArgument (flag_beside (codes "null"))) }
+{
+    Arg::new(alloc, "null")
+        .long("null")
+        .action(ArgAction::SetTrue)
+        .help("The names in that file are ended by NUL, as `find -print0` writes them")
+        .requires_arg("files-from")
 }
 
 fn files_argument<'a>(alloc: Global) -> Arg<'a>

@@ -7,5 +7,5 @@ mod plan;
 mod words;
 
 pub use fault::WordsFault;
-pub use plan::{Plan, Print};
+pub use plan::{NameEnd, Plan, Print};
 pub use words::{read_words, words_after_name};

@@ -1,16 +1,18 @@
 //! The words of the command line.
 
-ghost use Rattle.std.specs.Prelude.{◌≡◌, ◌≤◌, ◌⊎◌, [], Ok, Some, codes, drop, map, string_bytes, unwrap_or, IfOk};
+ghost use Rattle.std.specs.Prelude.{◌≡◌, ◌<◌, ◌≤◌, ◌^◌, ◌⊎◌, [], Ok, Some, codes, drop, map, string_bytes, unwrap_or, vec_len, IfOk};
 ghost use Rattle.clap.specs.Words.{all_of, first_of, found_of, rows_of, subcommand_rows_of};
-ghost use Rattle.command_line.specs.Commands.{HasNumber, HasValues, HasValuesIn, IsMatched, print_name};
+ghost use Rattle.command_line.specs.Commands.{HasMeasure, HasNumber, HasValues, HasValuesIn, IsMatched, null_value, print_name};
 ghost use Rattle.std.specs.Vec.Iter.{into_iter_items};
 ghost use Rattle.command_line.specs.Plans.{HasHelpWord, IsAskedBy, IsHelp, IsOfCommand, IsWithinRanges, asks_help};
 ghost use Rattle.std.specs.List.{list_any};
+ghost use Rattle.pcr_banks.specs.Hashing.{name_of};
+ghost use Rattle.ima_list.specs.Templates.{template_name};
 ghost use Rattle.command_line.specs.declared.plan.Plan.TheVariants.{Registers};
 
 use crate::commands::{MOST_WORKERS, all_commands};
 use crate::fault::WordsFault;
-use crate::plan::{Plan, Print};
+use crate::plan::{NameEnd, Plan, Print};
 use clap::error::ErrorKind;
 use clap::{ArgMatches, Error};
 use ima_list::Template;
@@ -71,9 +73,56 @@ fn plan_of(alloc: Global, command: &str, matches: &ArgMatches) -> Result<Plan, W
     }
 }
 
-// What `measure` is asked for.
+// What a measurement is asked for, whether or not a text names further files.
+#[derive(Drop)]
+struct Measurement {
+    alg: Alg,
+    template: Template,
+    workers: usize,
+    limit: u32,
+    print: Print,
+    log: String,
+    files: Vec<String>,
+}
+
+// What `measure` is asked for. `--null` without `--files-from` is refused.
 fn measure_of(alloc: Global, matches: &ArgMatches) -> Result<Plan, WordsFault>
     ensures { IfOk result (λ plan. IsOfCommand (codes "measure") plan × IsWithinRanges plan × HasValues (rows_of (found_of matches.now)) plan) }
+{
+    let asked = measurement_of(alloc, matches)?;
+    let ends = ends_of(matches)?;
+    if matches.contains_id("files-from") {
+        let names = name_of(alloc, matches, "files-from")?;
+        return Ok(Plan::MeasureListed {
+            alg: asked.alg,
+            template: asked.template,
+            workers: asked.workers,
+            limit: asked.limit,
+            print: asked.print,
+            log: asked.log,
+            files: asked.files,
+            names,
+            ends,
+        });
+    }
+    match ends {
+        NameEnd::LineFeed => Ok(Plan::Measure {
+            alg: asked.alg,
+            template: asked.template,
+            workers: asked.workers,
+            limit: asked.limit,
+            print: asked.print,
+            log: asked.log,
+            files: asked.files,
+        }),
+        NameEnd::Nul => Err(WordsFault::Usage),
+    }
+}
+
+// The options and names of `measure`, but for those that go with a text of further names.
+fn measurement_of(alloc: Global, matches: &ArgMatches) -> Result<Measurement, WordsFault>
+    ensures values { IfOk result (λ asked. HasMeasure (rows_of (found_of matches.now)) (name_of asked.alg) (template_name asked.template) (print_name asked.print) (string_bytes asked.log) asked.workers asked.limit (map string_bytes asked.files.items)) }
+    ensures within { IfOk result (λ asked. (1 ≤ asked.workers) × (asked.workers ≤ 8) × (1 ≤ asked.limit) × (vec_len asked.files < 2 ^ 32)) }
 {
     let alg = Alg::from_name(text_of(matches, "alg")?.as_bytes()).ok_or(WordsFault::Usage)?;
     let template = Template::from_name(text_of(matches, "template")?.as_bytes()).ok_or(
@@ -87,7 +136,7 @@ fn measure_of(alloc: Global, matches: &ArgMatches) -> Result<Plan, WordsFault>
     if files.len() > u32::MAX as usize {
         return Err(WordsFault::Usage);
     }
-    Ok(Plan::Measure {
+    Ok(Measurement {
         alg,
         template,
         workers,
@@ -126,6 +175,17 @@ fn print_named(name: &str) -> Result<Print, WordsFault>
         "ascii" => Ok(Print::Ascii),
         "binary" => Ok(Print::Binary),
         "registers" => Ok(Print::Registers),
+        _ => Err(WordsFault::Usage),
+    }
+}
+
+// What ends a name in the text of further names. `clap` gives `--null` the value `true` where the words have it, and else `false`.
+fn ends_of(matches: &ArgMatches) -> Result<NameEnd, WordsFault>
+    ensures { IfOk result (λ ends. first_of (codes "null") (rows_of (found_of matches.now)) ≡ Some (null_value ends)) }
+{
+    match text_of(matches, "null")? {
+        "true" => Ok(NameEnd::Nul),
+        "false" => Ok(NameEnd::LineFeed),
         _ => Err(WordsFault::Usage),
     }
 }

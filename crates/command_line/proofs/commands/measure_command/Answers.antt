@@ -15,8 +15,10 @@ returns c =
     let workers = one_argument_more _ _ _ _ _ template c.workers_option.ensures.1 c.in_ok-arg-3.ensures in
     let limit = one_argument_more _ _ _ _ _ workers c.limit_option.ensures.1 c.in_ok-arg-4.ensures in
     let print = one_argument_more _ _ _ _ _ limit c.choice-3.ensures.1 c.in_ok-arg-5.ensures in
-    let log = one_argument_more _ _ _ _ _ print c.input.ensures c.in_ok-arg-6.ensures in
-    IfOk-weaker c.arg-7.result _ _ (λ command adds. (
+    let files_from = one_argument_more _ _ _ _ _ print c.files_from_option.ensures c.in_ok-arg-6.ensures in
+    let null = one_argument_more _ _ _ _ _ files_from c.in_ok-null_flag.ensures c.in_ok-arg-7.ensures in
+    let log = one_argument_more _ _ _ _ _ null c.input.ensures c.in_ok-arg-8.ensures in
+    IfOk-weaker c.arg-9.result _ _ (λ command adds. (
       record {
         algs = c.choice.ensures.0;
         templates = c.choice-2.ensures.0;
@@ -25,4 +27,4 @@ returns c =
         prints = c.choice-3.ensures.0;
       },
       one_argument_more _ command _ _ _ log c.files_argument.ensures adds,
-    )) c.arg-7.ensures
+    )) c.arg-9.ensures
