@@ -1,5 +1,5 @@
 -- The names in a text, each ended by one byte. All of this is this project's choice.
-use Rattle.std.specs.Prelude.{◌≡◌, ℕ, ◌==◌, not, List, filter, length}
+use Rattle.std.specs.Prelude.{ℕ, ◌==◌, not, List, filter, length}
 use Rattle.std.specs.List.{slice_split}
 use Rattle.ima_agent.specs.declared.names.NameEnd.{NameEnd}
 use Rattle.ima_agent.specs.declared.names.NameEnd.TheVariants.{LineFeed, Nul}

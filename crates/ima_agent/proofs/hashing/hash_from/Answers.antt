@@ -1,4 +1,4 @@
-use Rattle.std.proofs.Common.{◌≡◌, ◌<◌, ◌≤◌, length, refl, ◌∙◌, arith}
+use Rattle.std.proofs.Common.{◌<◌, ◌≤◌, length, refl, ◌∙◌, arith}
 use Rattle.ima_agent.proofs.HashingLaws.{hashed_all, hashed_more, hashed_nothing, had_more, kept_front, lost_front, lost_more, read_back}
 use Rattle.ima_agent.proofs.hashing.hash_from.Goals as goal
 

@@ -1,7 +1,7 @@
-use Rattle.std.proofs.Common.{◌≡◌, ◌++◌, ap, ◌∙◌, sym, map, string_bytes}
+use Rattle.std.proofs.Common.{◌≡◌}
 use Rattle.std.proofs.lemmas.Iterator.Splits.{YieldsList-from_str_split}
 use Rattle.std.proofs.lemmas.Iterator.Consumers.{YieldsList-end}
-use Rattle.std.specs.Str.Iter.{split_has_more, split_pattern, split_text}
+use Rattle.std.specs.Str.Iter.{split_text}
 use Rattle.ima_agent.specs.Names.{byte_of}
 use Rattle.ima_agent.proofs.names.names_in.Goals as goal
 
