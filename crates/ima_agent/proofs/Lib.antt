@@ -1,4 +1,5 @@
 pub mod LoadingLemmas
+pub mod HashingLaws
 pub mod MeasuringLaws
 pub mod FaultLaws
 pub mod VerifyingLaws

@@ -72,6 +72,7 @@ fault_line (runs.Book fault) = book_line fault
 fault_line (runs.Outcome job fault) = job_line job fault
 fault_line (runs.TooLong name) = named_line (codes "refused: too long ") (string_bytes name)
 fault_line (runs.Read name) = named_line (codes "failed: read ") (string_bytes name)
+fault_line (runs.NotUtf8 name) = named_line (codes "refused: not UTF-8 ") (string_bytes name)
 fault_line (runs.Gather fault) = gather_line fault
 fault_line runs.Memory = memory_line
 
@@ -91,6 +92,7 @@ fault_status (runs.Book books.Memory) = 3
 fault_status (runs.Book fault) = 2
 fault_status (runs.Outcome job books.Memory) = 3
 fault_status (runs.Outcome job fault) = 2
+fault_status (runs.NotUtf8 name) = 2
 fault_status (runs.TooLong name) = 2
 fault_status (runs.Read name) = 3
 fault_status (runs.Gather fault) = 3

@@ -1,5 +1,7 @@
 pub mod Hexadecimal
 pub mod Loading
+pub mod Hashing
+pub mod Names
 pub mod Faults
 pub mod FaultTexts
 pub mod Showing

@@ -66,6 +66,12 @@ pub record IsNotRead (name : List ℕ) (fault : RunFault) : Type 0 where
   pub names : string_bytes input ≡ name
   pub says : fault ≡ runs.Read input
 
+-- The fault says that the text of names of the input of this name is not UTF-8.
+pub record IsNotUtf8 (name : List ℕ) (fault : RunFault) : Type 0 where
+  pub input : String Global
+  pub names : string_bytes input ≡ name
+  pub says : fault ≡ runs.NotUtf8 input
+
 -- Why an input was not loaded from its source: it has more bytes than an input may have, and more than these were taken; or the
 -- source failed, once; or memory ran out. The fault names the input.
 abbrev pub IsLoadFaultOf : List ℕ → SourceState → SourceState → RunFault → Type 0

@@ -51,6 +51,9 @@ pub enum RunFault {
     /// The input of this name could not be opened, or failed while it was read.
     #[error("cannot read {0}")]
     Read(String),
+    /// The text of names of this input is not UTF-8.
+    #[error("{0} is not UTF-8")]
+    NotUtf8(String),
     /// What the workers got does not account for the book's records.
     #[error("the outcomes are not those of the book: {0}")]
     Gather(GatherFault),

@@ -1,7 +1,7 @@
 //! The program's inputs: those that are loaded whole, and what is said of one that cannot be read.
 
 ghost use Rattle.std.specs.Prelude.{◌≡◌, ◌≤◌, ◌⊎◌, option_map, vec_len, IfOk, IfErr, IfSome};
-ghost use Rattle.ima_agent.specs.Loading.{input_limit, Holds, IsInputFault, IsLoadFaultOf, IsNotRead, IsTooLong};
+ghost use Rattle.ima_agent.specs.Loading.{input_limit, Holds, IsInputFault, IsLoadFaultOf, IsNotRead, IsNotUtf8, IsTooLong};
 ghost use Rattle.ima_agent.specs.declared.fault.RunFault.{RunFault};
 
 use crate::fault::RunFault;
@@ -65,6 +65,16 @@ pub(crate) fn too_long(alloc: Global, input: &str) -> RunFault
 {
     match String::from_str(alloc, input) {
         Ok(input) => RunFault::TooLong(input),
+        Err(_) => RunFault::Memory,
+    }
+}
+
+/// The fault that the text of names of the input of this name is not UTF-8.
+pub(crate) fn not_utf8(alloc: Global, input: &str) -> RunFault
+    ensures { IsNotUtf8 input.now result ⊎ (result ≡ RunFault.Memory) }
+{
+    match String::from_str(alloc, input) {
+        Ok(input) => RunFault::NotUtf8(input),
         Err(_) => RunFault::Memory,
     }
 }

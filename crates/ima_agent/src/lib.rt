@@ -4,12 +4,15 @@
 
 mod fault;
 mod files;
+mod hashing;
 mod hexadecimal;
 mod inputs;
 mod loading;
 mod measuring;
+mod names;
 mod output;
 mod program;
+mod progress;
 mod showing;
 mod system;
 mod texts;
@@ -22,9 +25,11 @@ pub use boot_verdict::{
 };
 pub use command_line::{Plan, Print, words_after_name};
 pub use fault::RunFault;
-pub use files::Files;
+pub use files::{Files, SharedFiles};
+pub use hashing::hash_from;
 pub use loading::{LoadFault, load};
 pub use program::{exit_code, run};
+pub use progress::{NoProgress, Progress, SystemProgress};
 pub use system::{Input, ReadSource, SystemFiles, WriteSink};
 pub use texts::{status_of, write_fault};
 pub use words::read_words;

@@ -3,10 +3,11 @@
 ghost use Rattle.std.specs.Prelude.{◌≡◌, ◌<◌, ◌≤◌, length, vec_len, is_some, IfOk, IfSome, IsErrOf, OnOk};
 ghost use Rattle.std.specs.Io.KnownBytes.{IsAtEnd};
 ghost use Rattle.byte_streams.specs.Streams.{LosesFront};
+ghost use Rattle.ima_agent.specs.declared.loading.LoadFault.TheVariants.{Memory, Source};
 ghost use Rattle.ima_agent.specs.Loading.{failures_after_load, fault_of_reading, LosesMoreThan};
 
-use byte_streams::{PieceReader, ReadFault, Source};
-use std::alloc::Global;
+use byte_streams::{Failed, PieceReader, ReadFault, Source};
+use std::alloc::{AllocError, Global};
 use thiserror::Error;
 
 /// Why a source was not loaded.
@@ -31,6 +32,22 @@ impl From<ReadFault> for LoadFault {
             ReadFault::Source => LoadFault::Source,
             ReadFault::Memory => LoadFault::Memory,
         }
+    }
+}
+
+impl From<Failed> for LoadFault {
+    ghost from_gives = { λ _ fault. fault ≡ Source };
+
+    fn from(_fault: Failed) -> Self {
+        LoadFault::Source
+    }
+}
+
+impl From<AllocError> for LoadFault {
+    ghost from_gives = { λ _ fault. fault ≡ Memory };
+
+    fn from(_refused: AllocError) -> Self {
+        LoadFault::Memory
     }
 }
 

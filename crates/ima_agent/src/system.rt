@@ -6,8 +6,12 @@ ghost use Rattle.byte_streams.specs.Streams.{failures_after};
 ghost use Rattle.ima_agent.specs.Loading.{GivesAll};
 ghost use Rattle.ima_agent.specs.System.{reader_of, writer_of, reads_failed, writes_failed, read_source_state, write_sink_state, runtime_of, is_file, remaining_bytes};
 
-use crate::files::Files;
+use crate::files::{Files, SharedFiles};
+use crate::hashing::hash_from;
+use crate::loading::LoadFault;
 use byte_streams::{Failed, Sink, Source};
+use pcr_banks::{Alg, Digest};
+use std::alloc::Global;
 use std::fs::File;
 use std::io;
 use std::io::{Read, Write};
@@ -134,8 +138,10 @@ impl<'a, R: FileSystem + io::Input> SystemFiles<'a, R> {
     }
 }
 
-impl<R: FileSystem + io::Input> Files for SystemFiles<'_, R> {
+impl<R: FileSystem + io::Input + Sync> Files for SystemFiles<'_, R> {
     type Src = ReadSource<Input<R::File, R::Reader>>;
+
+    type Shared = Self;
 
     // What a file holds is not told.
     ghost told = { λ _ _. None };
@@ -155,5 +161,25 @@ impl<R: FileSystem + io::Input> Files for SystemFiles<'_, R> {
             },
         };
         Ok(ReadSource::new(input))
+    }
+
+    /// These files.
+    fn shared(&self) -> &Self
+        ensures { result.now ≡ self.now }
+    {
+        self
+    }
+}
+
+impl<R: FileSystem> SharedFiles for SystemFiles<'_, R> {
+    // What a file holds is not told.
+    ghost held = { λ _ _. None };
+
+    /// Opens the file of this name, and hashes what it gives.
+    fn hash(&self, alloc: Global, name: &str, alg: Alg, limit: u64) -> Result<Digest, LoadFault> {
+        match File::open(self.runtime, name) {
+            Ok(file) => hash_from(alloc, &mut ReadSource::new(file), alg, limit),
+            Err(_) => Err(LoadFault::Source),
+        }
     }
 }

@@ -1,0 +1,14 @@
+-- The hash of all bytes of a file or a source. All of this is this project's choice.
+use Rattle.std.specs.Prelude.{◌≡◌, ℕ, ◌≤◌, List, length, Option, IfSome}
+use Rattle.pcr_banks.specs.declared.alg.Alg.{Alg}
+use Rattle.pcr_banks.specs.declared.digest.Digest.{Digest}
+use Rattle.pcr_banks.specs.Hashing.{hash_of}
+use Rattle.pcr_banks.specs.Digests.{digest_of}
+
+-- The digest is the hash, by this algorithm, of all bytes of a file or a source, which are at most this limit. Where they are told, it is
+-- that of these.
+pub record IsHashOfAll (told : Option (List ℕ)) (alg : Alg) (limit : ℕ) (digest : Digest) : Type 0 where
+  pub content : List ℕ
+  pub held : IfSome told (λ all. content ≡ all)
+  pub within : length content ≤ limit
+  pub digest_is : digest ≡ digest_of alg (hash_of alg content)

@@ -1,0 +1,81 @@
+//! The names in a text.
+
+ghost use Rattle.std.specs.Prelude.{◌≡◌, ◌<◌, ◌++◌, map, string_bytes, IsErrOf, OnOk};
+ghost use Rattle.std.specs.Str.{IsUtf8};
+ghost use Rattle.ima_agent.specs.declared.names.NamesFault.TheVariants.{Memory};
+ghost use Rattle.ima_agent.specs.Names.{byte_of, names_of};
+
+use std::alloc::{AllocError, AllocFailed, Global};
+use thiserror::Error;
+
+/// The byte that ends each name of a text.
+#[derive(Clone, Copy, Debug, PartialEq, Eq)]
+pub(crate) enum NameEnd {
+    /// A line feed, 0x0A.
+    LineFeed,
+    /// A nul, 0x00.
+    Nul,
+}
+
+/// Why the names were not read.
+#[derive(Clone, Copy, Debug, PartialEq, Eq, Error)]
+pub(crate) enum NamesFault {
+    /// The text is not UTF-8.
+    #[error("the text is not UTF-8")]
+    NotUtf8,
+    /// Memory ran out.
+    #[error("out of memory")]
+    Memory,
+}
+
+impl From<AllocError> for NamesFault {
+    ghost from_gives = { λ _ fault. fault ≡ Memory };
+
+    fn from(_refused: AllocError) -> Self {
+        NamesFault::Memory
+    }
+}
+
+impl<T: Drop> From<AllocFailed<T>> for NamesFault {
+    ghost from_gives = { λ _ fault. fault ≡ Memory };
+
+    fn from(_refused: AllocFailed<T>) -> Self {
+        NamesFault::Memory
+    }
+}
+
+// The character that ends each name.
+fn end_char(ends: NameEnd) -> char
+    ensures byte { result ≡ byte_of ends }
+    ensures ascii { result < 128 }
+{
+    match ends {
+        NameEnd::LineFeed => '\n',
+        NameEnd::Nul => '\0',
+    }
+}
+
+/// Appends each name of the text to `names`, in their order. The text is cut at each byte that ends a name, which the last
+/// name may lack, and at no other. An empty name is none, and is left out.
+///
+/// `NotUtf8` says that the text is not UTF-8; then nothing was appended. After `Memory` some of the names were.
+pub(crate) fn names_in(
+    alloc: Global,
+    text: &[u8],
+    ends: NameEnd,
+    names: &mut Vec<String>,
+) -> Result<(), NamesFault>
+    ensures names { OnOk result (map string_bytes names.new.items ≡ map string_bytes names.old.items ++ names_of ends text.now) }
+    ensures utf8 { OnOk result (IsUtf8 text.now) }
+    ensures not_utf8 { IsErrOf result NamesFault.NotUtf8 → IsUtf8 text.now → ⊥ }
+{
+    let Ok(text) = str::from_utf8(text) else {
+        return Err(NamesFault::NotUtf8);
+    };
+    for name in text.split(end_char(ends)) {
+        if !name.is_empty() {
+            names.push(String::from_str(alloc, name)?)?;
+        }
+    }
+    Ok(())
+}
