@@ -1,6 +1,7 @@
 -- Files that are measured, and the first that was refused.
-use Rattle.std.proofs.Common.{◌≡◌, ℕ, ◌+◌, ◌<◌, ◌≤◌, ◌^◌, List, length, map, get_or, Some, refl, sym, ap, ◌∙◌, inl, inr, arith}
-use Rattle.std.specs.Prelude.{slice_get, String, string_bytes}
+use Rattle.std.proofs.Common.{rules, ◌≡◌, ℕ, ◌+◌, ◌<◌, ◌≤◌, List, [], length, map, get_or, Some, refl, sym, ap, ◌∙◌, subst, inl, inr, arith}
+use Rattle.std.specs.Prelude.{slice_get, String, string_bytes, IfSome}
+use Rattle.std.proofs.Math.Path.{fun_ext}
 use Rattle.std.specs.Global.{Global}
 use Rattle.std.proofs.lemmas.List.{length-map}
 use Rattle.std.proofs.lemmas.Bool.{cases_lt}
@@ -9,12 +10,22 @@ use Rattle.measure_book.specs.declared.op.Outcome.{Outcome}
 use Rattle.measure_book.specs.declared.op.Outcome.TheVariants as outcomes
 use Rattle.measure_book.specs.declared.op.Receipt.{Receipt}
 use Rattle.measure_book.specs.declared.fault.BookFault.{BookFault}
-use Rattle.measure_book.specs.Operations.{done, refused, book_outcome_of, book_receipt_of}
-use Rattle.hash_workers.specs.declared.job.Job.{Job}
-use Rattle.hash_workers.proofs.ListLaws.{at_map, map_at}
+use Rattle.measure_book.specs.Operations.{done, measure, refused, book_outcome_of, book_receipt_of}
+use Rattle.pcr_banks.specs.declared.alg.Alg.{Alg}
+use Rattle.pcr_banks.specs.declared.digest.Digest.{Digest}
+use Rattle.pcr_banks.specs.Digests.{digest_of}
+use Rattle.pcr_banks.specs.Hashing.{hash_of}
+use Rattle.ima_list.specs.FieldKinds.{FileFields, measured}
+use Rattle.hash_workers.specs.declared.fault.JobFault.{JobFault}
+use Rattle.hash_workers.specs.declared.fault.JobFault.TheVariants as lacks
+use Rattle.hash_workers.proofs.ListLaws.{at_map, map_at, within_at}
 use Rattle.ima_agent.specs.declared.fault.RunFault.{RunFault}
-use Rattle.ima_agent.specs.Loading.{Inputs, IsInputFault}
-use Rattle.ima_agent.specs.Measuring.{AreAllDone, AreFiles, IsFileFault, path_of}
+use Rattle.ima_agent.specs.declared.loading.LoadFault.{LoadFault}
+use Rattle.ima_agent.specs.declared.loading.LoadFault.TheVariants as loads
+use Rattle.ima_agent.specs.Hashing.{IsHashOfAll}
+use Rattle.ima_agent.specs.Loading.{IsTooLong, input_limit}
+use Rattle.ima_agent.specs.Measuring.{AreAllDone, Contents, HasFile, IsFileFault, IsFileFaultOf, IsFileLack, IsFileMeasure}
+use Rattle.ima_agent.specs.NamedFiles.{job_fault_of}
 
 -- No outcome before this one is a refusal.
 abbrev pub AreDoneBefore : List Outcome → ℕ → Type 0
@@ -44,21 +55,97 @@ all_done given i all before = λ job fault has.
     let within = slice_get_within given job from.0 from.1 in
     before job fault (omega arith) has
 
-pub file_not_had : (inputs : Inputs) (names : List (String Global)) (i : ℕ) (name : String Global) (fault : RunFault) → i < length names
-    → name ≡ get_or names i name → IsInputFault inputs (Some (string_bytes name)) fault
-    → IsFileFault inputs (map string_bytes names) fault
-file_not_had inputs names i name fault within is cause = record {
-  index = i;
+-- ---- files
+
+-- What is measured of a file, where its digest is the hash of what it holds.
+measured_of_hash : (alg : Alg) (content path : List ℕ)
+    → measured (digest_of alg (hash_of alg content)) path [] ≡ record { alg = alg; digest = hash_of alg content; path = path; sig = [] }
+measured_of_hash alg content path = search rules
+
+pub file_measure : (held : Contents) (names : List (String Global)) (alg : Alg) (number : ℕ) (name : String Global) (digest : Digest)
+    (path sig : List ℕ) → number < length names → name ≡ get_or names number name
+    → IsHashOfAll (held (string_bytes name)) alg input_limit digest → path ≡ string_bytes name → sig ≡ []
+    → IsFileMeasure held (map string_bytes names) alg number (measure (measured digest path sig))
+file_measure held names alg number name digest path sig within is hashed path_is sig_is =
+    let At : Digest → Type 0 = λ d. measured d (string_bytes name) [] ≡ record {
+      alg = alg;
+      digest = hash_of alg hashed.content;
+      path = string_bytes name;
+      sig = [];
+    } in
+    let fields = subst At (sym hashed.digest_is) (measured_of_hash alg hashed.content (string_bytes name)) in
+    record {
+      file = record {
+        name = string_bytes name;
+        content = hashed.content;
+        has = at_map string_bytes names number name (slice_get_read names (length names) number name refl within is);
+        held_is = hashed.held;
+        within = hashed.within;
+      };
+      op_is = ap (λ (p : List ℕ). measure (measured digest p sig)) path_is
+          ∙ ap (λ (s : List ℕ). measure (measured digest (string_bytes name) s)) sig_is ∙ ap (λ (f : FileFields). measure f) fields;
+    }
+
+pub file_had : (held : Contents) (names : List (String Global)) (alg : Alg) (number : ℕ) (name : String Global) (digest : Digest)
+    → number < length names → name ≡ get_or names number name → IsHashOfAll (held (string_bytes name)) alg input_limit digest
+    → HasFile held (map string_bytes names) number
+file_had held names alg number name digest within is hashed = record {
   name = string_bytes name;
-  has = at_map string_bytes names i name (slice_get_read names (length names) i name refl within is);
-  cause = cause;
+  content = hashed.content;
+  has = at_map string_bytes names number name (slice_get_read names (length names) number name refl within is);
+  held_is = hashed.held;
+  within = hashed.within;
 }
 
-pub as_many_files : (inputs : Inputs) (names : List (String Global)) (files : List Job) → AreFiles inputs (map string_bytes names) files
-    → length names < 2 ^ 32 → length files < 2 ^ 32
-as_many_files inputs names files are small =
-    let one : length files ≡ length (map path_of files) = sym (length-map files path_of) in
-    let two : length (map Some (map string_bytes names)) ≡ length names =
-    length-map (map string_bytes names) Some ∙ length-map names string_bytes in
-    let same : length files ≡ length names = one ∙ ap length are.names_are ∙ two in
-    rw same small
+-- The same of a file that was asked for by these bytes of its name.
+pub asked_for : (held : Contents) (alg : Alg) (digest : Digest) (name looked : List ℕ) → looked ≡ name
+    → IsHashOfAll (held looked) alg input_limit digest → IsHashOfAll (held name) alg input_limit digest
+asked_for held alg digest name looked is hashed =
+    let At : List ℕ → Type 0 = λ n. IsHashOfAll (held n) alg input_limit digest in subst At is hashed
+
+-- One file more was had.
+pub had_more : (held : Contents) (names : List (List ℕ)) (number : ℕ)
+    → ((earlier : ℕ) → earlier < number → HasFile held names earlier) → HasFile held names number → (earlier : ℕ) → earlier < number + 1
+    → HasFile held names earlier
+had_more held names number before here earlier below = elim (cases_lt earlier number) [
+  | inl less ↦ before earlier less
+  | inr more ↦
+      let same : number ≡ earlier = omega arith in
+      let At : ℕ → Type 0 = λ n. HasFile held names n in subst At same here
+]
+
+-- Why a file's operation cannot be had.
+pub file_lacks : (held : Contents) (names : List (String Global)) (number : ℕ) (name : String Global) (fault : LoadFault) → number < length names
+    → name ≡ get_or names number name
+    → (fault ≡ loads.TooLong → IfSome (held (string_bytes name)) (λ all. input_limit < length all))
+    → IsFileLack held (map string_bytes names) number (job_fault_of fault)
+file_lacks held names number name loads.TooLong within is too_long = (
+  string_bytes name,
+  at_map string_bytes names number name (slice_get_read names (length names) number name refl within is),
+  too_long refl,
+)
+file_lacks held names number name loads.Source within is too_long = tt
+file_lacks held names number name loads.Memory within is too_long = tt
+
+-- The fault of a file whose operation cannot be had, where each before it was had.
+pub file_fault : (held : Contents) (names : List (List ℕ)) (number : ℕ) (cause : JobFault) (fault : RunFault) → number < length names
+    → IsFileLack held names number cause → IsFileFaultOf names number cause fault
+    → ((earlier : ℕ) → earlier < number → HasFile held names earlier) → IsFileFault held names fault
+file_fault held names number lacks.TooLong fault within lack (inl says) before =
+    let same : says.0 ≡ lack.0 = same_Some says.0 lack.0 (sym says.1 ∙ lack.1) in
+    let At : List ℕ → Type 0 = λ name. IsTooLong name fault in
+    record { index = number; name = lack.0; has = lack.1; cause = inl (subst At same says.2, lack.2); before = before }
+file_fault held names number lacks.TooLong fault within lack (inr memory) before =
+    record { index = number; name = lack.0; has = lack.1; cause = inr (inr memory); before = before }
+file_fault held names number lacks.Source fault within lack (inl says) before =
+    record { index = number; name = says.0; has = says.1; cause = inr (inl says.2); before = before }
+file_fault held names number lacks.Source fault within lack (inr memory) before =
+    let at = within_at names number within in
+    record { index = number; name = at.0; has = at.1; cause = inr (inr memory); before = before }
+file_fault held names number lacks.Memory fault within lack says before =
+    let at = within_at names number within in
+    record { index = number; name = at.0; has = at.1; cause = inr (inr says); before = before }
+
+-- What is known of files by one telling is known by another that tells the same.
+pub same_contents : (held told : Contents) → ((name : List ℕ) → held name ≡ told name) → held ≡ told
+same_contents held told same = fun_ext same

@@ -9,3 +9,4 @@ pub mod Verifying
 pub mod Measuring
 pub mod Program
 pub mod System
+pub mod NamedFiles

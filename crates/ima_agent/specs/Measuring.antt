@@ -1,9 +1,13 @@
 -- Files, measured into the registers of a log. All of this is this project's choice.
-use Rattle.std.specs.Prelude.{◌≡◌, ℕ, ◌<◌, ◌⊎◌, List, [], All, map, flat_map, slice_get, Option, Some, None}
+use Rattle.std.specs.Prelude.{◌≡◌, ℕ, ◌<◌, ◌≤◌, ◌^◌, ◌⊎◌, List, [], ◌++◌, length, flat_map, slice_get, Option, Some, IfSome}
+use Rattle.std.specs.Str.{IsUtf8}
 use Rattle.pcr_banks.specs.declared.alg.Alg.{Alg}
 use Rattle.pcr_banks.specs.declared.banks.Banks.{Banks}
+use Rattle.pcr_banks.specs.Hashing.{hash_of}
 use Rattle.pcr_banks.specs.Registers.{IsReset}
 use Rattle.boot_log.specs.declared.fault.LogFault.{LogFault}
+use Rattle.boot_log.specs.declared.log.BootLog.{BootLog}
+use Rattle.boot_log.specs.BootLog.{algs_of, events_of}
 use Rattle.boot_log.specs.declared.header.Row.{Row}
 use Rattle.boot_log.specs.Spelling.{LogEvent, IsLog, algs_in}
 use Rattle.boot_log.specs.Reading.{log_fault}
@@ -13,16 +17,15 @@ use Rattle.ima_list.specs.Lines.{line_of}
 use Rattle.measure_book.specs.declared.origin.Origin.{Origin}
 use Rattle.measure_book.specs.declared.fault.BookFault.{BookFault}
 use Rattle.measure_book.specs.declared.gathers.GatherFault.{GatherFault}
-use Rattle.measure_book.specs.Operations.{BookOp, BookOutcome, refused}
+use Rattle.measure_book.specs.Operations.{BookOp, BookOutcome, measure, refused}
 use Rattle.measure_book.specs.Books.{BookState, exported}
-use Rattle.hash_workers.specs.declared.job.Job.{Job}
-use Rattle.hash_workers.specs.declared.job.Job.TheVariants as jobs
+use Rattle.hash_workers.specs.declared.fault.JobFault.{JobFault}
+use Rattle.hash_workers.specs.declared.fault.JobFault.TheVariants as lacks
 use Rattle.hash_workers.specs.declared.fault.AgentFault.{AgentFault}
 use Rattle.hash_workers.specs.declared.fault.AgentFault.TheVariants as agents
-use Rattle.hash_workers.specs.Jobs.{operations_of}
-use Rattle.hash_workers.specs.Batches.{IsBatch}
+use Rattle.hash_workers.specs.Batches.{IsBatchOf}
 use Rattle.hash_workers.specs.Faults.{IsFaultOf}
-use Rattle.hash_workers.specs.Settling.{IsCauseAmong}
+use Rattle.hash_workers.specs.Settling.{IsCauseOf}
 use Rattle.boot_verdict.specs.RegisterTexts.{registers_text}
 use Rattle.ima_agent.specs.declared.fault.RunFault.{RunFault}
 use Rattle.ima_agent.specs.declared.measuring.Measuring.{Measuring}
@@ -30,36 +33,42 @@ use Rattle.ima_agent.specs.declared.fault.RunFault.TheVariants as runs
 use Rattle.command_line.specs.declared.plan.Print.{Print}
 use Rattle.command_line.specs.declared.plan.Print.TheVariants.{Ascii, Binary, Registers}
 use Rattle.ima_agent.specs.Faults.{fault_of_log, fault_of_agent, fault_of_job}
-use Rattle.ima_agent.specs.Loading.{Inputs, Holds, IsInputFault}
+use Rattle.command_line.specs.declared.plan.NameEnd.{NameEnd}
+use Rattle.ima_agent.specs.Loading.{Inputs, IsNotRead, IsNotUtf8, IsTooLong, input_limit}
+use Rattle.ima_agent.specs.Names.{names_of}
 
 -- ---- what is measured
 
--- The path of a job that is a file.
-abbrev pub path_of : Job → Option (List ℕ)
-path_of (jobs.File path content sig) = Some path.items
-path_of (jobs.Violation path) = None
-path_of (jobs.Read alg register) = None
+-- What files hold: all bytes of the file of a name, where they are told.
+abbrev pub Contents : Type 0
+Contents = List ℕ → Option (List ℕ)
 
--- The job is a file, whose content are all bytes of the input that its path names, without a signature.
-abbrev pub HasItsContent : Inputs → Job → Type 0
-HasItsContent inputs (jobs.File path content sig) = Holds inputs (Some path.items) content.items × (sig ≡ [])
-HasItsContent inputs (jobs.Violation path) = ⊥
-HasItsContent inputs (jobs.Read alg register) = ⊥
+-- What the files among these inputs hold.
+abbrev pub files_in : Inputs → Contents
+files_in inputs = λ name. inputs (Some name)
 
--- The jobs are the files of these names, in their order, each with its content.
-pub record AreFiles (inputs : Inputs) (names : List (List ℕ)) (jobs' : List Job) : Type 0 where
-  pub names_are : map path_of jobs' ≡ map Some names
-  pub contents : All (HasItsContent inputs) jobs'
+-- The file of this number, of those of these names, and all bytes that it holds, which are at most as many as an input may have.
+pub record HasFile (held : Contents) (names : List (List ℕ)) (number : ℕ) : Type 0 where
+  pub name : List ℕ
+  pub content : List ℕ
+  pub has : slice_get names number ≡ Some name
+  pub held_is : IfSome (held name) (λ all. content ≡ all)
+  pub within : length content ≤ input_limit
+
+-- The operation is the measurement of this file: of its name, with the hash of what it holds by this algorithm, and without a signature.
+pub record IsFileMeasure (held : Contents) (names : List (List ℕ)) (alg : Alg) (number : ℕ) (op : BookOp) : Type 0 where
+  pub file : HasFile held names number
+  pub op_is : op ≡ measure (record { alg = alg; digest = hash_of alg file.content; path = file.name; sig = [] })
 
 -- No job was refused.
 abbrev pub AreAllDone : List BookOutcome → Type 0
 AreAllDone outcomes = (job : ℕ) (fault : BookFault) → slice_get outcomes job ≡ Some (refused fault) → ⊥
 
--- The operations were recorded by the workers in this book, and each is done.
-pub record HasMeasured (origin : Origin) (ops : List BookOp) (workers : ℕ) (book : BookState) : Type 0 where
+-- So many jobs, which become these operations, were recorded by the workers in this book, and each is done.
+pub record HasMeasured (origin : Origin) (count : ℕ) (Makes : ℕ → BookOp → Type 0) (workers : ℕ) (book : BookState) : Type 0 where
   pub outcomes : List BookOutcome
   pub by : List ℕ
-  pub batch : IsBatch origin ops workers book outcomes by
+  pub batch : IsBatchOf origin count Makes workers book outcomes by
   pub done : AreAllDone outcomes
 
 -- What is printed of a book: its list as text or binary, or the registers that differ from these.
@@ -80,30 +89,26 @@ pub record Manner : Type 0 where
 abbrev pub manner_of : Measuring → Manner
 manner_of asked = record { alg = asked.alg; template = asked.template; workers = asked.workers; limit = asked.limit }
 
--- The files of these names are to be measured in this manner, into a book of this origin, which starts with the registers that the
--- events of this log make.
-pub record IsSetOut (inputs : Inputs) (log : List ℕ) (manner : Manner) (names : List (List ℕ)) (table : List Row)
-    (events : List LogEvent) (origin : Origin) (files : List Job) : Type 0 where
+-- Files are to be measured in this manner, into a book of this origin, which starts with the registers that the events of this log make.
+pub record IsSetOut (log : List ℕ) (manner : Manner) (table : List Row) (events : List LogEvent) (origin : Origin) : Type 0 where
   pub log_is : IsLog log table events
   pub starts : IsFirmware (algs_in table) events origin.start
   pub alg_is : origin.alg ≡ manner.alg
   pub template_is : origin.template ≡ manner.template
   pub limit_is : origin.limit ≡ manner.limit
-  pub files_are : AreFiles inputs names files
 
 -- What is shown is printed of a book that starts with the registers that this log makes, and in which the files of these names are
--- measured.
-pub record ShowsMeasured (inputs : Inputs) (log : List ℕ) (manner : Manner) (print : Print) (names : List (List ℕ)) (shown : List ℕ)
+-- measured, each under its name with all that it holds.
+pub record ShowsMeasured (held : Contents) (log : List ℕ) (manner : Manner) (print : Print) (names : List (List ℕ)) (shown : List ℕ)
     : Type 0 where
   pub table : List Row
   pub events : List LogEvent
   pub reset : Banks
   pub origin : Origin
-  pub files : List Job
   pub book : BookState
-  pub set_out : IsSetOut inputs log manner names table events origin files
+  pub set_out : IsSetOut log manner table events origin
   pub reset_is : IsReset (algs_in table) (startup_locality events) reset
-  pub measured : HasMeasured origin (operations_of manner.alg files) manner.workers book
+  pub measured : HasMeasured origin (length names) (IsFileMeasure held names manner.alg) manner.workers book
   pub text_is : shown ≡ printed print reset book
 
 -- ---- why nothing is shown
@@ -114,51 +119,90 @@ pub record IsNotLog (bytes : List ℕ) (fault : RunFault) : Type 0 where
   pub first_is : log_fault bytes ≡ Some first
   pub says : fault ≡ fault_of_log first
 
--- The file of one of these names was not had.
-pub record IsFileFault (inputs : Inputs) (names : List (List ℕ)) (fault : RunFault) : Type 0 where
+-- The operation of the file of this number cannot be had. It has too many bytes, where that is told; it could not be opened, or failed;
+-- or memory ran out.
+abbrev pub IsFileLack : Contents → List (List ℕ) → ℕ → JobFault → Type 0
+IsFileLack held names number lacks.TooLong =
+    (name : List ℕ) × (slice_get names number ≡ Some name) × IfSome (held name) (λ all. input_limit < length all)
+IsFileLack held names number lacks.Source = Unit {0}
+IsFileLack held names number lacks.Memory = Unit {0}
+
+-- The fault says so of the file of this number, of those of these names.
+abbrev pub IsFileFaultOf : List (List ℕ) → ℕ → JobFault → RunFault → Type 0
+IsFileFaultOf names number lacks.TooLong fault =
+    ((name : List ℕ) × (slice_get names number ≡ Some name) × IsTooLong name fault) ⊎ (fault ≡ runs.Memory)
+IsFileFaultOf names number lacks.Source fault =
+    ((name : List ℕ) × (slice_get names number ≡ Some name) × IsNotRead name fault) ⊎ (fault ≡ runs.Memory)
+IsFileFaultOf names number lacks.Memory fault = fault ≡ runs.Memory
+
+-- The file of one of these names was not had, and each before it was.
+pub record IsFileFault (held : Contents) (names : List (List ℕ)) (fault : RunFault) : Type 0 where
   pub index : ℕ
   pub name : List ℕ
   pub has : slice_get names index ≡ Some name
-  pub cause : IsInputFault inputs (Some name) fault
+  pub cause : (IsTooLong name fault × IfSome (held name) (λ all. input_limit < length all)) ⊎ IsNotRead name fault ⊎ (fault ≡ runs.Memory)
+  pub before : (earlier : ℕ) → earlier < index → HasFile held names earlier
 
 -- The first job that was refused is the one of this number, for this cause.
 pub record IsFirstRefused (outcomes : List BookOutcome) (job : ℕ) (fault : BookFault) : Type 0 where
   pub is_refused : slice_get outcomes job ≡ Some (refused fault)
   pub first : (earlier : ℕ) (cause : BookFault) → earlier < job → slice_get outcomes earlier ≡ Some (refused cause) → ⊥
 
--- The operations were recorded by the workers in a book, and the first that it refused has this fault.
-pub record IsRefusedJob (origin : Origin) (ops : List BookOp) (workers : ℕ) (fault : RunFault) : Type 0 where
-  pub book : BookState
-  pub outcomes : List BookOutcome
-  pub by : List ℕ
+-- The fault is that of the first job that was refused.
+pub record IsFirstRefusal (outcomes : List BookOutcome) (fault : RunFault) : Type 0 where
   pub job : ℕ
   pub cause : BookFault
-  pub batch : IsBatch origin ops workers book outcomes by
   pub first : IsFirstRefused outcomes job cause
   pub says : fault ≡ fault_of_job job cause
 
+-- The jobs were recorded by the workers in a book, and the first that it refused has this fault.
+pub record IsRefusedJob (origin : Origin) (count : ℕ) (Makes : ℕ → BookOp → Type 0) (workers : ℕ) (fault : RunFault) : Type 0 where
+  pub book : BookState
+  pub outcomes : List BookOutcome
+  pub by : List ℕ
+  pub batch : IsBatchOf origin count Makes workers book outcomes by
+  pub first : IsFirstRefusal outcomes fault
+
 -- The workers gave no book. Where their receipts do not account for it, this is the first cause against what they got.
-pub record IsNoBatch (origin : Origin) (ops : List BookOp) (workers : ℕ) (fault : RunFault) : Type 0 where
+pub record IsNoBatch (origin : Origin) (count : ℕ) (Makes : ℕ → BookOp → Type 0) (workers : ℕ) (fault : RunFault) : Type 0 where
   pub first : AgentFault
   pub first_is : IsFaultOf workers origin first
-  pub among : (cause : GatherFault) → first ≡ agents.Gather cause → IsCauseAmong workers origin ops cause
+  pub among : (cause : GatherFault) → first ≡ agents.Gather cause → IsCauseOf workers origin count Makes cause
   pub says : fault ≡ fault_of_agent first
 
--- Why the operations are not all recorded.
-abbrev pub IsRecordingFault : Origin → List BookOp → ℕ → RunFault → Type 0
-IsRecordingFault origin ops workers fault = IsNoBatch origin ops workers fault ⊎ IsRefusedJob origin ops workers fault
+-- Why the jobs are not all recorded.
+abbrev pub IsRecordingFault : Origin → ℕ → (ℕ → BookOp → Type 0) → ℕ → RunFault → Type 0
+IsRecordingFault origin count Makes workers fault =
+    IsNoBatch origin count Makes workers fault ⊎ IsRefusedJob origin count Makes workers fault
 
 -- The files of these names were to be measured so over this log, and were not all recorded.
-pub record IsNotRecorded (inputs : Inputs) (log : List ℕ) (manner : Manner) (names : List (List ℕ)) (fault : RunFault) : Type 0 where
+pub record IsNotRecorded (held : Contents) (log : List ℕ) (manner : Manner) (names : List (List ℕ)) (fault : RunFault) : Type 0 where
   pub table : List Row
   pub events : List LogEvent
   pub origin : Origin
-  pub files : List Job
-  pub set_out : IsSetOut inputs log manner names table events origin files
-  pub cause : IsRecordingFault origin (operations_of manner.alg files) manner.workers fault
+  pub set_out : IsSetOut log manner table events origin
+  pub cause : IsRecordingFault origin (length names) (IsFileMeasure held names manner.alg) manner.workers fault
 
 -- Why nothing is shown of a measurement of the files of these names over this log: it is none, a file was not had, the files were not
 -- all recorded, or memory ran out.
-abbrev pub IsMeasuringFault : Inputs → List ℕ → Manner → List (List ℕ) → RunFault → Type 0
-IsMeasuringFault inputs log manner names fault =
-    IsNotLog log fault ⊎ IsFileFault inputs names fault ⊎ IsNotRecorded inputs log manner names fault ⊎ (fault ≡ runs.Memory)
+abbrev pub IsMeasuringFault : Contents → List ℕ → Manner → List (List ℕ) → RunFault → Type 0
+IsMeasuringFault held log manner names fault =
+    IsNotLog log fault ⊎ IsFileFault held names fault ⊎ IsNotRecorded held log manner names fault ⊎ (fault ≡ runs.Memory)
+
+-- ---- names in a text
+
+-- All names: those of the words, and then those in the text.
+abbrev pub all_names : List (List ℕ) → NameEnd → List ℕ → List (List ℕ)
+all_names names ends text = names ++ names_of ends text
+
+-- The names cannot be had of the text of the input of this name: it is not UTF-8, or there are 2^32 of them or more.
+abbrev pub IsNamesFault : List ℕ → List (List ℕ) → NameEnd → List ℕ → RunFault → Type 0
+IsNamesFault input names ends text fault =
+    (IsNotUtf8 input fault × (IsUtf8 text → ⊥)) ⊎ ((fault ≡ runs.Usage) × (2 ^ 32 ≤ length (all_names names ends text)))
+    ⊎ (fault ≡ runs.Memory)
+
+-- ---- what contracts see of the steps
+
+-- What was read of the bytes is a log.
+abbrev pub IsReadLog : List ℕ → BootLog → Type 0
+IsReadLog bytes log = (table : List Row) × IsLog bytes table (events_of log) × (algs_of log ≡ algs_in table)

@@ -1,8 +1,8 @@
 -- The names in a text, each ended by one byte. All of this is this project's choice.
 use Rattle.std.specs.Prelude.{ℕ, ◌==◌, not, List, filter, length}
 use Rattle.std.specs.List.{slice_split}
-use Rattle.ima_agent.specs.declared.names.NameEnd.{NameEnd}
-use Rattle.ima_agent.specs.declared.names.NameEnd.TheVariants.{LineFeed, Nul}
+use Rattle.command_line.specs.declared.plan.NameEnd.{NameEnd}
+use Rattle.command_line.specs.declared.plan.NameEnd.TheVariants.{LineFeed, Nul}
 
 -- The byte that ends each name; the last name may lack it.
 abbrev pub byte_of : NameEnd → ℕ

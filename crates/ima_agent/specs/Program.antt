@@ -6,10 +6,11 @@ use Rattle.byte_streams.specs.Streams.{SinkState, Sends}
 use Rattle.ima_agent.specs.declared.fault.RunFault.{RunFault}
 use Rattle.ima_agent.specs.declared.fault.RunFault.TheVariants as runs
 use Rattle.command_line.specs.declared.plan.Plan.{Plan}
-use Rattle.command_line.specs.declared.plan.Plan.TheVariants.{Registers, Measure, Verify, Show, Help}
+use Rattle.command_line.specs.declared.plan.NameEnd.{NameEnd}
+use Rattle.command_line.specs.declared.plan.Plan.TheVariants.{Registers, Measure, MeasureListed, Verify, Show, Help}
 use Rattle.ima_agent.specs.Loading.{Inputs, Holds, IsInputFault}
 use Rattle.ima_agent.specs.Showing.{IsNoListFor, IsRefusedFor, ShowsList, ShowsRegisters}
-use Rattle.ima_agent.specs.Measuring.{IsMeasuringFault, ShowsMeasured}
+use Rattle.ima_agent.specs.Measuring.{IsMeasuringFault, IsNamesFault, IsNotLog, Manner, ShowsMeasured, all_names, files_in}
 use Rattle.ima_agent.specs.Verifying.{IsReportFault, ShowsReport}
 use Rattle.command_line.specs.Plans.{IsAskedBy, IsWithinRanges}
 use Rattle.ima_agent.specs.Faults.{IsWordsFault}
@@ -26,13 +27,27 @@ abbrev pub IsOutputFor : Inputs → Plan → List ℕ → ℕ → Type 0
 IsOutputFor inputs Registers shown status = OfInput inputs None (λ text. ShowsRegisters text shown) × (status ≡ 0)
 IsOutputFor inputs (Measure alg template workers limit print log files) shown status =
     OfInput inputs (Some (string_bytes log)) (λ bytes.
-    ShowsMeasured inputs bytes (record { alg = alg; template = template; workers = workers; limit = limit }) print
+    ShowsMeasured (files_in inputs) bytes (record { alg = alg; template = template; workers = workers; limit = limit }) print
     (map string_bytes files.items) shown)
+    × (status ≡ 0)
+IsOutputFor inputs (MeasureListed alg template workers limit print log files names ends) shown status =
+    OfInput inputs (Some (string_bytes log)) (λ bytes. OfInput inputs (Some (string_bytes names)) (λ text.
+    ShowsMeasured (files_in inputs) bytes (record { alg = alg; template = template; workers = workers; limit = limit }) print
+    (all_names (map string_bytes files.items) ends text) shown))
     × (status ≡ 0)
 IsOutputFor inputs (Verify log list expected) shown status =
     ShowsReport inputs (string_bytes log) (string_bytes list) (string_bytes expected) shown status
 IsOutputFor inputs (Show list) shown status = OfInput inputs (Some (string_bytes list)) (λ bytes. ShowsList bytes shown) × (status ≡ 0)
 IsOutputFor inputs (Help text) shown status = (shown ≡ string_bytes text) × (status ≡ 0)
+
+-- Why nothing is shown of a measurement over this log of the files of these names and of those in the text of the input of this name: it
+-- is no log; the text was not had, or its names; or the files are not measured.
+abbrev pub IsListedFault : Inputs → List ℕ → Manner → List (List ℕ) → List ℕ → NameEnd → RunFault → Type 0
+IsListedFault inputs log manner names input ends fault =
+    IsNotLog log fault ⊎ IsInputFault inputs (Some input) fault
+    ⊎ OfInput inputs (Some input) (λ text. IsNamesFault input names ends text fault
+    ⊎ IsMeasuringFault (files_in inputs) log manner (all_names names ends text) fault)
+    ⊎ (fault ≡ runs.Memory)
 
 -- A fault that may come of what is asked for, with these inputs.
 abbrev pub IsFaultOf : Inputs → Plan → RunFault → Type 0
@@ -40,8 +55,13 @@ IsFaultOf inputs Registers fault = IsInputFault inputs None fault ⊎ OfInput in
 IsFaultOf inputs (Measure alg template workers limit print log files) fault =
     IsInputFault inputs (Some (string_bytes log)) fault
     ⊎ OfInput inputs (Some (string_bytes log)) (λ bytes.
-    IsMeasuringFault inputs bytes (record { alg = alg; template = template; workers = workers; limit = limit })
+    IsMeasuringFault (files_in inputs) bytes (record { alg = alg; template = template; workers = workers; limit = limit })
     (map string_bytes files.items) fault)
+IsFaultOf inputs (MeasureListed alg template workers limit print log files names ends) fault =
+    IsInputFault inputs (Some (string_bytes log)) fault
+    ⊎ OfInput inputs (Some (string_bytes log)) (λ bytes.
+    IsListedFault inputs bytes (record { alg = alg; template = template; workers = workers; limit = limit })
+    (map string_bytes files.items) (string_bytes names) ends fault)
 IsFaultOf inputs (Verify log list expected) fault =
     IsReportFault inputs (string_bytes log) (string_bytes list) (string_bytes expected) fault
 IsFaultOf inputs (Show list) fault =

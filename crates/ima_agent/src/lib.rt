@@ -7,8 +7,10 @@ mod files;
 mod hashing;
 mod hexadecimal;
 mod inputs;
+mod listing;
 mod loading;
 mod measuring;
+mod named_files;
 mod names;
 mod output;
 mod program;
@@ -23,12 +25,12 @@ pub use boot_verdict::{
     Aggregate, ExpectFault, Expected, Report, Row, State, VerifyFault, read_expected, verify,
     verify_from, write_registers, write_report,
 };
-pub use command_line::{Plan, Print, words_after_name};
+pub use command_line::{NameEnd, Plan, Print, words_after_name};
 pub use fault::RunFault;
 pub use files::{Files, SharedFiles};
 pub use hashing::hash_from;
 pub use loading::{LoadFault, load};
-pub use program::{exit_code, run};
+pub use program::{exit_code, run, run_with_progress};
 pub use progress::{NoProgress, Progress, SystemProgress};
 pub use system::{Input, ReadSource, SystemFiles, WriteSink};
 pub use texts::{status_of, write_fault};

@@ -1,22 +1,24 @@
 //! Files, measured into the registers of a log.
 
-ghost use Rattle.std.specs.Prelude.{◌≡◌, ◌<◌, ◌⊎◌, ◌^◌, length, map, string_bytes, vec_len, Some, IfOk, IfErr, IfSome, IfNone};
+ghost use Rattle.std.specs.Prelude.{◌≡◌, ◌<◌, ◌⊎◌, ◌^◌, length, map, string_bytes, Some, IfOk, IfErr, IfSome, IfNone};
 ghost use Rattle.measure_book.specs.Operations.{book_outcome_of};
-ghost use Rattle.hash_workers.specs.Jobs.{operations_of};
 ghost use Rattle.ima_agent.specs.Loading.{IsInputFault};
-ghost use Rattle.ima_agent.specs.Measuring.{AreAllDone, AreFiles, HasMeasured, IsFileFault, IsFirstRefused, IsMeasuringFault, IsRecordingFault, ShowsMeasured, manner_of, printed};
-ghost use Rattle.ima_agent.specs.Program.{OfInput};
+ghost use Rattle.ima_agent.specs.Measuring.{AreAllDone, HasMeasured, IsFileFault, IsFileMeasure, IsFirstRefusal, IsFirstRefused, IsMeasuringFault, IsReadLog, IsRecordingFault, ShowsMeasured, all_names, files_in, manner_of, printed};
+ghost use Rattle.ima_agent.specs.Program.{IsListedFault, OfInput};
 
 use crate::fault::RunFault;
-use crate::files::Files;
+use crate::files::{Files, SharedFiles};
 use crate::inputs::loaded;
+use crate::listing::with_names_in;
+use crate::named_files::{NamedFiles, Told};
+use crate::progress::Progress;
 use crate::showing::lines;
-use boot_log::read_log;
+use boot_log::{BootLog, read_log};
 use boot_verdict::write_registers;
 use byte_streams::VecSink;
-use command_line::Print;
-use hash_workers::{Job, NoGate, measure_files};
-use ima_list::{Sig, Template};
+use command_line::{NameEnd, Print};
+use hash_workers::{AgentFault, Batch, JobsFault, record_jobs};
+use ima_list::Template;
 use measure_book::{Book, BookFault, Origin, Outcome};
 use pcr_banks::{Alg, Banks};
 use std::alloc::{AllocError, Global};
@@ -42,78 +44,123 @@ pub(crate) struct Measuring<'a> {
     pub files: &'a [String],
 }
 
-/// Measures the files into the registers of the log, and answers what is printed. The log is loaded and read first, then the
-/// files are loaded in their order, then they are measured. The first file that the book refuses is the fault.
-pub(crate) fn measured<R: Threads + Wait + Sync, F: Files>(
+/// Measures the files into the registers of the log, and answers what is printed. The log is loaded and read first. Then each worker
+/// hashes one file after another, as it reads it. The fault is that of the first file that cannot be had, in their order, and else of
+/// the first that the book refuses.
+pub(crate) fn measured<R: Threads + Wait + Sync, F: Files, P: Progress>(
     rt: &R,
     alloc: Global,
     files: &mut F,
     asked: Measuring,
+    progress: &P,
 ) -> Result<Vec<u8>, RunFault>
     requires small { length asked.files.now < 2 ^ 32 }
     ensures shown { IfOk result (λ shown. OfInput (F.told files.old) (Some asked.entry.log.now) (λ bytes.
-        ShowsMeasured (F.told files.old) bytes (manner_of asked.entry) asked.entry.print (map string_bytes asked.entry.files.now) shown.items)) }
+        ShowsMeasured (files_in (F.told files.old)) bytes (manner_of asked.entry) asked.entry.print (map string_bytes asked.entry.files.now)
+        shown.items)) }
     ensures fault { IfErr result (λ fault. IsInputFault (F.told files.old) (Some asked.entry.log.now) fault
         ⊎ OfInput (F.told files.old) (Some asked.entry.log.now) (λ bytes.
-        IsMeasuringFault (F.told files.old) bytes (manner_of asked.entry) (map string_bytes asked.entry.files.now) fault)) }
+        IsMeasuringFault (files_in (F.told files.old)) bytes (manner_of asked.entry) (map string_bytes asked.entry.files.now) fault)) }
 {
-    let log = loaded(alloc, files, Some(asked.log))?;
-    measured_over(rt, alloc, files, &log, asked)
+    let bytes = loaded(alloc, files, Some(asked.log))?;
+    let log = read_log(alloc, &bytes)?;
+    measured_into(rt, alloc, files.shared(), &bytes, &log, asked, progress)
 }
 
-// The same over the log of these bytes.
-fn measured_over<R: Threads + Wait + Sync, F: Files>(
+/// The same of these files, and then of those that the text of the input of this name names, which is loaded and read after the log.
+pub(crate) fn measured_listed<R: Threads + Wait + Sync, F: Files, P: Progress>(
     rt: &R,
     alloc: Global,
     files: &mut F,
-    log: &[u8],
     asked: Measuring,
+    names: &str,
+    ends: NameEnd,
+    progress: &P,
+) -> Result<Vec<u8>, RunFault>
+    ensures shown { IfOk result (λ shown. OfInput (F.told files.old) (Some asked.entry.log.now) (λ bytes.
+        OfInput (F.told files.old) (Some names.now) (λ text. ShowsMeasured (files_in (F.told files.old)) bytes (manner_of asked.entry)
+        asked.entry.print (all_names (map string_bytes asked.entry.files.now) ends text) shown.items))) }
+    ensures fault { IfErr result (λ fault. IsInputFault (F.told files.old) (Some asked.entry.log.now) fault
+        ⊎ OfInput (F.told files.old) (Some asked.entry.log.now) (λ bytes.
+        IsListedFault (F.told files.old) bytes (manner_of asked.entry) (map string_bytes asked.entry.files.now) names.now ends fault)) }
+{
+    let bytes = loaded(alloc, files, Some(asked.log))?;
+    let log = read_log(alloc, &bytes)?;
+    let text = loaded(alloc, files, Some(names))?;
+    let all = with_names_in(alloc, asked.files, &text, names, ends)?;
+    let asked = Measuring {
+        files: &all,
+        ..asked
+    };
+    measured_into(rt, alloc, files.shared(), &bytes, &log, asked, progress)
+}
+
+// The same over a log that was read, of the bytes that are named in contracts alone.
+fn measured_into<R: Threads + Wait + Sync, S: SharedFiles + Sync, P: Progress>(
+    rt: &R,
+    alloc: Global,
+    files: &S,
+    _bytes: &[u8],
+    log: &BootLog,
+    asked: Measuring,
+    progress: &P,
 ) -> Result<Vec<u8>, RunFault>
     requires small { length asked.files.now < 2 ^ 32 }
-    ensures shown { IfOk result (λ shown. ShowsMeasured (F.told files.old) log.now (manner_of asked.entry) asked.entry.print
+    requires read { IsReadLog _bytes.now log.now }
+    ensures shown { IfOk result (λ shown. ShowsMeasured (S.held files.now) _bytes.now (manner_of asked.entry) asked.entry.print
         (map string_bytes asked.entry.files.now) shown.items) }
-    ensures fault { IfErr result (IsMeasuringFault (F.told files.old) log.now (manner_of asked.entry) (map string_bytes asked.entry.files.now)) }
+    ensures fault { IfErr result (IsMeasuringFault (S.held files.now) _bytes.now (manner_of asked.entry) (map string_bytes asked.entry.files.now)) }
 {
-    let log = read_log(alloc, log)?;
-    let jobs = jobs_of(alloc, files, asked.files)?;
     let origin = Origin {
         start: log.registers(),
         template: asked.template,
         alg: asked.alg,
         limit: asked.limit,
     };
-    let book = recorded(rt, alloc, origin, jobs, asked.workers)?;
+    let jobs = NamedFiles {
+        files,
+        names: asked.files,
+    };
+    let book = recorded(rt, alloc, origin, &jobs, asked.workers, progress)?;
     Ok(printed(alloc, asked.print, &book, &log.reset_registers())?)
 }
 
-// The files of these names, loaded in their order, without signatures: extended attributes are not read.
-fn jobs_of<F: Files>(alloc: Global, files: &mut F, names: &[String]) -> Result<Vec<Job>, RunFault>
-    ensures jobs { IfOk result (λ jobs. AreFiles (F.told files.old) (map string_bytes names.now) jobs.items) }
-    ensures fault { IfErr result (IsFileFault (F.told files.old) (map string_bytes names.now)) }
-{
-    let mut jobs = Vec::new(alloc);
-    for name in names {
-        let content = loaded(alloc, files, Some(name))?;
-        let path = Vec::from_slice(alloc, name.as_bytes())?;
-        let sig = Sig::empty(alloc);
-        jobs.push(Job::File { path, content, sig })?;
-    }
-    Ok(jobs)
-}
-
-// The book in which the jobs are recorded, each of them done. The files' contents are given up here.
-fn recorded<R: Threads + Wait + Sync>(
+// The book in which the files are recorded, each of them done.
+fn recorded<R: Threads + Wait + Sync, S: SharedFiles + Sync, P: Progress>(
     rt: &R,
     alloc: Global,
     origin: Origin,
-    jobs: Vec<Job>,
+    jobs: &NamedFiles<'_, S>,
     workers: usize,
+    progress: &P,
 ) -> Result<Book, RunFault>
-    requires small { vec_len jobs < 2 ^ 32 }
-    ensures book { IfOk result (HasMeasured origin (operations_of origin.alg jobs.items) workers) }
-    ensures fault { IfErr result (IsRecordingFault origin (operations_of origin.alg jobs.items) workers) }
+    requires small { length jobs.now.names.now < 2 ^ 32 }
+    ensures book { IfOk result (HasMeasured origin (length jobs.now.names.now)
+        (IsFileMeasure (S.held jobs.now.files.now) (map string_bytes jobs.now.names.now) origin.alg) workers) }
+    ensures fault { IfErr result (λ fault. IsFileFault (S.held jobs.now.files.now) (map string_bytes jobs.now.names.now) fault
+        ⊎ IsRecordingFault origin (length jobs.now.names.now)
+        (IsFileMeasure (S.held jobs.now.files.now) (map string_bytes jobs.now.names.now) origin.alg) workers fault) }
 {
-    let batch = measure_files(rt, alloc, origin, &jobs, workers, &NoGate)?;
+    let gate = Told::new(progress, jobs.names.len() as u32);
+    let recorded = record_jobs(rt, alloc, origin, jobs, workers, &gate);
+    progress.ended();
+    match recorded {
+        Ok(batch) => all_done(batch),
+        Err(JobsFault::Job { job, fault }) => Err(jobs.fault_of(alloc, job, fault)),
+        Err(JobsFault::Agent(AgentFault::Book(fault))) => {
+            jobs.check(alloc, origin.alg)?;
+            Err(RunFault::Book(fault))
+        }
+        Err(JobsFault::Agent(fault)) => Err(fault.into()),
+    }
+}
+
+// The book of a batch, each job of which is done.
+fn all_done(batch: Batch) -> Result<Book, RunFault>
+    requires small { length batch.outcomes.items < 2 ^ 32 }
+    ensures done { IfOk result (λ book. (book ≡ batch.book) × AreAllDone (map book_outcome_of batch.outcomes.items)) }
+    ensures refused { IfErr result (IsFirstRefusal (map book_outcome_of batch.outcomes.items)) }
+{
     match first_refused(&batch.outcomes) {
         None => Ok(batch.book),
         Some((_, BookFault::Memory)) => Err(RunFault::Memory),

@@ -5,17 +5,9 @@ ghost use Rattle.std.specs.Str.{IsUtf8};
 ghost use Rattle.ima_agent.specs.declared.names.NamesFault.TheVariants.{Memory};
 ghost use Rattle.ima_agent.specs.Names.{byte_of, names_of};
 
+use command_line::NameEnd;
 use std::alloc::{AllocError, AllocFailed, Global};
 use thiserror::Error;
-
-/// The byte that ends each name of a text.
-#[derive(Clone, Copy, Debug, PartialEq, Eq)]
-pub(crate) enum NameEnd {
-    /// A line feed, 0x0A.
-    LineFeed,
-    /// A nul, 0x00.
-    Nul,
-}
 
 /// Why the names were not read.
 #[derive(Clone, Copy, Debug, PartialEq, Eq, Error)]

@@ -8,8 +8,9 @@ ghost use Rattle.ima_agent.specs.Program.{Answers, IsFaultFor, IsFaultOf, IsOutp
 
 use crate::fault::RunFault;
 use crate::files::Files;
-use crate::measuring::{Measuring, measured};
+use crate::measuring::{Measuring, measured, measured_listed};
 use crate::output::{FAILED, Output};
+use crate::progress::{NoProgress, Progress};
 use crate::showing::{shown_list, shown_registers};
 use crate::texts::{status_of, write_fault};
 use crate::verifying::verified;
@@ -22,19 +23,22 @@ use std::process::ExitCode;
 use std::sync::Wait;
 use std::thread::Threads;
 
-/// Does what the words ask for, as [`run`], and answers the process's exit code. Where the words could not be had, the
-/// program fails as one that is out of memory: the line `failed: memory`, and the status 3.
-pub fn exit_code<R: Threads + Wait + Sync, F: Files, S: Sink>(
+/// Does what the words ask for, as [`run_with_progress`], and answers the process's exit code. Where the words could not be
+/// had, the program fails as one that is out of memory: the line `failed: memory`, and the status 3.
+pub fn exit_code<R: Threads + Wait + Sync, F: Files, S: Sink, P: Progress>(
     rt: &R,
     alloc: Global,
     words: io::Result<Vec<String>>,
     files: &mut F,
     sink: &mut S,
+    progress: &P,
 ) -> ExitCode
     ensures { Answers (IsOutputOf (F.told files.old) words) (exit_status result) (S.state sink.old) (S.state sink.new) }
 {
     match words {
-        Ok(words) => exits_with(run(rt, alloc, &words, files, sink)),
+        Ok(words) => exits_with(run_with_progress(
+            rt, alloc, &words, files, sink, progress,
+        )),
         Err(_) => exits_with(failed(&RunFault::Memory, sink)),
     }
 }
@@ -65,7 +69,21 @@ pub fn run<R: Threads + Wait + Sync, F: Files, S: Sink>(
 ) -> u8
     ensures { Answers (IsOutput (F.told files.old) words.now) result (S.state sink.old) (S.state sink.new) }
 {
-    match output_of(rt, alloc, words, files) {
+    run_with_progress(rt, alloc, words, files, sink, &NoProgress)
+}
+
+/// The same, and of a measurement somebody is told how many files are done. It changes nothing of the output.
+pub fn run_with_progress<R: Threads + Wait + Sync, F: Files, S: Sink, P: Progress>(
+    rt: &R,
+    alloc: Global,
+    words: &[String],
+    files: &mut F,
+    sink: &mut S,
+    progress: &P,
+) -> u8
+    ensures { Answers (IsOutput (F.told files.old) words.now) result (S.state sink.old) (S.state sink.new) }
+{
+    match output_of(rt, alloc, words, files, progress) {
         Ok(output) => status_after(send(&output.text, sink), output.status),
         Err(fault) => failed(&fault, sink),
     }
@@ -89,25 +107,27 @@ fn status_after(sent: Result<(), Failed>, status: u8) -> u8
 }
 
 // The whole output for the words.
-fn output_of<R: Threads + Wait + Sync, F: Files>(
+fn output_of<R: Threads + Wait + Sync, F: Files, P: Progress>(
     rt: &R,
     alloc: Global,
     words: &[String],
     files: &mut F,
+    progress: &P,
 ) -> Result<Output, RunFault>
     ensures shown { IfOk result (λ output. ShowsFor (F.told files.old) words.now output.text.items output.status) }
     ensures fault { IfErr result (IsFaultFor (F.told files.old) words.now) }
 {
     let plan = read_words(alloc, words)?;
-    output_for(rt, alloc, plan, files)
+    output_for(rt, alloc, plan, files, progress)
 }
 
 // The whole output for what was asked for.
-fn output_for<R: Threads + Wait + Sync, F: Files>(
+fn output_for<R: Threads + Wait + Sync, F: Files, P: Progress>(
     rt: &R,
     alloc: Global,
     plan: Plan,
     files: &mut F,
+    progress: &P,
 ) -> Result<Output, RunFault>
     requires within { IsWithinRanges plan }
     ensures shown { IfOk result (λ output. IsOutputFor (F.told files.old) plan output.text.items output.status) }
@@ -133,7 +153,30 @@ fn output_for<R: Threads + Wait + Sync, F: Files>(
                 log: &log,
                 files: &names,
             };
-            Ok(Output::done(measured(rt, alloc, files, asked)?))
+            Ok(Output::done(measured(rt, alloc, files, asked, progress)?))
+        }
+        Plan::MeasureListed {
+            alg,
+            template,
+            workers,
+            limit,
+            print,
+            log,
+            files: first,
+            names,
+            ends,
+        } => {
+            let asked = Measuring {
+                alg,
+                template,
+                workers,
+                limit,
+                print,
+                log: &log,
+                files: &first,
+            };
+            let shown = measured_listed(rt, alloc, files, asked, &names, ends, progress)?;
+            Ok(Output::done(shown))
         }
         Plan::Verify {
             log,

@@ -1,7 +1,8 @@
 //! The program `ima-agent`, which is `ima_agent::exit_code` over the system's files and streams.
 #![tactic(auto)]
 
-use ima_agent::{SystemFiles, WriteSink, exit_code, words_after_name};
+use ima_agent::{SystemFiles, SystemProgress, WriteSink, exit_code, words_after_name};
+use std::io::IsTerminal;
 use std::process::ExitCode;
 use std::rt::Env;
 use std::{env, io};
@@ -13,11 +14,13 @@ fn words(rt: &(impl Env + AllocGlobal)) -> io::Result<Vec<String>> {
 
 fn main(rt: HostRuntime) -> ExitCode {
     let mut output = WriteSink::new(rt.stdout());
+    let progress = SystemProgress::new(&rt, rt.stderr().is_terminal());
     exit_code(
         &rt,
         rt.alloc(),
         words(&rt),
         &mut SystemFiles::new(&rt),
         &mut output,
+        &progress,
     )
 }

@@ -1,24 +1,17 @@
-use Rattle.std.proofs.Common.{Err, refl, ap, inl, map}
-use Rattle.std.proofs.lemmas.Result.{err_from_is_err_and}
-use Rattle.hash_workers.specs.declared.fault.AgentFault.{AgentFault}
-use Rattle.measure_book.specs.Operations.{book_outcome_of}
+use Rattle.std.proofs.Common.{rules, ◌≡◌, ap, ◌∙◌, inl, map, refl, string_bytes, Err, arith}
+use Rattle.std.proofs.lemmas.List.{length-map}
+use Rattle.hash_workers.specs.declared.fault.JobsFault.{JobsFault}
+use Rattle.ima_agent.proofs.MeasuringLaws.{file_fault}
 use Rattle.ima_agent.proofs.measuring.recorded.Goals as goal
 
-pub returns-in-None-clause-book : goal.returns-in-None-clause-book
-returns-in-None-clause-book g c =
-    rw (← c.deref.ensures.value) (record {
-      outcomes = map book_outcome_of c.in_ok-batch.batch.outcomes.items;
-      by = c.in_ok-batch.batch.by.items;
-      batch = c.in_ok-batch.ensures.batch;
-      done = rw (← c.deref-2.ensures.value) c.in-None.ensures.none;
-    })
+pub fault_of-requires : goal.fault_of-requires
+fault_of-requires g c = (c.record_jobs-recorded.ensures.job c.in-Err-Job.job c.in-Err-Job.fault (search rules)).0.within
 
-pub returns-in_err-batch-clause-fault : goal.returns-in_err-batch-clause-fault
-returns-in_err-batch-clause-fault g c =
-    let p = err_from_is_err_and c.from_residual.result c.from_residual.ensures.1 in
-    rw (p.1, p.2, ← c.deref.ensures.value) (inl (record {
-      first = c.in_err-batch.field-0.0;
-      first_is = c.in_err-batch.ensures.fault;
-      among = λ cause is. c.in_err-batch.ensures.gather cause (ap (λ (f : AgentFault). Err f) is);
-      says = refl;
-    }))
+pub returns-in-Err-Job-clause-fault : goal.returns-in-Err-Job-clause-fault
+returns-in-Err-Job-clause-fault g c =
+    let told = c.record_jobs-recorded.ensures.job c.in-Err-Job.job c.in-Err-Job.fault (search rules) in
+    let names = c.args.jobs.now.names.now in
+    let first = told.0 in
+    inl (file_fault (g.S.SharedFiles.held c.args.jobs.now.files.now) (map string_bytes names) c.in-Err-Job.job c.in-Err-Job.fault
+    c.fault_of.result (omega (arith, first.within, length-map names string_bytes)) first.cause c.fault_of.ensures
+    (λ earlier below. (first.before earlier below).1.file))

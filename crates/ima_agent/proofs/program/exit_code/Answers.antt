@@ -3,7 +3,7 @@ use Rattle.ima_agent.proofs.program.exit_code.Goals as goal
 
 pub returns-in-Ok : goal.returns-in-Ok
 returns-in-Ok g c =
-    let said = c.run.ensures in
+    let said = c.run_with_progress.ensures in
     record {
       text = said.text;
       status = said.status;

@@ -1,5 +1,5 @@
 use Rattle.std.proofs.Common.{inl, inr}
-use Rattle.ima_agent.proofs.program.run.Goals as goal
+use Rattle.ima_agent.proofs.program.run_with_progress.Goals as goal
 
 pub returns-in-Ok : goal.returns-in-Ok
 returns-in-Ok g c = record {
