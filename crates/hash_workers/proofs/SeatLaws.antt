@@ -13,10 +13,10 @@ use Rattle.hash_workers.specs.declared.work.End.TheVariants.{NoneLeft, OutOfMemo
 use Rattle.hash_workers.specs.declared.work.Lack.{Lack}
 use Rattle.hash_workers.specs.declared.work.Work.{Work}
 use Rattle.hash_workers.specs.Claims.{ClaimsState, SeatState, HandsOutEach}
-use Rattle.hash_workers.specs.Taking.{IsTaken, Took, RiseForEach}
-use Rattle.hash_workers.specs.Ending.{AnyCause, IsEnd, IsFrom, IsLack}
+use Rattle.hash_workers.specs.Taking.{Took, RiseForEach}
+use Rattle.hash_workers.specs.Ending.{AnyCause, IsEnd, IsLack}
 use Rattle.hash_workers.specs.Scattering.{ArePairs}
-use Rattle.hash_workers.specs.Seats.{AreWorksOf, HandBack, HasEnd, HasLack, HasNoEnd, HaveLacks, IsLeastLack, IsSeatEnd, IsSinglePlace, draws_of, outcomes_of, seat_of, some_ended, taken_of}
+use Rattle.hash_workers.specs.Seats.{AreWorksOf, HandBack, HasEnd, HasNoEnd, HaveLacks, IsLeastLack, IsSeatEnd, IsSinglePlace, draws_of, outcomes_of, seat_of, some_ended, taken_of}
 use Rattle.hash_workers.specs.Settling.{AreTakenBefore, IsLackOf}
 use Rattle.hash_workers.proofs.ListLaws.{at_list, at_map, in_either, list_at, map_at, within_at}
 use Rattle.hash_workers.proofs.EndLaws.{some_lack}

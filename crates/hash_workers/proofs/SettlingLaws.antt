@@ -28,7 +28,7 @@ use Rattle.std.specs.List.{concat}
 use Rattle.hash_workers.specs.Claims.{ClaimsState, SeatState, HandsOutEach}
 use Rattle.hash_workers.specs.Taking.{Took}
 use Rattle.hash_workers.specs.Working.{IsOutcomeOf}
-use Rattle.hash_workers.specs.Ending.{IsEnd, IsFound, IsFrom, IsHad, IsLack}
+use Rattle.hash_workers.specs.Ending.{IsEnd, IsFound, IsHad}
 use Rattle.hash_workers.specs.Scattering.{items_of, got_at}
 use Rattle.hash_workers.specs.Seats.{AreWorksOf, HasEnd, IsLeastLack, outcomes_of, taken_of}
 use Rattle.hash_workers.specs.Settling.{AreTakenBefore, IsAllWork, IsCauseOf, IsFirstCause, IsFirstLack, IsLackOf, IsMadeOf, IsUnsettled, outcomes_by_worker, takings_of}

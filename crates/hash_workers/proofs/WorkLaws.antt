@@ -2,7 +2,7 @@
 use Rattle.std.proofs.Common.{◌≡◌, ◌≢◌, ℕ, zero, suc, ◌+◌, ◌-◌, ◌<◌, ◌≤◌, List, [], ◌∷◌, ◌++◌, length, get_or, Option, Some, None, refl, sym, ap, ◌∙◌, subst, inl, inr, arith, map}
 use Rattle.std.specs.Prelude.{◌⊎◌, slice_get, unwrap_or, IfSome, option_map, MatchResult, Result, Ok, Err}
 use Rattle.std.specs.Option.{option_copied}
-use Rattle.std.proofs.lemmas.List.{map_push, length-map}
+use Rattle.std.proofs.lemmas.List.{map_push}
 use Rattle.std.proofs.Math.Nat.{le_refl}
 use denote.Ref.{Bor}
 use Rattle.pcr_banks.specs.declared.alg.Alg.{Alg}

@@ -1,16 +1,22 @@
 -- Files that are measured, and the first that was refused.
 use Rattle.std.proofs.Common.{rules, ◌≡◌, ℕ, ◌+◌, ◌<◌, ◌≤◌, List, [], length, map, get_or, Some, refl, sym, ap, ◌∙◌, subst, inl, inr, arith}
-use Rattle.std.specs.Prelude.{slice_get, String, string_bytes, IfSome}
+use Rattle.std.specs.Prelude.{◌⊎◌, slice_get, String, string_bytes, IfErr, IfOk, IfSome, Result, Ok, Err}
 use Rattle.std.proofs.Math.Path.{fun_ext}
-use Rattle.std.specs.Global.{Global}
+use Rattle.std.specs.Global.{Global, Vec}
 use Rattle.std.proofs.lemmas.List.{length-map}
 use Rattle.std.proofs.lemmas.Bool.{cases_lt}
 use Rattle.std.proofs.lemmas.Option.{same_Some, slice_get_read, slice_get_within}
+use Rattle.boot_log.specs.declared.header.Row.{Row}
+use Rattle.boot_log.specs.Spelling.{LogEvent}
+use Rattle.command_line.specs.declared.plan.NameEnd.{NameEnd}
+use Rattle.command_line.specs.declared.plan.Print.{Print}
 use Rattle.measure_book.specs.declared.op.Outcome.{Outcome}
+use Rattle.measure_book.specs.declared.origin.Origin.{Origin}
+use Rattle.measure_book.specs.Books.{BookState}
 use Rattle.measure_book.specs.declared.op.Outcome.TheVariants as outcomes
 use Rattle.measure_book.specs.declared.op.Receipt.{Receipt}
 use Rattle.measure_book.specs.declared.fault.BookFault.{BookFault}
-use Rattle.measure_book.specs.Operations.{done, measure, refused, book_outcome_of, book_receipt_of}
+use Rattle.measure_book.specs.Operations.{BookOp, done, measure, refused, book_outcome_of, book_receipt_of}
 use Rattle.pcr_banks.specs.declared.alg.Alg.{Alg}
 use Rattle.pcr_banks.specs.declared.digest.Digest.{Digest}
 use Rattle.pcr_banks.specs.Digests.{digest_of}
@@ -23,8 +29,9 @@ use Rattle.ima_agent.specs.declared.fault.RunFault.{RunFault}
 use Rattle.ima_agent.specs.declared.loading.LoadFault.{LoadFault}
 use Rattle.ima_agent.specs.declared.loading.LoadFault.TheVariants as loads
 use Rattle.ima_agent.specs.Hashing.{IsHashOfAll}
-use Rattle.ima_agent.specs.Loading.{IsTooLong, input_limit}
-use Rattle.ima_agent.specs.Measuring.{AreAllDone, Contents, HasFile, IsFileFault, IsFileFaultOf, IsFileLack, IsFileMeasure}
+use Rattle.ima_agent.specs.Loading.{Holds, Inputs, IsInputFault, IsTooLong, input_limit}
+use Rattle.ima_agent.specs.Measuring.{AreAllDone, Contents, HasFile, HasMeasured, IsFileFault, IsFileFaultOf, IsFileLack, IsFileMeasure, IsMeasuringFault, IsNamesFault, IsRecordingFault, IsSetOut, Manner, ShowsMeasured, all_names, files_in}
+use Rattle.ima_agent.specs.Program.{IsListedFault, OfInput}
 use Rattle.ima_agent.specs.NamedFiles.{job_fault_of}
 
 -- No outcome before this one is a refusal.
@@ -149,3 +156,76 @@ file_fault held names number lacks.Memory fault within lack says before =
 -- What is known of files by one telling is known by another that tells the same.
 pub same_contents : (held told : Contents) → ((name : List ℕ) → held name ≡ told name) → held ≡ told
 same_contents held told same = fun_ext same
+
+-- ---- a measurement
+
+-- So many names are as many files.
+pub measured_as_named : (origin : Origin) (files : List (String Global)) (Makes : ℕ → BookOp → Type 0) (workers : ℕ) (book : BookState)
+    → HasMeasured origin (length files) Makes workers book → HasMeasured origin (length (map string_bytes files)) Makes workers book
+measured_as_named origin files Makes workers book known =
+    let At : ℕ → Type 0 = λ n. HasMeasured origin n Makes workers book in subst At (sym (length-map files string_bytes)) known
+
+recording_as_named : (origin : Origin) (files : List (String Global)) (Makes : ℕ → BookOp → Type 0) (workers : ℕ) (fault : RunFault)
+    → IsRecordingFault origin (length files) Makes workers fault → IsRecordingFault origin (length (map string_bytes files)) Makes workers fault
+recording_as_named origin files Makes workers fault known =
+    let At : ℕ → Type 0 = λ n. IsRecordingFault origin n Makes workers fault in subst At (sym (length-map files string_bytes)) known
+
+-- Why nothing is shown, where the files are not all recorded.
+pub not_recorded : (held : Contents) (log : List ℕ) (manner : Manner) (files : List (String Global)) (table : List Row)
+    (events : List LogEvent) (origin : Origin) (fault : RunFault) → IsSetOut log manner table events origin
+    → (IsFileFault held (map string_bytes files) fault
+    ⊎ IsRecordingFault origin (length files) (IsFileMeasure held (map string_bytes files) manner.alg) manner.workers fault)
+    → IsMeasuringFault held log manner (map string_bytes files) fault
+not_recorded held log manner files table events origin fault out (inl file) = inr (inl file)
+not_recorded held log manner files table events origin fault out (inr recording) = inr (inr (inl (record {
+  table = table;
+  events = events;
+  origin = origin;
+  set_out = out;
+  cause = recording_as_named origin files (IsFileMeasure held (map string_bytes files) manner.alg) manner.workers fault recording;
+})))
+
+-- What is shown of files that several threads read is shown of the inputs that they are.
+pub shown_of : (inputs : Inputs) (held : Contents) (log : List ℕ) (manner : Manner) (print : Print) (names : List (List ℕ))
+    (result : Result (Vec ℕ) RunFault) → ((name : List ℕ) → held name ≡ inputs (Some name))
+    → IfOk result (λ shown. ShowsMeasured held log manner print names shown.items)
+    → IfOk result (λ shown. ShowsMeasured (files_in inputs) log manner print names shown.items)
+shown_of inputs held log manner print names result same =
+    let At : Contents → Type 0 = λ h. IfOk result (λ shown. ShowsMeasured h log manner print names shown.items) in
+    subst At (same_contents held (files_in inputs) same)
+
+pub fault_of : (inputs : Inputs) (held : Contents) (log : List ℕ) (manner : Manner) (names : List (List ℕ))
+    (result : Result (Vec ℕ) RunFault) → ((name : List ℕ) → held name ≡ inputs (Some name))
+    → IfErr result (IsMeasuringFault held log manner names) → IfErr result (IsMeasuringFault (files_in inputs) log manner names)
+fault_of inputs held log manner names result same =
+    let At : Contents → Type 0 = λ h. IfErr result (IsMeasuringFault h log manner names) in
+    subst At (same_contents held (files_in inputs) same)
+
+-- Of the bytes that the log holds.
+pub ok_of : (inputs : Inputs) (name bytes : List ℕ) (P : List ℕ → List ℕ → Type 0) (result : Result (Vec ℕ) RunFault)
+    → Holds inputs (Some name) bytes → IfOk result (λ shown. P bytes shown.items)
+    → IfOk result (λ shown. OfInput inputs (Some name) (λ all. P all shown.items))
+ok_of inputs name bytes P (Ok shown) held known = (bytes, held, known)
+ok_of inputs name bytes P (Err fault) held known = tt
+
+pub err_of : (inputs : Inputs) (name bytes : List ℕ) (P : List ℕ → RunFault → Type 0) (result : Result (Vec ℕ) RunFault)
+    → Holds inputs (Some name) bytes → IfErr result (P bytes)
+    → IfErr result (λ fault. IsInputFault inputs (Some name) fault ⊎ OfInput inputs (Some name) (λ all. P all fault))
+err_of inputs name bytes P (Ok shown) held known = tt
+err_of inputs name bytes P (Err fault) held known = inr (bytes, held, known)
+
+-- Of the bytes that the log and the text of names hold.
+pub listed_err : (inputs : Inputs) (log : List ℕ) (manner : Manner) (first : List (List ℕ)) (input text : List ℕ) (ends : NameEnd)
+    (result : Result (Vec ℕ) RunFault) → Holds inputs (Some input) text
+    → IfErr result (λ fault. IsNamesFault input first ends text fault
+    ⊎ IsMeasuringFault (files_in inputs) log manner (all_names first ends text) fault)
+    → IfErr result (IsListedFault inputs log manner first input ends)
+listed_err inputs log manner first input text ends (Ok shown) held known = tt
+listed_err inputs log manner first input text ends (Err fault) held known = inr (inr (inl (text, held, known)))
+
+pub err_inr : (P Q : RunFault → Type 0) (result : Result (Vec ℕ) RunFault) → IfErr result Q → IfErr result (λ fault. P fault ⊎ Q fault)
+err_inr P Q (Ok shown) known = tt
+err_inr P Q (Err fault) known = inr known
+
+pub named_so : (P : List (List ℕ) → Type 0) (names all : List (List ℕ)) → names ≡ all → P names → P all
+named_so P names all is known = subst P is known

@@ -36,9 +36,7 @@ pub fn exit_code<R: Threads + Wait + Sync, F: Files, S: Sink, P: Progress>(
     ensures { Answers (IsOutputOf (F.told files.old) words) (exit_status result) (S.state sink.old) (S.state sink.new) }
 {
     match words {
-        Ok(words) => exits_with(run_with_progress(
-            rt, alloc, &words, files, sink, progress,
-        )),
+        Ok(words) => exits_with(run_with_progress(rt, alloc, &words, files, sink, progress)),
         Err(_) => exits_with(failed(&RunFault::Memory, sink)),
     }
 }

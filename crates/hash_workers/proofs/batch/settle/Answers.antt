@@ -1,11 +1,11 @@
-use Rattle.std.proofs.Common.{ℕ, List, length, map, ap, ◌∙◌, subst, arith}
+use Rattle.std.proofs.Common.{ℕ, List, map, ap, ◌∙◌, subst, arith}
 use Rattle.std.proofs.lemmas.List.{length-map}
 use Rattle.std.specs.Prelude.{Vec}
 use Rattle.std.specs.declared.alloc.Global.{Global}
 use Rattle.measure_book.specs.declared.op.Outcome.{Outcome}
 use Rattle.measure_book.specs.Groups.{AccountsForAll, groups_of}
 use Rattle.hash_workers.specs.Scattering.{AreScattered, items_of}
-use Rattle.hash_workers.specs.Settling.{outcomes_by_worker, takings_of}
+use Rattle.hash_workers.specs.Settling.{takings_of}
 use Rattle.hash_workers.proofs.BatchLaws.{batch_of}
 use Rattle.hash_workers.proofs.SettlingLaws.{foreign_unsettled}
 use Rattle.hash_workers.proofs.TakingLaws.{take_each}

@@ -1,6 +1,5 @@
-use Rattle.std.proofs.Common.{rules, ◌≡◌, ap, ◌∙◌, inl, map, refl, string_bytes, Err, arith}
+use Rattle.std.proofs.Common.{rules, inl, map, string_bytes, arith}
 use Rattle.std.proofs.lemmas.List.{length-map}
-use Rattle.hash_workers.specs.declared.fault.JobsFault.{JobsFault}
 use Rattle.ima_agent.proofs.MeasuringLaws.{file_fault}
 use Rattle.ima_agent.proofs.measuring.recorded.Goals as goal
 

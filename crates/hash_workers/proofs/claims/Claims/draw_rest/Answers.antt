@@ -1,4 +1,4 @@
-use Rattle.std.proofs.Common.{ℕ, List, ◌++◌, ◌-◌, refl, arith, sym, ap, ◌∙◌}
+use Rattle.std.proofs.Common.{ℕ, ◌++◌, ◌-◌, arith, sym, ap, ◌∙◌}
 use Rattle.std.specs.List.{range_with_len}
 use Rattle.hash_workers.specs.Claims.{ClaimsState, SeatState}
 use Rattle.hash_workers.specs.declared.claims.view.Allotment.{Allotment}
