@@ -122,34 +122,38 @@ had_more held names number before here earlier below = elim (cases_lt earlier nu
 ]
 
 -- Why a file's operation cannot be had.
-pub file_lacks : (held : Contents) (names : List (String Global)) (number : ℕ) (name : String Global) (fault : LoadFault) → number < length names
-    → name ≡ get_or names number name
+pub file_lacks : (held : Contents) (Fails : List ℕ → Type 0) (names : List (String Global)) (number : ℕ) (name : String Global)
+    (fault : LoadFault) → number < length names → name ≡ get_or names number name
     → (fault ≡ loads.TooLong → IfSome (held (string_bytes name)) (λ all. input_limit < length all))
-    → IsFileLack held (map string_bytes names) number (job_fault_of fault)
-file_lacks held names number name loads.TooLong within is too_long = (
+    → (fault ≡ loads.Source → Fails (string_bytes name)) → IsFileLack held Fails (map string_bytes names) number (job_fault_of fault)
+file_lacks held Fails names number name loads.TooLong within is too_long source = (
   string_bytes name,
   at_map string_bytes names number name (slice_get_read names (length names) number name refl within is),
   too_long refl,
 )
-file_lacks held names number name loads.Source within is too_long = tt
-file_lacks held names number name loads.Memory within is too_long = tt
+file_lacks held Fails names number name loads.Source within is too_long source = (
+  string_bytes name,
+  at_map string_bytes names number name (slice_get_read names (length names) number name refl within is),
+  source refl,
+)
+file_lacks held Fails names number name loads.Memory within is too_long source = tt
 
 -- The fault of a file whose operation cannot be had, where each before it was had.
-pub file_fault : (held : Contents) (names : List (List ℕ)) (number : ℕ) (cause : JobFault) (fault : RunFault) → number < length names
-    → IsFileLack held names number cause → IsFileFaultOf names number cause fault
+pub file_fault : (held : Contents) (Fails : List ℕ → Type 0) (names : List (List ℕ)) (number : ℕ) (cause : JobFault) (fault : RunFault)
+    → number < length names → IsFileLack held Fails names number cause → IsFileFaultOf names number cause fault
     → ((earlier : ℕ) → earlier < number → HasFile held names earlier) → IsFileFault held names fault
-file_fault held names number lacks.TooLong fault within lack (inl says) before =
+file_fault held Fails names number lacks.TooLong fault within lack (inl says) before =
     let same : says.0 ≡ lack.0 = same_Some says.0 lack.0 (sym says.1 ∙ lack.1) in
     let At : List ℕ → Type 0 = λ name. IsTooLong name fault in
     record { index = number; name = lack.0; has = lack.1; cause = inl (subst At same says.2, lack.2); before = before }
-file_fault held names number lacks.TooLong fault within lack (inr memory) before =
+file_fault held Fails names number lacks.TooLong fault within lack (inr memory) before =
     record { index = number; name = lack.0; has = lack.1; cause = inr (inr memory); before = before }
-file_fault held names number lacks.Source fault within lack (inl says) before =
+file_fault held Fails names number lacks.Source fault within lack (inl says) before =
     record { index = number; name = says.0; has = says.1; cause = inr (inl says.2); before = before }
-file_fault held names number lacks.Source fault within lack (inr memory) before =
+file_fault held Fails names number lacks.Source fault within lack (inr memory) before =
     let at = within_at names number within in
     record { index = number; name = at.0; has = at.1; cause = inr (inr memory); before = before }
-file_fault held names number lacks.Memory fault within lack says before =
+file_fault held Fails names number lacks.Memory fault within lack says before =
     let at = within_at names number within in
     record { index = number; name = at.0; has = at.1; cause = inr (inr says); before = before }
 

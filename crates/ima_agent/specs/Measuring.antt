@@ -119,13 +119,13 @@ pub record IsNotLog (bytes : List ℕ) (fault : RunFault) : Type 0 where
   pub first_is : log_fault bytes ≡ Some first
   pub says : fault ≡ fault_of_log first
 
--- The operation of the file of this number cannot be had. It has too many bytes, where that is told; it could not be opened, or failed;
--- or memory ran out.
-abbrev pub IsFileLack : Contents → List (List ℕ) → ℕ → JobFault → Type 0
-IsFileLack held names number lacks.TooLong =
+-- The operation of the file of this number cannot be had. It has too many bytes, where that is told; it could not be opened, or failed,
+-- where that is told; or memory ran out.
+abbrev pub IsFileLack : Contents → (List ℕ → Type 0) → List (List ℕ) → ℕ → JobFault → Type 0
+IsFileLack held Fails names number lacks.TooLong =
     (name : List ℕ) × (slice_get names number ≡ Some name) × IfSome (held name) (λ all. input_limit < length all)
-IsFileLack held names number lacks.Source = Unit {0}
-IsFileLack held names number lacks.Memory = Unit {0}
+IsFileLack held Fails names number lacks.Source = (name : List ℕ) × (slice_get names number ≡ Some name) × Fails name
+IsFileLack held Fails names number lacks.Memory = Unit {0}
 
 -- The fault says so of the file of this number, of those of these names.
 abbrev pub IsFileFaultOf : List (List ℕ) → ℕ → JobFault → RunFault → Type 0

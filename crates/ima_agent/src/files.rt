@@ -1,6 +1,6 @@
 //! Where the program's inputs come from.
 
-ghost use Rattle.std.specs.Prelude.{◌≡◌, ◌<◌, length, List, ℕ, None, Some, Option, option_map, IfOk, IfSome, IsErrOf};
+ghost use Rattle.std.specs.Prelude.{◌≡◌, ◌<◌, length, List, ℕ, None, Some, Option, option_map, IfOk, IfSome, IsErrOf, ⊤};
 ghost use Rattle.ima_agent.specs.Hashing.{IsHashOfAll};
 ghost use Rattle.ima_agent.specs.Loading.{GivesAll};
 
@@ -40,6 +40,9 @@ pub trait SharedFiles {
     // All bytes of the file of a name, where they are told.
     ghost held: { Self → List ℕ → Option (List ℕ) } = { λ _ _. None };
 
+    // The file of this name cannot be opened, or fails while it is read, where that is told.
+    ghost fails: { Self → List ℕ → Type 0 } = { λ _ _. ⊤ };
+
     /// The hash, by this algorithm, of all bytes of the file of this name, which are at most `limit`. They are hashed as they are
     /// read.
     ///
@@ -47,5 +50,6 @@ pub trait SharedFiles {
     /// read.
     fn hash(&self, alloc: Global, name: &str, alg: Alg, limit: u64) -> Result<Digest, LoadFault>
         ensures hashed { IfOk result (IsHashOfAll (held self.now name.now) alg limit) }
-        ensures too_long { IsErrOf result LoadFault.TooLong → IfSome (held self.now name.now) (λ all. limit < length all) };
+        ensures too_long { IsErrOf result LoadFault.TooLong → IfSome (held self.now name.now) (λ all. limit < length all) }
+        ensures source { IsErrOf result LoadFault.Source → fails self.now name.now };
 }
