@@ -1,5 +1,5 @@
 """Times the program's commands over made inputs of two sizes, checks each answer, and prints how the times grow, and what memory
-the list's commands take.
+those commands take that are to need little.
 
 Words: the repository's folder, an empty folder for inputs and outputs, and the number of runs of which the median is taken.
 """
@@ -81,28 +81,28 @@ def median_time(words, wanted, stdin=NO_INPUT, compared=in_order):
     return statistics.median(times[1:])
 
 
-def median_of_tools(*commands):
+def median_of_tools(*commands, stdin=NO_INPUT):
     """The median time of commands of the system, one after another."""
-    times = [sum(timed(command)[0] for command in commands) for _ in range(1 + RUNS)]
+    times = [sum(timed(command, stdin)[0] for command in commands) for _ in range(1 + RUNS)]
     return statistics.median(times[1:])
 
 
-def peak_memory(words, wanted, wanted_status=0):
+def peak_memory(words, wanted, wanted_status=0, compared=in_order):
     """The most memory that one call of the program held at once, in MiB; nothing where its answer is not the one that is wanted."""
     python = [sys.executable, "-S", "-E", ROOT / "bench/peak.py"]
     with open(FOLDER / NO_INPUT, "rb") as source, open(OUTPUT, "wb") as sink:
         told = subprocess.run([*python, PROGRAM, *words], stdin=source, stdout=sink, stderr=subprocess.PIPE, cwd=FOLDER).stderr
     status, kibibytes = map(int, told.split())
     text = OUTPUT.read_bytes()
-    if status != wanted_status or text != wanted:
+    if status != wanted_status or compared(text) != compared(wanted):
         complain([PROGRAM.name, *words], status, text)
         return None
     return kibibytes / 1024
 
 
-def print_memory(what, sizes, empty, peaks):
-    """Prints the peak of a call with an empty list, and of those with lists of both sizes."""
-    name = f"{what:<28}{sizes[0]:>7,} and {sizes[1]:>7,} entries "
+def print_memory(what, unit, sizes, empty, peaks):
+    """Prints the peak of a call with an empty input, and of those with inputs of both sizes."""
+    name = f"{what:<28}{sizes[0]:>7,} and {sizes[1]:>7,} {unit:<8}"
     peaks = [empty, *peaks]
     text = "   wrong" if None in peaks else "".join(f"{peak:9.1f} MiB" for peak in peaks)
     print(f"{name}{text}", flush=True)
@@ -158,7 +158,7 @@ def lists():
     copied = median_of_tools(["cat", "made.list"])
     nothing = b"events 24 locality 3\nentries 0\nboot_aggregate missing\nverdict differ\n"
     empty = {"verify": peak_memory(["verify", "made.log", NO_INPUT, "none.txt"], nothing, 1), "show": peak_memory(["show", NO_INPUT], b"")}
-    PEAKS.extend((what, sizes, empty[what], peaks) for what, peaks in memory.items())
+    PEAKS.extend((what, "entries", sizes, empty[what], peaks) for what, peaks in memory.items())
     return [
         (f"verify of {sizes[1]:,} entries, to sha1sum and sha256sum of the list", verified[1], hashed),
         (f"verify of {sizes[1]:,} entries, to sha256sum of the list", verified[1], hashed_once),
@@ -182,18 +182,31 @@ def logs():
     return [(f"registers of a log of {sizes[1]:,} events, to sha256sum of its hexadecimal", times[1], hashed)]
 
 
-def measure_time(workers, contents):
-    """The time of `measure` by so many workers, of the files of `contents`, which has the hash of each name's file."""
+def measure_call(workers, contents):
+    """The words of `measure` by so many workers, of the files of `contents`, which has the hash of each name's file; and the answer."""
     log, registers = small_log()
     store("made.log", log)
     _, text = inputs.make_list(registers, [(name.encode(), digest) for name, digest in contents.items()])
-    words = ["measure", "--workers", str(workers), "made.log", *contents]
-    return median_time(words, text, compared=in_order if workers == 1 else in_any_order)
+    return ["measure", "--workers", str(workers), "made.log", *contents], text
+
+
+def measure_time(workers, contents):
+    """The time of `measure` by so many workers, of the files of `contents`."""
+    return median_time(*measure_call(workers, contents), compared=in_order if workers == 1 else in_any_order)
+
+
+def measure_memory(workers, contents):
+    """The most memory that `measure` by so many workers, of the files of `contents`, held at once."""
+    return peak_memory(*measure_call(workers, contents), compared=in_any_order)
+
+
+def first_of(contents, count):
+    return dict(list(contents.items())[:count])
 
 
 def measured(what, workers, sizes, contents):
     """The times of `measure` by so many workers, of the first files of `contents`."""
-    times = [measure_time(workers, dict(list(contents.items())[:count])) for count in sizes]
+    times = [measure_time(workers, first_of(contents, count)) for count in sizes]
     print_growth(what, "files", sizes, times)
     return times[1]
 
@@ -210,14 +223,21 @@ def made_files(count, size):
 
 def files():
     """`measure` of files of 1 MiB by one worker and by four, of small ones, and of so many that finding known ones counts."""
-    contents = made_files(256, 1024 * 1024)
-    by_one = measured("measure 1 MiB, 1 worker", 1, (64, 256), contents)
-    by_four = measured("measure 1 MiB, 4 workers", 4, (64, 256), contents)
+    sizes = (64, 256)
+    contents = made_files(sizes[1], 1024 * 1024)
+    by_one = measured("measure 1 MiB, 1 worker", 1, sizes, contents)
+    by_four = measured("measure 1 MiB, 4 workers", 4, sizes, contents)
+    empty, *peaks = (measure_memory(4, first_of(contents, count)) for count in (0, *sizes))
+    PEAKS.append(("measure 1 MiB, 4 workers", "files", sizes, empty, peaks))
     hashed = median_of_tools(["sha256sum", *contents])
+    # (without a number of names for each call, xargs would make one call of all)
+    names = store("names", "".join(f"{name}\n" for name in contents).encode())
+    hashed_by_four = median_of_tools(["xargs", "-P", "4", "-n", "16", "sha256sum"], stdin=names)
     measured("measure 1 KiB, 1 worker", 1, (400, 4_000), made_files(4_000, 1024))
     measured("measure 16 bytes, 1 worker", 1, (10_000, 40_000), made_files(40_000, 16))
     return [
         ("measure of 256 files of 1 MiB by 1 worker, to the same by 4 workers", by_one, by_four),
+        ("measure of 256 files of 1 MiB by 4 workers, to xargs -P4 sha256sum of the files", by_four, hashed_by_four),
         ("measure of 256 files of 1 MiB by 1 worker, to sha256sum of the files", by_one, hashed),
     ]
 

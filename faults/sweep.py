@@ -1,15 +1,18 @@
 #!/usr/bin/env python3
-"""Refuses each allocation in turn, in the tests that are made for it and in the program.
+"""Refuses each allocation in turn, in the tests that are made for it and in the program; and measures large files in little memory.
 
 faults/sweep.py [ROOT]: the tree whose test binaries and program `rt ci` has made, or else the one that this file is in.
 
 A test whose name has `each_allocation_refused` in it, and each command below, runs again and again: in the Nth run its Nth
 allocation is refused (faults/refuse.c), until a run comes to its end with none refused. A test must pass each time; a command must
 answer as it does with ample memory, or with `failed: memory` and status 3. Whatever has none of its allocations refused fails, as
-does a run that crashes, or takes longer than a minute. The last line is 'N passed, M failed'."""
+does a run that crashes, or takes longer than a minute.
+
+Before that the program measures 50 files of 40 MiB within 64 MiB of address space. The last line is 'N passed, M failed', of both."""
 
 import hashlib
 import os
+import resource
 import struct
 import subprocess
 import sys
@@ -22,6 +25,11 @@ SECONDS = 60
 MOST_REFUSALS = 100_000
 TESTS = "each_allocation_refused"
 OUT_OF_MEMORY = (3, b"failed: memory\n")
+MEBIBYTE = 1 << 20
+LARGE_FILES = 50
+LARGE_FILE_BYTES = 40 * MEBIBYTE
+ADDRESS_SPACE = 64 * MEBIBYTE
+LARGE_SECONDS = 600
 
 
 @dataclass
@@ -38,30 +46,39 @@ def with_length(data):
     return struct.pack("<I", len(data)) + data
 
 
-def first_lines(expected, path, content):
-    """The lines of a list that begins with the boot aggregate of these expected registers, and then has a file."""
+def list_lines(expected, files):
+    """The lines of a list that begins with the boot aggregate of these expected registers, and then has these files, each a name and a
+    SHA-256."""
     values = [bytes.fromhex(line.split()[2]) for line in expected.splitlines()[:10]]
-    files = ((b"boot_aggregate", b"".join(values)), (path, content))
-    for name, data in files:
-        digest = hashlib.sha256(data)
-        payload = with_length(b"sha256:\0" + digest.digest()) + with_length(name + b"\0")
-        yield f"10 {hashlib.sha1(payload).hexdigest()} ima-ng sha256:{digest.hexdigest()} {name.decode()}\n"
+    for name, digest in ((b"boot_aggregate", hashlib.sha256(b"".join(values)).digest()), *files):
+        payload = with_length(b"sha256:\0" + digest) + with_length(name + b"\0")
+        yield f"10 {hashlib.sha1(payload).hexdigest()} ima-ng sha256:{digest.hex()} {name.decode()}\n"
+
+
+def program_of(root):
+    return root / "crates/ima_agent_program/out/ima_agent_program"
+
+
+def samples_of(root):
+    return root / "samples/real-boot"
 
 
 def command_runs(root, folder):
     """The program's commands, on the samples."""
-    program = root / "crates/ima_agent_program/out/ima_agent_program"
-    boot = root / "samples/real-boot"
+    program, boot = program_of(root), samples_of(root)
     log, listed, expected = (boot / name for name in ("firmware.log", "ima.list", "expected.txt"))
     file = folder / "abc"
     file.write_bytes(b"abc")
+    # (a file that is named twice has one entry, so the order of the workers does not show)
+    names = folder / "names"
+    names.write_text(f"{file}\n\n{file}")
     lines = expected.read_text()
     report = "events 24 locality 0\nentries 99\nboot_aggregate good\n"
     report += "".join(" ".join(line.split()[:2]) + " match\n" for line in lines.splitlines()) + "verdict match\n"
     other = folder / "other"
     other.write_text("sha1 10 " + 40 * "0")
     absent = "events 24 locality 0\nentries 99\nboot_aggregate good\nsha1 10 absent\nverdict differ\n"
-    entries = "".join(first_lines(lines, str(file).encode(), b"abc"))
+    entries = "".join(list_lines(lines, [(str(file).encode(), hashlib.sha256(b"abc").digest())]))
     for title, words, given, status, output in (
         ("registers", [], log.read_bytes().hex().encode(), 0, (boot / "registers.txt").read_bytes()),
         ("no text of a log", [], b"Z", 2, b"refused: not hexadecimal\n"),
@@ -70,6 +87,7 @@ def command_runs(root, folder):
         ("a list shown", ["show", listed], b"", 0, (boot / "ima.ascii").read_bytes()),
         ("a file measured", ["measure", log, file], b"", 0, entries.encode()),
         ("a file measured by one worker", ["measure", "--workers=1", log, file], b"", 0, entries.encode()),
+        ("files of a list of names", ["measure", "--workers", "2", "--files-from", names, log], b"", 0, entries.encode()),
         ("a file that is not there", ["show", folder / "none"], b"", 3, f"failed: read {folder}/none\n".encode()),
         ("words that are wrong", ["verify", log], b"", 2, b"refused: command line\n"),
         ("help", ["--help"], b"", 0, None),
@@ -116,16 +134,42 @@ def sweep(run, library, folder):
     return MOST_REFUSALS, "there is no end to it"
 
 
+def large_files_fault(root, folder):
+    """What is wrong with a measurement of large files in less memory than two of them take, if anything."""
+    boot = samples_of(root)
+    first = folder / "large-00"
+    with open(first, "wb") as file:
+        file.truncate(LARGE_FILE_BYTES)
+    files = [first] + [folder / f"large-{number:02}" for number in range(1, LARGE_FILES)]
+    for file in files[1:]:
+        os.link(first, file)
+    digest = hashlib.sha256(bytes(LARGE_FILE_BYTES)).digest()
+    wanted = "".join(list_lines((boot / "expected.txt").read_text(), [(str(file).encode(), digest) for file in files]))
+    try:
+        ended = subprocess.run(
+            [program_of(root), "measure", "--workers", "2", boot / "firmware.log", *files],
+            stdin=subprocess.DEVNULL, capture_output=True, timeout=LARGE_SECONDS,
+            preexec_fn=lambda: resource.setrlimit(resource.RLIMIT_AS, (ADDRESS_SPACE, ADDRESS_SPACE)),
+        )
+    except subprocess.TimeoutExpired:
+        return f"more than {LARGE_SECONDS} seconds"
+    if ended.returncode == 0 and sorted(ended.stdout.splitlines()) == sorted(wanted.encode().splitlines()):
+        return None
+    return f"status {ended.returncode}, {(ended.stdout + ended.stderr)[-500:]!r}"
+
+
 def main():
     root = Path(sys.argv[1] if len(sys.argv) > 1 else Path(__file__).parent.parent).resolve()
     with tempfile.TemporaryDirectory() as name, ThreadPoolExecutor(os.cpu_count()) as pool:
         folder = Path(name)
+        large_fault = large_files_fault(root, folder)
+        print(f"{large_fault or 'ok'}: {LARGE_FILES} files of 40 MiB measured within 64 MiB of address space", flush=True)
         library = folder / "refuse.so"
         source = Path(__file__).parent / "refuse.c"
         subprocess.run(["cc", "-O2", "-shared", "-fPIC", "-o", library, source, "-ldl"], check=True)
         tests, commands = list(test_runs(root)), list(command_runs(root, folder))
         runs = tests + commands
-        failed = 0 if tests else 1
+        failed = (not tests) + (large_fault is not None)
         total = 0
         for run, (refusals, fault) in zip(runs, pool.map(lambda run: sweep(run, library, folder), runs)):
             total += refusals
@@ -133,7 +177,7 @@ def main():
             print(f"{refusals:6} refused, {fault or 'ok'}: {run.title}", flush=True)
         if not tests:
             print("no test is made to have an allocation refused")
-        passed = len(runs) + (not tests) - failed
+        passed = len(runs) + (not tests) + 1 - failed
         print(f"{total} allocations were refused\n{passed} passed, {failed} failed")
     return 1 if failed else 0
 
