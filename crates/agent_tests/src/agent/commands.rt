@@ -14,12 +14,12 @@ pub const SHELL_LINE: &[u8] =
     b"sha256 10 5fcef84d490a160058b8f1b7e33abea9f2df325f2b7ccb294d1d28f3459db9d5\n";
 
 /// The entry of a log that leaves the registers at reset.
-const FIRST_LINE: &[u8] = b"\
+pub const FIRST_LINE: &[u8] = b"\
 10 6bdad7efa602f84ca31ffe3f11ff7c476e25dcdd ima-ng \
 sha256:7b6436b0c98f62380866d9432c2af0ee08ce16a171bda6951aecd95ee1307d61 boot_aggregate\n";
 
 /// The entries of a log that leaves the registers at reset, and of a file `f` that has `abc`.
-const TWO_LINES: &[u8] = b"\
+pub const TWO_LINES: &[u8] = b"\
 10 6bdad7efa602f84ca31ffe3f11ff7c476e25dcdd ima-ng \
 sha256:7b6436b0c98f62380866d9432c2af0ee08ce16a171bda6951aecd95ee1307d61 boot_aggregate\n\
 10 34e13111fbec9d50d71128958c8977cc06238f8a ima-ng \

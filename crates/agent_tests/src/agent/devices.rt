@@ -3,16 +3,34 @@
 ghost use Rattle.std.specs.Prelude.{None};
 ghost use Rattle.agent_tests.specs.Devices.{bytes_of_standard_input};
 
+use super::list_sources::PieceSource;
 use boot_log::LogFault;
 use byte_streams::{Failed, Sink, SliceSource, VecSink};
 use hex::FromHexError;
-use ima_agent::{ExpectFault, Files, LoadFault, VerifyFault, run};
+use ima_agent::{ExpectFault, Files, LoadFault, SharedFiles, VerifyFault, hash_from, run};
 use ima_list::ListFault;
 use measure_book::BookFault;
+use pcr_banks::{Alg, Digest};
 use std::alloc::{AllocError, Global};
 use std::sync::Wait;
 use std::test::Fail;
 use std::thread::Threads;
+
+/// No files.
+#[derive(Drop)]
+pub struct NoFiles;
+
+impl SharedFiles for NoFiles {
+    fn hash(
+        &self,
+        _alloc: Global,
+        _name: &str,
+        _alg: Alg,
+        _limit: u64,
+    ) -> Result<Digest, LoadFault> {
+        Err(LoadFault::Source)
+    }
+}
 
 /// Standard input, and no other file.
 #[derive(Drop)]
@@ -20,6 +38,8 @@ pub struct StandardInput<'a>(pub &'a [u8]);
 
 impl<'a> Files for StandardInput<'a> {
     type Src = SliceSource<'a>;
+
+    type Shared = NoFiles;
 
     ghost told = { λ input. bytes_of_standard_input input.0.now };
 
@@ -29,19 +49,63 @@ impl<'a> Files for StandardInput<'a> {
             Some(_) => Err(Failed),
         }
     }
+
+    fn shared(&self) -> &NoFiles {
+        &NoFiles
+    }
 }
 
 /// Files with these names and these bytes, and no standard input.
 #[derive(Drop)]
 pub struct NamedFiles<'a>(pub &'a [(&'a str, &'a [u8])]);
 
+impl<'a> NamedFiles<'a> {
+    fn bytes(&self, name: &str) -> Option<&'a [u8]> {
+        let file = self.0.iter().find(|file| file.0 == name)?;
+        Some(file.1)
+    }
+}
+
 impl<'a> Files for NamedFiles<'a> {
     type Src = SliceSource<'a>;
 
+    type Shared = Self;
+
     fn source(&mut self, name: Option<&str>) -> Result<SliceSource<'a>, Failed> {
-        let name = name.ok_or(Failed)?;
-        let file = self.0.iter().find(|file| file.0 == name).ok_or(Failed)?;
-        Ok(SliceSource::new(file.1))
+        let bytes = self.bytes(name.ok_or(Failed)?).ok_or(Failed)?;
+        Ok(SliceSource::new(bytes))
+    }
+
+    fn shared(&self) -> &Self {
+        self
+    }
+}
+
+impl SharedFiles for NamedFiles<'_> {
+    fn hash(&self, alloc: Global, name: &str, alg: Alg, limit: u64) -> Result<Digest, LoadFault> {
+        let bytes = self.bytes(name).ok_or(LoadFault::Source)?;
+        hash_from(alloc, &mut PieceSource::new(bytes, usize::MAX), alg, limit)
+    }
+}
+
+/// Inputs that are loaded, and other files, which workers read.
+#[derive(Drop)]
+pub struct MeasuredFiles<'a, S> {
+    pub inputs: NamedFiles<'a>,
+    pub files: S,
+}
+
+impl<'a, S: SharedFiles + Sync> Files for MeasuredFiles<'a, S> {
+    type Src = SliceSource<'a>;
+
+    type Shared = S;
+
+    fn source(&mut self, name: Option<&str>) -> Result<SliceSource<'a>, Failed> {
+        self.inputs.source(name)
+    }
+
+    fn shared(&self) -> &S {
+        &self.files
     }
 }
 

@@ -4,7 +4,7 @@ ghost use Rattle.std.specs.Prelude.{None};
 
 use super::commands::SHELL_LINE;
 use super::devices::{
-    NamedFiles, StandardInput, bytes_of, joined, once_more, ran_over, text_of, words_of,
+    NamedFiles, NoFiles, StandardInput, bytes_of, joined, once_more, ran_over, text_of, words_of,
 };
 use super::list_sources::{PieceSource, REPORT, fault_of};
 use super::logs::{EVENT, EXTENDED_LINE, HEADER, TWO_BANKS_LINES};
@@ -254,11 +254,17 @@ struct FailingInput<'a> {
 impl<'a> Files for FailingInput<'a> {
     type Src = PieceSource<'a>;
 
+    type Shared = NoFiles;
+
     fn source(&mut self, name: Option<&str>) -> Result<PieceSource<'a>, Failed> {
         match name {
             None => Ok(PieceSource::failing(self.input, 1, self.reads)),
             Some(_) => Err(Failed),
         }
+    }
+
+    fn shared(&self) -> &NoFiles {
+        &NoFiles
     }
 }
 

@@ -1,6 +1,6 @@
 //! Inputs of a megabyte and more, and inputs that are nearly right.
 
-use super::devices::{answered, bytes_of, joined, once_more, ran, ran_over, words_of};
+use super::devices::{NoFiles, answered, bytes_of, joined, once_more, ran, ran_over, words_of};
 use super::logs::{EVENT, EXTENDED_LINE, HEADER};
 use super::show::{MEASUREMENT, MEASUREMENT_LINE};
 use byte_streams::{Failed, SliceSource};
@@ -53,12 +53,18 @@ struct OnceOnly<'a> {
 impl<'a> Files for OnceOnly<'a> {
     type Src = SliceSource<'a>;
 
+    type Shared = NoFiles;
+
     fn source(&mut self, _name: Option<&str>) -> Result<SliceSource<'a>, Failed> {
         if self.taken {
             return Err(Failed);
         }
         self.taken = true;
         Ok(SliceSource::new(self.bytes))
+    }
+
+    fn shared(&self) -> &NoFiles {
+        &NoFiles
     }
 }
 

@@ -2,7 +2,7 @@
 
 ghost use Rattle.std.specs.Prelude.{None};
 
-use super::devices::{bytes_of, joined, once_more, ran_over, words_of};
+use super::devices::{NoFiles, bytes_of, joined, once_more, ran_over, words_of};
 use super::logs::{EVENT, EXTENDED_LINE, HEADER};
 use super::real_boot::FIRMWARE_LOG;
 use super::real_boot_list::{REGISTER, list_bytes};
@@ -28,7 +28,7 @@ pub struct PieceSource<'a> {
 
 impl<'a> PieceSource<'a> {
     /// Gives these bytes, and never fails.
-    fn new(bytes: &'a [u8], most: usize) -> Self {
+    pub fn new(bytes: &'a [u8], most: usize) -> Self {
         PieceSource::failing(bytes, most, usize::MAX)
     }
 
@@ -284,11 +284,17 @@ struct FailingList<'a> {
 impl<'a> Files for FailingList<'a> {
     type Src = PieceSource<'a>;
 
+    type Shared = NoFiles;
+
     fn source(&mut self, name: Option<&str>) -> Result<PieceSource<'a>, Failed> {
         let name = name.ok_or(Failed)?;
         let whole = if name == "log" { self.log } else { b"" };
         let reads = if name == "list" { 0 } else { usize::MAX };
         Ok(PieceSource::failing(whole, usize::MAX, reads))
+    }
+
+    fn shared(&self) -> &NoFiles {
+        &NoFiles
     }
 }
 

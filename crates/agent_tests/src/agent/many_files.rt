@@ -1,31 +1,24 @@
 //! Many words, and many files in one measurement.
 
-use super::devices::{NamedFiles, bytes_of, once_more, ran_over, words_of};
+use super::devices::{MeasuredFiles, NamedFiles, bytes_of, once_more, ran_over, words_of};
+use super::list_sources::PieceSource;
 use super::logs::HEADER;
 use super::seventy_files::{FILES, LINES};
-use byte_streams::{Failed, SliceSource};
-use ima_agent::Files;
+use ima_agent::{LoadFault, SharedFiles, hash_from};
+use pcr_banks::{Alg, Digest};
 use std::alloc::{AllocError, Global};
 use std::process::Abort;
 use std::sync::Wait;
 use std::test::Fail;
 use std::thread::Threads;
 
-/// The log `L`, and `abc` under every other name.
+/// `abc` under every name.
 #[derive(Drop)]
-struct SameFiles<'a> {
-    log: &'a [u8],
-}
+struct SameFiles;
 
-impl<'a> Files for SameFiles<'a> {
-    type Src = SliceSource<'a>;
-
-    fn source(&mut self, name: Option<&str>) -> Result<SliceSource<'a>, Failed> {
-        match name {
-            Some("L") => Ok(SliceSource::new(self.log)),
-            Some(_) => Ok(SliceSource::new(b"abc")),
-            None => Err(Failed),
-        }
+impl SharedFiles for SameFiles {
+    fn hash(&self, alloc: Global, _name: &str, alg: Alg, limit: u64) -> Result<Digest, LoadFault> {
+        hash_from(alloc, &mut PieceSource::new(b"abc", usize::MAX), alg, limit)
     }
 }
 
@@ -33,7 +26,7 @@ impl<'a> Files for SameFiles<'a> {
 static FRONT: [&str; 6] = ["measure", "--workers", "1", "--print", "registers", "L"];
 
 /// The words that measure so many files, `/mnt/file0` and on, and set no limit.
-fn numbered_words(alloc: Global, files: usize) -> Result<Vec<String>, AllocError> {
+pub fn numbered_words(alloc: Global, files: usize) -> Result<Vec<String>, AllocError> {
     let mut words = words_of(alloc, &FRONT)?;
     for number in 0..files {
         words.push(format!(in alloc; "/mnt/file{number}")?)?;
@@ -50,7 +43,11 @@ fn assert_measured(
     let log = bytes_of(rt.alloc(), &[HEADER])?;
     let words = numbered_words(rt.alloc(), count.saturating_sub(FRONT.len()))?;
     assert_eq!(rt; words.len(), count);
-    let (status, output) = ran_over(rt, &words, &mut SameFiles { log: &log });
+    let mut files = MeasuredFiles {
+        inputs: NamedFiles(&[("L", log.as_slice())]),
+        files: SameFiles,
+    };
+    let (status, output) = ran_over(rt, &words, &mut files);
     assert_eq!(rt; status, 0);
     assert_eq!(rt; output.as_slice(), line);
     Ok(())

@@ -1,7 +1,7 @@
 //! What words ask for, compared whole.
 
 use super::devices::{Refusal, once_more, words_of};
-use ima_agent::{Plan, Print, RunFault, read_words};
+use ima_agent::{NameEnd, Plan, Print, RunFault, read_words};
 use ima_list::Template;
 use pcr_banks::Alg;
 use std::alloc::Global;
@@ -196,9 +196,87 @@ static MEASUREMENTS: [Asked; 12] = [
     },
 ];
 
-/// The plan is this measurement, in each part.
+/// Words that ask for a measurement of listed files, the name of the list, and what ends each name in it.
+static LISTED: [(Asked, &str, NameEnd); 4] = [
+    (
+        Asked {
+            words: &["measure", "L", "--files-from", "N"],
+            alg: Alg::Sha256,
+            template: Template::ImaNg,
+            workers: 2,
+            limit: 100_000,
+            print: Print::Ascii,
+            log: "L",
+            files: &[],
+        },
+        "N",
+        NameEnd::LineFeed,
+    ),
+    (
+        Asked {
+            words: &["measure", "--null", "L", "f", "--files-from=N", "g"],
+            alg: Alg::Sha256,
+            template: Template::ImaNg,
+            workers: 2,
+            limit: 100_000,
+            print: Print::Ascii,
+            log: "L",
+            files: &["f", "g"],
+        },
+        "N",
+        NameEnd::Nul,
+    ),
+    (
+        Asked {
+            words: &["measure", "--files-from", "-", "L", "--", "--null"],
+            alg: Alg::Sha256,
+            template: Template::ImaNg,
+            workers: 2,
+            limit: 100_000,
+            print: Print::Ascii,
+            log: "L",
+            files: &["--null"],
+        },
+        "-",
+        NameEnd::LineFeed,
+    ),
+    (
+        Asked {
+            words: &[
+                "measure",
+                "--alg",
+                "sha384",
+                "--template",
+                "ima-sig",
+                "--workers",
+                "5",
+                "--limit",
+                "70000",
+                "--print",
+                "binary",
+                "--files-from",
+                "a b ",
+                "--null",
+                "log",
+                "one",
+                "two",
+            ],
+            alg: Alg::Sha384,
+            template: Template::ImaSig,
+            workers: 5,
+            limit: 70_000,
+            print: Print::Binary,
+            log: "log",
+            files: &["one", "two"],
+        },
+        "a b ",
+        NameEnd::Nul,
+    ),
+];
+
+/// The plan is this measurement, in each part that every measurement has.
 fn assert_asked(rt: &impl Abort, plan: &Plan, asked: &Asked) -> Result<(), Fail> {
-    let Plan::Measure {
+    let (Plan::Measure {
         alg,
         template,
         workers,
@@ -206,7 +284,17 @@ fn assert_asked(rt: &impl Abort, plan: &Plan, asked: &Asked) -> Result<(), Fail>
         print,
         log,
         files,
-    } = plan
+    }
+    | Plan::MeasureListed {
+        alg,
+        template,
+        workers,
+        limit,
+        print,
+        log,
+        files,
+        ..
+    }) = plan
     else {
         return Err("no measurement".into());
     };
@@ -229,6 +317,22 @@ fn measurements_and_their_defaults(rt: HostRuntime) -> Result<(), Fail> {
     for asked in &MEASUREMENTS {
         let plan = plan_of(rt.alloc(), asked.words)?;
         assert_asked(&rt, &plan, asked)?;
+        assert!(rt; matches!(plan, Plan::Measure { .. }));
+    }
+    Ok(())
+}
+
+/// The same of files that a text names: its name, and what ends each name in it.
+#[test]
+fn measurements_of_listed_files(rt: HostRuntime) -> Result<(), Fail> {
+    for (asked, text, end) in &LISTED {
+        let plan = plan_of(rt.alloc(), asked.words)?;
+        assert_asked(&rt, &plan, asked)?;
+        let Plan::MeasureListed { names, ends, .. } = plan else {
+            return Err("no listed files".into());
+        };
+        assert_eq!(rt; names.as_str(), *text);
+        assert_eq!(rt; ends, *end);
     }
     Ok(())
 }

@@ -3,6 +3,7 @@
 
 use super::commands::SHELL_LINE;
 use super::devices::{NamedFiles, StandardInput, bytes_of, once_more, text_of, words_of};
+use super::hashing::hashed;
 use super::list_sources::{PieceSource, REPORT, report_within, written};
 use super::loading::loaded;
 use super::logs::{EVENT, EXTENDED_LINE, HEADER};
@@ -58,6 +59,28 @@ fn each_allocation_refused_in_load(rt: HostRuntime) -> Result<(), Fail> {
     assert_eq!(rt; loaded(alloc, b"abcd", 4)?.as_slice(), b"abcd".as_slice());
     assert_eq!(rt; loaded(alloc, b"abcde", 4).err(), Some(LoadFault::TooLong));
     assert_eq!(rt; loaded(alloc, &many, 20_000)?.as_slice(), many.as_slice());
+    Ok(())
+}
+
+/// Four bytes, with a limit of four and of three; and more than the first piece holds.
+#[test]
+fn each_allocation_refused_in_hash_from(rt: HostRuntime) -> Result<(), Fail> {
+    const FOUR: &[u8] = b"88d4266fd4e6338d13b845fcf289579d209c897823b9217da3e161936f031589";
+    const MANY: &[u8] = b"4694a5cff651ca6fe86b284bd62a25430d8402d26dd64d2b104e7a97a484e806";
+    let alloc = rt.alloc();
+    let four = PieceSource::new(b"abcd", usize::MAX);
+    let digest = hashed(alloc, &four, Alg::Sha256, 4)?;
+    assert_eq!(rt; Some(digest), Digest::from_hex(Alg::Sha256, FOUR));
+    let fault = hashed(alloc, &four, Alg::Sha256, 3).err();
+    assert_eq!(rt; fault, Some(LoadFault::TooLong));
+    let many = [7; 20_000];
+    let digest = hashed(
+        alloc,
+        &PieceSource::new(&many, usize::MAX),
+        Alg::Sha256,
+        20_000,
+    )?;
+    assert_eq!(rt; Some(digest), Digest::from_hex(Alg::Sha256, MANY));
     Ok(())
 }
 
@@ -175,6 +198,33 @@ fn each_allocation_refused_in_a_measurement(rt: HostRuntime) -> Result<(), Fail>
     let words = ["measure", "x"];
     let line = b"failed: read x\n";
     assert_answered_over(&rt, &words, &files, 3, line)
+}
+
+/// The register after one file, which a text names twice, by one worker and by two; and a text of names that is not UTF-8.
+#[test]
+fn each_allocation_refused_in_a_measurement_of_listed_files(rt: HostRuntime) -> Result<(), Fail> {
+    let log = bytes_of(rt.alloc(), &[HEADER])?;
+    let files = [
+        ("L", log.as_slice()),
+        ("/bin/sh", b"abc"),
+        ("names", b"/bin/sh\n/bin/sh\n"),
+        ("latin", b"\xff"),
+    ];
+    for workers in ["1", "2"] {
+        let words = [
+            "measure",
+            "--workers",
+            workers,
+            "--print=registers",
+            "L",
+            "--files-from",
+            "names",
+        ];
+        assert_answered_over(&rt, &words, &files, 0, SHELL_LINE)?;
+    }
+    let words = ["measure", "L", "--files-from", "latin"];
+    let line = b"refused: not UTF-8 latin\n";
+    assert_answered_over(&rt, &words, &files, 2, line)
 }
 
 /// The line of one entry.

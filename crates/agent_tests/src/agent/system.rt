@@ -2,9 +2,11 @@
 
 ghost use Rattle.std.specs.Prelude.{◌≤◌, IfOk};
 
-use super::devices::{ran_over, words_of};
+use super::devices::{MeasuredFiles, NamedFiles, bytes_of, ran_over, words_of};
+use super::logs::HEADER;
 use byte_streams::{Failed, Sink, Source, send};
-use ima_agent::{Files, LoadFault, ReadSource, SystemFiles, WriteSink, load};
+use ima_agent::{Files, LoadFault, ReadSource, SharedFiles, SystemFiles, WriteSink, load};
+use pcr_banks::{Alg, Digest};
 use std::io::{self, Error, ErrorKind, Read, Write};
 use std::test::Fail;
 
@@ -103,6 +105,42 @@ fn names_are_files(rt: HostRuntime) -> Result<(), Fail> {
 fn folder_is_no_input(rt: HostRuntime) -> Result<(), Fail> {
     let mut folder = SystemFiles::new(&rt).source(Some("/"))?;
     assert_eq!(rt; folder.read(&mut [0; 4]), Err(Failed));
+    Ok(())
+}
+
+/// Files are opened and hashed by their names: one that has no bytes, one that gives more than it may, a folder, and a name that
+/// no file has.
+#[test]
+fn system_files_are_hashed(rt: HostRuntime) {
+    const NONE: &[u8] = b"e3b0c44298fc1c149afbf4c8996fb92427ae41e4649b934ca495991b7852b855";
+    let files = SystemFiles::new(&rt);
+    let empty = files.hash(rt.alloc(), "/dev/null", Alg::Sha256, 0).ok();
+    assert_eq!(rt; empty, Digest::from_hex(Alg::Sha256, NONE));
+    for (name, fault) in [
+        ("/dev/zero", LoadFault::TooLong),
+        ("/", LoadFault::Source),
+        ("/dev/null ", LoadFault::Source),
+    ] {
+        let answer = files.hash(rt.alloc(), name, Alg::Sha256, 1_000_000);
+        assert_eq!(rt; answer, Err(fault), "{name}");
+    }
+}
+
+/// The workers read a folder, after a file.
+#[test]
+fn directory_cannot_be_read(rt: HostRuntime) -> Result<(), Fail> {
+    let log = bytes_of(rt.alloc(), &[HEADER])?;
+    let mut files = MeasuredFiles {
+        inputs: NamedFiles(&[("L", log.as_slice())]),
+        files: SystemFiles::new(&rt),
+    };
+    for workers in ["1", "2"] {
+        let words = ["measure", "--workers", workers, "L", "/dev/null", "/", "x"];
+        let words = words_of(rt.alloc(), &words)?;
+        let (status, output) = ran_over(&rt, &words, &mut files);
+        assert_eq!(rt; status, 3);
+        assert_eq!(rt; output.as_slice(), b"failed: read /\n".as_slice());
+    }
     Ok(())
 }
 
