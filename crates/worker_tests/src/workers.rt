@@ -1,14 +1,19 @@
 //! Worked examples, and what they are made of.
 
+mod any_jobs;
 mod batches;
 mod claims;
 mod counts;
 mod each_refused;
+mod first_fault;
 mod many;
+mod numbered;
 mod operations;
 mod overlap;
 mod refusals;
+mod rest;
 mod signatures;
+mod told;
 
 use hash_workers::{AgentFault, Batch, Job, NoGate, measure_files};
 use ima_list::{Sig, Template};

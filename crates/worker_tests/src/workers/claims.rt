@@ -15,10 +15,14 @@ use std::thread::{Threads, join};
 const TURNS: u32 = 100_000_000;
 
 /// How many numbers the two threads draw.
-const NUMBERS: u32 = 1_000;
+pub(super) const NUMBERS: u32 = 1_000;
 
 /// Claims and their first seat; once more where an allocation was refused.
-fn claims_of(alloc: Global, jobs: u32, seats: u32) -> Result<(Claims, ClaimSeat), AllocError>
+pub(super) fn claims_of(
+    alloc: Global,
+    jobs: u32,
+    seats: u32,
+) -> Result<(Claims, ClaimSeat), AllocError>
     requires { (1 ≤ seats) × (seats ≤ 8) }
     ensures { IfOk result (λ made. (made.1.claims ≡ made.0) × (made.0.seats ≡ seats) × (made.1.places ≡ seats)) }
 {
@@ -76,13 +80,13 @@ fn each_allocation_refused_in_claims(rt: HostRuntime) -> Result<(), Fail> {
 
 /// What one thread drew, until none was left; whether there was memory to keep all of it.
 #[derive(Drop)]
-struct Drawn {
-    seat: ClaimSeat,
-    numbers: Vec<u32>,
-    kept: bool,
+pub(super) struct Drawn {
+    pub(super) seat: ClaimSeat,
+    pub(super) numbers: Vec<u32>,
+    pub(super) kept: bool,
 }
 
-fn draw_all(alloc: Global, claims: &Claims, mut seat: ClaimSeat) -> Drawn
+pub(super) fn draw_all(alloc: Global, claims: &Claims, mut seat: ClaimSeat) -> Drawn
     requires { seat.claims ≡ claims.now }
     ensures { (result.seat.claims ≡ claims.now) × (result.seat.places ≡ seat.places) }
 {

@@ -1,9 +1,10 @@
 //! Calls that are made once plainly, and once more where an allocation was refused in the first one.
 
+use super::numbered::{Failing, Trial, tried};
 use super::{
     copied, file, measured, measured_with, origin, read, receipt_of, signed_file, violation,
 };
-use hash_workers::{AgentFault, Batch, Job, NoGate, measure_files, op_of};
+use hash_workers::{AgentFault, Batch, Job, JobFault, JobsFault, NoGate, measure_files, op_of};
 use measure_book::{Answer, BookFault, Op, Outcome};
 use pcr_banks::{Alg, Digest};
 use std::alloc::{AllocError, Global};
@@ -253,5 +254,30 @@ fn each_allocation_refused_with_one_file_twice(rt: HostRuntime) -> Result<(), Fa
     done_by_two(&rt, alloc, &jobs, &ops, Answer::Known(1))?;
     assert!(rt; is_file(jobs.first().ok_or("no job")?, b"/bin/sh", b"abc"));
     assert!(rt; is_file(jobs.last().ok_or("no job")?, b"/bin/sh", b"abc"));
+    Ok(())
+}
+
+/// One of five jobs of a kind of the tests' own fails. The answer is that, or that memory ran out, and when they are recorded
+/// once more it is that.
+#[test]
+fn each_allocation_refused_in_record_jobs(rt: HostRuntime) -> Result<(), Fail> {
+    let alloc = rt.alloc();
+    let failing = [Failing {
+        job: 3,
+        fault: JobFault::Source,
+    }];
+    let wanted = JobsFault::Job {
+        job: 3,
+        fault: JobFault::Source,
+    };
+    for workers in [1, 2] {
+        let trial = Trial::of(5, &failing, workers);
+        let found = tried(&rt, alloc, &trial).batch.err();
+        if found != Some(wanted) {
+            assert_eq!(rt; found, Some(JobsFault::Agent(AgentFault::Memory)));
+            let again = tried(&rt, alloc, &trial).batch.err();
+            assert_eq!(rt; again, Some(wanted));
+        }
+    }
     Ok(())
 }

@@ -1,5 +1,8 @@
 //! Many jobs, of all kinds.
 
+ghost use Rattle.std.specs.Prelude.{◌≡◌};
+ghost use Rattle.worker_tests.specs.Numbered.{path_of_number};
+
 use super::{batch_of, copied, file, measured, origin, read, sha256, violation};
 use hash_workers::{Batch, Job};
 use measure_book::{BookFault, Op, Outcome, Record};
@@ -18,6 +21,14 @@ impl Wanted {
     /// A job that is to be done.
     pub(super) fn done(op: Op) -> Self {
         Wanted { op, refusal: None }
+    }
+
+    /// A job that is to be refused so.
+    pub(super) fn refused(op: Op, fault: BookFault) -> Self {
+        Wanted {
+            op,
+            refusal: Some(fault),
+        }
     }
 }
 
@@ -42,7 +53,9 @@ pub(super) fn plan_of(alloc: Global, count: u32, refused: bool) -> Result<Plan, 
 }
 
 /// The path `/0123` of a number.
-fn path_of(number: u32) -> [u8; 5] {
+pub(super) fn path_of(number: u32) -> [u8; 5]
+    ensures { result ≡ path_of_number number }
+{
     let mut path = *b"/0000";
     path[1] += (number / 1000 % 10) as u8;
     path[2] += (number / 100 % 10) as u8;

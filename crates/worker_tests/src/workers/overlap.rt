@@ -74,7 +74,7 @@ impl OtherFirst {
 }
 
 /// Whether the stage is reached within this number of turns.
-fn comes(stage: &AtomicBool, turns: u32) -> bool {
+pub(super) fn comes(stage: &AtomicBool, turns: u32) -> bool {
     for _ in 0..turns {
         if stage.load(Ordering::SeqCst) {
             return true;
