@@ -88,23 +88,33 @@ impl SharedFiles for NamedFiles<'_> {
     }
 }
 
+/// These files, of whose bytes nothing is told.
+#[derive(Drop)]
+pub struct Untold<S>(pub S);
+
+impl<S: SharedFiles> SharedFiles for Untold<S> {
+    fn hash(&self, alloc: Global, name: &str, alg: Alg, limit: u64) -> Result<Digest, LoadFault> {
+        self.0.hash(alloc, name, alg, limit)
+    }
+}
+
 /// Inputs that are loaded, and other files, which workers read.
 #[derive(Drop)]
 pub struct MeasuredFiles<'a, S> {
     pub inputs: NamedFiles<'a>,
-    pub files: S,
+    pub files: Untold<S>,
 }
 
 impl<'a, S: SharedFiles + Sync> Files for MeasuredFiles<'a, S> {
     type Src = SliceSource<'a>;
 
-    type Shared = S;
+    type Shared = Untold<S>;
 
     fn source(&mut self, name: Option<&str>) -> Result<SliceSource<'a>, Failed> {
         self.inputs.source(name)
     }
 
-    fn shared(&self) -> &S {
+    fn shared(&self) -> &Untold<S> {
         &self.files
     }
 }

@@ -196,42 +196,46 @@ fn source_that_fails_is_not_hashed(rt: HostRuntime) -> Result<(), Fail> {
 #[derive(Drop)]
 struct PartSource<'a> {
     parts: &'a [&'a [u8]],
+    given: usize,
 }
 
 impl Source for PartSource<'_> {
     ghost state = { λ _. record { remaining = None; failures = 0 } };
 
     fn read(&mut self, buffer: &mut [u8]) -> Result<usize, Failed> {
-        let Some((part, rest)) = self.parts.split_first() else {
+        let Some(part) = self.parts.get(self.given) else {
             return Ok(0);
         };
         let count = part.len().min(buffer.len());
         buffer[..count].copy_from_slice(&part[..count]);
-        self.parts = rest;
+        self.given += 1;
         Ok(count)
     }
 }
 
 /// What a file gives at each read: more after the first, nothing and then more, or a whole piece and then hardly more; the hash
-/// of the bytes that came; and how many parts are not asked for.
+/// of the bytes that came; and how many parts were asked for.
 #[test]
 fn file_that_grows_or_shrinks_while_it_is_read(rt: HostRuntime) -> Result<(), Fail> {
     const SEVEN: &str = "7d1a54127b222502f5b79b5fb0803061152a44f92b37e23c6527baf665d4da9a";
     const NONE: &str = "e3b0c44298fc1c149afbf4c8996fb92427ae41e4649b934ca495991b7852b855";
     const PIECE: &str = "30eed5a0800edc73d539494c037e606ff9852faeb0e87927cd73b5208966eff0";
     let piece = counting_bytes(rt.alloc(), 4_096)?;
-    for (parts, digest, left) in [
-        ([b"abc".as_slice(), b"defg", b"", b"later"], SEVEN, 1),
-        ([b"", b"abc", b"defg", b"later"], NONE, 3),
-        ([piece.as_slice(), b"ab", b"", b""], PIECE, 1),
+    for (parts, digest, given) in [
+        ([b"abc".as_slice(), b"defg", b"", b"later"], SEVEN, 3),
+        ([b"", b"abc", b"defg", b"later"], NONE, 1),
+        ([piece.as_slice(), b"ab", b"", b""], PIECE, 3),
     ] {
-        let mut source = PartSource { parts: &parts };
+        let mut source = PartSource {
+            parts: &parts,
+            given: 0,
+        };
         let answer = hash_from(rt.alloc(), &mut source, Alg::Sha256, u64::MAX)?;
         assert_eq!(rt;
             Some(answer),
             Digest::from_hex(Alg::Sha256, digest.as_bytes())
         );
-        assert_eq!(rt; source.parts.len(), left);
+        assert_eq!(rt; source.given, given);
     }
     Ok(())
 }

@@ -1,6 +1,6 @@
 //! Many words, and many files in one measurement.
 
-use super::devices::{MeasuredFiles, NamedFiles, bytes_of, once_more, ran_over, words_of};
+use super::devices::{MeasuredFiles, NamedFiles, Untold, bytes_of, once_more, ran_over, words_of};
 use super::list_sources::PieceSource;
 use super::logs::HEADER;
 use super::seventy_files::{FILES, LINES};
@@ -45,7 +45,7 @@ fn assert_measured(
     assert_eq!(rt; words.len(), count);
     let mut files = MeasuredFiles {
         inputs: NamedFiles(&[("L", log.as_slice())]),
-        files: SameFiles,
+        files: Untold(SameFiles),
     };
     let (status, output) = ran_over(rt, &words, &mut files);
     assert_eq!(rt; status, 0);

@@ -1,6 +1,8 @@
 //! Files that hold their own names, and some that fail or have no end.
 
-use super::devices::{MeasuredFiles, NamedFiles, bytes_of, once_more, ran_over, words_of};
+use super::devices::{
+    MeasuredFiles, NamedFiles, Untold, bytes_of, once_more, ran_over, text_of, words_of,
+};
 use super::list_sources::PieceSource;
 use super::logs::HEADER;
 use super::program::OddSource;
@@ -68,6 +70,11 @@ pub fn names_text(
     })
 }
 
+/// A log `L` and a text `N`.
+fn inputs_of<'a>(log: &'a [u8], names: &'a [u8]) -> [(&'a str, &'a [u8]); 2] {
+    [("L", log), ("N", names)]
+}
+
 /// What the program answers for these words over such files, a log `L` and a text `N`.
 pub fn listed(
     rt: &(impl Threads + Wait + Sync + AllocGlobal),
@@ -76,10 +83,10 @@ pub fn listed(
     text: &str,
 ) -> Result<(u8, Vec<u8>), Fail> {
     let log = bytes_of(rt.alloc(), &[HEADER])?;
-    let inputs = [("L", log.as_slice()), ("N", text.as_bytes())];
+    let names = text_of(rt.alloc(), &[text])?;
     let mut files = MeasuredFiles {
-        inputs: NamedFiles(&inputs),
-        files: *files,
+        inputs: NamedFiles(&inputs_of(&log, names.as_bytes())),
+        files: Untold(*files),
     };
     Ok(ran_over(rt, words, &mut files))
 }

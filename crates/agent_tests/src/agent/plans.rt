@@ -328,11 +328,11 @@ fn measurements_of_listed_files(rt: HostRuntime) -> Result<(), Fail> {
     for (asked, text, end) in &LISTED {
         let plan = plan_of(rt.alloc(), asked.words)?;
         assert_asked(&rt, &plan, asked)?;
-        let Plan::MeasureListed { names, ends, .. } = plan else {
+        let Plan::MeasureListed { names, ends, .. } = &plan else {
             return Err("no listed files".into());
         };
         assert_eq!(rt; names.as_str(), *text);
-        assert_eq!(rt; ends, *end);
+        assert_eq!(rt; *ends, *end);
     }
     Ok(())
 }

@@ -2,7 +2,7 @@
 
 ghost use Rattle.std.specs.Prelude.{◌≤◌, IfOk};
 
-use super::devices::{MeasuredFiles, NamedFiles, bytes_of, ran_over, words_of};
+use super::devices::{MeasuredFiles, NamedFiles, Untold, bytes_of, ran_over, words_of};
 use super::logs::HEADER;
 use byte_streams::{Failed, Sink, Source, send};
 use ima_agent::{Files, LoadFault, ReadSource, SharedFiles, SystemFiles, WriteSink, load};
@@ -132,7 +132,7 @@ fn directory_cannot_be_read(rt: HostRuntime) -> Result<(), Fail> {
     let log = bytes_of(rt.alloc(), &[HEADER])?;
     let mut files = MeasuredFiles {
         inputs: NamedFiles(&[("L", log.as_slice())]),
-        files: SystemFiles::new(&rt),
+        files: Untold(SystemFiles::new(&rt)),
     };
     for workers in ["1", "2"] {
         let words = ["measure", "--workers", workers, "L", "/dev/null", "/", "x"];
