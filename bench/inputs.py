@@ -1,4 +1,4 @@
-"""Makes logs, lists and files to measure with, and says by a replay of its own what the program must answer for them."""
+"""Makes logs, lists and files to benchmark with, and computes what the program must answer for them by a replay of its own."""
 
 import hashlib
 import struct
@@ -19,7 +19,7 @@ def with_length(data):
 
 
 class Registers:
-    """The registers of a TPM: for each bank 24 values."""
+    """The registers of a TPM: 24 values for each bank."""
 
     def __init__(self, algs, locality):
         self.banks = {}
@@ -38,7 +38,7 @@ class Registers:
         return HASHES["sha256"](b"".join(self.banks["sha256"][:10])).digest()
 
     def lines(self, reset=None):
-        """The register lines: of each register, or of those that differ from the ones at reset."""
+        """The lines of all registers, or of those that differ from `reset`."""
         return "".join(
             f"{alg} {register} {value.hex()}\n"
             for alg, bank in self.banks.items()
@@ -48,7 +48,7 @@ class Registers:
 
 
 def make_log(algs, events):
-    """A firmware log with so many events, of which the first states locality 3, and the registers after it."""
+    """A firmware log of `events` events, the first of which states locality 3, and the registers after it."""
     registers = Registers(algs, locality=3)
     table = b"".join(struct.pack("<HH", TPM_IDS[alg], HASHES[alg]().digest_size) for alg in algs)
     ident = b"Spec ID Event03\0" + number(0) + bytes([0, 2, 0, 2]) + number(len(algs)) + table + b"\0"
@@ -70,7 +70,7 @@ def make_log(algs, events):
 
 
 def entry(path, content_digest):
-    """An entry of the template `ima-ng`: its bytes, its line as text, and what its register is extended with."""
+    """An entry of the template `ima-ng`: its bytes, its line as text, and the digest that extends its register."""
     payload = with_length(b"sha256:\0" + content_digest) + with_length(path + b"\0")
     digest = hashlib.sha1(payload).digest()
     spelling = number(IMA_REGISTER) + digest + with_length(b"ima-ng") + with_length(payload)
@@ -80,7 +80,7 @@ def entry(path, content_digest):
 
 
 def make_list(registers, measurements):
-    """The list, and its text, of a boot aggregate and these measurements. The registers are extended by them."""
+    """A list of the boot aggregate and these measurements, and its text. Extends the registers by them."""
     spellings, lines = [], []
     for path, content_digest in [(b"boot_aggregate", registers.boot_aggregate()), *measurements]:
         spelling, line, digests = entry(path, content_digest)

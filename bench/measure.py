@@ -1,7 +1,7 @@
-"""Times the program's commands over made inputs of two sizes, checks each answer, and prints how the times grow, and what memory
-those commands take that are to need little.
+"""Times the program's commands over made inputs of two sizes, checks each answer, and prints how the times grow, and the peak
+memory of the commands that should need little.
 
-Words: the repository's folder, an empty folder for inputs and outputs, and the number of runs of which the median is taken.
+Arguments: the repository's folder, an empty folder for inputs and outputs, and the number of runs to take the median of.
 """
 
 import hashlib
@@ -32,7 +32,7 @@ PEAKS = []
 
 
 def store(name, data):
-    """Writes an input of the program, which takes at most 64 MiB."""
+    """Writes an input of the program, at most 64 MiB."""
     assert len(data) <= MOST_BYTES, name
     (FOLDER / name).write_bytes(data)
     return name
@@ -42,7 +42,7 @@ def timed(words, stdin=NO_INPUT):
     """The time of one call, its status, and what it wrote."""
     with open(FOLDER / stdin, "rb") as source, open(OUTPUT, "wb") as sink:
         start = time.perf_counter()
-        # (a wait with a limit of its own looks only every 50 milliseconds)
+        # (`wait` with a timeout polls, only every 50 milliseconds)
         with subprocess.Popen(words, stdin=source, stdout=sink, cwd=FOLDER) as called:
             limit = threading.Timer(MOST_SECONDS, called.kill)
             limit.start()
@@ -57,7 +57,7 @@ def in_order(text):
 
 
 def in_any_order(text):
-    """The text's lines, sorted but for the first one, which is the boot aggregate's: workers come in any order."""
+    """The text's lines, sorted except the first, the boot aggregate's: workers record in any order."""
     first, *others = text.splitlines() or [b""]
     return [first, *sorted(others)]
 
@@ -69,7 +69,7 @@ def complain(words, status, text):
 
 
 def median_time(words, wanted, stdin=NO_INPUT, compared=in_order):
-    """The median time of RUNS calls after one that is not counted; nothing where an answer is not the one that is wanted."""
+    """The median time of RUNS calls, after one that is not counted; None if an answer is wrong."""
     wanted = compared(wanted)
     times = []
     for _ in range(1 + RUNS):
@@ -82,13 +82,13 @@ def median_time(words, wanted, stdin=NO_INPUT, compared=in_order):
 
 
 def median_of_tools(*commands, stdin=NO_INPUT):
-    """The median time of commands of the system, one after another."""
+    """The median time of these system commands, run one after another."""
     times = [sum(timed(command, stdin)[0] for command in commands) for _ in range(1 + RUNS)]
     return statistics.median(times[1:])
 
 
 def peak_memory(words, wanted, wanted_status=0, compared=in_order):
-    """The most memory that one call of the program held at once, in MiB; nothing where its answer is not the one that is wanted."""
+    """The peak memory of one call of the program, in MiB; None if its answer is wrong."""
     python = [sys.executable, "-S", "-E", ROOT / "bench/peak.py"]
     with open(FOLDER / NO_INPUT, "rb") as source, open(OUTPUT, "wb") as sink:
         told = subprocess.run([*python, PROGRAM, *words], stdin=source, stdout=sink, stderr=subprocess.PIPE, cwd=FOLDER).stderr
@@ -101,7 +101,7 @@ def peak_memory(words, wanted, wanted_status=0, compared=in_order):
 
 
 def print_memory(what, unit, sizes, empty, peaks):
-    """Prints the peak of a call with an empty input, and of those with inputs of both sizes."""
+    """Prints the peak memory of calls with an empty input and with inputs of both sizes."""
     name = f"{what:<28}{sizes[0]:>7,} and {sizes[1]:>7,} {unit:<8}"
     peaks = [empty, *peaks]
     text = "   wrong" if None in peaks else "".join(f"{peak:9.1f} MiB" for peak in peaks)
@@ -109,7 +109,7 @@ def print_memory(what, unit, sizes, empty, peaks):
 
 
 def print_growth(what, unit, sizes, times):
-    """Prints the times at both sizes, and by how much they grow."""
+    """Prints the times at both sizes, and how they grow."""
     name = f"{what:<28}{sizes[0]:>7,} and {sizes[1]:>7,} {unit:<8}"
     if None in times:
         print(f"{name}   wrong", flush=True)
@@ -124,7 +124,7 @@ def print_ratio(what, seconds, others):
 
 
 def small_log():
-    """A log of SHA-256 alone, and its registers, which the list is then to extend."""
+    """A log of SHA-256 alone, and its registers, for a list to extend."""
     return inputs.make_log(["sha256"], 24)
 
 
@@ -168,7 +168,7 @@ def lists():
 
 
 def logs():
-    """The registers of made logs, which come in hexadecimal on standard input."""
+    """The registers of made logs, in hexadecimal on standard input."""
     sizes = (32_000, 320_000)
     algs = ["sha256"]
     reset = inputs.Registers(algs, locality=3)
@@ -183,7 +183,7 @@ def logs():
 
 
 def measure_call(workers, contents):
-    """The words of `measure` by so many workers, of the files of `contents`, which has the hash of each name's file; and the answer."""
+    """The arguments of `measure` of the files of `contents`, a hash for each name, by this number of workers; and the answer."""
     log, registers = small_log()
     store("made.log", log)
     _, text = inputs.make_list(registers, [(name.encode(), digest) for name, digest in contents.items()])
@@ -191,12 +191,12 @@ def measure_call(workers, contents):
 
 
 def measure_time(workers, contents):
-    """The time of `measure` by so many workers, of the files of `contents`."""
+    """The time of `measure` of the files of `contents` by this number of workers."""
     return median_time(*measure_call(workers, contents), compared=in_order if workers == 1 else in_any_order)
 
 
 def measure_memory(workers, contents):
-    """The most memory that `measure` by so many workers, of the files of `contents`, held at once."""
+    """The peak memory of `measure` of the files of `contents` by this number of workers."""
     return peak_memory(*measure_call(workers, contents), compared=in_any_order)
 
 
@@ -205,14 +205,14 @@ def first_of(contents, count):
 
 
 def measured(what, workers, sizes, contents):
-    """The times of `measure` by so many workers, of the first files of `contents`."""
+    """Prints the times of `measure` of the first files of `contents` by this number of workers; returns the last."""
     times = [measure_time(workers, first_of(contents, count)) for count in sizes]
     print_growth(what, "files", sizes, times)
     return times[1]
 
 
 def made_files(count, size):
-    """Makes so many files of `size` random bytes, and gives the hash of each name's file."""
+    """Makes `count` files of `size` random bytes each, and returns the hash for each name."""
     source = random.Random(size)
     contents = {}
     for k in range(count):
@@ -222,7 +222,7 @@ def made_files(count, size):
 
 
 def files():
-    """`measure` of files of 1 MiB by one worker and by four, of small ones, and of so many that finding known ones counts."""
+    """`measure` of files of 1 MiB by one worker and by four, of small ones, and of enough to time the search for known ones."""
     sizes = (64, 256)
     contents = made_files(sizes[1], 1024 * 1024)
     by_one = measured("measure 1 MiB, 1 worker", 1, sizes, contents)
@@ -230,7 +230,7 @@ def files():
     empty, *peaks = (measure_memory(4, first_of(contents, count)) for count in (0, *sizes))
     PEAKS.append(("measure 1 MiB, 4 workers", "files", sizes, empty, peaks))
     hashed = median_of_tools(["sha256sum", *contents])
-    # (without a number of names for each call, xargs would make one call of all)
+    # (without -n, xargs would make one call for all names)
     names = store("names", "".join(f"{name}\n" for name in contents).encode())
     hashed_by_four = median_of_tools(["xargs", "-P", "4", "-n", "16", "sha256sum"], stdin=names)
     measured("measure 1 KiB, 1 worker", 1, (400, 4_000), made_files(4_000, 1024))
@@ -250,7 +250,7 @@ def uneven_files():
 
 
 def starts():
-    """What a start of the script takes above one of the program itself, when all is built."""
+    """The time that a start of the script adds to one of the program itself, when all is built."""
     words = ["show", NO_INPUT]
     times = {AGENT: [], PROGRAM: []}
     for _ in range(START_CALLS):

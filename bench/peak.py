@@ -1,7 +1,7 @@
-"""Calls a program with its words, and says on standard error its exit status and the most memory that it held at once, in KiB.
+"""Runs a program with arguments, and writes its exit status and its peak memory, in KiB, to standard error.
 
-This is a process of its own, since what a process held before it became the program counts too: so the peak of a program is never
-below that of a small Python.
+This is a process of its own, because what a process held before `exec` counts too: a program's peak is never below that of a
+small Python.
 """
 
 import os

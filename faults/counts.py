@@ -1,8 +1,8 @@
 #!/usr/bin/env python3
-"""Counts what the fronts of the sample's log and list are, and what each is with the lowest bit of one byte turned: a reader of
-both formats of its own, from docs/formats.md. The numbers stand in the test `real_boot_turned` of agent_tests.
+"""Counts how the fronts of the sample's log and list are read, and how each is read with the lowest bit of one byte flipped: a
+reader of both formats of its own, written from docs/formats.md. The test `real_boot_turned` of agent_tests has the numbers.
 
-faults/counts.py [FOLDER]: the folder with `firmware.log` and `ima.list`, or else the sample's."""
+faults/counts.py [FOLDER]: the folder with `firmware.log`, `ima.list` and `expected.txt`; by default the sample's."""
 
 import hashlib
 import struct
@@ -21,7 +21,7 @@ class Fault(Exception):
 
 
 class Cursor:
-    """What is left of some bytes, each part of which is there or is this fault."""
+    """The rest of some bytes; taking more than is left raises the fault `missing`."""
 
     def __init__(self, data, missing):
         self.data, self.place, self.missing = data, 0, missing
@@ -120,7 +120,7 @@ def hashes(hashed):
 
 
 def entries_of(data):
-    """For each entry its register, template's name and payload, what it extends a bank of SHA-256 with, and whether it is genuine."""
+    """For each entry its register, template name, payload, the digest that extends a SHA-256 bank, and whether it is genuine."""
     cursor, entries = Cursor(data, 1), []
     while cursor.more():
         register = cursor.number()
@@ -148,7 +148,7 @@ def with_length(data):
 
 
 def verdict(log, data, expected=None):
-    """Whether the list's first entry has the boot aggregate of the log's registers, by SHA-256, and PCR 10 is this after the list."""
+    """Whether the first entry has the SHA-256 boot aggregate of the log's registers, and PCR 10 is `expected` after the list."""
     values = registers_of(log)[0x000B]
     entries = entries_of(data)
     if not all(genuine for *_, genuine in entries):

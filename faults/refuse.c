@@ -1,5 +1,5 @@
-/* Refuses one allocation of a process, the one with the number in REFUSED_ALLOCATION (from 1), and then makes the file that
-   REFUSAL_MET names. Loaded before the C library, by LD_PRELOAD. */
+/* Refuses one allocation of a process, number REFUSED_ALLOCATION (counted from 1), and then creates the file REFUSAL_MET. Loaded
+   before the C library, by LD_PRELOAD. */
 #define _GNU_SOURCE
 #include <dlfcn.h>
 #include <errno.h>
@@ -54,7 +54,7 @@ void *realloc(void *old, size_t size) {
     return refuse() ? none() : real_realloc(old, size);
 }
 
-/* dlsym itself may ask for zeroed memory, before the constructor has run: that is had from the C library's own. */
+/* dlsym itself may call calloc, before the constructor has run: the C library's own serves it. */
 extern void *__libc_calloc(size_t, size_t);
 
 void *calloc(size_t count, size_t size) {

@@ -1,14 +1,15 @@
 #!/usr/bin/env python3
-"""Refuses each allocation in turn, in the tests that are made for it and in the program; and measures large files in little memory.
+"""Refuses each allocation in turn, in the tests made for it and in the program; and measures large files in little memory.
 
-faults/sweep.py [ROOT]: the tree whose test binaries and program `rt ci` has made, or else the one that this file is in.
+faults/sweep.py [ROOT]: the tree with the test binaries and the program that `rt ci` made; by default the one this file is in.
 
-A test whose name has `each_allocation_refused` in it, and each command below, runs again and again: in the Nth run its Nth
-allocation is refused (faults/refuse.c), until a run comes to its end with none refused. A test must pass each time; a command must
-answer as it does with ample memory, or with `failed: memory` and status 3. Whatever has none of its allocations refused fails, as
-does a run that crashes, or takes longer than a minute.
+Each test whose name contains `each_allocation_refused`, and each command below, runs again and again. In the Nth run its Nth
+allocation is refused (faults/refuse.c), until a run ends with none refused. A test must pass each time; a command must answer as
+it does with ample memory, or with `failed: memory` and status 3. A test or command without a refused allocation fails, and so
+does a run that crashes or takes longer than a minute.
 
-Before that the program measures 50 files of 40 MiB within 64 MiB of address space. The last line is 'N passed, M failed', of both."""
+Before that, the program measures 50 files of 40 MiB within 64 MiB of address space. The last line, 'N passed, M failed', counts
+both."""
 
 import hashlib
 import os
@@ -34,7 +35,7 @@ LARGE_SECONDS = 600
 
 @dataclass
 class Run:
-    """What is run, what is on its standard input, and the status and the output (None for any) that it is to have."""
+    """What to run, its standard input, and the answers that it may give: status and output (None for any)."""
 
     title: str
     words: list
@@ -47,8 +48,7 @@ def with_length(data):
 
 
 def list_lines(expected, files):
-    """The lines of a list that begins with the boot aggregate of these expected registers, and then has these files, each a name and a
-    SHA-256."""
+    """The lines of a list of the boot aggregate of these expected registers, then of these files, each a name and a SHA-256."""
     values = [bytes.fromhex(line.split()[2]) for line in expected.splitlines()[:10]]
     for name, digest in ((b"boot_aggregate", hashlib.sha256(b"".join(values)).digest()), *files):
         payload = with_length(b"sha256:\0" + digest) + with_length(name + b"\0")
@@ -69,7 +69,7 @@ def command_runs(root, folder):
     log, listed, expected = (boot / name for name in ("firmware.log", "ima.list", "expected.txt"))
     file = folder / "abc"
     file.write_bytes(b"abc")
-    # (a file that is named twice has one entry, so the order of the workers does not show)
+    # (a file named twice has one entry, so the order of the workers does not show)
     names = folder / "names"
     names.write_text(f"{file}\n\n{file}")
     lines = expected.read_text()
@@ -96,7 +96,7 @@ def command_runs(root, folder):
 
 
 def test_runs(root):
-    """The tests of every crate that are made to have an allocation refused."""
+    """The tests of every crate that are made for refused allocations."""
     for binary in sorted(root.glob("crates/*_tests/out/*_tests")):
         listing = subprocess.run([binary, "--list"], capture_output=True, timeout=SECONDS, check=True)
         for line in listing.stdout.decode().splitlines():
@@ -106,7 +106,7 @@ def test_runs(root):
 
 
 def refused(run, number, library, folder):
-    """Runs once with this allocation refused: what is wrong, if anything, and whether an allocation was refused."""
+    """Runs once with allocation `number` refused. Returns what is wrong, or None, and whether an allocation was refused."""
     met = folder / f"met-{os.urandom(8).hex()}"
     given = {"LD_PRELOAD": str(library), "REFUSED_ALLOCATION": str(number), "REFUSAL_MET": str(met)}
     try:
@@ -124,7 +124,7 @@ def refused(run, number, library, folder):
 
 
 def sweep(run, library, folder):
-    """How many allocations were refused, and what was wrong with the first run that was not right."""
+    """How many allocations were refused, and what was wrong with the first wrong run, or None."""
     for number in range(1, MOST_REFUSALS):
         fault, is_refused = refused(run, number, library, folder)
         if fault is not None:
@@ -135,7 +135,7 @@ def sweep(run, library, folder):
 
 
 def large_files_fault(root, folder):
-    """What is wrong with a measurement of large files in less memory than two of them take, if anything."""
+    """What is wrong with a measurement of large files in less memory than two of them take, or None."""
     boot = samples_of(root)
     first = folder / "large-00"
     with open(first, "wb") as file:

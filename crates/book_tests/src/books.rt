@@ -12,78 +12,20 @@ mod sha512;
 mod signatures;
 mod values;
 
-use exports::{list_of, spellings};
-use ima_list::{Entry, Sig, Template};
+use ima_list::Entry;
 use measure_book::{Answer, Book, BookFault, Op, Origin, Outcome, Receipt, Record};
-use pcr_banks::{Alg, AlgSet, Banks, Digest, hash};
+use pcr_banks::{Alg, Banks, Digest};
 use std::alloc::{AllocError, Global};
 use std::process::Abort;
 use std::test::Fail;
-
-/// The entry of `/bin/sh`, measured into PCR 10 with the SHA-256 of `abc`, in the template `ima-ng`.
-const MEASUREMENT: &[u8] = b"\x0a\x00\x00\x00\
-    \x83\xfd\xff\x31\x51\x75\x58\x71\x57\xed\x3a\xa6\x04\xe7\xf9\xec\x63\xca\x0b\x42\
-    \x06\x00\x00\x00ima-ng\
-    \x38\x00\x00\x00\
-    \x28\x00\x00\x00sha256:\x00\
-    \xba\x78\x16\xbf\x8f\x01\xcf\xea\x41\x41\x40\xde\x5d\xae\x22\x23\
-    \xb0\x03\x61\xa3\x96\x17\x7a\x9c\xb4\x10\xff\x61\xf2\x00\x15\xad\
-    \x08\x00\x00\x00/bin/sh\x00";
-
-/// The entry of a violation of `/etc/x` in PCR 10, in the template `ima-ng` with SHA-256.
-const VIOLATION: &[u8] = b"\x0a\x00\x00\x00\
-    \x00\x00\x00\x00\x00\x00\x00\x00\x00\x00\x00\x00\x00\x00\x00\x00\x00\x00\x00\x00\
-    \x06\x00\x00\x00ima-ng\
-    \x37\x00\x00\x00\
-    \x28\x00\x00\x00sha256:\x00\
-    \x00\x00\x00\x00\x00\x00\x00\x00\x00\x00\x00\x00\x00\x00\x00\x00\
-    \x00\x00\x00\x00\x00\x00\x00\x00\x00\x00\x00\x00\x00\x00\x00\x00\
-    \x07\x00\x00\x00/etc/x\x00";
-
-/// Banks of SHA-256 alone, after a start from locality 0.
-fn start() -> Banks {
-    Banks::new(AlgSet::empty().with(Alg::Sha256), 0)
-}
-
-/// An origin with these banks, the template `ima-ng` and SHA-256.
-fn origin(limit: u32) -> Origin {
-    Origin {
-        start: start(),
-        template: Template::ImaNg,
-        alg: Alg::Sha256,
-        limit,
-    }
-}
-
-/// The SHA-256 of these bytes.
-fn sha256(bytes: &[u8]) -> Digest {
-    hash(Alg::Sha256, bytes)
-}
-
-/// The bytes in a vector; once more where an allocation was refused.
-fn copied(alloc: Global, bytes: &[u8]) -> Result<Vec<u8>, AllocError> {
-    Vec::from_slice(alloc, bytes).or_else(|_| Vec::from_slice(alloc, bytes))
-}
+use test_kit::books::{measure, measure_with, opened};
+use test_kit::copied;
+use test_kit::lists::{list_of, spellings};
+use test_kit::registers::{sha256, sha256_of};
 
 /// The value of a register of SHA-256, from its hexadecimal digits.
-fn value(digits: &str) -> Option<Digest> {
-    Digest::from_hex(Alg::Sha256, digits.as_bytes())
-}
-
-/// A copy of the signature; once more where an allocation was refused.
-fn copied_sig(sig: &Sig) -> Result<Sig, AllocError> {
-    sig.copy().or_else(|_| sig.copy())
-}
-
-/// The measurement of a file without a signature.
-fn measure(alloc: Global, path: &[u8], digest: Digest) -> Result<Op, AllocError> {
-    measure_with(alloc, path, digest, &Sig::empty(alloc))
-}
-
-fn measure_with(alloc: Global, path: &[u8], digest: Digest, sig: &Sig) -> Result<Op, AllocError> {
-    let path = copied(alloc, path)?;
-    let sig = copied_sig(sig)?;
-    Ok(Op::Measure { path, digest, sig })
+fn value(digits: &[u8]) -> Option<Digest> {
+    sha256_of(digits).ok()
 }
 
 fn violation(alloc: Global, path: &[u8]) -> Result<Op, AllocError> {
@@ -97,22 +39,6 @@ fn read(alg: Alg, register: u32) -> Op {
 
 fn receipt(place: u32, op: Op, answer: Answer) -> Receipt {
     Receipt { place, op, answer }
-}
-
-/// Opens a book; once more where an allocation was refused.
-fn opened(alloc: Global, origin: Origin) -> Result<Book, BookFault> {
-    match Book::open(alloc, origin) {
-        Err(BookFault::Memory) => Book::open(alloc, origin),
-        answer => answer,
-    }
-}
-
-/// Does an operation; once more where an allocation was refused, after which the book is as it was.
-fn applied(book: &mut Book, op: &Op) -> Result<Receipt, BookFault> {
-    match book.apply(op) {
-        Err(BookFault::Memory) => book.apply(op),
-        answer => answer,
-    }
 }
 
 /// Opens a book and runs the operations on it; on another book once more where an allocation was refused. The outcomes

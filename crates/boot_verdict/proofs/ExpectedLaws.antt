@@ -1,4 +1,4 @@
--- Expected registers: where a text is cut, and what a line spells.
+-- Expected registers: where a text is split, and what a line spells.
 use Rattle.std.proofs.Common.{rules, ◌≡◌, ℕ, suc, ◌+◌, ◌^◌, ◌<◌, ◌≤◌, ◌*◌, Bool, true, false, List, [], ◌∷◌, ◌++◌, length, drop, slice_index, decimal, codes, Option, None, Some, option_map, Bor, refl, sym, ap, subst, ◌∙◌, arith, append_assoc}
 use Rattle.std.specs.Prelude.{map, IfNone, IfSome, ◌||◌}
 use Rattle.std.specs.List.{AllPass, AllByRecursion, IsDistinct, list_any}
@@ -17,7 +17,8 @@ use Rattle.hex.proofs.HexLemmas.{decode_of-ok}
 use Rattle.boot_verdict.specs.declared.expected.Expected.{Expected}
 use Rattle.boot_verdict.specs.declared.expected.ExpectFault.{ExpectFault}
 use Rattle.boot_verdict.specs.declared.expected.ExpectFault.TheVariants.{BadLine, DoubleLine, Memory}
-use Rattle.boot_verdict.specs.ExpectedTexts.{BeginsWithRegister, IsCutAt, IsRegisterLine, AreRegisterLines, AreExpected, IsExpectedText, IsLineFault, SpellsAnother, TakesLine, same_register, lines_left, cut_at_feeds, lines_of, without_return}
+use Rattle.boot_verdict.specs.ExpectedTexts.{BeginsWithRegister, IsRegisterLine, AreRegisterLines, AreExpected, IsExpectedText, IsLineFault, same_register, split_at_feeds, lines_of, without_return}
+use Rattle.boot_verdict.specs.parts.ExpectedLines.{IsSplitOnce, SpellsAnother, TakesLine, lines_left}
 
 -- ---- a byte that a text lacks
 
@@ -29,12 +30,12 @@ pub lacks_from : (byte : ℕ) (bytes : List ℕ) → LacksByte byte bytes → La
 lacks_from byte [] lacks = tt
 lacks_from byte (first ∷ bytes) lacks = (lacks 0 (omega arith), lacks_from byte bytes (λ k lt. lacks (suc k) (omega (arith, lt))))
 
--- The byte is at the seam.
+-- A text with the byte in the middle does not lack it.
 pub not_lacked : (byte : ℕ) (front rest : List ℕ) → Lacks byte (front ++ byte ∷ rest) → ⊥
 not_lacked byte [] rest lacks = lacks.0 refl
 not_lacked byte (first ∷ front) rest lacks = not_lacked byte front rest lacks.1
 
--- A text has one place where a byte first is.
+-- A byte has one first place in a text.
 pub one_cut : (byte : ℕ) (front other rest more : List ℕ) → Lacks byte front → Lacks byte other
     → front ++ byte ∷ rest ≡ other ++ byte ∷ more → (front ≡ other) × (rest ≡ more)
 one_cut byte [] [] rest more p q e = (refl, ap (λ (l : List ℕ). drop 1 l) e)
@@ -72,17 +73,17 @@ name_lacks alg = lacks_above (name_of alg) (name_above alg)
 
 -- ---- lines
 
-feed_cuts : (front rest : List ℕ) → Lacks 10 front → cut_at_feeds (front ++ 10 ∷ rest) ≡ front ∷ cut_at_feeds rest
+feed_cuts : (front rest : List ℕ) → Lacks 10 front → split_at_feeds (front ++ 10 ∷ rest) ≡ front ∷ split_at_feeds rest
 feed_cuts [] rest lacks = refl
 feed_cuts (first ∷ front) rest lacks = search (rules, feed_cuts front rest lacks.1, lacks.0)
 
-no_feed : (text : List ℕ) → Lacks 10 text → cut_at_feeds text ≡ text ∷ []
+no_feed : (text : List ℕ) → Lacks 10 text → split_at_feeds text ≡ text ∷ []
 no_feed [] lacks = refl
 no_feed (first ∷ text) lacks = search (rules, no_feed text lacks.1, lacks.0)
 
 -- The lines of a text are its first line and the lines after its line feed.
-pub first_line : (text line rest : List ℕ) → IsCutAt 10 text line rest → lines_of text ≡ without_return line ∷ lines_of rest
-first_line text line rest cut = ap (map without_return) (ap cut_at_feeds cut.parts ∙ feed_cuts line rest (lacks_from 10 line cut.lacks))
+pub first_line : (text line rest : List ℕ) → IsSplitOnce 10 text line rest → lines_of text ≡ without_return line ∷ lines_of rest
+first_line text line rest cut = ap (map without_return) (ap split_at_feeds cut.parts ∙ feed_cuts line rest (lacks_from 10 line cut.lacks))
 
 pub only_line : (text : List ℕ) → LacksByte 10 text → lines_of text ≡ without_return text ∷ []
 only_line text lacks = ap (map without_return) (no_feed text (lacks_from 10 text lacks))
@@ -97,7 +98,7 @@ line_has_space line e lacks is =
     not_lacked 32 (name_of e.alg) after whole
 
 -- Its first word is the algorithm's name, and the rest is the register and the digits.
-pub name_first : (line name rest : List ℕ) (e : Expected) → IsCutAt 32 line name rest → (is : IsRegisterLine line e)
+pub name_first : (line name rest : List ℕ) (e : Expected) → IsSplitOnce 32 line name rest → (is : IsRegisterLine line e)
     → (name ≡ name_of e.alg) × (rest ≡ decimal e.register ++ (codes " " ++ is.digits))
 name_first line name rest e cut is =
     one_cut 32 name (name_of e.alg) rest (decimal e.register ++ (codes " " ++ is.digits)) (lacks_from 32 name cut.lacks) (name_lacks e.alg)
@@ -108,7 +109,7 @@ rest_has_space rest digits n lacks is =
     let whole : Lacks 32 (decimal n ++ 32 ∷ digits) = rw is at (lacks_from 32 rest lacks) in
     not_lacked 32 (decimal n) digits whole
 
-pub number_first : (rest number left digits : List ℕ) (n : ℕ) → n < 2 ^ 64 → IsCutAt 32 rest number left
+pub number_first : (rest number left digits : List ℕ) (n : ℕ) → n < 2 ^ 64 → IsSplitOnce 32 rest number left
     → rest ≡ decimal n ++ (codes " " ++ digits) → (number ≡ decimal n) × (left ≡ digits)
 number_first rest number left digits n small cut is =
     one_cut 32 number (decimal n) left digits (lacks_from 32 number cut.lacks) (decimal_lacks n small) (sym cut.parts ∙ is)
@@ -119,29 +120,29 @@ pub if_none : {A : Type 0} (x : Option A) (P : Type 0) → P → IfNone x P
 if_none None P p = p
 if_none (Some a) P p = tt
 
--- Names are those of one algorithm each.
-pub no_number : (line name rest : List ℕ) (e : Expected) → IsCutAt 32 line name rest → LacksByte 32 rest → IsRegisterLine line e → ⊥
+-- A line with one space alone spells no register.
+pub no_number : (line name rest : List ℕ) (e : Expected) → IsSplitOnce 32 line name rest → LacksByte 32 rest → IsRegisterLine line e → ⊥
 no_number line name rest e cut lacks is = rest_has_space rest is.digits e.register lacks (name_first line name rest e cut is).1
 
-pub no_alg : (line name rest : List ℕ) (e : Expected) → IsCutAt 32 line name rest → ((alg : Alg) → name_of alg ≡ name → ⊥)
+pub no_alg : (line name rest : List ℕ) (e : Expected) → IsSplitOnce 32 line name rest → ((alg : Alg) → name_of alg ≡ name → ⊥)
     → IsRegisterLine line e → ⊥
 no_alg line name rest e cut unknown is = unknown e.alg (sym (name_first line name rest e cut is).0)
 
 -- The words of a line that spells a register.
-pub words : (line name rest number digits : List ℕ) (e : Expected) → IsCutAt 32 line name rest → IsCutAt 32 rest number digits
+pub words : (line name rest number digits : List ℕ) (e : Expected) → IsSplitOnce 32 line name rest → IsSplitOnce 32 rest number digits
     → (is : IsRegisterLine line e) → (name ≡ name_of e.alg) × (number ≡ decimal e.register) × (digits ≡ is.digits)
 words line name rest number digits e cut next is =
     let first = name_first line name rest e cut is in
     let second = number_first rest number digits is.digits e.register (omega (arith, is.exists)) next first.1 in
     (first.0, second.0, second.1)
 
-pub no_register : (line name rest number digits : List ℕ) (e : Expected) → IsCutAt 32 line name rest → IsCutAt 32 rest number digits
+pub no_register : (line name rest number digits : List ℕ) (e : Expected) → IsSplitOnce 32 line name rest → IsSplitOnce 32 rest number digits
     → ((register : ℕ) → register < register_count → number ≡ decimal register → ⊥) → IsRegisterLine line e → ⊥
 no_register line name rest number digits e cut next none is =
     none e.register is.exists (words line name rest number digits e cut next is).1
 
 pub no_value : (line name rest number digits : List ℕ) (alg : Alg) (e : Expected)
-    → IsCutAt 32 line name rest → IsCutAt 32 rest number digits → name_of alg ≡ name
+    → IsSplitOnce 32 line name rest → IsSplitOnce 32 rest number digits → name_of alg ≡ name
     → ((length digits ≡ 2 * size_of alg) × AllPass is_hex_digit digits → ⊥) → IsRegisterLine line e → ⊥
 no_value line name rest number digits alg e cut next named none is =
     let three = words line name rest number digits e cut next is in
@@ -150,7 +151,7 @@ no_value line name rest number digits alg e cut next named none is =
     let size : length is.digits ≡ 2 * size_of e.alg = spelled.2 ∙ ap (λ (n : ℕ). 2 * n) is.value_size in
     none (rw (same, three.2) (size, spelled.1))
 
--- Two registers that one line spells are one.
+-- Registers that one line spells are the same register of the same bank.
 pub one_register : (line : List ℕ) (e other : Expected) → IsRegisterLine line e → IsRegisterLine line other
     → (e.alg ≡ other.alg) × (e.register ≡ other.register)
 one_register line e other is another =
@@ -164,12 +165,12 @@ one_register line e other is another =
 
 -- ---- line by line
 
--- How much of a text is left, at most its bytes and one.
+-- How much of a text is left: its bytes and one, or nothing after the last line.
 abbrev pub left_count : Option (Bor (List ℕ)) → ℕ
 left_count None = 0
 left_count (Some text) = length text.now + 1
 
--- After some of a text's lines: they spell these registers, and their number is this.
+-- The lines before `rest` spell these registers, and this is their number.
 pub record ReadsSome (text : List ℕ) (expected : List Expected) (number : ℕ) (rest : Option (Bor (List ℕ))) : Type 0 where
   pub before : List (List ℕ)
   pub parts : lines_of text ≡ before ++ lines_left (option_map (λ left. left.now) rest)
@@ -188,7 +189,7 @@ reads_none text = record {
   within = omega arith;
 }
 
--- ---- one line more
+-- ---- one more line
 
 lines_one_more : (before : List (List ℕ)) (expected : List Expected) (byte : ℕ) (line : List ℕ) (e : Expected)
     → AreRegisterLines before expected → IsRegisterLine (byte ∷ line) e
@@ -242,7 +243,7 @@ parts_more : (text : List ℕ) (before : List (List ℕ)) (line : List ℕ) (lef
 parts_more text before line left rest parts first =
     parts ∙ ap (λ (lines : List (List ℕ)). before ++ lines) first ∙ sym (append_assoc before (line ∷ []) rest)
 
--- A line more is read.
+-- One more line is read.
 pub reads_more : (text line : List ℕ) (expected after : List Expected) (number : ℕ) (left : Bor (List ℕ)) (rest : Option (Bor (List ℕ)))
     → ReadsSome text expected number (Some left) → lines_of left.now ≡ line ∷ lines_left (option_map (λ r. r.now) rest)
     → IfSome rest (λ r. length r.now < length left.now) → TakesLine line expected after → ReadsSome text after (number + 1) rest
@@ -262,7 +263,7 @@ another_more before [] expected spells are = absurd (line_has_space [] spells.0 
 another_more before (byte ∷ line) expected spells are =
     are_more before (byte ∷ line) expected (expected ++ spells.0 ∷ []) are (spells.0, spells.1, spells.2, refl)
 
--- The line after those that are read spells a register.
+-- The line after those that were read spells a register.
 pub begins_with_register : (text line : List ℕ) (expected : List Expected) (number : ℕ) (left : Bor (List ℕ)) (rest : Option (Bor (List ℕ)))
     → ReadsSome text expected number (Some left) → lines_of left.now ≡ line ∷ lines_left (option_map (λ r. r.now) rest)
     → SpellsAnother line expected → BeginsWithRegister text
@@ -277,7 +278,7 @@ begins_with_register text line expected number left rest on first spells = recor
 
 -- ---- a text that states registers has no faulty line
 
--- The registers that some of the lines spell, and those that the others do.
+-- The registers that the first lines spell, and those that the others do.
 pub record Parted (before rest : List (List ℕ)) (expected : List Expected) : Type 0 where
   pub front : List Expected
   pub back : List Expected
@@ -354,7 +355,7 @@ no_fault_after before more (byte ∷ line) earlier expected number fault p are w
     let two = parted before ((byte ∷ line) ∷ more) expected are.lines_are in
     at_line before more byte line earlier two.front two.back number fault p two.fronts two.backs (rw two.parts at are.distinct) wrong
 
--- Where a text states registers, none of its lines has a fault.
+-- No line of a text that states registers has a fault.
 pub no_fault : (text line : List ℕ) (earlier expected : List Expected) (number : ℕ) (left : Bor (List ℕ)) (rest : Option (Bor (List ℕ)))
     (fault : ExpectFault)
     → ReadsSome text earlier number (Some left) → lines_of left.now ≡ line ∷ lines_left (option_map (λ r. r.now) rest)

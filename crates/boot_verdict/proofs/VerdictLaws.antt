@@ -17,13 +17,14 @@ use Rattle.ima_list.specs.declared.fault.ListFault.{ListFault}
 use Rattle.ima_list.specs.declared.fault.ListFault.TheVariants as lists
 use Rattle.ima_list.specs.ListEntry.{ListEntry}
 use Rattle.ima_list.specs.Spelling.{IsReading}
-use Rattle.ima_list.specs.Aggregates.{aggregated, boot_aggregate_of, joined_values}
+use Rattle.ima_list.specs.Aggregates.{aggregate_register_count, boot_aggregate_of, joined_values}
 use Rattle.ima_list.specs.Replaying.{IsReplayed, digests_of}
 use Rattle.boot_verdict.specs.declared.expected.Expected.{Expected}
 use Rattle.boot_verdict.specs.declared.report.Aggregate.{Aggregate}
 use Rattle.boot_verdict.specs.declared.report.Row.{Row}
 use Rattle.boot_verdict.specs.declared.verifier.VerifyFault.TheVariants as faults
-use Rattle.boot_verdict.specs.Verdicts.{Verdict, verdict_on, IsVerifyFault, IsSomeLog, aggregate_of, compared, stated_aggregate, booted_aggregate, booted_value, fault_of_list, fault_of_log, final_value, row_of, row_on, state_for}
+use Rattle.boot_verdict.specs.Verdicts.{Verdict, verdict_on, IsVerifyFault, IsSomeLog, aggregate_of, aggregate_state, stated_aggregate, booted_aggregate, pcr_after_log, fault_of_list, fault_of_log, pcr_after_log_and_list, row_on, row_state}
+use Rattle.boot_verdict.specs.parts.Rows.{row_of}
 
 -- ---- registers
 
@@ -35,21 +36,21 @@ fun_same f g same = λ i x. same x i
 pub booted_same : (algs : AlgSet) (events : List LogEvent) (banks : Banks) (alg : Alg) → IsFirmware algs events banks
     → boot_aggregate_of banks alg ≡ booted_aggregate algs events alg
 booted_same algs events banks alg firmware =
-    ap (λ (f : ℕ → Option (List ℕ)). option_map (hash_of alg) (joined_values f (aggregated alg)))
-    (fun_same (value_at banks alg) (booted_value algs events alg) (λ r. firmware.values alg r))
+    ap (λ (f : ℕ → Option (List ℕ)). option_map (hash_of alg) (joined_values f (aggregate_register_count alg)))
+    (fun_same (value_at banks alg) (pcr_after_log algs events alg) (λ r. firmware.values alg r))
 
 pub aggregate_same : (algs : AlgSet) (events : List LogEvent) (start : Banks) (stated : Digest) (value : Option Digest) (alg : Alg)
     → IsFirmware algs events start → alg ≡ alg_of stated → value ≡ option_map (digest_of alg) (boot_aggregate_of start alg)
-    → compared (bytes_of stated) (option_map bytes_of value) ≡ aggregate_of algs events (Some (alg_of stated, bytes_of stated))
+    → aggregate_state (bytes_of stated) (option_map bytes_of value) ≡ aggregate_of algs events (Some (alg_of stated, bytes_of stated))
 aggregate_same algs events start stated value alg firmware by is =
-    ap (λ (o : Option Digest). compared (bytes_of stated) (option_map bytes_of o)) is
-    ∙ ap (compared (bytes_of stated)) (same_bytes alg (boot_aggregate_of start alg) ∙ booted_same algs events start alg firmware)
-    ∙ ap (λ (a : Alg). compared (bytes_of stated) (booted_aggregate algs events a)) by
+    ap (λ (o : Option Digest). aggregate_state (bytes_of stated) (option_map bytes_of o)) is
+    ∙ ap (aggregate_state (bytes_of stated)) (same_bytes alg (boot_aggregate_of start alg) ∙ booted_same algs events start alg firmware)
+    ∙ ap (λ (a : Alg). aggregate_state (bytes_of stated) (booted_aggregate algs events a)) by
 
 -- A register after the log and the list.
 final_same : (algs : AlgSet) (events : List LogEvent) (entries : List ListEntry) (start banks : Banks) (alg : Alg) (register : ℕ)
     → IsFirmware algs events start → IsReplayed start entries banks
-    → value_at banks alg register ≡ final_value algs events entries alg register
+    → value_at banks alg register ≡ pcr_after_log_and_list algs events entries alg register
 final_same algs events entries start banks alg register firmware replayed =
     replayed.values alg register
     ∙ ap (λ (v : Option (List ℕ)). option_map (λ value. extended_by_all alg value (digests_of entries alg register)) v)
@@ -57,7 +58,7 @@ final_same algs events entries start banks alg register firmware replayed =
 
 -- The row of an expected register that has this value.
 abbrev row_with : Expected → Option (List ℕ) → Row
-row_with e value = record { expected = e; state = state_for e value }
+row_with e value = record { expected = e; state = row_state e value }
 
 pub rows_same : (algs : AlgSet) (events : List LogEvent) (entries : List ListEntry) (start banks : Banks) (expected : List Expected)
     → IsFirmware algs events start → IsReplayed start entries banks
@@ -69,7 +70,7 @@ rows_same algs events entries start banks expected firmware replayed =
 
 -- ---- the verdict
 
--- What a report has, part by part.
+-- The verdict, part by part.
 pub verdict_same : (algs : AlgSet) (events : List LogEvent) (entries : List ListEntry) (start banks : Banks) (expected : List Expected)
     (event-count locality entry-count : ℕ) (aggregate : Aggregate) (rows : List Row)
     → IsFirmware algs events start → IsReplayed start entries banks
@@ -88,7 +89,7 @@ verdict_on_same algs other events more entries others expected a b c = λ i. ver
 
 -- ---- results
 
--- What a result has.
+-- The value of a result, or `other` for a fault.
 abbrev got : {A E : Type 0} → A → Result A E → A
 got other (Ok value) = value
 got other (Err fault) = other
@@ -120,7 +121,7 @@ log_first log list (logs.MissingDigest event) (inl e) = absurd cc
 log_first log list (logs.BadRegister event) (inr first) = first
 log_first log list (logs.BadRegister event) (inl e) = absurd cc
 
--- The fault is that memory ran out only where it was that.
+-- The verifier's fault is `Memory` only if the log's is.
 pub log_memory : (fault : LogFault) → fault_of_log fault ≡ faults.Memory → fault ≡ logs.Memory
 log_memory logs.Memory e = refl
 log_memory (logs.Truncated event) e = absurd cc

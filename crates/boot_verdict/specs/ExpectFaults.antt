@@ -1,4 +1,4 @@
--- What a fault of expected registers says: its number, and the line that it names. All of this is this project's choice.
+-- The number of a fault of expected registers, and the line that it names. All of this is this project's choice.
 use Rattle.std.specs.Prelude.{ℕ, Option, Some, None}
 use Rattle.boot_verdict.specs.declared.expected.ExpectFault.{ExpectFault}
 use Rattle.boot_verdict.specs.declared.expected.ExpectFault.TheVariants.{BadLine, DoubleLine, Memory}

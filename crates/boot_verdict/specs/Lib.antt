@@ -4,4 +4,4 @@ pub mod ExpectedTexts
 pub mod Verdicts
 pub mod ReportTexts
 pub mod ListSources
-pub mod ListReplays
+pub mod parts

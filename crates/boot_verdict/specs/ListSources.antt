@@ -1,4 +1,4 @@
--- A list that comes from a source: what was taken of it, and why it is not read. All of this is this project's choice.
+-- A list that is read from a source: which bytes were taken, and why it was not read. All of this is this project's choice.
 use Rattle.std.specs.Prelude.{◌≡◌, ◌⊎◌, ℕ, ◌<◌, ◌≤◌, List, [], ◌++◌, length, Option, Some, Result, Ok, Err}
 use Rattle.std.specs.Io.KnownBytes.{Consumes, IsAtEnd}
 use Rattle.byte_streams.specs.Streams.{failures_after}
@@ -11,26 +11,27 @@ use Rattle.ima_list.specs.Replaying.{AreGenuine}
 use Rattle.boot_verdict.specs.declared.verifier.VerifyFault.{VerifyFault}
 use Rattle.boot_verdict.specs.declared.verifier.VerifyFault.TheVariants as faults
 
--- These bytes were taken from the source as the list, at most `limit`; those after them were read, and are not taken as the list's.
+-- The source gave the bytes `list`, at most `limit`, and then `over`, which are read but not taken as part of the list.
 pub record CameFrom (old new : Option (List ℕ)) (limit : ℕ) (list over : List ℕ) : Type 0 where
   pub lost : Consumes old new (list ++ over)
   pub within : length list ≤ limit
 
--- These are all bytes that the source had left, at most `limit`.
+-- `list` is all that the source had left, at most `limit` bytes.
 pub record CameWhole (old new : Option (List ℕ)) (limit : ℕ) (list : List ℕ) : Type 0 where
   pub came : CameFrom old new limit list []
   pub end : IsAtEnd new
 
--- The list has this fault whatever bytes follow: it is not that an entry is torn.
+-- The list has this fault whatever bytes follow: it is not `Truncated`.
 abbrev pub FailsFor : List ℕ → ListFault → Type 0
 FailsFor list fault = IsLasting fault × ((more : List ℕ) → IsReading (list ++ more) (Err fault))
 
--- The bytes read as a list, or as one that is torn: no entry among them is refused.
+-- The bytes read as a list or as a truncated one: no entry among them is refused.
 abbrev pub IsSound : List ℕ → Type 0
 IsSound list = ((entries : List ListEntry) × IsReading list (Ok entries)) ⊎ ((entry : ℕ) × IsReading list (Err (lists.Truncated entry)))
 
--- Why the list that a source gives is not read: the source gave it all, and it is torn; some bytes came, and whatever follows them they
--- have this fault; or after sound bytes the source failed, or more than `limit` bytes came; or memory ran out.
+-- Why a list is not read from a source. `Truncated`: the source gave it all. Any other fault of the list: the bytes that came
+-- have it whatever follows. `Source`: the source failed after sound bytes. `TooLong`: more bytes followed the first `limit`,
+-- which are sound. Or memory ran out.
 abbrev pub IsListFault : Option (List ℕ) → Option (List ℕ) → ℕ → VerifyFault → Type 0
 IsListFault old new limit (faults.Log fault) = ⊥
 IsListFault old new limit (faults.List (lists.Truncated entry)) =
@@ -43,7 +44,7 @@ IsListFault old new limit faults.TooLong =
     (list : List ℕ) × (over : List ℕ) × CameFrom old new limit list over × (length list ≡ limit) × (0 < length over) × IsSound list
 IsListFault old new limit faults.Memory = Unit {0}
 
--- All that the source has left is at most `limit` bytes, and is a list of these entries, each of them genuine.
+-- All that the source has left is a list of these entries, all genuine, of at most `limit` bytes.
 pub record HoldsGenuineList (remaining : Option (List ℕ)) (limit : ℕ) (entries : List ListEntry) : Type 0 where
   pub list : List ℕ
   pub told : remaining ≡ Some list
@@ -51,7 +52,7 @@ pub record HoldsGenuineList (remaining : Option (List ℕ)) (limit : ℕ) (entri
   pub list_is : IsReading list (Ok entries)
   pub genuine : AreGenuine entries
 
--- How many failures the source counts after the list was read from it: a fault of the source is one more, and nothing else is.
+-- The source's count of failures after the call: one more after `Source`, else unchanged.
 abbrev pub failures_after_list : {A : Type 0} → Result A VerifyFault → ℕ → ℕ
 failures_after_list (Ok value) failures = failures
 failures_after_list (Err faults.Source) failures = failures_after {A = ℕ} (Err faults.Source) failures

@@ -12,25 +12,25 @@ abbrev pub register_line : Alg → ℕ → List ℕ → List ℕ
 register_line alg register value =
     name_of alg ++ (codes " " ++ (decimal register ++ (codes " " ++ (encode_lower value ++ codes "\n"))))
 
--- Whether a value is not the one before, or there was none.
+-- Whether the value differs from the one before, or there was none.
 abbrev pub differs : Option (List ℕ) → List ℕ → Bool
 differs None value = true
 differs (Some before) value = not (bytes_eq before value)
 
--- The line of a register that has a value other than before.
+-- The line of a register whose value differs from the one before; empty if it has no value now.
 abbrev pub change_line : Alg → ℕ → Option (List ℕ) → Option (List ℕ) → List ℕ
 change_line alg register before None = []
 change_line alg register before (Some value) = if differs before value then register_line alg register value else []
 
--- The line of a register of a bank where it differs from the start.
+-- The line of a register of a bank, if it differs from the start.
 abbrev pub register_change : Banks → Banks → Alg → ℕ → List ℕ
 register_change now start alg register = change_line alg register (value_at start alg register) (value_at now alg register)
 
--- The numbers of the registers, rising.
+-- The numbers of the registers, ascending.
 unfoldable pub all_registers : List ℕ
 all_registers = range_with_len 0 register_count
 
--- The lines of a bank, by rising registers.
+-- The lines of a bank, by ascending register.
 abbrev pub bank_text : Banks → Banks → Alg → List ℕ
 bank_text now start alg = flat_map (register_change now start alg) all_registers
 

@@ -24,23 +24,23 @@ heading_text events locality entries aggregate =
     ++ (codes "\nentries " ++ (decimal entries
     ++ (codes "\nboot_aggregate " ++ (aggregate_word aggregate ++ codes "\n")))))))
 
--- What a register has, beside what is expected; where it is another value, that follows.
+-- The word for a state; after `differ` comes the value.
 abbrev pub state_word : State → List ℕ
 state_word Match = codes "match"
 state_word (Differ value) = codes "differ "
 state_word Absent = codes "absent"
 
--- A value that differs, in lower case hexadecimal.
+-- The value that differs, in lower case hexadecimal; else nothing.
 abbrev pub state_digits : State → List ℕ
 state_digits Match = []
 state_digits (Differ value) = encode_lower (bytes_of value)
 state_digits Absent = []
 
--- What a line on an expected register begins with: the algorithm's name, and the register in decimal.
+-- The start of an expected register's line: the algorithm's name and the register in decimal.
 abbrev pub register_words : Expected → List ℕ
 register_words expected = name_of expected.alg ++ (codes " " ++ (decimal expected.register ++ codes " "))
 
--- A line on an expected register, with a word, and digits after it.
+-- The line of an expected register: its start, a word and digits.
 abbrev pub row_line : Expected → List ℕ → List ℕ → List ℕ
 row_line expected word digits = register_words expected ++ (word ++ (digits ++ codes "\n"))
 

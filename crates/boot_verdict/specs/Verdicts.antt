@@ -1,14 +1,13 @@
--- The verdict on a firmware log, a measurement list and expected registers. All of this is this project's choice. What events and
--- entries make of the registers is defined with them, in boot_log and ima_list.
-use Rattle.std.specs.Prelude.{◌≡◌, ◌⊎◌, ℕ, ◌&&◌, nat_lt, Bool, true, false, if◌then◌else◌, List, [], ◌∷◌, length, map, codes, bytes_eq, Option, Some, None, option_map, Ok, Err}
+-- The verdict on a firmware log, a measurement list and expected registers. All of this is this project's choice. How events and
+-- entries change the registers is defined in boot_log and ima_list.
+use Rattle.std.specs.Prelude.{◌≡◌, ◌⊎◌, ℕ, ◌&&◌, nat_lt, Bool, true, false, if◌then◌else◌, List, [], ◌∷◌, length, map, bytes_eq, Option, Some, None, option_map, Ok, Err}
 use Rattle.std.specs.List.{list_all}
 use Rattle.pcr_banks.specs.declared.alg.Alg.{Alg}
-use Rattle.pcr_banks.specs.declared.banks.Banks.{Banks}
 use Rattle.pcr_banks.specs.declared.sets.AlgSet.{AlgSet}
 use Rattle.pcr_banks.specs.Hashing.{hash_of, same_alg}
 use Rattle.pcr_banks.specs.Digests.{alg_of, bytes_of, digest_of}
 use Rattle.pcr_banks.specs.Sets.{has_alg}
-use Rattle.pcr_banks.specs.Registers.{register_count, extended_by_all, value_at}
+use Rattle.pcr_banks.specs.Registers.{register_count, extended_by_all}
 use Rattle.byte_streams.specs.declared.pieces.ReadFault.{ReadFault}
 use Rattle.byte_streams.specs.declared.pieces.ReadFault.TheVariants as reads
 use Rattle.boot_log.specs.declared.fault.LogFault.{LogFault}
@@ -25,7 +24,7 @@ use Rattle.ima_list.specs.Spelling.{IsReading}
 use Rattle.ima_list.specs.Digesting.{is_violation}
 use Rattle.ima_list.specs.FieldKinds.{FileFields}
 use Rattle.ima_list.specs.Fields.{fields_of}
-use Rattle.ima_list.specs.Aggregates.{aggregated, joined_values}
+use Rattle.ima_list.specs.Aggregates.{aggregate_register_count, boot_aggregate_path, joined_values}
 use Rattle.ima_list.specs.Replaying.{digests_of, AreGenuine, IsReplayFault}
 use Rattle.boot_verdict.specs.declared.expected.Expected.{Expected}
 use Rattle.boot_verdict.specs.declared.report.Row.{Row}
@@ -40,38 +39,38 @@ use Rattle.boot_verdict.specs.ListSources.{CameWhole, IsListFault}
 
 -- ---- registers
 
--- A register of a bank after the log's events; none where the log has no such bank, or there is no register of this number.
-abbrev pub booted_value : AlgSet → List LogEvent → Alg → ℕ → Option (List ℕ)
-booted_value algs events alg register =
+-- The value of a register of a bank after the log's events; none if the log has no such bank or there is no such register.
+abbrev pub pcr_after_log : AlgSet → List LogEvent → Alg → ℕ → Option (List ℕ)
+pcr_after_log algs events alg register =
     if has_alg algs alg && nat_lt register register_count then Some (firmware_value events alg register) else None
 
--- The same after the list's entries.
-abbrev pub final_value : AlgSet → List LogEvent → List ListEntry → Alg → ℕ → Option (List ℕ)
-final_value algs events entries alg register =
-    option_map (λ value. extended_by_all alg value (digests_of entries alg register)) (booted_value algs events alg register)
+-- The same after the log's events and then the list's entries.
+abbrev pub pcr_after_log_and_list : AlgSet → List LogEvent → List ListEntry → Alg → ℕ → Option (List ℕ)
+pcr_after_log_and_list algs events entries alg register =
+    option_map (λ value. extended_by_all alg value (digests_of entries alg register)) (pcr_after_log algs events alg register)
 
--- Whether this value of its register is the expected one.
+-- Whether this value of the register is the expected one; a digest of another algorithm never is.
 abbrev pub is_value : Expected → List ℕ → Bool
 is_value expected value = same_alg (alg_of expected.value) expected.alg && bytes_eq (bytes_of expected.value) value
 
--- What is said of an expected register that has this value, or is absent.
-abbrev pub state_for : Expected → Option (List ℕ) → State
-state_for expected None = Absent
-state_for expected (Some value) = if is_value expected value then Match else Differ (digest_of expected.alg value)
+-- The state of an expected register with this value, or of an absent one.
+abbrev pub row_state : Expected → Option (List ℕ) → State
+row_state expected None = Absent
+row_state expected (Some value) = if is_value expected value then Match else Differ (digest_of expected.alg value)
 
 -- The row of an expected register.
 abbrev pub row_on : AlgSet → List LogEvent → List ListEntry → Expected → Row
 row_on algs events entries expected =
-    record { expected = expected; state = state_for expected (final_value algs events entries expected.alg expected.register) }
+    record { expected = expected; state = row_state expected (pcr_after_log_and_list algs events entries expected.alg expected.register) }
 
 -- ---- boot aggregate
 
--- The file digest that the list's first entry states, where it is a measurement of the path `boot_aggregate`.
+-- The file digest of these fields, if their path is `boot_aggregate`.
 abbrev pub aggregate_in : Option FileFields → Option (Alg × List ℕ)
 aggregate_in None = None
-aggregate_in (Some fields) = if bytes_eq fields.path (codes "boot_aggregate") then Some (fields.alg, fields.digest) else None
+aggregate_in (Some fields) = if bytes_eq fields.path boot_aggregate_path then Some (fields.alg, fields.digest) else None
 
--- What an entry states so, where it is the first.
+-- The boot aggregate that this entry states as the first of a list; a violation states none.
 abbrev pub stated_in : ListEntry → Option (Alg × List ℕ)
 stated_in first = if is_violation first then None else aggregate_in (fields_of first)
 
@@ -79,17 +78,17 @@ abbrev pub stated_aggregate : List ListEntry → Option (Alg × List ℕ)
 stated_aggregate [] = None
 stated_aggregate (first ∷ entries) = stated_in first
 
--- The boot aggregate of the log's registers.
+-- The boot aggregate of the log's registers: the hash of the bank's first ones, joined.
 abbrev pub booted_aggregate : AlgSet → List LogEvent → Alg → Option (List ℕ)
-booted_aggregate algs events alg = option_map (hash_of alg) (joined_values (booted_value algs events alg) (aggregated alg))
+booted_aggregate algs events alg = option_map (hash_of alg) (joined_values (pcr_after_log algs events alg) (aggregate_register_count alg))
 
-abbrev pub compared : List ℕ → Option (List ℕ) → Aggregate
-compared stated None = NoBank
-compared stated (Some value) = if bytes_eq stated value then Good else Wrong
+abbrev pub aggregate_state : List ℕ → Option (List ℕ) → Aggregate
+aggregate_state stated None = NoBank
+aggregate_state stated (Some value) = if bytes_eq stated value then Good else Wrong
 
 abbrev pub aggregate_of : AlgSet → List LogEvent → Option (Alg × List ℕ) → Aggregate
 aggregate_of algs events None = Missing
-aggregate_of algs events (Some stated) = compared stated.1 (booted_aggregate algs events stated.0)
+aggregate_of algs events (Some stated) = aggregate_state stated.1 (booted_aggregate algs events stated.0)
 
 -- ---- the verdict
 
@@ -146,7 +145,7 @@ pub record IsSomeLog (log : List ℕ) : Type 0 where
   pub events : List LogEvent
   pub log_is : IsLog log table events
 
--- The bytes are a list, and this fault is that of its entries.
+-- The bytes are a list, and this is the fault of its first entry that is not genuine.
 pub record IsForged (list : List ℕ) (fault : ReplayFault) : Type 0 where
   pub entries : List ListEntry
   pub list_is : IsReading list (Ok entries)
@@ -158,11 +157,12 @@ pub record IsGenuineList (list : List ℕ) : Type 0 where
   pub list_is : IsReading list (Ok entries)
   pub genuine : AreGenuine entries
 
--- There is something to keep in memory: an event, at the front of the log; or rows, after a log and a list of genuine entries.
+-- Something must be kept in memory: an event at the front of the log; or rows, after a log and a list of genuine entries.
 abbrev pub HasSomethingToKeep : List ℕ → List ℕ → Type 0
 HasSomethingToKeep log list = BeginsWithEvent log ⊎ (IsSomeLog log × IsGenuineList list)
 
--- Why there is no verdict: the first of these that holds, the log before the list, and the list before its entries; or memory ran out.
+-- Why there is no verdict: the first of these that holds, the log before the list, and the list before its entries; or memory ran
+-- out.
 abbrev pub IsVerifyFault : List ℕ → List ℕ → VerifyFault → Type 0
 IsVerifyFault log list (faults.Log fault) = log_fault log ≡ Some fault
 IsVerifyFault log list (faults.List fault) = IsSomeLog log × IsReading list (Err fault)
@@ -171,7 +171,7 @@ IsVerifyFault log list faults.Source = ⊥
 IsVerifyFault log list faults.TooLong = ⊥
 IsVerifyFault log list faults.Memory = Unit {0}
 
--- That memory ran out is one fault, wherever it ran out.
+-- Out of memory is one fault, wherever it happens.
 abbrev pub fault_of_log : LogFault → VerifyFault
 fault_of_log logs.Memory = faults.Memory
 fault_of_log fault = faults.Log fault
@@ -180,7 +180,7 @@ abbrev pub fault_of_list : ListFault → VerifyFault
 fault_of_list lists.Memory = faults.Memory
 fault_of_list fault = faults.List fault
 
--- That memory ran out, or the source failed, while the list was read.
+-- The fault of reading a piece of the list.
 abbrev pub fault_of_reading : ReadFault → VerifyFault
 fault_of_reading reads.Source = faults.Source
 fault_of_reading reads.Memory = faults.Memory
@@ -193,8 +193,8 @@ pub record IsVerdictFrom (log : List ℕ) (old new : Option (List ℕ)) (limit :
   pub came : CameWhole old new limit list
   pub verdict_is : IsVerdict log list expected verdict
 
--- Why there is no verdict on a log and the list that a source has left: the first of these that holds. The log comes before the source,
--- and all of the list before its entries.
+-- Why there is no verdict on a log and the list that a source has left: the first of these that holds. A fault of the log leaves
+-- the source as it was, and `Replay` comes only after all of the list.
 abbrev pub IsVerifyFaultFrom : List ℕ → Option (List ℕ) → Option (List ℕ) → ℕ → VerifyFault → Type 0
 IsVerifyFaultFrom log old new limit (faults.Log fault) = (log_fault log ≡ Some fault) × (new ≡ old)
 IsVerifyFaultFrom log old new limit (faults.Replay fault) =
@@ -212,9 +212,3 @@ verdict_of report = record {
   aggregate = report.aggregate;
   rows = report.rows.items;
 }
-
--- ---- what contracts see of the steps of the verifier
-
--- The row of an expected register, over these banks.
-abbrev pub row_of : Banks → Expected → Row
-row_of banks expected = record { expected = expected; state = state_for expected (value_at banks expected.alg expected.register) }

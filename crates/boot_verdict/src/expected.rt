@@ -8,7 +8,8 @@ ghost use Rattle.pcr_banks.specs.Registers.{register_count};
 ghost use Rattle.boot_verdict.specs.declared.expected.Expected.{Expected};
 ghost use Rattle.boot_verdict.specs.declared.expected.ExpectFault.TheVariants.{Memory};
 ghost use Rattle.boot_verdict.specs.ExpectFaults.{expect_fault_number, expect_fault_line};
-ghost use Rattle.boot_verdict.specs.ExpectedTexts.{BeginsWithRegister, IsCutAt, IsExpectedText, IsLineFault, IsRegisterLine, HasFirstFault, SpellsAnother, TakesLine, lines_left, lines_of, same_register, without_return};
+ghost use Rattle.boot_verdict.specs.ExpectedTexts.{BeginsWithRegister, IsExpectedText, IsLineFault, IsRegisterLine, HasFirstFault, lines_of, same_register, without_return};
+ghost use Rattle.boot_verdict.specs.parts.ExpectedLines.{IsSplitOnce, SpellsAnother, TakesLine, lines_left};
 
 use itoa::Buffer;
 use memchr::memchr;
@@ -16,27 +17,27 @@ use pcr_banks::{Alg, Digest, REGISTERS};
 use std::alloc::{AllocError, AllocFailed, Global};
 use thiserror::Error;
 
-/// What a register of a bank is expected to have.
+/// The value expected of one register in one bank.
 #[derive(Clone, Copy, Debug, PartialEq, Eq)]
 pub struct Expected {
     /// The bank.
     pub alg: Alg,
-    /// The register, from 0 to 23; a greater number names none.
+    /// The register, 0 to 23. A greater number names no register.
     pub register: u32,
-    /// The value, a digest by the bank's algorithm. A register never has a digest by another one.
+    /// The value, a digest of the bank's algorithm. A digest of another algorithm never matches.
     pub value: Digest,
 }
 
-/// Why a text does not state expected registers: the fault of the first line that is wrong. Lines count from 1.
+/// Why a text of expected registers was refused: the first wrong line, counted from 1, or out of memory.
 #[derive(Clone, Copy, Debug, PartialEq, Eq, Error)]
 pub enum ExpectFault {
-    /// 1: the line is not empty and spells no register.
+    /// 1: the line is neither empty nor a register line.
     #[error("line {line} is not a register line")]
     BadLine { line: usize },
-    /// 2: the line spells a register of a bank that an earlier line spells too.
+    /// 2: the line names a register of a bank that an earlier line names.
     #[error("line {line} names a register a second time")]
     DoubleLine { line: usize },
-    /// 3: there is no memory to keep a register.
+    /// 3: out of memory.
     #[error("out of memory")]
     Memory,
 }
@@ -53,7 +54,7 @@ impl ExpectFault {
         }
     }
 
-    /// The line that the fault names, where it names one.
+    /// The line at fault; `None` for `Memory`.
     pub fn line(self) -> Option<usize>
         ensures { result ≡ expect_fault_line self }
     {
@@ -72,19 +73,21 @@ impl<T: Drop> From<AllocFailed<T>> for ExpectFault {
     }
 }
 
-/// Reads expected registers, one on each line: the algorithm's name, the register in decimal without leading zeros, and the
-/// value in hexadecimal digits of either case, with one space between two of them, as `sha256 4 f5a5..`.
+/// Reads expected registers, one per line: the algorithm's name, the register in decimal without leading zeros, and the value in
+/// hexadecimal digits of either case, separated by single spaces, as in `sha256 4 f5a5..`.
 ///
-/// The last line feed may be missing, one carriage return at a line's end is dropped, and empty lines are skipped. The lines
-/// that [`crate::write_registers`] writes are of this form. A fault is that of the first line that is wrong;
-/// [`ExpectFault::Memory`] comes only where the first line that is not empty spells a register.
+/// The last line feed may be missing, one carriage return at a line's end is dropped, and empty lines are skipped.
+/// [`crate::write_registers`] writes lines of this form.
+///
+/// Fails with the fault of the first wrong line, or with [`ExpectFault::Memory`], which is possible only if the first line that
+/// is not empty names a register.
 pub fn read_expected(alloc: Global, text: &[u8]) -> Result<Vec<Expected>, ExpectFault>
-    // What is read is what the text states.
+    // The result is what the text states.
     ensures found { IfOk result (λ expected. IsExpectedText text.now expected.items) }
-    // Where the text states registers, they are read, unless memory runs out.
+    // A text that states registers is read, unless memory runs out.
     ensures only { (expected : List Expected) → IsExpectedText text.now expected
         → IfErr result (λ fault. fault ≡ ExpectFault.Memory) }
-    // Any other fault is that of the first line that is wrong.
+    // Any other fault is that of the first wrong line.
     ensures fault { IfErr result (λ fault. (fault ≡ ExpectFault.Memory) ⊎ HasFirstFault text.now fault) }
     ensures memory { IsErrOf result ExpectFault.Memory → BeginsWithRegister text.now }
 {
@@ -100,7 +103,7 @@ pub fn read_expected(alloc: Global, text: &[u8]) -> Result<Vec<Expected>, Expect
     Ok(expected)
 }
 
-// Takes what the line of this number spells, where it is not empty.
+// Appends the register that this line names, or nothing if the line is empty. `number` counts lines from 1.
 fn take_line(expected: &mut Vec<Expected>, number: usize, line: &[u8]) -> Result<(), ExpectFault>
     ensures taken { OnOk result (TakesLine line.now expected.old.items expected.new.items) }
     ensures fault { IfErr result (λ fault. (fault ≡ ExpectFault.Memory) ⊎ IsLineFault expected.old.items line.now number fault) }
@@ -119,38 +122,38 @@ fn take_line(expected: &mut Vec<Expected>, number: usize, line: &[u8]) -> Result
     Ok(())
 }
 
-// Whether one of these names the same register of the same bank.
+// Whether `expected` already has this register of this bank.
 fn is_among(register: &Expected, expected: &[Expected]) -> bool
     ensures { result ≡ list_any (λ x. same_register x register.now) expected.now }
 {
     expected.iter().any(|other| other.alg == register.alg && other.register == register.register)
 }
 
-// The first line of a text, without a carriage return at its end, and what is left after its line feed.
+// The first line, without a carriage return at its end, and the text after its line feed, if it has one.
 fn line_at(text: &[u8]) -> (&[u8], Option<&[u8]>)
     ensures line { lines_of text.now ≡ result.0.now ∷ lines_left (option_map (λ rest. rest.now) result.1) }
     ensures shorter { IfSome result.1 (λ rest. length rest.now < length text.now) }
 {
-    match cut_at(b'\n', text) {
+    match split_once(b'\n', text) {
         Some((line, rest)) => (without_return(line), Some(rest)),
         None => (without_return(text), None),
     }
 }
 
-// The line without the one carriage return that may end it.
+// The line without its trailing carriage return, if it has one.
 fn without_return(line: &[u8]) -> &[u8]
     ensures { result.now ≡ without_return line.now }
 {
     line.strip_suffix(b"\r").unwrap_or(line)
 }
 
-// What the line spells, where it spells a register.
+// The register that the line names, if it is a register line.
 fn register_on(line: &[u8]) -> Option<Expected>
     ensures found { IfSome result (IsRegisterLine line.now) }
     ensures none { IfNone result ((e : Expected) → IsRegisterLine line.now e → ⊥) }
 {
-    let (name, rest) = cut_at(b' ', line)?;
-    let (number, digits) = cut_at(b' ', rest)?;
+    let (name, rest) = split_once(b' ', line)?;
+    let (number, digits) = split_once(b' ', rest)?;
     let alg = Alg::from_name(name)?;
     let register = register_named(number)?;
     let value = Digest::from_hex(alg, digits)?;
@@ -161,7 +164,7 @@ fn register_on(line: &[u8]) -> Option<Expected>
     })
 }
 
-// The register whose number in decimal is this text.
+// The register below 24 whose number in decimal is this text.
 fn register_named(text: &[u8]) -> Option<u32>
     ensures found { IfSome result (λ register. (register < register_count) × (text.now ≡ decimal register)) }
     ensures none { IfNone result ((register : ℕ) → register < register_count → text.now ≡ decimal register → ⊥) }
@@ -181,9 +184,9 @@ fn is_decimal_of(number: u32, text: &[u8]) -> bool
     Buffer::new().format(number).as_bytes() == text
 }
 
-// The bytes before the first byte of this value, and those after it; nothing where there is none.
-fn cut_at(byte: u8, text: &[u8]) -> Option<(&[u8], &[u8])>
-    ensures cut { IfSome result (λ x. IsCutAt byte text.now x.0.now x.1.now) }
+// The bytes before the first `byte` and those after it; `None` if the text lacks it.
+fn split_once(byte: u8, text: &[u8]) -> Option<(&[u8], &[u8])>
+    ensures cut { IfSome result (λ x. IsSplitOnce byte text.now x.0.now x.1.now) }
     ensures none { IfNone result (LacksByte byte text.now) }
 {
     let at = memchr(byte, text)?;

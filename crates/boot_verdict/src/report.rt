@@ -1,4 +1,4 @@
-//! What the verifier says of a log, a list and expected registers.
+//! The report on a log, a list and expected registers.
 
 ghost use Rattle.std.specs.Prelude.{◌≡◌};
 ghost use Rattle.std.specs.List.{list_all};
@@ -7,12 +7,12 @@ ghost use Rattle.boot_verdict.specs.Verdicts.{is_match, matches, verdict_of};
 use crate::expected::Expected;
 use pcr_banks::Digest;
 
-/// How a register compares with what is expected of it.
+/// How a register compares with its expected value.
 #[derive(Clone, Copy, Debug, PartialEq, Eq)]
 pub enum State {
     /// It has the expected value.
     Match,
-    /// It has this value, which is another one.
+    /// It has this other value.
     Differ(Digest),
     /// The log has no such bank, or there is no such register.
     Absent,
@@ -27,15 +27,15 @@ pub struct Row {
     pub state: State,
 }
 
-/// What the list says of the registers that the firmware left: its first entry is to be a measurement of the path
-/// `boot_aggregate`, with the hash of the first registers.
+/// Whether the list states the boot aggregate of the log: its first entry should be a measurement of the path `boot_aggregate`,
+/// with the hash of the first registers that the firmware left.
 #[derive(Clone, Copy, Debug, PartialEq, Eq)]
 pub enum Aggregate {
     /// The first entry states the boot aggregate of the log's registers.
     Good,
     /// It states another digest, and the log has a bank of its algorithm.
     Wrong,
-    /// It states a digest by an algorithm of which the log has no bank.
+    /// It states a digest of an algorithm for which the log has no bank.
     NoBank,
     /// The list is empty, or its first entry states no boot aggregate.
     Missing,
@@ -50,9 +50,9 @@ pub struct Report {
     pub locality: u8,
     /// How many entries the list has.
     pub entries: usize,
-    /// What the list says of the log's registers.
+    /// Whether the list states the log's boot aggregate.
     pub aggregate: Aggregate,
-    /// The expected registers, in their order.
+    /// The expected registers and how they compare, in their order.
     pub rows: Vec<Row>,
 }
 

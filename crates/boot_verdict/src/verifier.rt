@@ -13,9 +13,10 @@ ghost use Rattle.ima_list.specs.ListEntry.{ListEntry};
 ghost use Rattle.ima_list.specs.Spelling.{IsReading};
 ghost use Rattle.ima_list.specs.Replaying.{AreGenuine};
 ghost use Rattle.boot_verdict.specs.declared.verifier.VerifyFault.TheVariants.{Memory, Replay};
-ghost use Rattle.boot_verdict.specs.Verdicts.{HasSomethingToKeep, IsSomeLog, IsVerdict, IsVerdictFrom, IsVerifyFault, IsVerifyFaultFrom, aggregate_of, compared, fault_of_list, fault_of_log, fault_of_reading, row_of, state_for, verdict_of, verdict_on};
+ghost use Rattle.boot_verdict.specs.Verdicts.{HasSomethingToKeep, IsSomeLog, IsVerdict, IsVerdictFrom, IsVerifyFault, IsVerifyFaultFrom, aggregate_of, aggregate_state, fault_of_list, fault_of_log, fault_of_reading, row_state, verdict_of, verdict_on};
+ghost use Rattle.boot_verdict.specs.parts.Rows.{row_of};
 ghost use Rattle.boot_verdict.specs.ListSources.{HoldsGenuineList, failures_after_list};
-ghost use Rattle.boot_verdict.specs.ListReplays.{IsReportFault, Replays};
+ghost use Rattle.boot_verdict.specs.parts.ListReplays.{IsReportFault, Replays};
 
 use crate::expected::Expected;
 use crate::list_replay::ListReplay;
@@ -31,22 +32,22 @@ use thiserror::Error;
 /// Why there is no verdict.
 #[derive(Clone, Copy, Debug, PartialEq, Eq, Error)]
 pub enum VerifyFault {
-    /// 1: the log is not a firmware event log.
+    /// The log is not a firmware event log.
     #[error("log: {0}")]
     Log(LogFault),
-    /// 2: the list is not a measurement list.
+    /// The list is not a measurement list.
     #[error("list: {0}")]
     List(ListFault),
-    /// 3: an entry of the list is not genuine.
+    /// An entry of the list is not genuine.
     #[error("replay: {0}")]
     Replay(ReplayFault),
-    /// 4: the source of the list failed.
+    /// The source of the list failed.
     #[error("the source of the list failed")]
     Source,
-    /// 5: more bytes of the list came than are allowed.
+    /// 5: the list has more than `limit` bytes.
     #[error("the list is too long")]
     TooLong,
-    /// 6: memory ran out.
+    /// 6: out of memory.
     #[error("out of memory")]
     Memory,
 }
@@ -100,11 +101,11 @@ impl From<AllocError> for VerifyFault {
     }
 }
 
-/// Replays a firmware event log and then a measurement list, and compares the registers with the expected ones.
+/// Replays a firmware event log and then a measurement list, and compares the registers with the expected ones, in their order.
 ///
-/// The log is read first, then the list, and then it is replayed: an entry that is neither a violation nor has the template
-/// digest of its own bytes is refused. Each expected register is then compared, in their order. [`VerifyFault::Memory`]
-/// comes only where an event stands at the front of the log, or after a log and a list whose entries are all genuine.
+/// Fails with the first fault of the log, else of the list, else with [`VerifyFault::Replay`] for the first entry that is not
+/// genuine: neither a violation nor one with the template digest of its own bytes. [`VerifyFault::Memory`] is possible only if
+/// the log begins with a header and an event, or if the log and the list are valid and all entries genuine.
 pub fn verify(
     alloc: Global,
     log: &[u8],
@@ -113,7 +114,7 @@ pub fn verify(
 ) -> Result<Report, VerifyFault>
     // The report is the verdict on the log, the list and the expected registers.
     ensures report { IfOk result (λ report. IsVerdict log.now list.now expected.now (verdict_of report)) }
-    // Where the log is one, the list is one and each entry is genuine, there is a report, unless memory runs out.
+    // If the log and the list are valid and all entries genuine, there is a report, unless memory runs out.
     ensures only { (table : List TableRow) (events : List LogEvent) (entries : List ListEntry)
         → IsLog log.now table events → IsReading list.now (Ok entries) → AreGenuine entries
         → ReadsInMemory VerifyFault.Memory verdict_of result (Ok (verdict_on (algs_in table) events entries expected.now)) }
@@ -128,12 +129,12 @@ pub fn verify(
     report_on(alloc, &log, &start, &replay, expected)
 }
 
-/// As [`verify`], with a list that is taken from a source, which may give at most `limit` bytes: entry after entry is replayed as its
-/// bytes come, and none is kept. A fault of the log comes before the source is asked for anything, and [`VerifyFault::Replay`] after all
-/// of the list was read.
+/// As [`verify`], for a list of at most `limit` bytes that is read from a source. Each entry is replayed as its bytes arrive;
+/// none is kept. A fault of the log is returned before anything is read from the source, and [`VerifyFault::Replay`] only after
+/// the whole list was read.
 ///
-/// [`VerifyFault::Source`] and [`VerifyFault::TooLong`] stand at the point of the list where the source failed, or where the byte
-/// after `limit` came: only where the bytes before that point read as a list, or as one that is torn.
+/// [`VerifyFault::Source`] (the source failed) and [`VerifyFault::TooLong`] (more than `limit` bytes came) are returned only if
+/// the bytes before the failure, or the first `limit` bytes, read as a list or as a truncated one.
 pub fn verify_from<R: Source>(
     alloc: Global,
     log: &[u8],
@@ -143,8 +144,8 @@ pub fn verify_from<R: Source>(
 ) -> Result<Report, VerifyFault>
     // The report is the verdict on the log, all bytes that the source had left, and the expected registers.
     ensures report { IfOk result (λ report. IsVerdictFrom log.now (R.state list.old).remaining (R.state list.new).remaining limit expected.now (verdict_of report)) }
-    // Where the log is one, and all that the source has left is a list of genuine entries, within the limit, there is a report, unless
-    // the source fails or memory runs out.
+    // If the log is valid and the source has left a list of genuine entries within the limit, there is a report, unless the
+    // source fails or memory runs out.
     ensures only { (table : List TableRow) (events : List LogEvent) (entries : List ListEntry)
         → IsLog log.now table events → HoldsGenuineList (R.state list.old).remaining limit entries
         → IsErrOf result VerifyFault.Source
@@ -152,7 +153,7 @@ pub fn verify_from<R: Source>(
     // Any fault is the first cause.
     ensures fault { IfErr result (IsVerifyFaultFrom log.now (R.state list.old).remaining (R.state list.new).remaining limit) }
     ensures memory { IsErrOf result VerifyFault.Memory → BeginsWithEvent log.now ⊎ IsSomeLog log.now }
-    // Whatever is answered, the source has lost bytes from its front, and nothing else.
+    // In any case the source loses bytes from its front, and nothing else.
     ensures front { LosesFront (R.state list.old).remaining (R.state list.new).remaining }
     ensures telling { is_some (R.state list.new).remaining ≡ is_some (R.state list.old).remaining }
     ensures counts { (R.state list.new).failures ≡ failures_after_list result (R.state list.old).failures }
@@ -164,7 +165,7 @@ pub fn verify_from<R: Source>(
     report_on(alloc, &firmware, &start, &replay, expected)
 }
 
-// The report on a log whose registers are `start`, a list that is replayed from there, and expected registers.
+// The report on a log that leaves the registers `start`, a list replayed from them, and expected registers.
 fn report_on(
     alloc: Global,
     log: &BootLog<'_>,
@@ -189,7 +190,7 @@ fn report_on(
     })
 }
 
-// The rows of the expected registers, over these banks.
+// The row of each expected register, by these banks.
 fn rows_on(alloc: Global, now: &Banks, expected: &[Expected]) -> Result<Vec<Row>, AllocError>
     ensures { IfOk result (λ rows. rows.items ≡ map (row_of now.now) expected.now) }
 {
@@ -199,7 +200,7 @@ fn rows_on(alloc: Global, now: &Banks, expected: &[Expected]) -> Result<Vec<Row>
         .collect(alloc)
 }
 
-// The row of an expected register, over these banks.
+// The row of an expected register, by these banks.
 fn row_on(now: &Banks, expected: &Expected) -> Row
     ensures { result ≡ row_of now.now expected.now }
 {
@@ -209,9 +210,9 @@ fn row_on(now: &Banks, expected: &Expected) -> Row
     }
 }
 
-// What is said of an expected register that has this value, or is absent.
+// The state of an expected register with this value, or of an absent one.
 fn state_of(expected: &Expected, value: Option<Digest>) -> State
-    ensures { (bytes : Option (List ℕ)) → value ≡ option_map (digest_of expected.now.alg) bytes → result ≡ state_for expected.now bytes }
+    ensures { (bytes : Option (List ℕ)) → value ≡ option_map (digest_of expected.now.alg) bytes → result ≡ row_state expected.now bytes }
 {
     match value {
         None => State::Absent,
@@ -220,20 +221,20 @@ fn state_of(expected: &Expected, value: Option<Digest>) -> State
     }
 }
 
-// What is said of the boot aggregate that the list states, if it states one, by the log's registers, which are these.
+// The state of the boot aggregate that the list states, if any. `start` has the log's registers.
 fn aggregate_of(start: &Banks, stated: Option<Digest>) -> Aggregate
     ensures { (algs : AlgSet) (events : List LogEvent) → IsFirmware algs events start.now
         → result ≡ aggregate_of algs events (option_map (λ digest. (alg_of digest, bytes_of digest)) stated) }
 {
     match stated {
         None => Aggregate::Missing,
-        Some(stated) => compared(&stated, boot_aggregate(start, stated.alg())),
+        Some(stated) => aggregate_state(&stated, boot_aggregate(start, stated.alg())),
     }
 }
 
-// What is said of a stated boot aggregate, where this is the value of the log's registers.
-fn compared(stated: &Digest, value: Option<Digest>) -> Aggregate
-    ensures { result ≡ compared (bytes_of stated.now) (option_map bytes_of value) }
+// Compares a stated boot aggregate with that of the log's registers, if the log has the bank.
+fn aggregate_state(stated: &Digest, value: Option<Digest>) -> Aggregate
+    ensures { result ≡ aggregate_state (bytes_of stated.now) (option_map bytes_of value) }
 {
     match value {
         None => Aggregate::NoBank,

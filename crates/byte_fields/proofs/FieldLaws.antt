@@ -1,4 +1,4 @@
--- Numbers and parts that were written are read again.
+-- Numbers and parts that are written are read back.
 use Rattle.std.proofs.Common.{◌≡◌, ℕ, ◌^◌, ◌<◌, false, ltb, List, ◌++◌, length, Ok, refl, arith}
 use Rattle.std.specs.Int.{Width, w16, w32, byte_len, from_le_bytes, to_le_bytes}
 use Rattle.std.proofs.lemmas.Bool.{le-ltb}
@@ -9,7 +9,7 @@ use Rattle.byte_fields.proofs.Steps.{IsBytes}
 
 -- ---- numbers
 
--- What the two directions of a width's bytes do to one another, for numbers below the limit.
+-- The two directions of a width's bytes undo each other, for numbers below the limit.
 pub record IsWide (w : Width) (limit : ℕ) : Type 0 where
   pub len : (n : ℕ) → length (to_le_bytes w n) ≡ byte_len w
   pub back : (bytes : List ℕ) → length bytes ≡ byte_len w → IsBytes bytes → to_le_bytes w (from_le_bytes w bytes) ≡ bytes

@@ -1,5 +1,5 @@
--- The laws of formats, proved once for each: what a reader finds stands at the front of the bytes, what stands there is found,
--- and so it is with the faults.
+-- The laws of formats, proved once for each: a reader finds a value exactly where the bytes begin with it, and a fault exactly
+-- where they fail with it.
 use Rattle.std.proofs.Common.{◌≡◌, ℕ, zero, suc, ◌*◌, ◌^◌, ◌<◌, ◌⊎◌, Bool, true, false, cond, eqb, ltb, List, [], ◌∷◌, ◌++◌, length, take, drop, Option, Some, None, Result, Ok, Err, refl, sym, ap, subst, ◌∙◌, append_assoc, arith, inl, inr}
 use Rattle.std.specs.Prelude.{ok_or, IfErr, flat_map}
 use Rattle.std.specs.Int.{Width, w16, w32, byte_len, from_le_bytes}
@@ -11,7 +11,7 @@ use Rattle.byte_fields.specs.Formats.{Format, Begins, IsRead, number, part, byte
 use Rattle.byte_fields.proofs.Steps.{IsBytes, IsBytes-drop, IsBytes-take, bind_ok, guard_ok, test_ok, same_fault, the_ok, ok_is}
 use Rattle.byte_fields.proofs.FieldLaws.{IsWide, wide16, wide32, number_again, part_again}
 
--- What the reader finds is what stands at the front, nothing else is, and each fault is one of these.
+-- The reader finds what the bytes begin with, or the fault that they fail with, and nothing else; each fault is a `P`.
 pub record Exact {X E : Type 0} (P : E → Type 0) (format : Format X E) : Type 0 where
   pub found : (bytes : List ℕ) → IsBytes bytes → IsRead format bytes (format.at bytes)
   pub only : (bytes : List ℕ) (reading : Result (X × List ℕ) E) → IsRead format bytes reading → format.at bytes ≡ reading
@@ -29,11 +29,11 @@ module _ {X E : Type 0} {P : E → Type 0} {format : Format X E} (f : Exact P fo
   pub again : (x : X) (rest : List ℕ) → format.Is x → format.at (format.spell x ++ rest) ≡ Ok (x, rest)
   again x rest is = f.only (format.spell x ++ rest) (Ok (x, rest)) (record { is = is; parts = refl })
 
-  -- Bytes fail with one fault.
+  -- Bytes fail with at most one fault.
   pub fails_once : (bytes : List ℕ) (c d : E) → format.Fails bytes c → format.Fails bytes d → c ≡ d
   fails_once bytes c d x y = same_fault {A = X × List ℕ} c d (sym (f.only bytes (Err c) x) ∙ f.only bytes (Err d) y)
 
--- The bytes after a front.
+-- What follows a prefix of bytes is bytes.
 pub IsBytes-behind : (bytes front rest : List ℕ) → bytes ≡ front ++ rest → IsBytes bytes → IsBytes rest
 IsBytes-behind bytes front rest parts fits =
     subst IsBytes (ap (drop (length front)) parts ∙ drop_at front rest (length front) refl) (IsBytes-drop (length front) bytes fits)
@@ -156,7 +156,7 @@ module _ {A B E : Type 0} {P : E → Type 0} {first : Format A E} {next : A → 
 
 -- ---- values of another kind
 
--- What a reader found that sees values by a view which may refuse them.
+-- What a reader finds that passes values through a view, which may refuse them.
 abbrev pub IsSeen : {A X E : Type 0} → (A → Result X E) → Format A E → List ℕ → Result (X × List ℕ) E → Type 0
 IsSeen {A} view format bytes (Ok x) = (a : A) × Begins format bytes a x.1 × (view a ≡ Ok x.0)
 IsSeen {A} view format bytes (Err d) =
@@ -208,7 +208,7 @@ module _ {A X E : Type 0} {P : E → Type 0} {view : A → Result X E} {back : X
     faults = λ bytes d fail. seen_faults view f refusals bytes d fail;
   }
 
--- A value that a test lets pass.
+-- A value that was not refused is not bad.
 pub passes : {X E : Type 0} (bad : Bool) (c : E) (x y : X) → cond bad (Err c) (the_ok E x) ≡ Ok y → bad ≡ false
 passes bad c x y e = (guard_ok bad c (Ok x) y e).0
 
@@ -284,7 +284,7 @@ unfolding sized_at
 sized_exact c p =
     read_by_exact (sized_at c) (λ bytes. sized_alike c (number_at c w32 bytes)) (sized_by_exact c p (number32_exact c p))
 
--- ---- one of two formats, and a value within so many bytes
+-- ---- one of two formats, and a value within `count` bytes
 
 pub either_exact : {X E : Type 0} {P : E → Type 0} (test : Bool) {this other : Format X E} → Exact P this → Exact P other
     → Exact P (either test this other)
@@ -345,9 +345,9 @@ pub whole_again : {X E : Type 0} {P : E → Type 0} (c : E) {format : Format X E
 whole_again c {format} f bytes x is parts =
     rw (f.only bytes (Ok (x, [])) (record { is = is; parts = parts ∙ sym (append-nil (format.spell x)) })) refl
 
--- ---- so many values
+-- ---- `count` values
 
--- More values after those before them.
+-- `count` more values after those before.
 record TakenInTurn {X E : Type 0} (item : List X → Format X E) (count : ℕ) (before : List X) (bytes : List ℕ)
     (x : List X × List ℕ) : Type 0 where
   more : List X
@@ -433,7 +433,7 @@ module _ {X E : Type 0} {P : E → Type 0} {item : List X → Format X E} (f : (
     faults = λ bytes d fail. all_faults count [] bytes d fail;
   }
 
--- Where those before a value do not change its spelling, the spellings are joined.
+-- Where the values before a value do not change its spelling, the whole is the spellings joined.
 pub joined_spellings : {X E : Type 0} (item : List X → Format X E) (spell : X → List ℕ)
     → ((before : List X) (x : X) → (item before).spell x ≡ spell x) → (before xs : List X)
     → spelled_in_turn item before xs ≡ flat_map spell xs

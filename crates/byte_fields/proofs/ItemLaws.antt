@@ -1,5 +1,5 @@
--- Items one after another, whatever an item is: what reading them from left to right gives, the one list of them that bytes
--- begin with, and the longest.
+-- Items one after another, whatever an item is: reading from left to right, the one list of items that bytes begin with, and the
+-- longest.
 use Rattle.std.proofs.Common.{◌≡◌, ℕ, zero, suc, ◌+◌, ◌<◌, ◌≤◌, List, [], ◌∷◌, ◌++◌, length, Result, Ok, Err, refl, sym, ap, subst, ◌∙◌, append_assoc, arith}
 use Rattle.std.proofs.lemmas.List.{length-append, append-nil}
 use Rattle.byte_fields.specs.Reading.{◌>>=◌, items_within, items_from}
@@ -8,17 +8,18 @@ use Rattle.byte_fields.proofs.Steps.{IsBytes, ok_is, ok_not_err}
 use Rattle.byte_fields.proofs.SequenceLaws.{Shortens, items_none, from_first}
 use Rattle.byte_fields.proofs.FormatLaws.{IsBytes-behind}
 
--- What a reader took is an item.
+-- What the reader took is an item.
 abbrev pub TakesItems : {X E : Type 0} → (ℕ → List ℕ → Result (X × List ℕ) E) → (List ℕ → X → Type 0) → Type 0
 TakesItems {X} item_at Is =
     (k : ℕ) (bytes : List ℕ) (x : X × List ℕ) → IsBytes bytes → item_at k bytes ≡ Ok x
     → (front : List ℕ) × (bytes ≡ front ++ x.1) × Is front x.0
 
--- An item takes bytes.
+-- An item has at least one byte.
 abbrev pub HasLength : {X : Type 0} → (List ℕ → X → Type 0) → Type 0
 HasLength {X} Is = (front : List ℕ) (x : X) → Is front x → 0 < length front
 
--- A reader of items: what it took is an item, an item is read, an item takes bytes, and a fault is one of the item's number.
+-- A reader of items: what it takes is an item, each item is read, an item has at least one byte, and a fault is one of the item's
+-- number.
 pub record ReadsItems {X E : Type 0} (item_at : ℕ → List ℕ → Result (X × List ℕ) E) (Is : List ℕ → X → Type 0)
     (Fails : ℕ → List ℕ → E → Type 0) : Type 0 where
   pub takes : TakesItems item_at Is
@@ -34,7 +35,7 @@ shortens takes some k bytes item after fits e =
     let size = some taken.0 item taken.2 in
     (IsBytes-behind bytes taken.0 after taken.1 fits, omega (arith, size, ap length taken.1, length-append taken.0 after))
 
--- The items that reading gives, or the fault.
+-- What reading gives: the items, or the fault.
 abbrev pub IsItemsReading : {X E : Type 0} → (List ℕ → X → Type 0) → (ℕ → List ℕ → E → Type 0) → ℕ → List ℕ → Result (List X) E → Type 0
 IsItemsReading Is Fails k bytes (Ok items) = AreItems Is bytes items
 IsItemsReading Is Fails k bytes (Err fault) = FailsAtItem Is Fails k bytes fault
@@ -105,7 +106,7 @@ module _ {X E : Type 0} {item_at : ℕ → List ℕ → Result (X × List ℕ) E
       let e = ok_is (x, rest) (y, left) (sym (r.again 0 front x rest is-x) ∙ ap (item_at 0) same ∙ r.again 0 other y left is-y) in
       (ap (λ (p : X × List ℕ). p.0) e, ap (λ (p : X × List ℕ). p.1) e)
 
-  -- The first item, and what comes after it.
+  -- The first item and what follows it.
   first_of : (bytes : List ℕ) (x : X) (xs : List X) (rest : List ℕ) → BeginsWithItems Is bytes (x ∷ xs) rest
       → (front after : List ℕ) × (bytes ≡ front ++ after) × Is front x × BeginsWithItems Is after xs rest
   first_of bytes x xs rest begins =
@@ -121,7 +122,7 @@ module _ {X E : Type 0} {item_at : ℕ → List ℕ → Result (X × List ℕ) E
   none_left : (bytes rest : List ℕ) → BeginsWithItems Is bytes [] rest → bytes ≡ rest
   none_left bytes rest begins = begins.parts ∙ ap (λ (t : List ℕ). t ++ rest) begins.are
 
-  -- Of each number there is one list of items that the bytes begin with.
+  -- Of each length, bytes begin with at most one list of items.
   pub same_items : (xs ys : List X) (bytes rest left : List ℕ) → length xs ≡ length ys → BeginsWithItems Is bytes xs rest
       → BeginsWithItems Is bytes ys left → (xs ≡ ys) × (rest ≡ left)
   same_items [] [] bytes rest left size a b = (refl, sym (none_left bytes rest a) ∙ none_left bytes left b)
@@ -134,7 +135,7 @@ module _ {X E : Type 0} {item_at : ℕ → List ℕ → Result (X × List ℕ) E
       let others = same_items xs ys p.1 rest left (omega arith) p.4 (rw same.1 q.4) in
       (rw (same.0, others.0) refl, others.1)
 
-  -- No longer list of items stands at the front, where the remaining bytes begin with none.
+  -- Where the remaining bytes begin with no item, the bytes begin with no longer list of items.
   pub no_longer : (xs ys : List X) (bytes rest left : List ℕ) → BeginsWithItems Is bytes xs rest → HasNoItem Is rest
       → BeginsWithItems Is bytes ys left → length ys ≤ length xs
   no_longer xs [] bytes rest left a none b = omega arith
@@ -150,7 +151,7 @@ module _ {X E : Type 0} {item_at : ℕ → List ℕ → Result (X × List ℕ) E
   pub none_in_nothing : HasNoItem Is []
   none_in_nothing x front rest parts is = omega (arith, r.some front x is, ap length parts, length-append front rest)
 
-  -- Bytes are one list of items.
+  -- Bytes are at most one list of items.
   pub one_list : (bytes : List ℕ) (xs ys : List X) → AreItems Is bytes xs → AreItems Is bytes ys → xs ≡ ys
   one_list bytes xs ys a b =
       let begins-a : BeginsWithItems Is bytes xs [] = record { front = bytes; parts = sym (append-nil bytes); are = a } in
@@ -159,7 +160,7 @@ module _ {X E : Type 0} {item_at : ℕ → List ℕ → Result (X × List ℕ) E
       let down = no_longer ys xs bytes [] [] begins-b none_in_nothing begins-a in
       (same_items xs ys bytes [] [] (omega (arith, up, down)) begins-a begins-b).0
 
-  -- Items are read.
+  -- Bytes that are items are read as them.
   pub items_again : (lost : ℕ → E) (k : ℕ) (bytes : List ℕ) (items : List X) → IsBytes bytes → AreItems Is bytes items
       → items_from item_at lost k bytes ≡ Ok items
   items_again lost k bytes [] fits none = rw none (items_none item_at lost 0 k)

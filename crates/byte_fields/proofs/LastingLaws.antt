@@ -1,4 +1,4 @@
--- What more bytes change: nothing, but where bytes were missing.
+-- More bytes change nothing, except where bytes were missing.
 use Rattle.std.proofs.Common.{◌≡◌, ℕ, Bool, true, false, List, ◌++◌, Result, ap, ◌∙◌, append_assoc, inl, inr}
 use Rattle.std.specs.Int.{w32}
 use Rattle.byte_fields.specs.Reading.{sized_at}
@@ -11,7 +11,7 @@ begins_longer {X} {E} {format} {bytes} {x} {rest} more begins = record {
   parts = ap (λ (t : List ℕ). t ++ more) begins.parts ∙ append_assoc (format.spell x) rest more;
 }
 
--- No fault but `cut` goes away where more bytes follow.
+-- No fault but `cut` goes away when more bytes follow.
 pub record Lasting {X E : Type 0} (cut : E) (format : Format X E) : Type 0 where
   pub lasts : (bytes more : List ℕ) (d : E) → (d ≡ cut → ⊥) → format.Fails bytes d → format.Fails (bytes ++ more) d
 

@@ -1,12 +1,12 @@
--- Items whose bytes come in pieces, whatever an item is: what one item more adds to those before it, what stands when more bytes
--- follow, and where an item that a piece makes whole ends.
+-- Items whose bytes come in pieces, whatever an item is: what one more item adds to those before it, what stays when more bytes
+-- follow, and where an item ends that a piece completes.
 use Rattle.std.proofs.Common.{◌≡◌, ℕ, ◌+◌, ◌-◌, ◌<◌, ◌≤◌, List, [], ◌∷◌, ◌++◌, length, drop, Result, Err, refl, sym, ap, ◌∙◌, append_assoc, arith, inl, inr}
 use Rattle.std.proofs.lemmas.Bool.{cases_lt}
 use Rattle.std.proofs.lemmas.List.{append-nil, drop_at, length-append}
 use Rattle.byte_fields.specs.Items.{AreItems, BeginsWithItems, HasNoItem, FailsAtItem}
 use Rattle.byte_fields.proofs.ItemLaws.{ReadsItems, no_item, no_longer, same_items}
 
--- ---- one item more
+-- ---- one more item
 
 are_more : {X : Type 0} (Is : List ℕ → X → Type 0) (front last : List ℕ) (items : List X) (x : X) → AreItems Is front items → Is last x
     → AreItems Is (front ++ last) (items ++ x ∷ [])
@@ -15,7 +15,7 @@ are_more Is front last (y ∷ items) x are is =
     let others = are_more Is are.1 last items x are.4 is in
     (are.0, are.1 ++ last, ap (λ (t : List ℕ). t ++ last) are.2 ∙ append_assoc are.0 are.1 last, are.3, others)
 
--- After some items and one more, what remains is what remains after the one.
+-- Where one more item follows some items, what remains is what the one item leaves.
 pub one_more : {X : Type 0} {Is : List ℕ → X → Type 0} (bytes rest front after : List ℕ) (items : List X) (x : X)
     → rest ≡ front ++ after → Is front x → BeginsWithItems Is bytes items rest → BeginsWithItems Is bytes (items ++ x ∷ []) after
 one_more {X} {Is} bytes rest front after items x parts is begins = record {
@@ -24,9 +24,9 @@ one_more {X} {Is} bytes rest front after items x parts is begins = record {
   are = are_more Is begins.front front items x begins.are is;
 }
 
--- ---- what stands when more bytes follow
+-- ---- what stays when more bytes follow
 
--- Items at the front stand there too where more bytes follow.
+-- Items at the front are still there when more bytes follow.
 pub items_longer : {X : Type 0} {Is : List ℕ → X → Type 0} (bytes more : List ℕ) (items : List X) (rest : List ℕ)
     → BeginsWithItems Is bytes items rest → BeginsWithItems Is (bytes ++ more) items (rest ++ more)
 items_longer bytes more items rest begins = record {
@@ -35,21 +35,21 @@ items_longer bytes more items rest begins = record {
   are = begins.are;
 }
 
--- Each fault that lasts is the item's where more bytes follow too, and is read there.
+-- Each fault that lasts is still the item's when more bytes follow, and is read there.
 abbrev pub FaultsLast : {X E : Type 0} → (ℕ → List ℕ → Result (X × List ℕ) E) → (ℕ → List ℕ → E → Type 0) → (E → Type 0) → Type 0
 FaultsLast {X} {E} item_at Fails Lasts =
     (k : ℕ) (bytes more : List ℕ) (d : E) → Lasts d → Fails k bytes d
     → Fails k (bytes ++ more) d × (item_at k (bytes ++ more) ≡ Err d)
 
--- What was read so far: the items at the front of the bytes, and the bytes kept after them, where no item stands, and no fault
--- that lasts.
+-- What was read so far: the items at the front of the bytes, and the bytes kept after them, which begin with no item and have no
+-- fault that lasts.
 pub record AreReadSoFar {X E : Type 0} (Is : List ℕ → X → Type 0) (Fails : ℕ → List ℕ → E → Type 0) (Lasts : E → Type 0)
     (bytes : List ℕ) (items : List X) (kept : List ℕ) : Type 0 where
   pub begins : BeginsWithItems Is bytes items kept
   pub no_item : HasNoItem Is kept
   pub no_fault : (k : ℕ) (d : E) → Lasts d → Fails k kept d → ⊥
 
--- Where two texts are one, and the first has the shorter rest, its front is the other's and what is between the two.
+-- Where two texts are the same, and the first has the shorter rest, its front is the other's front and what lies between.
 overlap : {A : Type 0} (front other rest left : List A) → front ++ rest ≡ other ++ left → length rest ≤ length left
     → (middle : List A) × (front ≡ other ++ middle) × (left ≡ middle ++ rest)
 overlap front [] rest left same shorter = (front, refl, sym same)
@@ -61,7 +61,7 @@ overlap {A} (x ∷ front) (y ∷ other) rest left same shorter =
 
 module _ {X E : Type 0} {item_at : ℕ → List ℕ → Result (X × List ℕ) E} {Is : List ℕ → X → Type 0}
     {Fails : ℕ → List ℕ → E → Type 0} (r : ReadsItems item_at Is Fails) {Lasts : E → Type 0} where
-  -- A fault of the sequence that lasts stands where more bytes follow.
+  -- A lasting fault of the sequence is still its fault when more bytes follow.
   pub fault_longer : FaultsLast item_at Fails Lasts → (k : ℕ) (bytes more : List ℕ) (d : E) → Lasts d → FailsAtItem Is Fails k bytes d
       → FailsAtItem Is Fails k (bytes ++ more) d
   fault_longer last k bytes more d lasts fails =
@@ -87,7 +87,7 @@ module _ {X E : Type 0} {item_at : ℕ → List ℕ → Result (X × List ℕ) E
 
   -- ---- chunks that are added to what is kept
 
-  -- Where a chunk makes an item whole, the item ends within the chunk.
+  -- Where a chunk completes an item, the item ends within the chunk.
   pub ends_in_chunk : (bytes kept chunk surplus : List ℕ) (items others : List X) → AreReadSoFar Is Fails Lasts bytes items kept
       → length items < length others → BeginsWithItems Is (bytes ++ chunk) others surplus → length surplus ≤ length chunk
   ends_in_chunk bytes kept chunk surplus items others so_far more begins =
@@ -99,7 +99,7 @@ module _ {X E : Type 0} {item_at : ℕ → List ℕ → Result (X × List ℕ) E
         | inr le ↦ le
       ]
 
--- Where items end within a chunk, what remains after them is what remains of the chunk, and what follows it.
+-- Where items end within a chunk, what remains after them is the rest of the chunk, and what follows the chunk.
 pub after_chunk : {X : Type 0} {Is : List ℕ → X → Type 0} (bytes chunk surplus after : List ℕ) (items : List X)
     → length surplus ≤ length chunk → BeginsWithItems Is (bytes ++ chunk) items surplus
     → BeginsWithItems Is ((bytes ++ chunk) ++ after) items (drop (length chunk - length surplus) (chunk ++ after))

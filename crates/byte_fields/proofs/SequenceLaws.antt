@@ -1,4 +1,4 @@
--- Items one after another: a loop that reads them gives what reading gives.
+-- Items one after another: a loop that reads them gives what `items_from` gives.
 use Rattle.std.proofs.Common.{◌≡◌, ℕ, zero, suc, ◌+◌, ◌-◌, ◌<◌, ◌≤◌, ◌⊎◌, List, [], ◌∷◌, ◌++◌, length, Result, Ok, Err, refl, sym, ap, ◌∙◌, append_assoc, arith, inl, inr}
 use Rattle.std.specs.Prelude.{IsOk, Bool, true, false, eqb}
 use Rattle.std.proofs.lemmas.Bool.{eqb-true}
@@ -6,7 +6,7 @@ use Rattle.std.proofs.lemmas.List.{append-nil, length-append}
 use Rattle.byte_fields.specs.Reading.{◌>>=◌, items_at, items_within, items_from}
 use Rattle.byte_fields.proofs.Steps.{IsBytes}
 
--- A reader of items, each of which takes bytes.
+-- A reader of items, each of at least one byte.
 abbrev pub Shortens : {X E : Type 0} → (ℕ → List ℕ → Result (X × List ℕ) E) → Type 0
 Shortens {X} item_at =
     (k : ℕ) (bytes : List ℕ) (item : X) (after : List ℕ) → IsBytes bytes → item_at k bytes ≡ Ok (item, after)
@@ -32,7 +32,7 @@ same_after : {X E : Type 0} (r : Result (X × List ℕ) E) (f g : X × List ℕ 
 same_after (Ok x) f g same = same x.0 x.1 refl
 same_after (Err fault) f g same = refl
 
--- As many steps as there are bytes are enough: more change nothing.
+-- As many steps as bytes are enough: more change nothing.
 pub items_enough : {X E : Type 0} (item_at : ℕ → List ℕ → Result (X × List ℕ) E) (lost : ℕ → E) → Shortens item_at
     → (steps more k : ℕ) (bytes : List ℕ) → IsBytes bytes → length bytes ≤ steps → length bytes ≤ more
     → items_within item_at lost steps k bytes ≡ items_within item_at lost more k bytes
@@ -49,11 +49,11 @@ items_enough {X} {E} item_at lost shortens (suc steps) (suc more) k (byte ∷ by
     ap (λ (r : Result (List X) E). r >>= λ others. Ok (item ∷ others))
     (items_enough item_at lost shortens steps more (k + 1) after shorter.0 (omega (arith, shorter.1)) (omega (arith, shorter.1))))
 
--- What is read after these items, with them in front.
+-- What is read after these items, with these in front.
 abbrev pub with_front : {X E : Type 0} → List X → Result (List X) E → Result (List X) E
 with_front front reading = reading >>= λ others. Ok (front ++ others)
 
--- After some of the items: what is left to read gives what reading all gives.
+-- After some of the items: reading what is left gives what reading all gives.
 pub record ReadsOn {X E : Type 0} (item_at : ℕ → List ℕ → Result (X × List ℕ) E) (lost : ℕ → E) (start : ℕ) (bytes : List ℕ)
     (items : List X) (rest : List ℕ) : Type 0 where
   pub reading : with_front items (items_from item_at lost (length items + start) rest) ≡ items_from item_at lost start bytes
@@ -81,7 +81,7 @@ with_one_more : {X E : Type 0} (front : List X) (item : X) (r : Result (List X) 
 with_one_more {X} front item (Ok others) = ap (λ (xs : List X). Ok xs) (sym (append_assoc front (item ∷ []) others))
 with_one_more front item (Err fault) = refl
 
--- The first item of what is left, and the rest.
+-- Reading what is left is reading its first item, and then the rest.
 pub from_first : {X E : Type 0} (item_at : ℕ → List ℕ → Result (X × List ℕ) E) (lost : ℕ → E) → Shortens item_at
     → (k : ℕ) (rest : List ℕ) (item : X) (after : List ℕ) → IsBytes rest → 0 < length rest → item_at k rest ≡ Ok (item, after)
     → items_from item_at lost k rest ≡ (items_from item_at lost (k + 1) after >>= λ others. Ok (item ∷ others))
@@ -147,7 +147,7 @@ reads_to_end {X} {E} item_at lost start bytes items rest none on =
     let last : items_from item_at lost (length items + start) rest ≡ Ok [] = rw none (items_none item_at lost 0 (length items + start)) in
     sym on.reading ∙ ap (with_front items) last ∙ ap (λ (xs : List X). Ok xs) (append-nil items)
 
--- ---- a loop over so many items: what is left to read gives what reading all gives
+-- ---- a loop over `count` items: reading what is left gives what reading all gives
 
 pub items_at_first : {X E : Type 0} (item_at : List X → List ℕ → Result (X × List ℕ) E) (count : ℕ) (bytes : List ℕ)
     → items_at item_at (count - 0) [] bytes ≡ items_at item_at count [] bytes

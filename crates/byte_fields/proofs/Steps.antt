@@ -1,4 +1,4 @@
--- Steps that may fail, and what a reader took from the front of its bytes.
+-- Steps that may fail, and what a reader took from the front of the bytes.
 use Rattle.std.proofs.Common.{◌≡◌, ℕ, ◌+◌, Bool, true, false, cond, List, ◌++◌, take, drop, Option, Some, None, Result, Ok, Err, refl, arith, inl, inr}
 use Rattle.std.specs.Prelude.{ok_or, IsOk}
 use Rattle.std.proofs.lemmas.Bool.{cases_lt}
@@ -19,21 +19,21 @@ IsBytes-take n bytes h i =
 abbrev failed : {E : Type 0} (A : Type 0) → E → Result A E
 failed A d = Err d
 
--- One fault.
+-- Equal failures have the same fault.
 pub same_fault : {A E : Type 0} (c d : E) → failed A c ≡ failed A d → c ≡ d
 same_fault c d e = cc
 
--- The value of a step that did not fail.
+-- Where two steps do not fail: the value of the first.
 pub bind_ok : {A B E : Type 0} (r : Result A E) (f : A → Result B E) (y : B) → (r >>= f) ≡ Ok y → (x : A) × (r ≡ Ok x) × (f x ≡ Ok y)
 bind_ok (Ok x) f y e = (x, refl, e)
 bind_ok (Err d) f y e = absurd cc
 
--- A test that did not fail, where failing is its first branch.
+-- A test that did not fail: failing is its first branch.
 pub guard_ok : {A E : Type 0} (b : Bool) (d : E) (r : Result A E) (y : A) → cond b (Err d) r ≡ Ok y → (b ≡ false) × (r ≡ Ok y)
 guard_ok true d r y e = absurd cc
 guard_ok false d r y e = (refl, e)
 
--- The same, where failing is its second branch.
+-- The same: failing is its second branch.
 pub test_ok : {A E : Type 0} (b : Bool) (d : E) (r : Result A E) (y : A) → cond b r (Err d) ≡ Ok y → (b ≡ true) × (r ≡ Ok y)
 test_ok true d r y e = (refl, e)
 test_ok false d r y e = absurd cc
@@ -51,7 +51,7 @@ ok_is x y e = cc
 pub ok_not_err : {A E : Type 0} (x : A) (fault : E) → the_ok E x ≡ Err fault → ⊥
 ok_not_err x fault e = cc
 
--- What there is where there is no fault.
+-- The value of a result that is not a fault.
 pub is_ok_value : {A E : Type 0} (r : Result A E) → IsOk r → (x : A) × (r ≡ Ok x)
 is_ok_value (Ok x) ok = (x, refl)
 is_ok_value (Err fault) ok = absurd cc

@@ -1,5 +1,5 @@
--- Formats as values: which values of a kind have a spelling, how they are spelled, how one is read from the front of bytes,
--- and which bytes fail with which fault. That the four agree is proved once for each way to make a format of others.
+-- Formats as values: which values a format can spell, how it spells them, how it reads one from the front of bytes, and which
+-- bytes fail with which fault. That the four agree is proved once for each way to build a format from others.
 use Rattle.std.specs.Prelude.{◌≡◌, ℕ, zero, suc, ◌^◌, ◌*◌, ◌<◌, ◌⊎◌, Bool, true, false, if◌then◌else◌, ◌==◌, List, [], ◌∷◌, ◌++◌, length, Option, ok_or, Result, Ok, Err}
 use Rattle.std.specs.Int.{Width, w32, byte_len, to_le_bytes}
 use Rattle.byte_fields.specs.Reading.{◌>>=◌, number_at, part_at, byte_at, sized_at, items_at}
@@ -9,17 +9,18 @@ pub record Format (X E : Type 0) : Type 1 where
   pub at : List ℕ → Result (X × List ℕ) E
   -- the value has a spelling
   pub Is : X → Type 0
-  -- and this is it
+  -- the value's spelling
   pub spell : X → List ℕ
-  -- no value stands at the front of the bytes, and this is the fault
+  -- the bytes begin with no value, and this is the fault
   pub Fails : List ℕ → E → Type 0
 
--- A value that has a spelling stands at the front of the bytes, and these are the remaining bytes.
+-- The value has a spelling, and the bytes are this spelling followed by `rest`.
 pub record Begins {X E : Type 0} (format : Format X E) (bytes : List ℕ) (value : X) (rest : List ℕ) : Type 0 where
   pub is : format.Is value
   pub parts : bytes ≡ format.spell value ++ rest
 
--- What stands at the front of the bytes: a value and the remaining bytes, or a fault.
+-- The result fits the bytes: `Ok` of a value that they begin with and the remaining bytes, or `Err` of a fault that they fail
+-- with.
 abbrev pub IsRead : {X E : Type 0} → Format X E → List ℕ → Result (X × List ℕ) E → Type 0
 IsRead format bytes (Ok x) = Begins format bytes x.0 x.1
 IsRead format bytes (Err fault) = format.Fails bytes fault
@@ -35,7 +36,7 @@ number fault width = record {
   Fails = λ bytes d. (d ≡ fault) × (length bytes < byte_len width);
 }
 
--- So many bytes.
+-- `count` bytes.
 abbrev pub part : {E : Type 0} → E → ℕ → Format (List ℕ) E
 part fault count = record {
   at = part_at fault count;
@@ -55,7 +56,7 @@ byte fault = record {
 
 -- ---- formats of others
 
--- A value, and after it one whose format the first tells.
+-- A value, then another whose format depends on the first.
 infixr 5 ◌followed_by◌
 abbrev pub ◌followed_by◌ : {A B E : Type 0} → Format A E → (A → Format B E) → Format (A × B) E
 ◌followed_by◌ {A} first next = record {
@@ -65,11 +66,11 @@ abbrev pub ◌followed_by◌ : {A B E : Type 0} → Format A E → (A → Format
   Fails = λ bytes d. first.Fails bytes d ⊎ ((a : A) × (rest : List ℕ) × Begins first bytes a rest × (next a).Fails rest d);
 }
 
--- A value that is read, seen by a view that may refuse it.
+-- What was read, passed through `view`, which may refuse it.
 abbrev pub seen : {A X E : Type 0} → (A → Result X E) → Result (A × List ℕ) E → Result (X × List ℕ) E
 seen view reading = reading >>= λ a. view a.0 >>= λ x. Ok (x, a.1)
 
--- A value of another kind: `view` makes it of one that was read, or refuses it, and `back` is what it was made of.
+-- A value of another kind: `view` makes it from the one that was read, or refuses it; `back` gives the one that it came from.
 abbrev pub viewed : {A X E : Type 0} → (A → Result X E) → (X → A) → Format A E → Format X E
 viewed {A} view back format = record {
   at = λ bytes. seen view (format.at bytes);
@@ -78,23 +79,23 @@ viewed {A} view back format = record {
   Fails = λ bytes d. format.Fails bytes d ⊎ ((a : A) × (rest : List ℕ) × Begins format bytes a rest × (view a ≡ Err d));
 }
 
--- A value that the test does not find bad: this is the fault where it does.
+-- A value that is not `bad`; the fault where it is.
 abbrev pub unless : {X E : Type 0} → (X → Bool) → E → Format X E → Format X E
 unless bad fault format = viewed (λ x. if bad x then Err fault else Ok x) (λ x. x) format
 
--- A value, and what it tells: this is the fault where it tells nothing.
+-- A value paired with what `tell` gives for it; the fault where that is `None`.
 abbrev pub telling : {A B E : Type 0} → (A → Option B) → E → Format A E → Format (A × B) E
 telling tell fault format = viewed (λ a. ok_or (tell a) fault >>= λ b. Ok (a, b)) (λ x. x.0) format
 
--- The same value under another form.
+-- The same value in another form.
 abbrev pub mapped : {A X E : Type 0} → (A → X) → (X → A) → Format A E → Format X E
 mapped to back format = viewed (λ a. Ok (to a)) back format
 
--- The same format with a reader of its own, which has to read alike.
+-- The same format with another reader, which must read the same.
 abbrev pub read_by : {X E : Type 0} → (List ℕ → Result (X × List ℕ) E) → Format X E → Format X E
 read_by at format = record format { at = at }
 
--- Bytes after their number.
+-- Bytes prefixed by their length, which has the format `size`.
 abbrev pub sized_by : {E : Type 0} → Format ℕ E → E → Format (List ℕ) E
 sized_by size fault = mapped (λ x. x.1) (λ xs. (length xs, xs)) (size followed_by λ count. part fault count)
 
@@ -107,7 +108,7 @@ abbrev pub either : {X E : Type 0} → Bool → Format X E → Format X E → Fo
 either true this other = this
 either false this other = other
 
--- A value at the front of the next so many bytes, and what these have after it.
+-- A value at the front of the next `count` bytes, and the rest of these bytes.
 abbrev pub within : {X E : Type 0} → E → ℕ → Format X E → Format (X × List ℕ) E
 within fault count format = record {
   at = λ bytes. part_at fault count bytes >>= λ region. format.at region.0 >>= λ x. Ok (x, region.1);
@@ -117,11 +118,11 @@ within fault count format = record {
       ⊎ ((region : List ℕ) × (rest : List ℕ) × Begins (part fault count) bytes region rest × format.Fails region d);
 }
 
--- All of the bytes, read as one value: this is the fault where bytes remain.
+-- All of the bytes, read as one value; the fault where bytes remain after it.
 abbrev pub whole : {X E : Type 0} → E → Format X E → List ℕ → Result X E
 whole fault format bytes = format.at bytes >>= λ x. if length x.1 == 0 then Ok x.0 else Err fault
 
--- ---- values one after another, each in a format that those before it tell
+-- ---- values one after another, each in a format that depends on those before it
 
 abbrev pub AreInTurn : {X E : Type 0} → (List X → Format X E) → List X → List X → Type 0
 AreInTurn item before [] = Unit {0}
@@ -137,7 +138,7 @@ FailInTurn {X} item (suc count) before bytes d =
     (item before).Fails bytes d
     ⊎ ((x : X) × (rest : List ℕ) × Begins (item before) bytes x rest × FailInTurn item count (before ++ x ∷ []) rest d)
 
--- So many values.
+-- `count` values.
 abbrev pub counted : {X E : Type 0} → (List X → Format X E) → ℕ → Format (List X) E
 counted item count = record {
   at = items_at (λ before. (item before).at) count [];

@@ -1,4 +1,4 @@
--- Reading fields from left to right, with the first fault that is met.
+-- Reading fields from left to right, up to the first fault.
 use Rattle.std.specs.Prelude.{◌≡◌, ◌⊎◌, ℕ, zero, suc, ◌+◌, nat_lt, if◌then◌else◌, List, [], ◌∷◌, ◌++◌, length, take, drop, Result, Ok, Err}
 use Rattle.std.specs.Int.{Width, w32, byte_len, from_le_bytes}
 
@@ -9,17 +9,17 @@ abbrev pub ◌>>=◌ : {A B E : Type 0} → Result A E → (A → Result B E) �
 (Ok x) >>= f = f x
 (Err e) >>= f = Err e
 
--- What a function returned, seen by view, is what reading gives.
+-- The result, with its value passed through `view`, equals `reading`.
 abbrev pub Reads : {X Y E : Type 0} → (X → Y) → Result X E → Result Y E → Type 0
 Reads view (Ok x) reading = reading ≡ Ok (view x)
 Reads view (Err fault) reading = reading ≡ Err fault
 
--- The same, unless memory ran out: `memory` is the fault that says so.
+-- The same, unless the result is the fault `memory`, which means out of memory.
 abbrev pub ReadsInMemory : {X Y E : Type 0} → E → (X → Y) → Result X E → Result Y E → Type 0
 ReadsInMemory memory view (Ok x) reading = reading ≡ Ok (view x)
 ReadsInMemory memory view (Err fault) reading = (fault ≡ memory) ⊎ (reading ≡ Err fault)
 
--- ---- fields: a value and the remaining bytes, or the fault to give where bytes are missing
+-- ---- fields: a value and the remaining bytes, or the given fault where there are too few bytes
 
 abbrev pub number_at : {E : Type 0} → E → Width → List ℕ → Result (ℕ × List ℕ) E
 number_at fault width bytes =
@@ -41,7 +41,7 @@ sized_at fault bytes = do
 
 -- ---- items one after another
 
--- `count` more items, each read after those before it.
+-- `count` more items, each read by a reader that is given the items before it.
 unfoldable pub items_at : {X E : Type 0} → (List X → List ℕ → Result (X × List ℕ) E) → ℕ → List X → List ℕ → Result (List X × List ℕ) E
 items_at item_at zero before bytes = Ok (before, bytes)
 items_at item_at (suc count) before bytes = do
@@ -50,8 +50,8 @@ items_at item_at (suc count) before bytes = do
 
 -- ---- items to the end of the bytes
 
--- The items from the k-th on. Each takes bytes, so as many steps as there are bytes are enough; `lost` is for a reading
--- that ran out of them.
+-- The items from number k to the end of the bytes. Each takes at least one byte, so as many steps as bytes are enough; `lost` is
+-- the fault if the steps run out.
 unfoldable pub items_within : {X E : Type 0} → (ℕ → List ℕ → Result (X × List ℕ) E) → (ℕ → E) → ℕ → ℕ → List ℕ → Result (List X) E
 items_within item_at lost steps k [] = Ok []
 items_within item_at lost zero k (byte ∷ bytes) = Err (lost k)

@@ -1,4 +1,4 @@
--- How numbers and length-prefixed bytes are spelled in little endian records.
+-- How numbers and length-prefixed bytes are spelled, in little endian.
 use Rattle.std.specs.Prelude.{ℕ, ◌^◌, ◌<◌, List, ◌++◌, length, slice_index}
 use Rattle.std.specs.Int.{w16, w32, to_le_bytes}
 
@@ -6,7 +6,7 @@ use Rattle.std.specs.Int.{w16, w32, to_le_bytes}
 abbrev pub IsBytes : List ℕ → Type 0
 IsBytes bytes = (i : ℕ) → slice_index bytes i < 2 ^ 8
 
--- A number of four bytes, and one of two.
+-- A number in four bytes, and one in two.
 abbrev pub number32 : ℕ → List ℕ
 number32 n = to_le_bytes w32 n
 

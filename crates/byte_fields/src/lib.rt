@@ -1,6 +1,6 @@
-//! Fields at the front of bytes: little endian numbers, and parts of a given length.
+//! Readers of fields at the front of a slice: little-endian numbers and parts of a given length.
 //!
-//! Each reader gives its field and the remaining bytes, or the fault that it was handed where bytes are missing.
+//! Each reader returns the field and the remaining bytes, or the given fault if bytes are missing.
 #![tactic(auto)]
 
 mod fields;

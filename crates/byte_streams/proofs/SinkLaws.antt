@@ -5,18 +5,18 @@ use Rattle.std.proofs.Math.Seq.{take-length}
 use Rattle.std.specs.Io.KnownBytes.{Appends, Keeps}
 use Rattle.byte_streams.specs.Streams.{SinkState, Takes, TakesPart, Sends}
 
--- How many failures there are after one more.
+-- The count of failures after one more.
 abbrev failures_once : ℕ → ℕ
 failures_once failures = min (failures + 1) (2 ^ 64 - 1)
 
 -- ---- known bytes
 
--- A write of nothing.
+-- Nothing is written.
 pub Appends-nil : (old : Option (List ℕ)) → Appends old old []
 Appends-nil None = tt
 Appends-nil (Some bytes) = sym (append-nil bytes)
 
--- One text after another.
+-- One text is written after another.
 pub Appends-append : (old mid new : Option (List ℕ)) (first second : List ℕ)
     → Appends old mid first → Appends mid new second → Appends old new (first ++ second)
 Appends-append None mid new first second p q = tt
@@ -24,7 +24,7 @@ Appends-append (Some bytes) None new first second p q = absurd p
 Appends-append (Some bytes) (Some more) None first second p q = absurd q
 Appends-append (Some bytes) (Some more) (Some most) first second p q = q ∙ ap (λ l. l ++ second) p ∙ append_assoc bytes first second
 
--- A write that took nothing after a text.
+-- Nothing more is written after a text.
 Appends-kept : (old mid new : Option (List ℕ)) (text : List ℕ) → Appends old mid text → Keeps mid new → Appends old new text
 Appends-kept None mid new text p q = tt
 Appends-kept (Some bytes) None new text p q = absurd p
@@ -69,12 +69,12 @@ Sends-none state value = record {
   counts = refl;
 }
 
--- What was sent is so, whatever value comes with it.
+-- What was sent stays sent, whatever value the call returns with it.
 pub Sends-ok : {A B E F : Type 0} (old new : SinkState) (value : A) (other : B) (text : List ℕ)
     → Sends {A = A} {E = E} old new (Ok value) text → Sends {A = B} {E = F} old new (Ok other) text
 Sends-ok old new value other text p = record { ok = p.ok; part = p.part; telling = p.telling; counts = p.counts }
 
--- A text after one that was sent.
+-- A text was sent after another.
 pub Sends-then : {A B E F : Type 0} (old mid new : SinkState) (value : A) (result : Result B F) (first second : List ℕ)
     → Sends {A = A} {E = E} old mid (Ok value) first → Sends mid new result second → Sends old new result (first ++ second)
 Sends-then old mid new value (Ok other) first second p q = record {
@@ -101,7 +101,7 @@ Sends-stops Q old new fault (Err other) first second err p = record {
   counts = p.counts;
 }
 
--- The same text, spelled otherwise.
+-- The same text, in another form.
 pub Sends-same : {A E : Type 0} (old new : SinkState) (result : Result A E) (text other : List ℕ) → text ≡ other
     → Sends old new result text → Sends old new result other
 Sends-same {A} {E} old new result text other same p = subst (λ (t : List ℕ). Sends {A = A} {E = E} old new result t) same p
@@ -117,11 +117,11 @@ pub record IsSent (old new : SinkState) (text rest : List ℕ) : Type 0 where
 pub IsSent-none : (state : SinkState) (text : List ℕ) → IsSent state state text text
 IsSent-none state text = record { front = []; whole = refl; sent = Sends-none state tt }
 
--- The rest of a list from n on, as a slice of it.
+-- The rest of a list from n on, as a slice.
 pub take-drop-all : (n : ℕ) (rest : List ℕ) → take (length rest - n) (drop n rest) ≡ drop n rest
 take-drop-all n rest = ap (λ k. take k (drop n rest)) (sym (length-drop n rest)) ∙ take-length (drop n rest)
 
--- One write that took n bytes is a text sent.
+-- One write that took n bytes sent them as a text.
 write_sent : {E : Type 0} (old new : SinkState) (n : ℕ) (rest : List ℕ) → Takes {E = E} old new (Ok n) rest → Sent old new (take n rest)
 write_sent old new n rest p = record {
   ok = p.takes;

@@ -4,14 +4,14 @@ use Rattle.byte_streams.specs.declared.memory.VecSink.{VecSink}
 use Rattle.byte_streams.specs.declared.memory.SliceSource.{SliceSource}
 use Rattle.byte_streams.specs.Streams.{SinkState, SourceState}
 
--- The bytes that the sink took, those of the vector that it began with included.
+-- The bytes in the sink's vector: those that it began with, and those that the sink took.
 abbrev pub vec_sink_bytes : VecSink → List ℕ
 vec_sink_bytes sink = sink.bytes.items
 
 abbrev pub vec_sink_failures : VecSink → ℕ
 vec_sink_failures sink = sink.failures
 
--- How many bytes the sink takes before its vector has to grow.
+-- How many more bytes the sink can take before its vector must grow.
 abbrev pub vec_sink_room : VecSink → ℕ
 vec_sink_room sink = vec_capacity sink.bytes - vec_len sink.bytes
 
@@ -22,6 +22,6 @@ vec_sink_state sink = record { taken = Some (vec_sink_bytes sink); failures = ve
 abbrev pub slice_source_rest : SliceSource → List ℕ
 slice_source_rest source = source.rest.now
 
--- It tells its bytes, and never fails.
+-- This source tells its bytes, and never fails.
 abbrev pub slice_source_state : SliceSource → SourceState
 slice_source_state source = record { remaining = Some (slice_source_rest source); failures = 0 }

@@ -1,8 +1,8 @@
-//! Sinks and sources of bytes: where bytes go and come from, sinks and sources over memory, bytes that are sent whole, and bytes
-//! that are read piece by piece.
+//! Traits for byte sinks and sources, with implementations over memory; writers that send all bytes, and a reader that reads
+//! piece by piece.
 //!
-//! Sinks and sources count their failures, and may tell their bytes to contracts. So a contract says what a call took or gave
-//! at each device that tells its bytes, and when it failed at every device.
+//! Every sink and source counts its failures, and may make its bytes known to contracts. For every device, contracts state when
+//! a call failed; where its bytes are known, they also state which bytes it took or gave.
 #![tactic(auto)]
 
 mod memory;

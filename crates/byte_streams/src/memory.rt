@@ -6,7 +6,7 @@ ghost use Rattle.byte_streams.specs.Memory.{vec_sink_bytes, vec_sink_failures, v
 
 use crate::streams::{Failed, Sink, Source};
 
-/// A sink over a vector, which tells its bytes. A growth of the vector that is refused is a failure.
+/// A sink that appends to a vector; contracts know its bytes. It fails if the vector cannot grow.
 #[derive(Debug, Drop)]
 pub struct VecSink {
     bytes: Vec<u8>,
@@ -14,7 +14,7 @@ pub struct VecSink {
 }
 
 impl VecSink {
-    /// A sink that has not failed. The vector's bytes count as taken.
+    /// A sink with no failures. The bytes already in the vector count as taken.
     pub fn new(bytes: Vec<u8>) -> Self
         ensures taken { vec_sink_bytes result ≡ bytes.items }
         ensures failures { vec_sink_failures result ≡ 0 }
@@ -23,7 +23,7 @@ impl VecSink {
         VecSink { bytes, failures: 0 }
     }
 
-    /// All bytes that were taken.
+    /// Returns all bytes taken, including those in the vector at the start.
     pub fn into_bytes(self) -> Vec<u8>
         ensures { result.items ≡ vec_sink_bytes self }
     {
@@ -35,7 +35,7 @@ impl VecSink {
 impl Sink for VecSink {
     ghost state = { vec_sink_state };
 
-    /// Takes all bytes, or none where memory is short. It is not, where the vector has room for them.
+    /// Takes all bytes, or none if memory runs out. It cannot fail if the vector's spare capacity is large enough.
     fn write(&mut self, bytes: &[u8]) -> Result<usize, Failed>
         ensures all { IfOk result (λ n. n ≡ length bytes.now) }
         ensures ok { OnOk result (vec_sink_bytes self.new ≡ vec_sink_bytes self.old ++ bytes.now) }
@@ -51,7 +51,7 @@ impl Sink for VecSink {
     }
 }
 
-/// A source over a slice, which tells its bytes and never fails.
+/// A source over a slice; contracts know its bytes. It never fails.
 #[derive(Clone, Copy, Debug)]
 pub struct SliceSource<'a> {
     rest: &'a [u8],
@@ -69,7 +69,7 @@ impl<'a> SliceSource<'a> {
 impl Source for SliceSource<'_> {
     ghost state = { slice_source_state };
 
-    /// Gives as many bytes as there are and the buffer has room for.
+    /// Reads as many bytes as remain and fit into the buffer.
     fn read(&mut self, buffer: &mut [u8]) -> Result<usize, Failed>
         ensures within { IfOk result (λ n. n ≤ length buffer.old) }
         ensures gives { Gives (slice_source_state self.old) (slice_source_state self.new) result buffer.new }

@@ -10,28 +10,28 @@ use thiserror::Error;
 #[error("the device failed")]
 pub struct Failed;
 
-/// Where bytes go.
+/// A sink for bytes.
 ///
-/// A sink may tell the bytes that it took. It counts its failures; the count stays at 2^64 - 1 once it is there.
+/// A sink may make the bytes it has taken known to contracts. It counts its failures; the count saturates at 2^64 - 1.
 pub trait Sink {
-    // The bytes taken so far, where the sink tells its bytes, and how often it failed.
+    // The bytes taken so far, where they are known, and the number of failures.
     ghost state: { Self → SinkState };
 
-    /// Takes bytes. `Ok(n)` took the first `n` of them, at least one where any were offered. `Err` took nothing, and
-    /// is one failure more.
+    /// Writes bytes. After `Ok(n)` the sink has taken the first `n` of them, at least one unless `bytes` is empty. After `Err` it
+    /// has taken nothing, and counts one more failure.
     fn write(&mut self, bytes: &[u8]) -> Result<usize, Failed>
         ensures { Takes (state self.old) (state self.new) result bytes.now };
 }
 
-/// Where bytes come from.
+/// A source of bytes.
 ///
-/// A source may tell the remaining bytes. It counts its failures; the count stays at 2^64 - 1 once it is there.
+/// A source may make its remaining bytes known to contracts. It counts its failures; the count saturates at 2^64 - 1.
 pub trait Source {
-    // The remaining bytes, where the source tells its bytes, and how often it failed.
+    // The remaining bytes, where they are known, and the number of failures.
     ghost state: { Self → SourceState };
 
-    /// Gives bytes. `Ok(n)` puts the next `n` of them at the buffer's front; `Ok(0)` for a buffer that is not empty says
-    /// that none remain. `Err` gives nothing, and is one failure more.
+    /// Reads bytes. After `Ok(n)` the next `n` of them are at the front of the buffer; `Ok(0)` for a non-empty buffer means that
+    /// none remain. After `Err` the source has given nothing, and counts one more failure.
     fn read(&mut self, buffer: &mut [u8]) -> Result<usize, Failed>
         ensures within { IfOk result (λ n. n ≤ length buffer.old) }
         ensures gives { Gives (state self.old) (state self.new) result buffer.new };

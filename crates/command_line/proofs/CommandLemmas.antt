@@ -1,10 +1,10 @@
--- Commands that get one argument, or one command, more.
+-- Commands that get one more argument, or one more command.
 use Rattle.std.proofs.Common.{◌≡◌, ◌∙◌, true, ap, ap₂}
 use Rattle.clap.specs.Words.{AddsArg, AddsSubcommand, App, Rule, with_rule, with_subcommand}
 use Rattle.clap.specs.declared.builder.Arg.{Arg}
 use Rattle.clap.specs.declared.builder.Command.{Command}
 use Rattle.clap.proofs.SimpleLemmas.{plain_fields}
-use Rattle.command_line.specs.Commands.{IsArgument, IsCommand}
+use Rattle.command_line.specs.parts.Commands.{IsArgument, IsCommand}
 
 pub one_argument_more : (old new : Command) (arg : Arg) (app : App) (rule : Rule) → IsCommand app old → IsArgument rule arg → AddsArg old arg new
     → IsCommand (with_rule app rule) new

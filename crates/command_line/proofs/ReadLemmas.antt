@@ -1,4 +1,4 @@
--- What clap's matches are, and what is read of them.
+-- clap's matches, and what is read from them.
 use Rattle.std.proofs.Common.{◌≡◌, ℕ, List, [], map, true, false, Option, None, Some, Bor, refl, sym, ap, ◌∙◌}
 use Rattle.std.specs.Prelude.{is_some, option_map, unwrap_or}
 use Rattle.std.specs.Str.Parse.{digits_value, without_leading_plus}
@@ -13,7 +13,7 @@ pub commands_are_simple : (parsers : Parsers) → is_simple (commands parsers) �
 unfolding clap_on_literals
 commands_are_simple parsers = refl
 
--- The words of a slice that may be missing.
+-- The values of an argument that may be missing.
 pub words_or_none : (o : Option (Bor (List (Bor Text)))) (none given : Bor (List (Bor Text))) → none.now ≡ [] → given ≡ unwrap_or o none
     → map (λ word. word.now) given.now ≡ unwrap_or (option_map (λ words. map (λ word. word.now) words.now) o) []
 words_or_none None none given empty is = ap (λ (words : Bor (List (Bor Text))). map (λ word. word.now) words.now) is ∙ ap (map (λ word. word.now)) empty
@@ -27,7 +27,7 @@ no_values f id missing = sym (raw_values-rows f id) ∙ go (matched_of f id) mis
     go None e = refl
     go (Some found) e = cc
 
--- The number that was read of a text.
+-- The number that was read from a text.
 pub number_read : (f : Found) (id : Text) (n : ℕ) (P : Text → Type 0) → (one_text f id ≡ None → ⊥) → ((t : Text) → one_text f id ≡ Some t → P t)
     → ((t : Text) → P t → n ≡ digits_value 10 (without_leading_plus t)) → HasNumber id (rows_of f) n
 number_read f id n P some reads value = go (one_text f id) refl

@@ -1,13 +1,10 @@
--- The commands as they are given to clap, and what a plan has of the matches that clap finds in the words. What words match is clap's own
+-- The commands as they are defined for clap, and how a plan follows from clap's matches. What arguments match is clap's own
 -- definition (`subcommand_of`). All of this is this project's choice.
 use Rattle.std.specs.Prelude.{◌≡◌, ℕ, false, true, List, [], ◌∷◌, codes, map, option_map, unwrap_or, Option, None, Some, string_bytes}
 use Rattle.std.specs.Str.Parse.{digits_value, without_leading_plus}
-use Rattle.clap.specs.Words.{App, Row, Rule, Text, all_of, app_of, first_of, new_app, new_rule, one_of, rule_of, subcommand_of}
-use Rattle.clap.specs.Words.{with_rule, with_subcommand}
+use Rattle.clap.specs.Words.{App, Row, Rule, Text, all_of, first_of, new_app, new_rule, one_of, subcommand_of, with_rule, with_subcommand}
 use Rattle.clap.specs.Lexer.{usize_max}
-use Rattle.clap.specs.declared.builder.Arg.{Arg}
 use Rattle.clap.specs.declared.builder.ArgAction.TheVariants.{Append, SetTrue}
-use Rattle.clap.specs.declared.builder.Command.{Command}
 use Rattle.clap.specs.declared.builder.ValueParser.{ValueParser}
 use Rattle.pcr_banks.specs.Hashing.{name_of}
 use Rattle.ima_list.specs.Templates.{template_name}
@@ -20,7 +17,7 @@ use Rattle.command_line.specs.declared.plan.Print.TheVariants as prints
 
 -- ---- the commands
 
--- What clap asks of the values of options. It is left open: a plan says which values there are.
+-- clap's parsers of the values of options. They are left open: a plan says what the values are.
 pub record Parsers : Type 0 where
   pub algs : ValueParser
   pub templates : ValueParser
@@ -28,11 +25,11 @@ pub record Parsers : Type 0 where
   pub limit : ValueParser
   pub prints : ValueParser
 
--- A word that must be there.
+-- A required argument.
 abbrev pub required : Text → Rule
 required id = record (new_rule id) { required = true }
 
--- An option that has this value where it is left out.
+-- An option with this default value.
 abbrev pub optional : Text → Text → ValueParser → Rule
 optional id default parser = record (new_rule id) {
   long = Some id;
@@ -41,15 +38,15 @@ optional id default parser = record (new_rule id) {
   parser = Some parser;
 }
 
--- An option that has no value where it is left out.
+-- An option without a default value.
 abbrev pub without_default : Text → Rule
 without_default id = record (new_rule id) { long = Some id; value_names = 1 }
 
--- A flag that goes only with another option. Which one that is, a plan says (`HasValues`).
+-- A flag that requires another option. Which one that is, a plan says (`HasValues`).
 abbrev pub flag_beside : Text → Rule
 flag_beside id = record (new_rule id) { long = Some id; action = Some SetTrue; is_free = false }
 
--- Any number of words.
+-- An argument with any number of values.
 abbrev pub repeated : Text → Rule
 repeated id = record (new_rule id) {
   action = Some Append;
@@ -76,7 +73,7 @@ verify_app =
 abbrev pub show_app : App
 show_app = with_rule (new_app (codes "show")) (required (codes "LIST"))
 
--- The program, whose first word is a command's name.
+-- The program, whose first argument is a command's name.
 abbrev pub program_app : App
 program_app = record {
   top = record (new_app (codes "ima-agent")).top { no_binary_name = true; disable_help_subcommand = true; subcommand_required = true };
@@ -86,23 +83,14 @@ program_app = record {
 abbrev pub commands : Parsers → App
 commands parsers = with_subcommand (with_subcommand (with_subcommand program_app (measure_app parsers).top) verify_app.top) show_app.top
 
--- clap has this argument, which is one of its command alone.
-pub record IsArgument (rule : Rule) (arg : Arg) : Type 0 where
-  pub rule_is : rule_of arg ≡ rule
-  pub local : arg.global ≡ false
-
--- clap has this command.
-pub record IsCommand (app : App) (command : Command) : Type 0 where
-  pub app_is : app_of command ≡ app
-
--- ---- what a plan has of the words
+-- ---- how a plan follows from the arguments
 
 abbrev pub print_name : Print → Text
 print_name prints.Ascii = codes "ascii"
 print_name prints.Binary = codes "binary"
 print_name prints.Registers = codes "registers"
 
--- What clap gives `--null`, by what ends a name: `true` where the words have it, and else `false`.
+-- The value that clap gives `--null`: `true` if it is present, else `false`.
 abbrev pub null_value : NameEnd → Text
 null_value LineFeed = codes "false"
 null_value Nul = codes "true"
@@ -113,7 +101,7 @@ pub record HasNumber (id : Text) (rows : List Row) (number : ℕ) : Type 0 where
   pub has : one_of id rows ≡ Some text
   pub number_is : digits_value 10 (without_leading_plus text) ≡ number
 
--- The options and the names of a measurement are these values of the matches.
+-- The matches have these options and names of a measurement.
 pub record HasMeasure (rows : List Row) (alg template print log : Text) (workers limit : ℕ) (files : List Text) : Type 0 where
   pub alg_is : first_of (codes "alg") rows ≡ Some alg
   pub template_is : first_of (codes "template") rows ≡ Some template
@@ -123,8 +111,7 @@ pub record HasMeasure (rows : List Row) (alg template print log : Text) (workers
   pub log_is : first_of (codes "LOG") rows ≡ Some log
   pub files_is : unwrap_or (all_of (codes "FILE") rows) [] ≡ files
 
--- The plan has its options and names of these matches. Where no text names further files, the words have neither `--files-from` nor
--- `--null`.
+-- The plan has the options and names of these matches. `Measure` requires that neither `--files-from` nor `--null` is present.
 abbrev pub HasValues : List Row → Plan → Type 0
 HasValues rows Registers = ⊥
 HasValues rows (Measure alg template workers limit print log files) =
@@ -142,13 +129,13 @@ HasValues rows (Verify log list expected) =
 HasValues rows (Show list) = first_of (codes "LIST") rows ≡ Some (string_bytes list)
 HasValues rows (Help text) = ⊥
 
--- The same of the matches of a command, where there are any.
+-- The same of the matches of a command, which was found.
 pub record HasValuesIn (found : Option (Text × List Row)) (plan : Plan) : Type 0 where
   pub rows : List Row
   pub rows_are : option_map (λ command. command.1) found ≡ Some rows
   pub values : HasValues rows plan
 
--- The plan has its options and names of what the words of its command match.
+-- The plan has the options and names that the arguments match.
 pub record IsMatched (words : List Text) (plan : Plan) : Type 0 where
   pub parsers : Parsers
   pub values : HasValuesIn (subcommand_of (commands parsers) words) plan

@@ -1,4 +1,4 @@
--- What the words of the command line ask for. All of this is this project's choice.
+-- What the arguments of the command line request. All of this is this project's choice.
 use Rattle.std.specs.Prelude.{◌≡◌, ℕ, ◌≤◌, ◌<◌, ◌^◌, ◌⊎◌, ◌||◌, ◌==◌, Bool, IsTrue, List, [], ◌∷◌, bytes_eq, codes, map, String, string_bytes, vec_len}
 use Rattle.std.specs.List.{list_any, starts_with}
 use Rattle.std.specs.Global.{Global}
@@ -6,7 +6,7 @@ use Rattle.command_line.specs.Commands.{IsMatched}
 use Rattle.command_line.specs.declared.plan.Plan.{Plan}
 use Rattle.command_line.specs.declared.plan.Plan.TheVariants.{Registers, Measure, MeasureListed, Verify, Show, Help}
 
--- A measurement has 1 to 8 workers, a limit of at least one record, and fewer than 2^32 files that the words name.
+-- A measurement has 1 to 8 workers, a limit of at least one record, and fewer than 2^32 files named by arguments.
 abbrev pub IsWithinRanges : Plan → Type 0
 IsWithinRanges Registers = Unit {0}
 IsWithinRanges (Measure alg template workers limit print log files) =
@@ -17,7 +17,7 @@ IsWithinRanges (Verify log list expected) = Unit {0}
 IsWithinRanges (Show list) = Unit {0}
 IsWithinRanges (Help text) = Unit {0}
 
--- The command with this name is asked for.
+-- The plan is of the command with this name.
 abbrev pub IsOfCommand : List ℕ → Plan → Type 0
 IsOfCommand command Registers = ⊥
 IsOfCommand command (Measure alg template workers limit print log files) = command ≡ codes "measure"
@@ -26,20 +26,20 @@ IsOfCommand command (Verify log list expected) = command ≡ codes "verify"
 IsOfCommand command (Show list) = command ≡ codes "show"
 IsOfCommand command (Help text) = ⊥
 
--- The word asks for help: it is `--help`, or short options of which the first is `-h`.
+-- The argument requests help: it is `--help`, or short options of which the first is `-h`.
 abbrev pub asks_help : List ℕ → Bool
 asks_help word = bytes_eq word (codes "--help") || starts_with (λ a b. a == b) word (codes "-h")
 
--- Some word asks for help.
+-- Some argument requests help.
 abbrev pub HasHelpWord : List (String Global) → Type 0
 HasHelpWord words = IsTrue (list_any (λ word. asks_help (string_bytes word)) words)
 
--- Help is asked for.
+-- The plan is help.
 abbrev pub IsHelp : Plan → Type 0
 IsHelp plan = (text : String Global) × (plan ≡ Help text)
 
--- No words ask for the registers of standard input; of others, one asks for help, or the first is the command and they match its options
--- and names.
+-- Without arguments the plan is `Registers`: the log on standard input. Otherwise the first argument is the command and all match
+-- its options and names, or one of them requests help.
 abbrev pub IsAskedBy : List (String Global) → Plan → Type 0
 IsAskedBy [] plan = plan ≡ Registers
 IsAskedBy (word ∷ words) plan =

@@ -1,31 +1,31 @@
-//! The commands, as clap takes them.
+//! The commands, defined for clap.
 
 ghost use Rattle.std.specs.Prelude.{codes, IfOk};
 ghost use Rattle.clap.specs.Words.{new_app};
 ghost use Rattle.clap.specs.declared.builder.ValueParser.{ValueParser};
-ghost use Rattle.command_line.specs.Commands.{IsArgument, IsCommand, Parsers, commands, flag_beside, measure_app, optional, program_app, repeated, required, show_app, verify_app, without_default};
+ghost use Rattle.command_line.specs.parts.Commands.{IsArgument, IsCommand};
+ghost use Rattle.command_line.specs.Commands.{Parsers, commands, flag_beside, measure_app, optional, program_app, repeated, required, show_app, verify_app, without_default};
 
 use clap::{Arg, ArgAction, Command, value_parser};
 use ima_list::Template;
 use pcr_banks::Alg;
 use std::alloc::{AllocError, Global};
 
-/// The names of what is printed.
+/// The values of `--print`.
 static PRINTS: [&str; 3] = ["ascii", "binary", "registers"];
 
 /// The greatest number of workers.
 pub(crate) const MOST_WORKERS: usize = 8;
 
-/// What the help of the program and of each command ends with.
+/// The end of the help of the program and of each command.
 const STATUSES: &str = "\
 Exit status:
-  0  done; of verify: the expected registers and the list's boot aggregate match
-  1  of verify: an expected register or the boot aggregate does not match
-  2  the words or an input are refused
-  3  memory ran out, or a device failed";
+  0  done; for verify: the expected registers and the boot aggregate match
+  1  verify only: an expected register or the boot aggregate does not match
+  2  the arguments or an input were refused
+  3  out of memory, or a device failed";
 
-// The commands, as clap reads them. Files are measured by an algorithm of one of these names, into entries of a template of one
-// of these names.
+// All commands. `algs` and `templates` are the values of `--alg` and `--template`.
 pub(crate) fn all_commands<'a>(
     alloc: Global,
     algs: &'a [&'a str],
@@ -71,14 +71,14 @@ fn measure_command<'a>(
 ) -> Result<Command<'a>, AllocError>
     ensures { IfOk result (λ command. (parsers : Parsers) × IsCommand (measure_app parsers) command) }
 {
-    let digests = "Hash algorithm of the files' digests\n";
+    let digests = "Hash algorithm for the files' digests\n";
     let entries = "Template of the list's entries\n";
     let prints = "\
 What to print: the list as text, the binary list, or the registers that
 differ from their reset values\n";
     let log = "Firmware event log, binary, at most 64 MiB";
     let about =
-        "Measures files into the registers that a firmware event log makes, and prints the result";
+        "Measures files into the registers left by a firmware event log, and prints the result";
     command(alloc, "measure", about)
         .arg(choice(alloc, "alg", "A", Alg::Sha256.name(), algs, digests))?
         .arg(choice(
@@ -109,9 +109,9 @@ fn verify_command<'a>(alloc: Global) -> Result<Command<'a>, AllocError>
             alloc,
             "EXPECTED",
             "\
-Expected registers, at most 64 MiB, a line each: algorithm, register and value
-in hexadecimal. A file without a line compares no register: it matches whatever
-the registers are, if the list's boot aggregate does",
+Expected registers, at most 64 MiB, one per line: algorithm, register and value
+in hexadecimal. An empty file compares no register: the verdict then depends on
+the list's boot aggregate alone",
         ))
 }
 
@@ -126,14 +126,14 @@ fn show_command<'a>(alloc: Global) -> Result<Command<'a>, AllocError>
     ))
 }
 
-// A required word that names an input.
+// A required argument that names an input.
 fn input<'a>(alloc: Global, id: &'a str, help: &'a str) -> Arg<'a>
     ensures { IsArgument (required id.now) result }
 {
     Arg::new(alloc, id).required(true).help(help)
 }
 
-// An option that has one of these values.
+// An option that takes one of these values.
 fn choice<'a>(
     alloc: Global,
     id: &'a str,
@@ -163,7 +163,7 @@ fn workers_option<'a>(alloc: Global) -> Arg<'a>
         .help(
             "\
 How many workers hash files at once, 1 to 8. Only with 1 are files measured in
-their order, so that each run gives the same list and registers",
+the given order, so that every run gives the same list and registers",
         )
 }
 
@@ -175,7 +175,7 @@ fn limit_option<'a>(alloc: Global) -> Arg<'a>
         .value_name("N")
         .value_parser(value_parser!(u32).range(1..))
         .default_value("100000")
-        .help("The greatest number of records, the opening's included, 1 to 4294967295\n")
+        .help("Maximum number of records, including the opening record, 1 to 4294967295\n")
 }
 
 fn files_from_option<'a>(alloc: Global) -> Arg<'a>
@@ -184,7 +184,7 @@ fn files_from_option<'a>(alloc: Global) -> Arg<'a>
     Arg::new(alloc, "files-from")
         .long("files-from")
         .value_name("NAME")
-        .help("File with further names of files to measure, one a line, at most 64 MiB")
+        .help("File that names more files to measure, one per line, at most 64 MiB")
 }
 
 fn null_flag<'a>(alloc: Global) -> Result<Arg<'a>, AllocError>
@@ -193,7 +193,7 @@ fn null_flag<'a>(alloc: Global) -> Result<Arg<'a>, AllocError>
     Arg::new(alloc, "null")
         .long("null")
         .action(ArgAction::SetTrue)
-        .help("The names in that file are ended by NUL, as `find -print0` writes them")
+        .help("Names in that file end with NUL, as written by `find -print0`")
         .requires_arg("files-from")
 }
 
@@ -203,5 +203,5 @@ fn files_argument<'a>(alloc: Global) -> Arg<'a>
     Arg::new(alloc, "FILE")
         .action(ArgAction::Append)
         .num_args(0..)
-        .help("Files to measure, each at most 64 MiB, under the names given here")
+        .help("Files to measure, each at most 64 MiB, recorded under the names given here")
 }

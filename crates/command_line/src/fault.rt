@@ -1,4 +1,4 @@
-//! Why words ask for nothing.
+//! Why the arguments were refused.
 
 ghost use Rattle.std.specs.Prelude.{◌≡◌};
 ghost use Rattle.command_line.specs.declared.fault.WordsFault.TheVariants.{Memory};
@@ -6,13 +6,13 @@ ghost use Rattle.command_line.specs.declared.fault.WordsFault.TheVariants.{Memor
 use std::alloc::{AllocError, AllocFailed};
 use thiserror::Error;
 
-/// Why words ask for nothing.
+/// Why the arguments were refused.
 #[derive(Clone, Copy, Debug, PartialEq, Eq, Error)]
 pub enum WordsFault {
-    /// 1: the words are not those of a command.
-    #[error("the words are not those of a command")]
+    /// 1: the arguments are not those of a command.
+    #[error("the arguments are not those of a command")]
     Usage,
-    /// 2: out of memory.
+    /// Out of memory.
     #[error("out of memory")]
     Memory,
 }

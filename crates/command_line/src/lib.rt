@@ -1,4 +1,4 @@
-//! The command line: what its words ask for.
+//! The command line: what its arguments request.
 #![tactic(auto)]
 
 mod commands;

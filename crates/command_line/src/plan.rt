@@ -1,20 +1,20 @@
-//! What the program is asked for.
+//! What the program's arguments request.
 
 use ima_list::Template;
 use pcr_banks::Alg;
 
-/// What is printed of a measurement.
+/// What a measurement prints.
 #[derive(Clone, Copy, Debug, PartialEq, Eq)]
 pub enum Print {
-    /// The line of each entry of the list.
+    /// The list as text, one line per entry.
     Ascii,
-    /// The list, binary.
+    /// The list in its binary form.
     Binary,
     /// The registers that differ from their reset values.
     Registers,
 }
 
-/// What ends a name in a text that names files.
+/// What ends each name in a text of file names.
 #[derive(Clone, Copy, Debug, PartialEq, Eq)]
 pub enum NameEnd {
     /// A line feed; the last name may lack it.
@@ -23,12 +23,12 @@ pub enum NameEnd {
     Nul,
 }
 
-/// What the program is asked for.
+/// What the program's arguments request.
 #[derive(Debug, Drop)]
 pub enum Plan {
-    /// The registers that a firmware event log makes, in hexadecimal on standard input.
+    /// Show the registers after a firmware event log, which is read in hexadecimal from standard input.
     Registers,
-    /// Files are measured into the registers of a log.
+    /// Measure files into the registers of a log.
     Measure {
         /// The algorithm of the files' digests.
         alg: Alg,
@@ -36,16 +36,16 @@ pub enum Plan {
         template: Template,
         /// How many workers hash at once, 1 to 8.
         workers: usize,
-        /// The greatest number of records, at least 1.
+        /// The maximum number of records, at least 1.
         limit: u32,
-        /// What is printed.
+        /// What to print.
         print: Print,
         /// The name of the firmware event log, binary.
         log: String,
         /// The names of the files, fewer than 2^32.
         files: Vec<String>,
     },
-    /// Files are measured into the registers of a log: those that are named here, and then those that a text names.
+    /// Measure files into the registers of a log: those named here, then those that a text names.
     MeasureListed {
         /// The algorithm of the files' digests.
         alg: Alg,
@@ -53,20 +53,20 @@ pub enum Plan {
         template: Template,
         /// How many workers hash at once, 1 to 8.
         workers: usize,
-        /// The greatest number of records, at least 1.
+        /// The maximum number of records, at least 1.
         limit: u32,
-        /// What is printed.
+        /// What to print.
         print: Print,
         /// The name of the firmware event log, binary.
         log: String,
-        /// The names of the files that are named here, fewer than 2^32.
+        /// The names of the files named here, fewer than 2^32.
         files: Vec<String>,
-        /// The name of the text that names further files.
+        /// The name of the text with further names.
         names: String,
         /// What ends each name in that text.
         ends: NameEnd,
     },
-    /// A log and a list are replayed, and compared with expected registers.
+    /// Replay a log and a list, and compare the registers with expected ones.
     Verify {
         /// The name of the firmware event log, binary.
         log: String,
@@ -75,11 +75,11 @@ pub enum Plan {
         /// The name of the text of expected registers.
         expected: String,
     },
-    /// The entries of a list, as text.
+    /// Show the entries of a list as text.
     Show {
         /// The name of the measurement list, binary.
         list: String,
     },
-    /// This help.
+    /// Show this help.
     Help(String),
 }

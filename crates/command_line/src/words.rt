@@ -1,4 +1,4 @@
-//! The words of the command line.
+//! Reads the command line.
 
 ghost use Rattle.std.specs.Prelude.{◌≡◌, ◌<◌, ◌≤◌, ◌^◌, ◌⊎◌, [], Ok, Some, codes, drop, map, string_bytes, unwrap_or, vec_len, IfOk};
 ghost use Rattle.clap.specs.Words.{all_of, first_of, found_of, rows_of, subcommand_rows_of};
@@ -20,14 +20,15 @@ use pcr_banks::Alg;
 use std::alloc::{AllocError, Global};
 use std::env::Args;
 
-/// What the words of the command line ask for, the program's name left out. No words ask for the registers of the log on
-/// standard input; else the first word is the command, and what options and names the others are is `clap`'s own definition.
+/// Reads the program's arguments, without its name. Without arguments the plan is `Registers`: the log on standard input.
+/// Otherwise the first argument is the command, and the rest are its options and names, by `clap`'s own definition.
 ///
-/// Refused as `Usage` where the words are not those of a command, and as `Memory` where memory runs out.
+/// Fails with `Usage` if the arguments are not those of a command, and with `Memory` if memory runs out.
 pub fn read_words(alloc: Global, words: &[String]) -> Result<Plan, WordsFault>
-    // The command is the first word, with the options and names that the words match, and within its ranges; or help is asked for.
+    // The first argument is the command, the arguments match its options and names, and these are within their ranges; or one of
+    // them requests help.
     ensures asked { IfOk result (λ plan. IsAskedBy words.now plan × IsWithinRanges plan) }
-    // No words ask for the registers of standard input.
+    // Without arguments the plan is `Registers`, whatever memory there is.
     ensures none { words.now ≡ [] → result ≡ Ok Registers }
 {
     match words.first() {
@@ -36,14 +37,14 @@ pub fn read_words(alloc: Global, words: &[String]) -> Result<Plan, WordsFault>
     }
 }
 
-/// The words after the first, which is the program's name.
+/// The arguments after the first, which is the program's name.
 pub fn words_after_name(alloc: Global, words: Args) -> Result<Vec<String>, AllocError>
     ensures { IfOk result (λ rest. rest.items ≡ drop 1 (into_iter_items words)) }
 {
     words.skip(1).collect(alloc)
 }
 
-// The command of this name that the words give, or the help that they ask for.
+// The plan of the command of this name, or the help that the arguments request.
 fn plan_in(alloc: Global, words: &[String], command: &str) -> Result<Plan, WordsFault>
     ensures { IfOk result (λ plan. ((IsOfCommand command.now plan × IsMatched (map string_bytes words.now) plan) ⊎ (HasHelpWord words.now × IsHelp plan)) × IsWithinRanges plan) }
 {
@@ -58,7 +59,7 @@ fn plan_in(alloc: Global, words: &[String], command: &str) -> Result<Plan, Words
     }
 }
 
-// The command that the words give, by what clap found.
+// The plan of the command, from clap's matches.
 fn plan_of(alloc: Global, command: &str, matches: &ArgMatches) -> Result<Plan, WordsFault>
     ensures { IfOk result (λ plan. IsOfCommand command.now plan × IsWithinRanges plan × HasValuesIn (subcommand_rows_of matches.now) plan) }
 {
@@ -73,7 +74,7 @@ fn plan_of(alloc: Global, command: &str, matches: &ArgMatches) -> Result<Plan, W
     }
 }
 
-// What a measurement is asked for, whether or not a text names further files.
+// What `measure` takes with and without `--files-from`.
 #[derive(Drop)]
 struct Measurement {
     alg: Alg,
@@ -85,7 +86,7 @@ struct Measurement {
     files: Vec<String>,
 }
 
-// What `measure` is asked for. `--null` without `--files-from` is refused.
+// The plan of `measure`. Refuses `--null` without `--files-from`.
 fn measure_of(alloc: Global, matches: &ArgMatches) -> Result<Plan, WordsFault>
     ensures { IfOk result (λ plan. IsOfCommand (codes "measure") plan × IsWithinRanges plan × HasValues (rows_of (found_of matches.now)) plan) }
 {
@@ -119,7 +120,7 @@ fn measure_of(alloc: Global, matches: &ArgMatches) -> Result<Plan, WordsFault>
     }
 }
 
-// The options and names of `measure`, but for those that go with a text of further names.
+// The options and names of `measure`, except `--files-from` and `--null`.
 fn measurement_of(alloc: Global, matches: &ArgMatches) -> Result<Measurement, WordsFault>
     ensures values { IfOk result (λ asked. HasMeasure (rows_of (found_of matches.now)) (name_of asked.alg) (template_name asked.template) (print_name asked.print) (string_bytes asked.log) asked.workers asked.limit (map string_bytes asked.files.items)) }
     ensures within { IfOk result (λ asked. (1 ≤ asked.workers) × (asked.workers ≤ 8) × (1 ≤ asked.limit) × (vec_len asked.files < 2 ^ 32)) }
@@ -147,7 +148,7 @@ fn measurement_of(alloc: Global, matches: &ArgMatches) -> Result<Measurement, Wo
     })
 }
 
-// What `verify` is asked for.
+// The plan of `verify`.
 fn verify_of(alloc: Global, matches: &ArgMatches) -> Result<Plan, WordsFault>
     ensures { IfOk result (λ plan. IsOfCommand (codes "verify") plan × IsWithinRanges plan × HasValues (rows_of (found_of matches.now)) plan) }
 {
@@ -158,7 +159,7 @@ fn verify_of(alloc: Global, matches: &ArgMatches) -> Result<Plan, WordsFault>
     })
 }
 
-// What `show` is asked for.
+// The plan of `show`.
 fn show_of(alloc: Global, matches: &ArgMatches) -> Result<Plan, WordsFault>
     ensures { IfOk result (λ plan. IsOfCommand (codes "show") plan × IsWithinRanges plan × HasValues (rows_of (found_of matches.now)) plan) }
 {
@@ -167,7 +168,7 @@ fn show_of(alloc: Global, matches: &ArgMatches) -> Result<Plan, WordsFault>
     })
 }
 
-// What is printed for this name.
+// What `--print` with this value prints.
 fn print_named(name: &str) -> Result<Print, WordsFault>
     ensures { IfOk result (λ print. print_name print ≡ name.now) }
 {
@@ -179,7 +180,7 @@ fn print_named(name: &str) -> Result<Print, WordsFault>
     }
 }
 
-// What ends a name in the text of further names. `clap` gives `--null` the value `true` where the words have it, and else `false`.
+// What ends each name in the text of `--files-from`. `clap` gives `--null` the value `true` if it is present, else `false`.
 fn ends_of(matches: &ArgMatches) -> Result<NameEnd, WordsFault>
     ensures { IfOk result (λ ends. first_of (codes "null") (rows_of (found_of matches.now)) ≡ Some (null_value ends)) }
 {
@@ -200,7 +201,7 @@ fn workers_of(matches: &ArgMatches) -> Result<usize, WordsFault>
     }
 }
 
-// The greatest number of records, 1 or more.
+// The maximum number of records, at least 1.
 fn limit_of(matches: &ArgMatches) -> Result<u32, WordsFault>
     ensures { IfOk result (λ limit. HasNumber (codes "limit") (rows_of (found_of matches.now)) limit × (1 ≤ limit)) }
 {
@@ -217,21 +218,21 @@ fn files_of(alloc: Global, matches: &ArgMatches) -> Result<Vec<String>, AllocErr
     names_of(alloc, matches.get_strs("FILE").unwrap_or(&[]))
 }
 
-// The first word of this argument.
+// The first value of this argument.
 fn text_of<'a>(matches: &ArgMatches<'a>, id: &str) -> Result<&'a str, WordsFault>
     ensures { IfOk result (λ text. first_of id.now (rows_of (found_of matches.now)) ≡ Some text.now) }
 {
     matches.get_str(id).ok_or(WordsFault::Usage)
 }
 
-// A copy of the first word of this argument.
+// A copy of the first value of this argument.
 fn name_of(alloc: Global, matches: &ArgMatches, id: &str) -> Result<String, WordsFault>
     ensures { IfOk result (λ name. first_of id.now (rows_of (found_of matches.now)) ≡ Some (string_bytes name)) }
 {
     Ok(String::from_str(alloc, text_of(matches, id)?)?)
 }
 
-// A copy of each word.
+// A copy of each value.
 fn names_of(alloc: Global, words: &[&str]) -> Result<Vec<String>, AllocError>
     ensures { IfOk result (λ names. map string_bytes names.items ≡ map (λ word. word.now) words.now) }
 {
@@ -242,14 +243,14 @@ fn names_of(alloc: Global, words: &[&str]) -> Result<Vec<String>, AllocError>
     Ok(names)
 }
 
-// Whether some word asks for help. A word that begins with `-h` is short options, of which the first is help.
+// Whether some argument requests help: `--help`, or short options that begin with `-h`.
 fn has_help_word(words: &[String]) -> bool
     ensures { result ≡ list_any (λ word. asks_help (string_bytes word)) words.now }
 {
     words.iter().any(|word| word.as_str() == "--help" || word.as_bytes().starts_with(b"-h"))
 }
 
-// The help, where it was asked for; else the words are wrong, or memory ran out.
+// The help, if it was requested; else `Usage`, or `Memory` if memory ran out.
 fn help_of(alloc: Global, words: &[String], error: &Error) -> Result<Plan, WordsFault>
     ensures { IfOk result (λ plan. HasHelpWord words.now × IsHelp plan) }
 {

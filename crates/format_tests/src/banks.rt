@@ -2,12 +2,7 @@
 
 use pcr_banks::*;
 use std::test::Fail;
-
-const SHA256_OF_NOTHING: &[u8] =
-    b"e3b0c44298fc1c149afbf4c8996fb92427ae41e4649b934ca495991b7852b855";
-
-const SHA256_OF_64_ZEROS: &[u8] =
-    b"f5a5fd42d16a20302798ef6ed309979b43003d2320d9f0e8ea9831a92759fb4b";
+use test_kit::registers::{SHA256_OF_64_ZEROS, SHA256_OF_NOTHING};
 
 #[test]
 fn published_hash_values(rt: HostRuntime) {

@@ -11,6 +11,4 @@ mod lists;
 #[cfg(test)]
 mod logs;
 #[cfg(test)]
-mod sinks;
-#[cfg(test)]
 mod streams;

@@ -1,12 +1,11 @@
 //! Sinks and sources that fail, what is sent to them, and what is read piece by piece.
 
-ghost use Rattle.std.specs.Prelude.{None};
-
-use crate::sinks::ShortSink;
 use byte_streams::{
     Failed, PieceReader, ReadFault, Sink, SliceSource, Source, VecSink, send, send_pieces,
 };
 use std::test::Fail;
+use test_kit::devices::{PieceSource, ShortSink};
+use test_kit::words_of;
 
 /// How many bytes a sink has room for, how many of the text it then takes, and how often it fails.
 const ROOMS: [(usize, usize, u64); 4] = [(0, 0, 1), (2, 2, 1), (5, 5, 1), (6, 6, 0)];
@@ -82,10 +81,7 @@ fn slice_source_gives_what_fits(rt: HostRuntime) -> Result<(), Fail> {
 
 #[test]
 fn failed_says_so(rt: HostRuntime) -> Result<(), Fail> {
-    let text = match format!(in rt.alloc(); "{Failed}") {
-        Ok(text) => text,
-        Err(_) => format!(in rt.alloc(); "{Failed}")?,
-    };
+    let text = words_of(rt.alloc(), Failed)?;
     assert_eq!(rt; text.as_str(), "the device failed");
     Ok(())
 }
@@ -123,21 +119,6 @@ fn piece_reader_reads_all_bytes(rt: HostRuntime) -> Result<(), Fail> {
     Ok(())
 }
 
-/// A source that fails at once.
-#[derive(Drop)]
-struct FailingSource {
-    failures: u64,
-}
-
-impl Source for FailingSource {
-    ghost state = { λ source. record { remaining = None; failures = source.failures } };
-
-    fn read(&mut self, _buffer: &mut [u8]) -> Result<usize, Failed> {
-        self.failures = self.failures.saturating_add(1);
-        Err(Failed)
-    }
-}
-
 /// After a fault the bytes before it are there still.
 #[test]
 fn piece_reader_keeps_what_it_read(rt: HostRuntime) -> Result<(), Fail> {
@@ -145,10 +126,10 @@ fn piece_reader_keeps_what_it_read(rt: HostRuntime) -> Result<(), Fail> {
     let mut bytes = Vec::new(rt.alloc());
     let read = read_once_more(&mut pieces, &mut SliceSource::new(b"abc"), &mut bytes);
     assert_eq!(rt; read, Ok(3));
-    let mut source = FailingSource { failures: 0 };
+    let mut source = PieceSource::failing(b"de", 2, 0);
     let read = read_once_more(&mut pieces, &mut source, &mut bytes);
     assert_eq!(rt; read, Err(ReadFault::Source));
-    assert_eq!(rt; source.failures, 1);
+    assert_eq!(rt; source.failures(), 1);
     assert_eq!(rt; bytes.as_slice(), b"abc".as_slice());
     Ok(())
 }

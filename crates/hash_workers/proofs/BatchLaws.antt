@@ -1,4 +1,4 @@
--- Full accounts of what workers did, put in the order of the jobs, are a batch.
+-- Full accounts of the workers' outcomes, in the order of the jobs, are a batch.
 use Rattle.std.proofs.Common.{◌≡◌, ◌≢◌, ℕ, ◌<◌, Bool, true, false, List, length, map, Option, Some, None, refl, sym, ap, ◌∙◌, subst, inl, inr, arith}
 use Rattle.std.specs.Prelude.{◌==◌, slice_get, option_map, option_and_then, if◌then◌else◌, Vec}
 use Rattle.std.specs.Option.{option_or}
@@ -15,14 +15,14 @@ use Rattle.measure_book.specs.Histories.{refusal_of, op_refusal}
 use Rattle.measure_book.specs.Groups as groups
 use Rattle.measure_book.specs.Groups.{groups_of, outcome_at, HasReceipt, AccountsForAll, IsNamed, SaysFull}
 use Rattle.measure_book.specs.Books.{BookState}
-use Rattle.hash_workers.specs.Taking.{Took, RiseForEach}
-use Rattle.hash_workers.specs.Working.{IsOutcomeOf}
-use Rattle.hash_workers.specs.Scattering.{items_of, got_at, ArePairs, AreScattered}
+use Rattle.hash_workers.specs.parts.Taking.{Took, NumbersRiseForEach}
+use Rattle.hash_workers.specs.Outcomes.{IsOutcomeOf}
+use Rattle.hash_workers.specs.parts.Scattering.{items_of, got_at, ArePairs, AreScattered}
 use Rattle.hash_workers.specs.Batches.{IsReceiptOfJob, IsRefusalOfJob, IsBatchOf}
 use Rattle.hash_workers.proofs.ListLaws.{map_at, at_map, list_at, at_list, within_at}
 use Rattle.hash_workers.proofs.TakingLaws.{TakeEach}
 
--- ---- the groups that are gathered are what the workers have
+-- ---- the gathered groups are the workers' outcomes
 
 at_option : (o : Option (Vec Outcome Global)) (i : ℕ)
     → option_and_then (λ os. slice_get os i) (option_map groups.outcomes_of o) ≡ option_map book_outcome_of
@@ -130,7 +130,7 @@ refusal_at_end origin n m op fault is full = or_full (op_refusal origin op) n m 
 abbrev Receipts : List (Vec Outcome Global) → ℕ → ℕ → BookReceipt → Type 0
 Receipts gs worker i receipt = HasReceipt (groups_of gs) worker i receipt
 
--- Two receipts of one place are of one worker and index.
+-- Two receipts of the same place are of the same worker and index.
 same_source : (book : BookState) (origin : Origin) (gs : List (Vec Outcome Global)) (worker other i k : ℕ) (receipt another : BookReceipt)
     → AccountsForAll book origin (groups_of gs) → Receipts gs worker i receipt → Receipts gs other k another
     → receipt.place ≡ another.place → (worker ≡ other) × (i ≡ k)
@@ -188,7 +188,7 @@ pub record IsSettled (origin : Origin) (count : ℕ) (Makes : ℕ → BookOp →
   pub of_jobs : (worker i job : ℕ) (outcome : BookOutcome) → Took takings worker i job → outcome_at (groups_of gs) worker i ≡ Some outcome
       → IsOutcomeOf origin count Makes job outcome
   pub hands : TakeEach count takings
-  pub rises : RiseForEach takings
+  pub rises : NumbersRiseForEach takings
   pub pairs : ArePairs takings (map items_of gs)
   pub scattered : AreScattered takings (map items_of gs) 0 outcomes by
   pub accounts : AccountsForAll book origin (groups_of gs)
@@ -229,7 +229,7 @@ of_source origin count Makes workers book takings gs outcomes by job outcome s f
 
 rise_by : (book : BookState) (origin : Origin) (takings : List (List ℕ)) (gs : List (Vec Outcome Global)) (worker i k first second : ℕ)
     (earlier later : BookReceipt)
-    → AccountsForAll book origin (groups_of gs) → RiseForEach takings → first < second → Took takings worker i first
+    → AccountsForAll book origin (groups_of gs) → NumbersRiseForEach takings → first < second → Took takings worker i first
     → Took takings worker k second
     → Receipts gs worker i earlier → Receipts gs worker k later → earlier.place < later.place
 rise_by book origin takings gs worker i k first second earlier later accounts rises order took also has too = elim (cases_lt i k) [

@@ -11,7 +11,7 @@ use Rattle.atomic_table.proofs.Lists.{at_set, at_snoc, set_again, set_else}
 use Rattle.hash_workers.specs.declared.claims.view.SeatView.{SeatView}
 use Rattle.hash_workers.specs.declared.claims.view.Allotment.{Allotment}
 use Rattle.hash_workers.specs.Claims.{HandsOutEach, times}
-use Rattle.hash_workers.specs.ClaimRule.{KeepsRule, AreClaimed, IsViewOf, view_of, spent, draws_of, places_of, ended_places_of, total, giver, taker, merged, drawn_view, emptied_view, MayDraw, MayDrawAll, Looks}
+use Rattle.hash_workers.specs.parts.ClaimRule.{KeepsRule, AreClaimed, IsViewOf, view_of, spent, draws_of, places_of, ended_places_of, total, giver, taker, merged, drawn_view, emptied_view, MayDraw, MayDrawAll, Looks}
 use Rattle.hash_workers.proofs.ClaimSums.{total-set, total-push, total_at, ended_within, times_of, times-append, times-range, times-concat, once_below, below_one_more, is_below, each_once, hands_out}
 
 abbrev Holder : Type 0
@@ -41,7 +41,7 @@ pub drawn_past : (view : SeatView) (number : ℕ) → view.jobs ≤ number
     → drawn_view view number ≡ view_of view.jobs view.seats view.places view.draws true
 drawn_past view number past = let test : ltb number view.jobs ≡ false = grind (arith, nat_tests) in rw test refl
 
--- What is a view of the claims stays one while the word grows.
+-- A view of the claims stays one when the word grows by one.
 still_view : (jobs seats word : ℕ) (view : SeatView) → IsViewOf jobs seats word view → IsViewOf jobs seats (word + 1) view
 still_view jobs seats word view (inl is) = inl is
 still_view jobs seats word view (inr known) = inr (known.0, known.1, known.2, λ ended. let past = known.3 ended in omega arith)
@@ -91,12 +91,12 @@ past_kept seats word views seat view rule here same placed going past =
           let no_end : ended_places_of view ≡ 0 = rw going refl in omega arith;
     }
 
--- What is a view of the claims stays one where the word is made as great as the number of jobs.
+-- A view of the claims stays one when the word is raised to the number of jobs.
 past_view : (jobs seats word : ℕ) (view : SeatView) → IsViewOf jobs seats word view → IsViewOf jobs seats (max word jobs) view
 past_view jobs seats word view (inl is) = inl is
 past_view jobs seats word view (inr known) = inr (known.0, known.1, known.2, λ ended. let past = known.3 ended in omega arith)
 
--- How often a number is among those that are left.
+-- How often a number occurs among those that are left.
 left_times : (number jobs word : ℕ)
     → times number (range_with_len word (jobs - word)) + once_below number (min word jobs) ≡ once_below number jobs
 left_times number jobs word = dite (dec_le jobs word)
@@ -300,7 +300,7 @@ joins allotment seat taken view other jobs_are seats_are placed other_placed sta
 
 -- ---- the end
 
--- Where all views are without a place, nothing was drawn.
+-- If no view has a place, nothing was drawn.
 nothing_drawn : (jobs seats word number : ℕ) (views : List SeatView)
     → ((seat : ℕ) (view : SeatView) → get_elem? views seat ≡ some view → IsViewOf jobs seats word view)
     → total places_of views ≡ 0 → drawn_times number views ≡ 0

@@ -1,4 +1,4 @@
--- Sums over all views of claims, and how often numbers stand in what was drawn.
+-- Sums over all views of claims, and how often numbers occur among the draws.
 use Rattle.std.proofs.Common.{◌≡◌, ℕ, zero, suc, ◌+◌, ◌-◌, ◌<◌, ◌≤◌, cond, eqb, ltb, true, false, List, [], ◌∷◌, ◌++◌, length, get_or, set, map, sym, refl, ap, ◌∙◌, subst, arith}
 use Rattle.std.specs.List.{All, concat, range_with_len}
 use Rattle.std.proofs.lemmas.List.FromFn.{length-range_with_len, get_or-range_with_len}
@@ -10,7 +10,7 @@ use native.Mathlib.Decide.{dec_le}
 use lib.ListN.{get_elem?}
 use Rattle.hash_workers.specs.declared.claims.view.SeatView.{SeatView}
 use Rattle.hash_workers.specs.Claims.{DrawsMore, HandsOutEach, times}
-use Rattle.hash_workers.specs.ClaimRule.{total, draws_of, places_of, ended_places_of}
+use Rattle.hash_workers.specs.parts.ClaimRule.{total, draws_of, places_of, ended_places_of}
 
 -- ---- sums
 
@@ -37,9 +37,9 @@ pub ended_within : (views : List SeatView) → total ended_places_of views ≤ t
 ended_within [] = omega arith
 ended_within (view ∷ views) = let others = ended_within views in let here = ended_at view in omega arith
 
--- ---- how often a number stands in a list
+-- ---- how often a number occurs in a list
 
--- 1 where the number is below the count, else 0.
+-- 1 if the number is below the count, else 0.
 abbrev pub once_below : ℕ → ℕ → ℕ
 once_below number count = cond (ltb number count) 1 0
 
@@ -73,7 +73,7 @@ is_below number count once = grind (arith, nat_tests)
 hit_itself : (number : ℕ) → hit number number ≡ 1
 hit_itself number = grind (arith, nat_tests)
 
--- What is handed out, as one sum for each number, and back.
+-- `HandsOutEach` as one equation for every number, and back.
 pub each_once : (count : ℕ) (draws : List ℕ) → HandsOutEach count draws → (number : ℕ) → times number draws ≡ once_below number count
 each_once count draws hands number = dite (dec_le count number)
     (λ past. let is = hands.others number past in let none = once_is_none number count past in omega arith)
@@ -88,7 +88,7 @@ hands_out count draws each = record {
 
 -- ---- numbers one after another
 
--- How often a number stands among so many from one on.
+-- How often a number occurs among `count` numbers from `first` on.
 pub times-range : (number first count : ℕ)
     → times number (range_with_len first count) + once_below number first ≡ once_below number (first + count)
 times-range number first zero =
@@ -117,7 +117,7 @@ pub all_below : (number : ℕ) (draws : List ℕ) → ((drawn : ℕ) → 1 ≤ t
     → All (λ drawn. drawn < number) draws
 all_below number draws known = λ index d within. known (get_or draws index d) (times_here draws index d within)
 
--- A seat that found this number in the word draws the numbers from it on, below that of the jobs.
+-- A seat that found this number in the word draws the numbers from there on that are below the number of jobs.
 pub draws_more : (jobs number : ℕ) (draws now_draws : List ℕ) → now_draws ≡ draws ++ range_with_len number (jobs - number)
     → ((drawn : ℕ) → 1 ≤ times drawn draws → drawn < number) → DrawsMore jobs draws now_draws
 draws_more jobs number draws now_draws is above = record {

@@ -1,4 +1,4 @@
--- Whether some worker ended so, and which job was the first whose operation could not be had.
+-- Whether some worker ended for a reason, and the first job without an operation.
 use Rattle.std.proofs.Common.{◌≡◌, ◌≢◌, ℕ, ◌+◌, ◌<◌, ◌≤◌, Bool, true, false, List, length, get_or, Option, None, Some, refl, sym, ◌∙◌, ap, subst, inl, inr, arith}
 use Rattle.std.specs.Prelude.{slice_get, IfSome}
 use Rattle.std.proofs.lemmas.Bool.{cases_lt, true≢false}
@@ -10,9 +10,9 @@ use Rattle.hash_workers.specs.declared.work.End.{End}
 use Rattle.hash_workers.specs.declared.work.Work.{Work}
 use Rattle.hash_workers.specs.declared.work.End.TheVariants.{NoOperation}
 use Rattle.hash_workers.specs.declared.work.Lack.{Lack}
-use Rattle.hash_workers.specs.Ending.{IsFrom}
-use Rattle.hash_workers.specs.Seats.{HasEnd, HasLack, HasNoEnd, HaveLacks, IsEarlier, IsLeastLack}
-use Rattle.hash_workers.specs.Settling.{IsLackOf}
+use Rattle.hash_workers.specs.parts.Ending.{IsFrom}
+use Rattle.hash_workers.specs.parts.Seats.{HasEnd, HasLack, HasNoEnd, HaveLacks, IsEarlier, IsLeastLack}
+use Rattle.hash_workers.specs.parts.Settling.{IsLackOf}
 
 pub has_end_here : (works : List Work) (end : End) (i : ℕ) (work : Work) (b : Bool) → i < length works → work ≡ get_or works i work
     → b ≡ sameb ends.the_type work.end end → b ≡ true → HasEnd works end

@@ -1,4 +1,4 @@
--- Why no book is opened, as the agent's fault.
+-- Why no book was opened, as the agent's fault.
 use Rattle.std.proofs.Common.{◌≡◌, ◌≢◌, ℕ, Bool, true, false, Option, Some, None, refl, sym, ap, ◌∙◌, subst}
 use Rattle.std.specs.Prelude.{◌==◌, not, if◌then◌else◌, unwrap_or, Result, Ok, Err, MatchResult}
 use Rattle.std.specs.Result.{IsErrAnd}

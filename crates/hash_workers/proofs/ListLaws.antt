@@ -1,12 +1,12 @@
--- What stands in lists, in lists that a function made of others, and in lists of lists.
+-- Elements of lists, of mapped lists, and of lists of lists.
 use Rattle.std.proofs.Common.{◌≡◌, ℕ, zero, suc, ◌+◌, ◌<◌, List, [], ◌∷◌, ◌++◌, length, length-append, map, Option, Some, None, refl, sym, ap, ◌∙◌, inl, inr, arith}
 use Rattle.std.specs.Prelude.{◌⊎◌, slice_get, option_and_then}
 use Rattle.std.proofs.lemmas.Option.{same_Some, none-some, slice_get_cases}
-use Rattle.hash_workers.specs.Scattering.{got_at}
+use Rattle.hash_workers.specs.parts.Scattering.{got_at}
 
 -- ---- one list
 
--- What stands in a list with one element more stood there before, or is the new one.
+-- An element of a list with one appended was there before, or is the appended one.
 pub slice_get_snoc : {X : Type 0} → (xs : List X) (x y : X) (i : ℕ) → slice_get (xs ++ x ∷ []) i ≡ Some y
     → (slice_get xs i ≡ Some y) ⊎ ((i ≡ length xs) × (y ≡ x))
 slice_get_snoc [] x y zero has = inr (refl, sym (same_Some x y has))
@@ -14,13 +14,13 @@ slice_get_snoc [] x y (suc i) has = absurd (none-some y has)
 slice_get_snoc (z ∷ xs) x y zero has = inl has
 slice_get_snoc (z ∷ xs) x y (suc i) has = elim (slice_get_snoc xs x y i has) [ inl old ↦ inl old | inr new ↦ inr (ap suc new.0, new.1) ]
 
--- What stood in a list stands there with one element more, which stands last.
+-- An element of a list stays at its index when one is appended at the end.
 pub at_longer : {X : Type 0} → (xs : List X) (x : X) (i : ℕ) (y : X) → slice_get xs i ≡ Some y → slice_get (xs ++ x ∷ []) i ≡ Some y
 at_longer [] x i y has = absurd (none-some y has)
 at_longer (z ∷ xs) x zero y has = has
 at_longer (z ∷ xs) x (suc i) y has = at_longer xs x i y has
 
--- What stands in two lists joined stands in one of them.
+-- An element of two lists joined is in one of them.
 pub in_either : {X : Type 0} → (xs ys : List X) (i : ℕ) (x : X) → slice_get (xs ++ ys) i ≡ Some x
     → (slice_get xs i ≡ Some x) ⊎ ((at : ℕ) × (slice_get ys at ≡ Some x))
 in_either [] ys i x has = inr (i, has)
@@ -40,7 +40,7 @@ within_at xs i within = elim ((slice_get_cases xs i).1) [
   | inr past ↦ let le = past.0 in absurd (omega arith)
 ]
 
--- ---- what a function made of a list
+-- ---- a mapped list
 
 pub map_at : {A B : Type 0} → (f : A → B) (xs : List A) (i : ℕ) (y : B) → slice_get (map f xs) i ≡ Some y
     → (x : A) × (slice_get xs i ≡ Some x) × (f x ≡ y)

@@ -1,12 +1,12 @@
--- Outcomes that are put to their jobs, one after others.
+-- Outcomes that are put to their jobs, one after another.
 use Rattle.std.proofs.Common.{◌≡◌, ◌≢◌, ℕ, zero, suc, ◌+◌, ◌<◌, ◌≤◌, List, [], ◌∷◌, ◌++◌, length, get_or, set, map, Some, refl, sym, ap, ◌∙◌, subst, inl, inr, arith}
 use Rattle.std.specs.Prelude.{slice_get, Vec, option_map, option_and_then}
 use Rattle.std.specs.declared.alloc.Global.{Global}
 use Rattle.std.proofs.lemmas.Bool.{cases_lt}
 use Rattle.std.proofs.lemmas.Option.{same_Some, none-some, slice_get-map, slice_get_read}
-use Rattle.hash_workers.specs.Taking.{Took, Rise, RiseForEach}
+use Rattle.hash_workers.specs.parts.Taking.{Took, NumbersRise, NumbersRiseForEach}
 use Rattle.hash_workers.proofs.TakingLaws.{TakeEach}
-use Rattle.hash_workers.specs.Scattering.{items_of, AreBelow, ArePlaced, AreKept, got_at, AreScattered}
+use Rattle.hash_workers.specs.parts.Scattering.{items_of, AreBelow, ArePlaced, AreKept, got_at, AreScattered}
 
 -- ---- lists
 
@@ -34,7 +34,7 @@ at_end (y ∷ xs) x = at_end xs x
 pub get_last : {X : Type 0} → (xs : List X) (x : X) (n : ℕ) → n ≡ length xs → slice_get (xs ++ x ∷ []) n ≡ Some x
 get_last xs x n is = ap (slice_get (xs ++ x ∷ [])) is ∙ at_end xs x
 
--- What a front of a list has, the list has.
+-- A list has all that its front has.
 pub front_less : {X : Type 0} → (all longer front : List X) (x : X) → longer ≡ front ++ x ∷ []
     → ((i : ℕ) (y : X) → slice_get longer i ≡ Some y → slice_get all i ≡ Some y) → (i : ℕ) (y : X) → slice_get front i ≡ Some y
     → slice_get all i ≡ Some y
@@ -79,7 +79,7 @@ placed_none taken group outcomes worker from by past within = record {
 }
 
 pub placed_more : {X : Type 0} → (taken : List ℕ) (group outcomes : List X) (by : List ℕ) (worker from next job : ℕ) (outcome : X)
-    → from + 1 ≡ next → Rise taken → slice_get taken from ≡ Some job → slice_get group from ≡ Some outcome → job < length outcomes
+    → from + 1 ≡ next → NumbersRise taken → slice_get taken from ≡ Some job → slice_get group from ≡ Some outcome → job < length outcomes
     → job < length by
     → ArePlaced taken group worker next outcomes by → ArePlaced taken group worker from (set outcomes job outcome) (set by job worker)
 placed_more {X = X} taken group outcomes by worker from next job outcome step rise took got within by_within placed = record {
@@ -127,8 +127,8 @@ below_of count takings worker taken hands here = record {
       (here_at takings worker index taken job here has);
 }
 
-pub rise_of : (takings : List (List ℕ)) (worker : ℕ) (taken : List ℕ) → RiseForEach takings → slice_get takings worker ≡ Some taken
-    → Rise taken
+pub rise_of : (takings : List (List ℕ)) (worker : ℕ) (taken : List ℕ) → NumbersRiseForEach takings → slice_get takings worker ≡ Some taken
+    → NumbersRise taken
 rise_of takings worker taken rise here = record {
   each = λ first second earlier later order has_first has_second.
       rise.each worker first second earlier later order (here_at takings worker first taken earlier here has_first)

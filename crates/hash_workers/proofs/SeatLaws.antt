@@ -13,11 +13,11 @@ use Rattle.hash_workers.specs.declared.work.End.TheVariants.{NoneLeft, OutOfMemo
 use Rattle.hash_workers.specs.declared.work.Lack.{Lack}
 use Rattle.hash_workers.specs.declared.work.Work.{Work}
 use Rattle.hash_workers.specs.Claims.{ClaimsState, SeatState, HandsOutEach}
-use Rattle.hash_workers.specs.Taking.{Took, RiseForEach}
-use Rattle.hash_workers.specs.Ending.{AnyCause, IsEnd, IsLack}
-use Rattle.hash_workers.specs.Scattering.{ArePairs}
-use Rattle.hash_workers.specs.Seats.{AreWorksOf, HandBack, HasEnd, HasNoEnd, HaveLacks, IsLeastLack, IsSeatEnd, IsSinglePlace, draws_of, outcomes_of, seat_of, some_ended, taken_of}
-use Rattle.hash_workers.specs.Settling.{AreTakenBefore, IsLackOf}
+use Rattle.hash_workers.specs.parts.Taking.{Took, NumbersRiseForEach}
+use Rattle.hash_workers.specs.parts.Ending.{AnyCause, IsEnd, IsLack}
+use Rattle.hash_workers.specs.parts.Scattering.{ArePairs}
+use Rattle.hash_workers.specs.parts.Seats.{AreWorksOf, HandBack, HasEnd, HasNoEnd, HaveLacks, IsLeastLack, IsSeatEnd, IsSinglePlace, draws_of, outcomes_of, seat_of, some_ended, taken_of}
+use Rattle.hash_workers.specs.parts.Settling.{AreTakenBefore, IsLackOf}
 use Rattle.hash_workers.proofs.ListLaws.{at_list, at_map, in_either, list_at, map_at, within_at}
 use Rattle.hash_workers.proofs.EndLaws.{some_lack}
 use Rattle.hash_workers.proofs.TakingLaws.{drawn_by}
@@ -57,7 +57,7 @@ pub ended_snoc : (seats : List SeatState) (seat : SeatState) → some_ended (sea
 ended_snoc [] seat = or_none seat.ended
 ended_snoc (one ∷ seats) seat = ap (λ b. one.ended || b) (ended_snoc seats seat) ∙ either_same one.ended (some_ended seats) seat.ended
 
--- Where all seats are ended, and there is one, one is ended.
+-- If there is a seat and all are ended, some seat is ended.
 pub ended_all : (seats : List SeatState) → 1 ≤ length seats → All (λ seat. seat.ended ≡ true) seats → some_ended seats ≡ true
 ended_all [] some_seat all = absurd (omega arith)
 ended_all (seat ∷ seats) some_seat all = ap (λ b. b || some_ended seats) (all 0 seat (omega arith))
@@ -70,7 +70,7 @@ seat_end origin work NoOperation ends = ends
 seat_end origin work OutOfMemory ends = tt
 seat_end origin work ForeignBook ends = tt
 
--- A lack of the jobs that were taken, whatever its cause.
+-- A lack of the jobs that were taken, for any cause.
 taken_lack : (count : ℕ) (Lacks : ℕ → JobFault → Type 0) (taken : List ℕ) (lack : Lack) → IsLack count Lacks taken lack
     → IsLack count AnyCause taken lack
 taken_lack count Lacks taken lack is = record { index = is.index; stands = is.stands; within = is.within; cause = tt }
@@ -126,7 +126,8 @@ no_end_of works looked end true same known is = absurd cc
 no_end_of works looked end false same known is =
     let At : List Work → Type 0 = λ ws. HasNoEnd ws end (length ws) in subst At same known
 
--- A worker that found memory and its own book ended its seat, and drew what it took, and then perhaps numbers above these.
+-- A worker that did not run out of memory or find another book ended its seat, which drew what the worker took and then perhaps
+-- numbers above these.
 ended_seat : (work : Work) (end : End) → end ≢ OutOfMemory → end ≢ ForeignBook → IsSeatEnd work end → work.seat.ended ≡ true
 ended_seat work NoneLeft memory foreign ends = ends.0
 ended_seat work NoOperation memory foreign ends = ends.0
@@ -146,7 +147,7 @@ above_all rest taken index number beyond has =
     let At : ℕ → Type 0 = λ n. All (λ drawn. drawn < n) taken in
     subst At (get_or_from_slice_get rest index number 0 has) (beyond index 0 (slice_get_within rest index number has))
 
--- What a worker's seat drew the worker took, or it is above the first lack of the worker.
+-- Each number that a worker's seat drew is a job that the worker took, or above its first lack.
 took_or_passed : (jobs : ℕ) (work : Work) (end : End) (index job : ℕ) → end ≢ OutOfMemory → end ≢ ForeignBook → IsSeatEnd work end
     → ((lack : Lack) → work.lack ≡ Some lack → IsLack jobs AnyCause work.taken.items lack)
     → slice_get work.seat.draws index ≡ Some job
@@ -171,7 +172,7 @@ took_or_passed jobs work ForeignBook index job memory foreign ends known drew = 
 abbrev AllEnded : List SeatState → Type 0
 AllEnded seats = All (λ seat. seat.ended ≡ true) seats
 
--- Where no worker ran out of memory or found another book, all numbers were drawn.
+-- If no worker ran out of memory or found another book, all numbers were drawn.
 module _ (claims : ClaimsState) (works : List Work) (seats : List SeatState) (takings : List (List ℕ)) (back : HandBack claims works)
     (not_memory : HasNoEnd works OutOfMemory (length works)) (not_foreign : HasNoEnd works ForeignBook (length works))
     (seats_are : seats ≡ map seat_of works) (takings_are : takings ≡ map taken_of works)
@@ -185,7 +186,7 @@ module _ (claims : ClaimsState) (works : List Work) (seats : List SeatState) (ta
       let At : List SeatState → Type 0 = λ ss. HandsOutEach claims.jobs (concat (map draws_of ss)) in
       subst At seats_are (closed (subst AllEnded (sym seats_are) ended))
 
-  -- Where none stopped for a job whose operation could not be had, each job was taken once.
+  -- If no worker stopped for a job without an operation, each job was taken once.
   pub taken_each : HasNoEnd works NoOperation (length works) → HandsOutEach claims.jobs (concat takings)
   taken_each not_stopped =
       let drawn = drawn_is_taken works (λ worker work is.
@@ -234,7 +235,7 @@ module _ (claims : ClaimsState) (works : List Work) (seats : List SeatState) (ta
 
 -- ---- what the workers took
 
--- The work that a job was taken in.
+-- The work in which a job was taken.
 pub work_at : (works : List Work) (worker i job : ℕ) → Took (map taken_of works) worker i job
     → (work : Work) × (slice_get works worker ≡ Some work) × (slice_get work.taken.items i ≡ Some job)
 work_at works worker i job took =
@@ -244,7 +245,7 @@ work_at works worker i job took =
     (from.0, from.1, subst At (sym from.2) one.2)
 
 works_rise : (origin : Origin) (Makes : ℕ → BookOp → Type 0) (Lacks : ℕ → JobFault → Type 0) (claims : ClaimsState) (works : List Work) → AreWorksOf origin Makes Lacks claims works
-    → RiseForEach (map taken_of works)
+    → NumbersRiseForEach (map taken_of works)
 works_rise origin Makes Lacks claims works are = record {
   each = λ worker first second earlier later order took also.
       let one = work_at works worker first earlier took in
@@ -271,9 +272,9 @@ works_pair origin Makes Lacks claims works are = record {
 -- ---- the same of what the code shows
 
 pub rises_of : (origin : Origin) (Makes : ℕ → BookOp → Type 0) (Lacks : ℕ → JobFault → Type 0) (claims : ClaimsState) (works : List Work) (takings : List (List ℕ))
-    → AreWorksOf origin Makes Lacks claims works → takings ≡ map taken_of works → RiseForEach takings
+    → AreWorksOf origin Makes Lacks claims works → takings ≡ map taken_of works → NumbersRiseForEach takings
 rises_of origin Makes Lacks claims works takings are is =
-    let At : List (List ℕ) → Type 0 = λ ts. RiseForEach ts in subst At (sym is) (works_rise origin Makes Lacks claims works are)
+    let At : List (List ℕ) → Type 0 = λ ts. NumbersRiseForEach ts in subst At (sym is) (works_rise origin Makes Lacks claims works are)
 
 pub pairs_of : (origin : Origin) (Makes : ℕ → BookOp → Type 0) (Lacks : ℕ → JobFault → Type 0) (claims : ClaimsState) (works : List Work) (takings : List (List ℕ))
     (groups : List (List Outcome)) → AreWorksOf origin Makes Lacks claims works

@@ -1,4 +1,4 @@
--- What all workers did, as it is settled, and why it is not.
+-- What all workers did, how it is settled, and why it cannot be.
 use Rattle.std.proofs.Common.{◌≡◌, ◌≢◌, ℕ, ◌<◌, Bool, true, false, List, length, map, Option, None, Some, refl, sym, ap, ◌∙◌, subst, inl, inr, arith}
 use Rattle.std.specs.Prelude.{slice_get, Vec, Result, Ok, Err, IfErr, IfSome, MatchResult}
 use Rattle.std.specs.declared.alloc.Global.{Global}
@@ -23,15 +23,17 @@ use Rattle.hash_workers.specs.declared.work.End.{End}
 use Rattle.hash_workers.specs.declared.work.End.TheVariants.{NoneLeft, OutOfMemory, ForeignBook, NoOperation}
 use Rattle.hash_workers.specs.declared.work.Work.{Work}
 use Rattle.hash_workers.specs.declared.work.all.AllWork.{AllWork}
-use Rattle.hash_workers.specs.Faults.{fault_for, fault_of_gather, fault_of_lack, MayBegin, IsFaultOf, IsJobsFaultOf}
+use Rattle.hash_workers.specs.parts.Faults.{fault_for, fault_of_lack}
+use Rattle.hash_workers.specs.Faults.{fault_of_gather, MayBegin, IsFaultOf, IsJobsFaultOf}
 use Rattle.std.specs.List.{concat}
 use Rattle.hash_workers.specs.Claims.{ClaimsState, SeatState, HandsOutEach}
-use Rattle.hash_workers.specs.Taking.{Took}
-use Rattle.hash_workers.specs.Working.{IsOutcomeOf}
-use Rattle.hash_workers.specs.Ending.{IsEnd, IsFound, IsHad}
-use Rattle.hash_workers.specs.Scattering.{items_of, got_at}
-use Rattle.hash_workers.specs.Seats.{AreWorksOf, HasEnd, IsLeastLack, outcomes_of, taken_of}
-use Rattle.hash_workers.specs.Settling.{AreTakenBefore, IsAllWork, IsCauseOf, IsFirstCause, IsFirstLack, IsLackOf, IsMadeOf, IsUnsettled, outcomes_by_worker, takings_of}
+use Rattle.hash_workers.specs.parts.Taking.{Took}
+use Rattle.hash_workers.specs.Outcomes.{IsOutcomeOf}
+use Rattle.hash_workers.specs.parts.Ending.{IsEnd, IsFound, IsHad}
+use Rattle.hash_workers.specs.parts.Scattering.{items_of, got_at}
+use Rattle.hash_workers.specs.parts.Seats.{AreWorksOf, HasEnd, IsLeastLack, outcomes_of, taken_of}
+use Rattle.hash_workers.specs.parts.Settling.{AreTakenBefore, IsAllWork, IsFirstCause, IsLackOf, IsMadeOf, IsUnsettled, outcomes_by_worker, takings_of}
+use Rattle.hash_workers.specs.Causes.{IsCauseOf, IsFirstLack}
 use Rattle.hash_workers.proofs.ListLaws.{map_at, at_map, list_at}
 use Rattle.hash_workers.proofs.SeatLaws.{lack_in, rises_of, pairs_of, work_at}
 use Rattle.hash_workers.proofs.BatchLaws.{from_groups, job_for}
@@ -71,7 +73,7 @@ found_of : (origin : Origin) (Makes : ℕ → BookOp → Type 0) (Lacks : ℕ �
 found_of origin Makes Lacks claims works are has =
     found_by origin has.work.seat has.work.taken.items has.work.lack has.work.end (are.each has.worker has.work has.stands).ends has.ends
 
--- A job before the first lack that was taken had its operation made.
+-- Each job that was taken and is before the first lack has an operation.
 made_at : (Makes : ℕ → BookOp → Type 0) (works : List Work) (worker : ℕ) (work : Work) (job : ℕ) (first : Lack) (lack : Option Lack)
     → work.lack ≡ lack → IsLeastLack works (length works) (Some first) → slice_get works worker ≡ Some work → job < first.job
     → IsHad Makes lack job → (op : BookOp) × Makes job op
@@ -182,7 +184,7 @@ same_cause one gathers.Memory is = cc
 same_agent : (one other : AgentFault) → jobs.Agent one ≡ jobs.Agent other → one ≡ other
 same_agent one other is = cc
 
--- Each outcome that the workers got is one of some job.
+-- Each of the workers' outcomes is one of some job.
 of_some_job : (origin : Origin) (count : ℕ) (Makes : ℕ → BookOp → Type 0) (Lacks : ℕ → JobFault → Type 0) (workers : ℕ) (all : AllWork)
     (worker index : ℕ) (outcome : BookOutcome) → IsAllWork origin count Makes Lacks workers all
     → outcome_at (outcomes_by_worker all) worker index ≡ Some outcome → (job : ℕ) × IsOutcomeOf origin count Makes job outcome
@@ -191,7 +193,7 @@ of_some_job origin count Makes Lacks workers all worker index outcome are has =
     let job = job_for (takings_of all) (map items_of all.groups.items) worker index got.0 are.pairs got.1 in
     (job.0, are.of_jobs worker index job.0 outcome job.1 has)
 
--- The book against which the cause stands.
+-- There is a book against which the cause holds.
 first_against : (origin : Origin) (foreign : Bool) (book : BookState) (groups : List (List BookOutcome)) (cause : GatherFault)
     → (foreign ≡ true → IsFound origin) → IsFirstCause foreign book origin groups cause
     → (other : BookState) × IsFirstFault other origin groups cause
@@ -219,7 +221,7 @@ cause_of origin count Makes Lacks workers all book cause are first =
       first = against.1;
     }
 
--- A lack is told as no cause against accounts, and as no wrong number of workers.
+-- The fault of a lack is neither one of `gather` nor a wrong number of workers.
 lack_no_cause : (job : ℕ) (fault : JobFault) (cause : GatherFault) → jobs.Agent (agents.Gather cause) ≡ fault_for job fault → ⊥
 lack_no_cause job lacks.TooLong cause is = absurd cc
 lack_no_cause job lacks.Source cause is = absurd cc
@@ -249,7 +251,7 @@ settled_cause workers origin count Makes Lacks all book cause (Err fault) are kn
     let one : jobs.Agent (agents.Gather cause) ≡ fault = cc in
     cause_in origin count Makes Lacks workers all book cause fault are one known
 
--- What is against the book and what workers got is no wrong number of workers.
+-- A fault of `gather` is not a wrong number of workers.
 no_number : (cause : GatherFault) → agents.Workers ≡ fault_of_gather cause → ⊥
 no_number gathers.ForeignBook e = absurd cc
 no_number (gathers.Stranger group index) e = absurd cc
@@ -271,7 +273,7 @@ settled_number origin all book (Ok batch) known is = absurd cc
 settled_number origin all book (Err fault) known is =
     let one : jobs.Agent agents.Workers ≡ fault = cc in number_in origin all book fault one known
 
--- A job that is named is the first lack.
+-- The job that the fault names is the first lack.
 job_of_lack : (job other : ℕ) (fault : JobFault) (cause : JobFault) → jobs.Job job fault ≡ fault_for other cause
     → (job ≡ other) × (fault ≡ cause) × (fault ≢ lacks.Memory)
 job_of_lack job other fault lacks.TooLong is =

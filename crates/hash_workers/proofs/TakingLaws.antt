@@ -1,4 +1,4 @@
--- What is handed out each once, by worker and index.
+-- Numbers that are handed out once each, by worker and index.
 use Rattle.std.proofs.Common.{◌≡◌, ℕ, zero, suc, ◌+◌, ◌<◌, ◌≤◌, ◌≢◌, List, [], ◌∷◌, Some, refl, sym, ap, ◌∙◌, subst, inl, inr, arith}
 use Rattle.std.specs.Prelude.{slice_get}
 use Rattle.std.specs.List.{concat}
@@ -8,11 +8,11 @@ use Rattle.std.proofs.lemmas.Option.{same_Some, none-some}
 use mathlib.Core.Logic.{dite}
 use native.Mathlib.Decide.{dec_le, ℕ_discrete}
 use Rattle.hash_workers.specs.Claims.{HandsOutEach, times}
-use Rattle.hash_workers.specs.Taking.{IsTaken, Took}
+use Rattle.hash_workers.specs.parts.Taking.{IsTaken, Took}
 use Rattle.hash_workers.proofs.ClaimSums.{hit, times-append}
 use Rattle.hash_workers.proofs.ListLaws.{list_at, at_list}
 
--- Each job below the count is some worker's at some index, and no other's, and no other job is.
+-- Each job below the count was taken by one worker at one index, and no other job was taken.
 pub record TakeEach (count : ℕ) (takings : List (List ℕ)) : Type 0 where
   pub below : (worker index job : ℕ) → Took takings worker index job → job < count
   pub each : (job : ℕ) → job < count → IsTaken takings job

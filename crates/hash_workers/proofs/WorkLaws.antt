@@ -1,4 +1,4 @@
--- A worker's work, one job after others.
+-- A worker's work, job by job.
 use Rattle.std.proofs.Common.{◌≡◌, ◌≢◌, ℕ, zero, suc, ◌+◌, ◌-◌, ◌<◌, ◌≤◌, List, [], ◌∷◌, ◌++◌, length, get_or, Option, Some, None, refl, sym, ap, ◌∙◌, subst, inl, inr, arith, map}
 use Rattle.std.specs.Prelude.{◌⊎◌, slice_get, unwrap_or, IfSome, option_map, MatchResult, Result, Ok, Err}
 use Rattle.std.specs.Option.{option_copied}
@@ -23,11 +23,12 @@ use Rattle.hash_workers.specs.declared.work.End.TheVariants.{NoneLeft, OutOfMemo
 use Rattle.hash_workers.specs.declared.work.End.TheVariants as ends
 use Rattle.hash_workers.specs.declared.job.Job.{Job}
 use Rattle.hash_workers.specs.Jobs.{operation_of, operations_of}
-use Rattle.hash_workers.specs.Taking.{Rise}
-use Rattle.hash_workers.specs.Working.{MayBecome, IsOutcomeOf, IsWorked, IsEntered, Records, IsForeign, IsDoneAfter, AreDoneInOrder}
+use Rattle.hash_workers.specs.parts.Taking.{NumbersRise}
+use Rattle.hash_workers.specs.Outcomes.{MayBecome, IsOutcomeOf}
+use Rattle.hash_workers.specs.parts.Working.{IsWorked, IsEntered, Records, IsForeign, IsDoneAfter, AreDoneInOrder}
 use Rattle.hash_workers.specs.declared.fault.JobFault.{JobFault}
 use Rattle.hash_workers.specs.declared.work.Lack.{Lack}
-use Rattle.hash_workers.specs.Ending.{AreHad, Becomes, IsFrom, IsHad, IsLack, IsLackAfter, IsNoted, TellsOp, KeepsOne, LeavesJob, TellsJob, TakesOne, TellsAll, StopsFor}
+use Rattle.hash_workers.specs.parts.Ending.{AreHad, Becomes, IsFrom, IsHad, IsLack, IsLackAfter, IsNoted, TellsOp, KeepsOne, LeavesJob, TellsJob, TakesOne, TellsAll, StopsFor}
 use Rattle.hash_workers.proofs.ListLaws.{at_last, at_longer, slice_get_snoc, length_snoc, within_at}
 
 -- ---- one operation
@@ -56,7 +57,7 @@ keeps_recorded origin told now_told op outcome records = record {
       record { after = records.after; tells = known.1; holds = subst At (sym known.0) records.entered };
 }
 
--- What is known of a recorded operation, or of none, at the option that has it.
+-- What is known of a recorded operation, or of none, is known of the option that holds it.
 pub keeps_at_some : (origin : Origin) (told middle now_told : Option BookState) (op : Option (Bor Op)) (one : Bor Op)
     (outcome now_outcome : Outcome)
     → op ≡ Some one → now_told ≡ middle → now_outcome ≡ outcome
@@ -126,7 +127,7 @@ left_with_op : (origin : Origin) (Makes : ℕ → BookOp → Type 0) (book after
 left_with_op origin Makes book after job op outcome has entered =
     record { records = entered.runs.1; is_done = inr (op, has, entered.runs.0) }
 
--- A job whose operation was made.
+-- A job with an operation.
 pub takes_made : (origin : Origin) (count : ℕ) (Makes : ℕ → BookOp → Type 0) (op : BookOp) (job : ℕ) (taken now_taken : List ℕ)
     (outcomes now_outcomes : List BookOutcome) (told now_told : Option BookState) → job < count → Makes job op
     → KeepsOne origin (Some op) job taken now_taken outcomes now_outcomes told now_told
@@ -146,7 +147,7 @@ takes_made origin count Makes op job taken now_taken outcomes now_outcomes told 
   };
 }
 
--- A job whose operation could not be had.
+-- A job without an operation.
 pub takes_none : (origin : Origin) (count : ℕ) (Makes : ℕ → BookOp → Type 0) (job : ℕ) (taken now_taken : List ℕ)
     (outcomes now_outcomes : List BookOutcome) (told now_told : Option BookState) → job < count
     → KeepsOne origin None job taken now_taken outcomes now_outcomes told now_told
@@ -172,12 +173,12 @@ op_of_job alg jobs number job within is =
     slice_get-map (operation_of alg) jobs number ∙ ap (option_map (operation_of alg))
     (slice_get_read jobs (length jobs) number job refl within is)
 
--- ---- jobs whose operation could not be had
+-- ---- jobs without an operation
 
 still_had : (Makes : ℕ → BookOp → Type 0) (old new : Option Lack) (job : ℕ) → new ≡ old → IsHad Makes old job → IsHad Makes new job
 still_had Makes old new job same had = let At : Option Lack → Type 0 = λ lack. IsHad Makes lack job in subst At (sym same) had
 
--- A lack of these jobs is one of them with one more.
+-- A lack of these jobs is a lack of these and one more.
 longer_lack : (count : ℕ) (Lacks : ℕ → JobFault → Type 0) (taken : List ℕ) (job : ℕ) (lack : Option Lack)
     → IfSome lack (IsLack count Lacks taken) → IfSome lack (IsLack count Lacks (taken ++ job ∷ []))
 longer_lack count Lacks taken job None right = tt
@@ -194,7 +195,7 @@ taken_lack count Lacks taken now_taken job lack takes right =
     let At : List ℕ → Type 0 = λ xs. IfSome lack (IsLack count Lacks xs) in
     subst At (sym takes) (longer_lack count Lacks taken job lack right)
 
--- Of a job whose operation was made, the first lack is as before.
+-- After a job with an operation, the first lack is as before.
 pub lack_made : (count : ℕ) (Makes : ℕ → BookOp → Type 0) (Lacks : ℕ → JobFault → Type 0) (job : ℕ) (op : BookOp) (taken now_taken : List ℕ)
     (old new : Option Lack) → Makes job op → now_taken ≡ taken ++ job ∷ [] → new ≡ old
     → IsLackAfter count Makes Lacks job taken now_taken old new
@@ -206,7 +207,7 @@ lack_made count Makes Lacks job op taken now_taken old new has takes same = reco
       subst At (sym same) (taken_lack count Lacks taken now_taken job old takes right);
 }
 
--- Of one whose operation could not be had it is the one before, where there was one, or this job's.
+-- After a job without one, it is the one before, if there was one, else this job's.
 pub lack_noted : (count : ℕ) (Makes : ℕ → BookOp → Type 0) (Lacks : ℕ → JobFault → Type 0) (job : ℕ) (fault : JobFault)
     (taken now_taken : List ℕ) (old new : Option Lack) → job < count → Lacks job fault → now_taken ≡ taken ++ job ∷ []
     → IsNoted job fault old new → IsLackAfter count Makes Lacks job taken now_taken old new
@@ -237,7 +238,7 @@ lack_noted count Makes Lacks job fault taken now_taken (Some lack) new within ca
 
 -- ---- all jobs of a worker
 
-pub rise_none : Rise []
+pub rise_none : NumbersRise []
 rise_none = record { each = λ first second earlier later order has also. absurd (none-some earlier has) }
 
 pub below_at : (taken : List ℕ) (index number job : ℕ) → All (λ drawn. drawn < job) taken → slice_get taken index ≡ Some number → number < job
@@ -245,10 +246,10 @@ below_at taken index number job all has =
     let At : ℕ → Type 0 = λ n. n < job in
     subst At (get_or_from_slice_get taken index number 0 has) (all index 0 (slice_get_within taken index number has))
 
-pub rise_more : (taken now_taken : List ℕ) (job : ℕ) → Rise taken → All (λ drawn. drawn < job) taken → now_taken ≡ taken ++ job ∷ []
-    → Rise now_taken
+pub rise_more : (taken now_taken : List ℕ) (job : ℕ) → NumbersRise taken → All (λ drawn. drawn < job) taken → now_taken ≡ taken ++ job ∷ []
+    → NumbersRise now_taken
 rise_more taken now_taken job rise above is =
-    let At : List ℕ → Type 0 = λ xs. Rise xs in
+    let At : List ℕ → Type 0 = λ xs. NumbersRise xs in
     subst At (sym is) (record {
       each = λ first second earlier later order has also. elim (slice_get_snoc taken job earlier first has) [
         | inl old ↦ elim (slice_get_snoc taken job later second also) [
@@ -263,8 +264,8 @@ rise_more taken now_taken job rise above is =
       ];
     })
 
--- A number of a list that rises is at least its index.
-at_least_index : (taken : List ℕ) (index number : ℕ) → Rise taken → slice_get taken index ≡ Some number → index ≤ number
+-- Each number of a list that rises is at least its index.
+at_least_index : (taken : List ℕ) (index number : ℕ) → NumbersRise taken → slice_get taken index ≡ Some number → index ≤ number
 at_least_index taken zero number rise has = omega arith
 at_least_index taken (suc index) number rise has =
     let within = slice_get_within taken (suc index) number has in
@@ -273,7 +274,7 @@ at_least_index taken (suc index) number rise has =
     let less = rise.each index (suc index) before.0 number (omega arith) before.1 has in
     omega arith
 
-count_of : (taken : List ℕ) (count job : ℕ) → count ≡ length taken → Rise taken → All (λ drawn. drawn < job) taken → count ≤ job
+count_of : (taken : List ℕ) (count job : ℕ) → count ≡ length taken → NumbersRise taken → All (λ drawn. drawn < job) taken → count ≤ job
 count_of taken zero job is rise above = omega arith
 count_of taken (suc index) job is rise above =
     let last = within_at taken index (omega arith) in
@@ -282,7 +283,7 @@ count_of taken (suc index) job is rise above =
     omega arith
 
 -- A job above all that were taken leaves fewer to take.
-pub turn_smaller : (taken now_taken : List ℕ) (count job : ℕ) → Rise taken → All (λ drawn. drawn < job) taken → job < count
+pub turn_smaller : (taken now_taken : List ℕ) (count job : ℕ) → NumbersRise taken → All (λ drawn. drawn < job) taken → job < count
     → now_taken ≡ taken ++ job ∷ [] → count - length now_taken < count - length taken
 turn_smaller taken now_taken count job rise above below is =
     let longer : length now_taken ≡ length taken + 1 = ap length is ∙ length_snoc taken job in
@@ -315,11 +316,11 @@ worked_more origin count Makes taken outcomes job outcome worked of_job = record
       ];
 }
 
--- No job was taken, and so each was had.
+-- Each job taken has an operation, since none was taken.
 pub had_none : (Makes : ℕ → BookOp → Type 0) → AreHad Makes [] None
 had_none Makes = record { each = λ index job took. absurd (none-some job took) }
 
--- One job more is taken, and what was had stays so.
+-- One more job is taken, and each job taken still has an operation, or is not before the first lack.
 pub had_more : (Makes : ℕ → BookOp → Type 0) (taken now_taken : List ℕ) (job : ℕ) (old new : Option Lack) → AreHad Makes taken old
     → now_taken ≡ taken ++ job ∷ [] → IsHad Makes new job → ((earlier : ℕ) → IsHad Makes old earlier → IsHad Makes new earlier)
     → AreHad Makes now_taken new
@@ -397,7 +398,7 @@ tells_stop origin Makes told middle now_told taken outcomes ends.ForeignBook all
       };
 }
 
--- So does one that takes no other job since the operation of the last could not be had.
+-- So does one that stops because its last job has no operation.
 pub tells_last : (origin : Origin) (Makes : ℕ → BookOp → Type 0) (told now_told : Option BookState) (taken : List ℕ)
     (outcomes : List BookOutcome) → TellsAll origin Makes told now_told taken outcomes NoneLeft
     → TellsAll origin Makes told now_told taken outcomes NoOperation
@@ -410,7 +411,7 @@ tells_last origin Makes told now_told taken outcomes all = record {
       };
 }
 
--- The first lack of jobs that are all below one is below it.
+-- If all jobs taken are below a number, so is their first lack.
 pub lack_below : (count : ℕ) (Lacks : ℕ → JobFault → Type 0) (taken : List ℕ) (job : ℕ) (lack : Option Lack)
     → All (λ drawn. drawn < job) taken → IfSome lack (IsLack count Lacks taken) → IfSome lack (λ first. first.job ≤ job)
 lack_below count Lacks taken job None above right = tt

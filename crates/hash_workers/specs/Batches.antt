@@ -1,4 +1,4 @@
--- What the jobs became, in the order of the jobs (this project's choice).
+-- What became of the jobs, in the order of the jobs (this project's choice).
 use Rattle.std.specs.Prelude.{◌≡◌, ◌≢◌, ℕ, ◌<◌, List, length, slice_get, Some}
 use Rattle.measure_book.specs.declared.origin.Origin.{Origin}
 use Rattle.measure_book.specs.declared.fault.BookFault.{BookFault}
@@ -7,19 +7,19 @@ use Rattle.measure_book.specs.Operations.{BookOp, BookReceipt, BookOutcome, done
 use Rattle.measure_book.specs.Histories.{refusal_of}
 use Rattle.measure_book.specs.Groups.{NamesRecord}
 use Rattle.measure_book.specs.Books.{BookState}
-use Rattle.hash_workers.specs.Working.{IsAt}
+use Rattle.hash_workers.specs.Outcomes.{IsAt}
 
 -- The job is done, with this receipt.
 abbrev pub IsDone : List BookOutcome → ℕ → BookReceipt → Type 0
 IsDone outcomes job receipt = slice_get outcomes job ≡ Some (done receipt)
 
--- The receipt is one of an operation of this job's.
+-- The receipt is of an operation of this job.
 pub record IsReceiptOfJob (Makes : ℕ → BookOp → Type 0) (job : ℕ) (receipt : BookReceipt) : Type 0 where
   pub op : BookOp
   pub has : Makes job op
   pub operation : receipt.operation ≡ op
 
--- After this number of records, this is the first cause against an operation of the job's.
+-- After `count` records, this is the first cause against an operation of the job.
 pub record IsRefusalOfJob (origin : Origin) (Makes : ℕ → BookOp → Type 0) (count job : ℕ) (fault : BookFault) : Type 0 where
   pub op : BookOp
   pub has : Makes job op
@@ -32,7 +32,7 @@ pub record HasJob (outcomes : List BookOutcome) (place : ℕ) : Type 0 where
   pub is_done : IsDone outcomes job receipt
   pub place_is : receipt.place ≡ place
 
--- Each of so many jobs has one outcome: `by` has the worker of each job. Which operation a job becomes is said by `Makes`.
+-- Each of the `count` jobs has one outcome, and `by` has its worker. `Makes` says which operations a job may become.
 pub record IsBatchOf (origin : Origin) (count : ℕ) (Makes : ℕ → BookOp → Type 0) (workers : ℕ) (book : BookState)
     (outcomes : List BookOutcome) (by : List ℕ) : Type 0 where
   -- The book has the given origin.
@@ -41,7 +41,7 @@ pub record IsBatchOf (origin : Origin) (count : ℕ) (Makes : ℕ → BookOp →
   pub outcomes_of_all : length outcomes ≡ count
   pub workers_of_all : length by ≡ count
   pub worker_below : (job worker : ℕ) → slice_get by job ≡ Some worker → worker < workers
-  -- Each receipt is one of its job's operation, and names its record.
+  -- Each receipt is of an operation of its job, and names its record.
   pub receipts : (job : ℕ) (receipt : BookReceipt) → IsDone outcomes job receipt → IsReceiptOfJob Makes job receipt
   pub names : (job : ℕ) (receipt : BookReceipt) → IsDone outcomes job receipt → NamesRecord book.records receipt
   -- Receipts and records from place 1 on correspond one to one: no two jobs have one record, and each record is a job's.
@@ -52,10 +52,10 @@ pub record IsBatchOf (origin : Origin) (count : ℕ) (Makes : ℕ → BookOp →
   pub rise : (worker first second : ℕ) (earlier later : BookReceipt) → first < second
       → slice_get by first ≡ Some worker → slice_get by second ≡ Some worker
       → IsDone outcomes first earlier → IsDone outcomes second later → earlier.place < later.place
-  -- Each refusal but that of an operation for which memory ran out is the first cause against the job's operation at the book's end.
+  -- Each refusal other than `Memory` is the first cause against an operation of the job at the book's end.
   pub refusals : (job : ℕ) (fault : BookFault) → slice_get outcomes job ≡ Some (refused fault) → fault ≢ Memory
       → IsRefusalOfJob origin Makes (length book.records) job fault
 
--- The same, of jobs that become these operations.
+-- The same of jobs that become these operations.
 abbrev pub IsBatch : Origin → List BookOp → ℕ → BookState → List BookOutcome → List ℕ → Type 0
 IsBatch origin ops workers book outcomes by = IsBatchOf origin (length ops) (IsAt ops) workers book outcomes by

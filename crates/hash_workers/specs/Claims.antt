@@ -8,7 +8,7 @@ pub record ClaimsState : Type 0 where
   pub seats : ℕ
   pub word : TableId
 
--- Of which claims the seat is, its places, what it drew, in its order, and whether it found no number left.
+-- The claims that the seat is of, its places, what it drew, in order, and whether it found no number left.
 pub record SeatState : Type 0 where
   pub claims : ClaimsState
   pub places : ℕ
@@ -20,17 +20,17 @@ abbrev pub IsSeat : ClaimsState → ℕ → List ℕ → Bool → SeatState → 
 IsSeat claims places draws ended seat =
     (seat.claims ≡ claims) × (seat.places ≡ places) × (seat.draws ≡ draws) × (seat.ended ≡ ended)
 
--- How often the number stands in the list.
+-- How often the number occurs in the list.
 abbrev pub times : ℕ → List ℕ → ℕ
 times number [] = 0
 times number (other ∷ others) = (if number == other then 1 else 0) + times number others
 
--- Each number below the count is drawn once, at one place of the list alone, and no other number is.
+-- Each number below the count occurs once in the list, and no other number does.
 pub record HandsOutEach (count : ℕ) (draws : List ℕ) : Type 0 where
   pub once : (number : ℕ) → number < count → times number draws ≡ 1
   pub others : (number : ℕ) → count ≤ number → times number draws ≡ 0
 
--- A seat drew these numbers, and then more: numbers below that of the jobs, above all that it drew before.
+-- A seat drew `draws` and then more: numbers below the number of jobs and above all that it drew before.
 pub record DrawsMore (jobs : ℕ) (draws now_draws : List ℕ) : Type 0 where
   pub rest : List ℕ
   pub draws_are : now_draws ≡ draws ++ rest

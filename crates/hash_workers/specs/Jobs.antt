@@ -1,4 +1,4 @@
--- What a job is recorded as (this project's choice).
+-- The operation that a job is recorded as (this project's choice).
 use Rattle.std.specs.Prelude.{List, map}
 use Rattle.pcr_banks.specs.declared.alg.Alg.{Alg}
 use Rattle.pcr_banks.specs.Hashing.{hash_of}
@@ -6,8 +6,8 @@ use Rattle.measure_book.specs.Operations.{BookOp, measure, violation, read}
 use Rattle.hash_workers.specs.declared.job.Job.{Job}
 use Rattle.hash_workers.specs.declared.job.Job.TheVariants as jobs
 
--- The operation of a job: a file is the measurement of its path with the hash of its content by the algorithm and with its
--- signature, and a violation or a read is itself.
+-- The operation of a job: of a file, the measurement of its path, the hash of its content by the algorithm, and its signature; of
+-- a violation or a read, itself.
 abbrev pub operation_of : Alg → Job → BookOp
 operation_of alg (jobs.File path content sig) = measure
     (record { alg = alg; digest = hash_of alg content.items; path = path.items; sig = sig })

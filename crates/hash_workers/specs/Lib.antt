@@ -1,11 +1,7 @@
 pub mod Jobs
 pub mod Faults
-pub mod Taking
-pub mod Working
-pub mod Ending
-pub mod Seats
-pub mod Scattering
-pub mod Settling
 pub mod Batches
 pub mod Claims
-pub mod ClaimRule
+pub mod Causes
+pub mod Outcomes
+pub mod parts

@@ -1,4 +1,4 @@
-//! Jobs that workers do at once, and what becomes of each.
+//! Runs jobs on several workers, and collects the outcome of each.
 
 ghost use Rattle.std.specs.Prelude.{◌≡◌, ◌≢◌, ℕ, ◌↔◌, ◌<◌, ◌^◌, length, map, Some, Err, IfOk, IfErr, MatchResult};
 ghost use Rattle.measure_book.specs.declared.fault.BookFault.{BookFault};
@@ -8,8 +8,10 @@ ghost use Rattle.measure_book.specs.Histories.{open_refusal_of};
 ghost use Rattle.hash_workers.specs.Jobs.{operations_of};
 ghost use Rattle.hash_workers.specs.declared.fault.JobFault.{JobFault};
 ghost use Rattle.hash_workers.specs.declared.fault.JobFault.TheVariants.{Memory};
-ghost use Rattle.hash_workers.specs.Faults.{IsFaultOf, IsJobsFaultOf, IsNumberOfWorkers, MayBegin, fault_of_lack};
-ghost use Rattle.hash_workers.specs.Settling.{IsAllWork, IsCauseAmong, IsCauseOf, IsFirstLack, IsUnsettled};
+ghost use Rattle.hash_workers.specs.Faults.{IsFaultOf, IsJobsFaultOf, IsNumberOfWorkers, MayBegin};
+ghost use Rattle.hash_workers.specs.parts.Faults.{fault_of_lack};
+ghost use Rattle.hash_workers.specs.parts.Settling.{IsAllWork, IsUnsettled};
+ghost use Rattle.hash_workers.specs.Causes.{IsCauseAmong, IsCauseOf, IsFirstLack};
 ghost use Rattle.hash_workers.specs.Batches.{IsBatch, IsBatchOf};
 
 use crate::claims::Claims;
@@ -28,27 +30,26 @@ use std::thread::Threads;
 /// The greatest number of workers.
 const MOST_WORKERS: usize = 8;
 
-/// What became of jobs.
+/// The result of jobs that were recorded.
 #[derive(Debug, Drop)]
 pub struct Batch {
-    /// The book in which they were recorded.
+    /// The book in which the jobs were recorded.
     pub book: Book,
     /// The outcome of each job.
     pub outcomes: Vec<Outcome>,
-    /// The worker of each job, from 0.
+    /// The worker that took each job. Workers count from 0.
     pub by: Vec<u32>,
 }
 
-/// Opens a book, and has the jobs recorded in it by a number of workers at once, 1 to 8. Each worker draws one job after
-/// another until none is left: it makes the job's operation, then takes the book's lock, and holds it for this operation
-/// alone. The gate is told of each job.
+/// Opens a book, and records the jobs in it with 1 to 8 workers in parallel. Each worker draws one job after another until none
+/// is left: it makes the job's operation, and then holds the book's lock for this one operation. The gate is told of each job.
 ///
-/// There is one outcome for each job, whatever the schedule: the receipts and the book's records from place 1 on
-/// correspond one to one, and the places of one worker's jobs rise with the jobs.
+/// Each job has one outcome, whatever the schedule: the receipts and the book's records from place 1 on correspond one to one,
+/// and for each worker the places of its receipts rise with its jobs.
 ///
-/// Refused in this order: `Workers` where the number of workers is not 1 to 8, `Book` where no book is opened, `Memory`
-/// where there is no memory for the call's own or a worker's lists, and `Gather` where what the workers got does not
-/// account for the book's records. After the last two the book is given up.
+/// Fails, in this order, with `Workers` if the number of workers is not 1 to 8, `Book` if the book cannot be opened, `Memory` if
+/// there is no memory for the lists of the call or of a worker, and `Gather` if the outcomes do not account for the book's
+/// records (or `Memory` if that check runs out of memory). In the last two cases the book is dropped.
 pub fn measure_files<R: Threads + Wait + Sync, G: Gate + Sync>(
     rt: &R,
     alloc: Global,
@@ -61,14 +62,14 @@ pub fn measure_files<R: Threads + Wait + Sync, G: Gate + Sync>(
     // Each job has one outcome.
     ensures batch { IfOk result (λ batch. IsBatch origin (operations_of origin.alg jobs.now) workers
         batch.book (map book_outcome_of batch.outcomes.items) batch.by.items) }
-    // The workers begin only where their number is right and a book may be opened, and each fault has its cause.
+    // Workers start only if their number is right and a book may be opened, and each fault has its cause.
     ensures fault { MatchResult result (λ _. MayBegin workers origin) (IsFaultOf workers origin) }
-    // `Workers` stands exactly where the number is not 1 to 8.
+    // `Workers` exactly where the number of workers is not 1 to 8.
     ensures workers { (result ≡ Err AgentFault.Workers) ↔ (IsNumberOfWorkers workers → ⊥) }
-    // Where the number is right and something is against opening a book, this is the fault.
+    // If the number is right and `open_refusal_of` is `Some fault`, the result is `Err(Book(fault))`.
     ensures book { (fault : BookFault) → IsNumberOfWorkers workers → open_refusal_of origin ≡ Some fault
         → result ≡ Err (AgentFault.Book fault) }
-    // `Gather` names the first cause against some book and what the workers got.
+    // `Gather` names the first cause that holds for some book and some outcomes of these jobs, one group per worker.
     ensures gather { (cause : GatherFault) → result ≡ Err (AgentFault.Gather cause)
         → IsCauseAmong workers origin (operations_of origin.alg jobs.now) cause }
 {
@@ -79,15 +80,16 @@ pub fn measure_files<R: Threads + Wait + Sync, G: Gate + Sync>(
     }
 }
 
-/// The same of jobs of any kind, whose operations are made on the workers' threads.
+/// As [`measure_files`], for jobs of any kind. Their operations are made on the workers' threads.
 ///
-/// Where an operation cannot be had for another cause than want of memory, the worker draws all jobs that are left, and no batch is
-/// answered. The fault is that of the first such job, in the order of the jobs, whatever the schedule: those before it were all made.
-/// Where memory ran out for an operation, its job's outcome is the refusal for that, if a batch is answered.
+/// If an operation cannot be made for a cause other than memory, the worker draws all jobs that are left, and there is no batch.
+/// The fault is then that of the first such job in the order of the jobs, whatever the schedule: the operations of all jobs
+/// before it were made. If only memory ran out for operations, there may be a batch, in which their jobs' outcome is
+/// `Refused(Memory)`.
 ///
-/// Refused in this order: `Workers`, `Book`, `Memory` for the lists, `Gather` where a worker found a book of another origin, `Job`, or
-/// `Memory` where memory ran out for an operation before that job's, and `Gather` for other causes. After all but the first two the book
-/// is given up.
+/// Fails, in this order, with `Workers`; `Book`; `Memory` for the lists; `Gather` if a worker found a book with another origin;
+/// `Job`, or `Memory` if memory ran out for the operation of an earlier job; and `Gather` for any other cause (or `Memory` if
+/// that check runs out of memory). In all but the first two cases the book is dropped.
 pub fn record_jobs<R: Threads + Wait + Sync, J: Jobs + Sync, G: Gate + Sync>(
     rt: &R,
     alloc: Global,
@@ -100,17 +102,17 @@ pub fn record_jobs<R: Threads + Wait + Sync, J: Jobs + Sync, G: Gate + Sync>(
     // Each job has one outcome.
     ensures batch { IfOk result (λ batch. IsBatchOf origin (J.total jobs.now) (J.makes jobs.now origin.alg) workers
         batch.book (map book_outcome_of batch.outcomes.items) batch.by.items) }
-    // The workers begin only where their number is right and a book may be opened, and each fault has its cause.
+    // Workers start only if their number is right and a book may be opened, and each fault has its cause.
     ensures fault { MatchResult result (λ _. MayBegin workers origin) (IsJobsFaultOf workers origin) }
-    // `Workers` stands exactly where the number is not 1 to 8.
+    // `Workers` exactly where the number of workers is not 1 to 8.
     ensures workers { (result ≡ Err (JobsFault.Agent AgentFault.Workers)) ↔ (IsNumberOfWorkers workers → ⊥) }
-    // Where the number is right and something is against opening a book, this is the fault.
+    // If the number is right and `open_refusal_of` is `Some fault`, the result is `Err(Agent(Book(fault)))`.
     ensures book { (fault : BookFault) → IsNumberOfWorkers workers → open_refusal_of origin ≡ Some fault
         → result ≡ Err (JobsFault.Agent (AgentFault.Book fault)) }
-    // `Job` names the first job whose operation could not be had, and its cause, which is no want of memory.
+    // `Job` names the first job whose operation could not be made, and the cause, which is never memory.
     ensures job { (job : ℕ) (fault : JobFault) → result ≡ Err (JobsFault.Job job fault)
         → IsFirstLack (J.total jobs.now) (J.makes jobs.now origin.alg) (J.lacks jobs.now) job fault × (fault ≢ Memory) }
-    // `Gather` names the first cause against some book and what the workers got.
+    // `Gather` names the first cause that holds for some book and some outcomes of these jobs, one group per worker.
     ensures gather { (cause : GatherFault) → result ≡ Err (JobsFault.Agent (AgentFault.Gather cause))
         → IsCauseOf workers origin (J.total jobs.now) (J.makes jobs.now origin.alg) cause }
 {
@@ -125,8 +127,8 @@ pub fn record_jobs<R: Threads + Wait + Sync, J: Jobs + Sync, G: Gate + Sync>(
     settle(alloc, book, &origin, jobs, workers, all)
 }
 
-// Settles what all workers did with the book, and puts their outcomes in the order of the jobs. The call's own lists are
-// handed in, so no cause is found before there was memory for them. The jobs say in contracts alone what was made of them.
+// Checks what all workers did against the book, and puts their outcomes in the order of the jobs. The lists for that are passed
+// in, so no cause comes before their memory. `_jobs` is for the contract only.
 fn settle<J: Jobs>(
     alloc: Global,
     book: Book,
@@ -139,7 +141,7 @@ fn settle<J: Jobs>(
     requires all { IsAllWork origin.now (J.total _jobs.now) (J.makes _jobs.now origin.now.alg) (J.lacks _jobs.now) workers all }
     ensures batch { IfOk result (λ batch. IsBatchOf origin.now (J.total _jobs.now) (J.makes _jobs.now origin.now.alg) workers
         batch.book (map book_outcome_of batch.outcomes.items) batch.by.items) }
-    // The fault is that of the first cause against this book and what the workers got, or of the first lack.
+    // The fault is the first cause that holds for this book and the workers' outcomes, or that of the first lack.
     ensures fault { IfErr result (IsUnsettled all book origin.now) }
 {
     if all.foreign {
@@ -160,7 +162,7 @@ fn settle<J: Jobs>(
     Ok(Batch { book, outcomes, by })
 }
 
-// Why there is no batch where this is the first job whose operation could not be had.
+// The fault where this is the first job whose operation could not be made.
 fn unmade(lack: Lack) -> JobsFault
     ensures { result ≡ fault_of_lack lack }
 {

@@ -1,10 +1,10 @@
-//! Numbers that several threads draw, each once.
+//! Hands out numbers to several threads, each number once.
 
 ghost use Rattle.std.specs.Prelude.{◌≡◌, ◌+◌, ◌-◌, ◌<◌, ◌≤◌, ◌||◌, [], ◌∷◌, ◌++◌, ℕ, true, false, All, IfOk, IfErr, IfSome, IfNone};
 ghost use mathlib.Core.Option.{none};
 ghost use Rattle.atomic_table.specs.Table.{step};
 ghost use Rattle.hash_workers.specs.Claims.{DrawsMore, HandsOutEach, IsSeat};
-ghost use Rattle.hash_workers.specs.ClaimRule.{Draws, DrawsAll, MayDraw, MayDrawAll};
+ghost use Rattle.hash_workers.specs.parts.ClaimRule.{Draws, DrawsAll, MayDraw, MayDrawAll};
 
 mod steps;
 mod view;
@@ -15,9 +15,9 @@ use std::marker::Model;
 use steps::{ClaimRule, Cut, Draw, DrawAll, Look, Merge};
 use view::{Allotment, SeatView};
 
-/// The numbers below a number of jobs, which the seats of these claims draw, each number once, whatever the schedule.
+/// The numbers 0 to `jobs` - 1, which the seats of these claims draw, each number once, whatever the schedule.
 ///
-/// They are drawn from one word of memory. Each step on it is sequentially consistent, and waits for nobody.
+/// Drawing takes one atomic step on one word of memory. Each step is sequentially consistent, and waits for no other thread.
 #[derive(Drop)]
 pub struct Claims {
     table: Table<(), SeatView, Allotment, ClaimRule, Global>,
@@ -36,7 +36,7 @@ impl Model for Claims {
         × (c.table.shared.key ≡ c.allotment) × (1 ≤ c.allotment.seats) × (c.allotment.seats ≤ 8) };
 }
 
-/// The right to draw, which one thread has, with what it drew. A seat has one place or more of those of its claims.
+/// One thread's right to draw numbers. Contracts know what it drew. A seat has one or more of the places of its claims.
 #[derive(Drop)]
 pub struct ClaimSeat {
     seat: Seat<(), SeatView>,
@@ -62,7 +62,7 @@ impl Model for ClaimSeat {
 }
 
 impl ClaimSeat {
-    /// How many places the seat has, 1 to 8.
+    /// The number of the seat's places, 1 to 8.
     pub fn places(&self) -> u32
         ensures value { result ≡ self.now.places }
         ensures range { (1 ≤ result) × (result ≤ 8) }
@@ -70,7 +70,7 @@ impl ClaimSeat {
         self.places
     }
 
-    /// Whether the seat found no number left.
+    /// Whether the seat draws no more: it found no number left, drew all that were left, or came from an ended seat.
     pub fn ended(&self) -> bool
         ensures { result ≡ self.now.ended }
     {
@@ -79,9 +79,9 @@ impl ClaimSeat {
 }
 
 impl Claims {
-    /// Claims of the numbers below `jobs`, and the first seat, which has all places, 1 to 8, and drew nothing.
+    /// Claims on the numbers below `jobs`, and the first seat, which has all `seats` places, 1 to 8, and has drawn nothing.
     ///
-    /// Refused where there is no memory. No other call on claims and seats takes any.
+    /// Fails where memory runs out. No other call on claims or seats allocates.
     pub fn new(alloc: Global, jobs: u32, seats: u32) -> Result<(Claims, ClaimSeat), AllocError>
         requires { (1 ≤ seats) × (seats ≤ 8) }
         ensures claims { IfOk result (λ made. (made.0.jobs ≡ jobs) × (made.0.seats ≡ seats)) }
@@ -97,12 +97,12 @@ impl Claims {
         Ok((Claims { table, allotment }, seat))
     }
 
-    /// Draws the next number, by one addition to the word. None where no number is left, and the seat is then ended; a
-    /// seat that is ended takes no step.
+    /// Draws the next number, by one atomic addition. `None` where no number is left, and then the seat is ended. An ended seat
+    /// takes no step.
     pub fn draw(&self, seat: &mut ClaimSeat) -> Option<u32>
         requires { seat.old.claims ≡ self.now }
         ensures same { (seat.new.claims ≡ self.now) × (seat.new.places ≡ seat.old.places) }
-        // The number is below that of the jobs, and above all that the seat drew before.
+        // The number is below `jobs`, and above all that the seat drew before.
         ensures some { IfSome result (λ number. (number < self.now.jobs) × All (λ drawn. drawn < number) seat.old.draws
             × (seat.new.draws ≡ seat.old.draws ++ number ∷ []) × (seat.old.ended ≡ false) × (seat.new.ended ≡ false)) }
         ensures none { IfNone result ((seat.new.draws ≡ seat.old.draws) × (seat.new.ended ≡ true)) }
@@ -118,13 +118,13 @@ impl Claims {
         None
     }
 
-    /// Draws all numbers that are left, by one step on the word, and ends the seat: no seat draws another. A seat that is ended takes no
-    /// step, and draws nothing.
+    /// Draws all numbers that are left, by one atomic step, and ends the seat. No seat draws a number after that. An ended seat
+    /// takes no step, and draws nothing.
     pub fn draw_rest(&self, seat: &mut ClaimSeat)
         requires { seat.old.claims ≡ self.now }
         ensures same { (seat.new.claims ≡ self.now) × (seat.new.places ≡ seat.old.places) }
         ensures ended { seat.new.ended ≡ true }
-        // The numbers are below that of the jobs, and above all that the seat drew before.
+        // The numbers are below `jobs`, and above all that the seat drew before.
         ensures draws { DrawsMore self.now.jobs seat.old.draws seat.new.draws }
     {
         if seat.ended {
@@ -134,9 +134,8 @@ impl Claims {
         seat.ended = true;
     }
 
-    /// Cuts one place off the seat, for a new seat, which drew nothing, and is ended where the seat is.
-    ///
-    /// Where the seat has one place alone, it is handed back.
+    /// Moves one place to a new seat, which has drawn nothing, and is ended if the given seat is. Returns both seats, the new one
+    /// second; or `Err` with the given seat, exactly where it has only one place.
     pub fn split(&self, seat: ClaimSeat) -> Result<(ClaimSeat, ClaimSeat), ClaimSeat>
         requires { seat.claims ≡ self.now }
         ensures ok { IfOk result (λ cut. (2 ≤ seat.places)
@@ -165,7 +164,7 @@ impl Claims {
         Ok((giver, new))
     }
 
-    /// Makes two seats one: it has the places and the draws of both, and is ended where either was.
+    /// Merges two seats into one, which has the places and the draws of both, and is ended if either was.
     pub fn join(&self, seat: ClaimSeat, other: ClaimSeat) -> ClaimSeat
         requires { (seat.claims ≡ self.now) × (other.claims ≡ self.now) }
         ensures { IsSeat self.now (seat.places + other.places) (seat.draws ++ other.draws) (seat.ended || other.ended) result }
@@ -182,8 +181,8 @@ impl Claims {
         } = other;
         let shared = &self.table.shared;
         shared.join_seat::<Merge>(&mut seat, other);
-        // What the rule says of a seat is known at a step on the word alone. So the word is read: that tells that the joined
-        // seat has no more places than there are, and the sum below cannot overflow.
+        // What the rule says of a seat is known only at a step on the word. This read shows that the joined seat has no more
+        // places than there are in all, so the sum below cannot overflow.
         shared.load::<Look>(&mut seat, 0);
         ClaimSeat {
             seat,
@@ -192,8 +191,8 @@ impl Claims {
         }
     }
 
-    /// Ends the claims, with the one seat that has all places. Where it is ended, its draws are the numbers below that of
-    /// the jobs, each once.
+    /// Closes the claims, given the one seat that has all places. If it is ended, its draws are the numbers below `jobs`, each
+    /// once.
     pub fn close(self, seat: ClaimSeat)
         requires { (seat.claims ≡ self) × (seat.places ≡ self.seats) }
         ensures { seat.ended ≡ true → HandsOutEach self.jobs seat.draws }
@@ -211,10 +210,10 @@ impl Claims {
     }
 }
 
-// Adds one to the word, for a seat that draws, and gives what the word was.
+// Adds one to the word, for a seat that draws, and returns the old value.
 //
-// The word cannot wrap: it is at most the number of jobs and the places of the ended seats, since each draw beyond the jobs
-// ends a seat, which then draws no more. So it is below 2^32 + 8.
+// The word cannot wrap. Each draw beyond the jobs ends a seat, which then draws no more, so the word is at most the number of
+// jobs plus the places of the ended seats, and below 2^32 + 8.
 fn add_one(
     shared: &Shared<(), SeatView, Allotment, ClaimRule>,
     seat: &mut Seat<(), SeatView>,
@@ -227,7 +226,7 @@ fn add_one(
     shared.fetch_add::<Draw>(seat, 0, 1)
 }
 
-// Makes the word as great as the number of jobs, where it is less, for a seat that draws all that is left.
+// Raises the word to the number of jobs, if it is less, for a seat that draws all that is left.
 fn take_all(
     shared: &Shared<(), SeatView, Allotment, ClaimRule>,
     seat: &mut Seat<(), SeatView>,

@@ -1,8 +1,8 @@
-//! The workers, all at once.
+//! Runs the workers in parallel.
 
 ghost use Rattle.std.specs.Prelude.{◌≡◌, [], false, vec_len, All, IfOk};
 ghost use Rattle.hash_workers.specs.Claims.{IsSeat};
-ghost use Rattle.hash_workers.specs.Seats.{AreWorksOf, IsNewSeat, IsWorkOf};
+ghost use Rattle.hash_workers.specs.parts.Seats.{AreWorksOf, IsNewSeat, IsWorkOf};
 
 use crate::claims::{ClaimSeat, Claims};
 use crate::gate::Gate;
@@ -15,8 +15,7 @@ use std::sync::{Mutex, Wait};
 use std::thread;
 use std::thread::Threads;
 
-/// Shares the book among workers, one for each place of the first seat, lets each draw its jobs, and gives the book back
-/// with what each of them did.
+/// Runs one worker for each place of the first seat, all of them on the same book. Returns the book and what each worker did.
 pub(crate) fn fan_out<R: Threads + Wait + Sync, J: Jobs + Sync, G: Gate + Sync>(
     rt: &R,
     alloc: Global,
@@ -48,7 +47,7 @@ pub(crate) fn fan_out<R: Threads + Wait + Sync, J: Jobs + Sync, G: Gate + Sync>(
     Ok((book.into_inner(), works))
 }
 
-// A seat for each worker: the first one is split until it has one place.
+// Splits the first seat into seats of one place, one for each worker.
 fn seats_of(alloc: Global, claims: &Claims, first: ClaimSeat) -> Result<Vec<ClaimSeat>, AllocError>
     requires { IsSeat claims.now first.places [] false first }
     ensures len { IfOk result (λ seats. vec_len seats ≡ first.places) }

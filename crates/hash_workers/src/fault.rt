@@ -1,4 +1,4 @@
-//! Why there is no batch.
+//! The faults of jobs and batches.
 
 ghost use Rattle.std.specs.Prelude.{◌≡◌};
 ghost use Rattle.hash_workers.specs.Faults.{fault_of_book, fault_of_gather, jobs_fault_of_book, jobs_fault_of_gather};
@@ -7,20 +7,20 @@ use measure_book::{BookFault, GatherFault};
 use std::alloc::AllocError;
 use thiserror::Error;
 
-/// Why jobs are not done. The first cause that holds is the one that is answered, in this order: `Workers`, `Book`,
-/// `Memory`, `Gather`.
+/// Why a list of jobs has no batch. Causes are checked in the order `Workers`, `Book`, `Memory`, `Gather`, as
+/// [`measure_files`](crate::measure_files) says.
 #[derive(Clone, Copy, Debug, PartialEq, Eq, Error)]
 pub enum AgentFault {
-    /// 1: the number of workers is not 1 to 8.
+    /// The number of workers is not 1 to 8.
     #[error("the number of workers is not 1 to 8")]
     Workers,
-    /// 2: no book is opened; never `BookFault::Memory`.
-    #[error("no book is opened: {0}")]
+    /// No book is opened; never `BookFault::Memory`.
+    #[error("the book cannot be opened: {0}")]
     Book(BookFault),
-    /// 3: what the workers got does not account for the book's records; never `GatherFault::Memory`.
-    #[error("the outcomes are not those of the book: {0}")]
+    /// What the workers got does not account for the book's records; never `GatherFault::Memory`.
+    #[error("the outcomes do not account for the book: {0}")]
     Gather(GatherFault),
-    /// 4: out of memory.
+    /// Out of memory.
     #[error("out of memory")]
     Memory,
 }
@@ -57,13 +57,13 @@ impl From<AllocError> for AgentFault {
     }
 }
 
-/// Why the operation of a job cannot be had.
+/// Why the operation of a job cannot be made.
 #[derive(Clone, Copy, Debug, PartialEq, Eq, Error)]
 pub enum JobFault {
-    /// What is to be hashed has more bytes than are allowed.
+    /// The input to hash has more bytes than are allowed.
     #[error("too many bytes")]
     TooLong,
-    /// What is to be hashed could not be opened, or failed while it was read.
+    /// The input to hash could not be opened, or failed while it was read.
     #[error("the source failed")]
     Source,
     /// Out of memory.
@@ -81,18 +81,18 @@ impl From<AllocError> for JobFault {
     }
 }
 
-/// Why jobs of any kind are not done.
+/// Why jobs of any kind have no batch.
 #[derive(Clone, Copy, Debug, PartialEq, Eq, Error)]
 pub enum JobsFault {
-    /// The fault is one that jobs of a list may have too.
+    /// A fault that a list of jobs may have too.
     #[error("{0}")]
     Agent(AgentFault),
-    /// The operation of this job cannot be had, and those of all jobs before it were made; never `JobFault::Memory`.
+    /// The operation of this job cannot be made, and those of all jobs before it were; never for `JobFault::Memory`.
     #[error("job {job}: {fault}")]
     Job {
         /// The number of the job.
         job: u32,
-        /// Why its operation cannot be had.
+        /// Why its operation cannot be made.
         fault: JobFault,
     },
 }

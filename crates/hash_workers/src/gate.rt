@@ -1,14 +1,14 @@
-//! Where a worker says how far it is.
+//! Progress reports of the workers.
 
 use measure_book::Op;
 
-/// What is told of each job that a worker takes. Both calls are made for every such job, and neither while the worker
-/// holds the book's lock. A gate may hold a worker up.
+/// Is told how far each job is. A worker makes both calls for every job that it takes, neither of them while it holds the book's
+/// lock. A gate may block the worker. It is supplied by the caller; no contract.
 pub trait Gate {
-    /// The worker has made the job's operation, and has not taken the lock for it yet. None where it could not be had.
+    /// The worker has made the job's operation, and has not taken the lock for it yet. `op` is `None` if it could not be made.
     fn hashed(&self, job: u32, op: Option<&Op>);
 
-    /// The worker has released the lock after the job.
+    /// The worker is done with the job, and does not hold the lock.
     fn recorded(&self, job: u32);
 }
 

@@ -1,4 +1,4 @@
-//! What is to be recorded, and the operation that it becomes.
+//! Jobs, and the operations that they become.
 
 ghost use Rattle.std.specs.Prelude.{◌≡◌, IfOk};
 ghost use Rattle.measure_book.specs.Operations.{book_op_of};
@@ -9,30 +9,30 @@ use measure_book::Op;
 use pcr_banks::{Alg, hash};
 use std::alloc::{AllocError, Global};
 
-/// What is to be recorded.
+/// A job: what is to be recorded.
 #[derive(Debug, Drop)]
 pub enum Job {
-    /// The file with this path, content and signature is to be measured.
+    /// Measure the file with this path, content and signature.
     File {
         path: Vec<u8>,
         content: Vec<u8>,
         sig: Sig,
     },
-    /// The measurement of the file with this path was violated.
+    /// Record that the measurement of the file with this path was violated.
     Violation {
         path: Vec<u8>,
     },
-    /// The value of a register is asked for.
+    /// Read a register.
     Read {
         alg: Alg,
         register: u32,
     },
 }
 
-/// The operation of a job: a file is the measurement of its path with the hash of its content by the algorithm and with its
-/// signature; a violation or a read is itself.
+/// The operation of a job. A file becomes a measurement with its path, the hash of its content by the algorithm, and its
+/// signature; a violation or a read stays what it is.
 ///
-/// Refused where there is no memory for the path or the signature.
+/// Fails where there is no memory for the path or the signature.
 pub fn op_of(alloc: Global, job: &Job, alg: Alg) -> Result<Op, AllocError>
     ensures { IfOk result (λ op. book_op_of op ≡ operation_of alg job.now) }
 {

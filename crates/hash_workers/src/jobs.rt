@@ -1,4 +1,4 @@
-//! What workers take.
+//! The jobs that workers take.
 
 ghost use Rattle.std.specs.Prelude.{◌≡◌, ◌<◌, ℕ, MatchResult, length};
 ghost use Rattle.measure_book.specs.Operations.{BookOp, book_op_of};
@@ -6,7 +6,7 @@ ghost use Rattle.pcr_banks.specs.declared.alg.Alg.{Alg};
 ghost use Rattle.hash_workers.specs.declared.fault.JobFault.{JobFault};
 ghost use Rattle.hash_workers.specs.declared.fault.JobFault.TheVariants.{Memory};
 ghost use Rattle.hash_workers.specs.Jobs.{operations_of};
-ghost use Rattle.hash_workers.specs.Working.{IsAt};
+ghost use Rattle.hash_workers.specs.Outcomes.{IsAt};
 
 use crate::fault::JobFault;
 use crate::job::{Job, op_of};
@@ -14,23 +14,23 @@ use measure_book::Op;
 use pcr_banks::Alg;
 use std::alloc::Global;
 
-/// Jobs that workers take, counted from 0. Each becomes an operation, which is made on the thread of the worker that takes it.
+/// Jobs for the workers, counted from 0. The worker that takes a job makes its operation, on its own thread.
 pub trait Jobs {
-    // How many jobs there are.
+    // The number of jobs.
     ghost total: { Self → ℕ };
 
-    // By this algorithm the job of this number may become this operation. Where what it is made of is not told, as a file's content, it
-    // may become more than one.
+    // The job with this number, hashed by this algorithm, may become this operation. Several are possible where the input is not
+    // known to contracts, such as a file's content.
     ghost makes: { Self → Alg → ℕ → BookOp → Type 0 };
 
-    // The operation of the job of this number cannot be had, for this cause.
+    // The operation of the job with this number cannot be made, for this cause.
     ghost lacks: { Self → ℕ → JobFault → Type 0 };
 
-    /// How many jobs there are.
+    /// The number of jobs.
     fn count(&self) -> usize
         ensures { result ≡ total self.now };
 
-    /// The operation of the job of this number, by this algorithm.
+    /// Makes the operation of the job with this number, hashed by this algorithm.
     fn operation(&self, alloc: Global, job: u32, alg: Alg) -> Result<Op, JobFault>
         requires { job < total self.now }
         ensures { MatchResult result (λ op. makes self.now alg job (book_op_of op)) (λ fault. lacks self.now job fault) };
@@ -47,7 +47,7 @@ impl Jobs for Listed<'_> {
 
     ghost makes = { λ listed alg. IsAt (operations_of alg listed.jobs.now) };
 
-    // An operation is lacking for want of memory alone.
+    // Making an operation fails only for memory.
     ghost lacks = { λ _ _ fault. fault ≡ Memory };
 
     fn count(&self) -> usize {

@@ -1,4 +1,4 @@
-//! Files are hashed by several workers at once, and recorded in one book: each job has one outcome, whatever the schedule.
+//! Several workers hash files in parallel, and record them in one book. Each job has one outcome, whatever the schedule.
 #![tactic(auto)]
 
 mod batch;

@@ -1,14 +1,14 @@
-//! Outcomes, put in the order of the jobs.
+//! Puts outcomes in the order of the jobs.
 
 ghost use Rattle.std.specs.Prelude.{◌≡◌, ◌≤◌, ◌<◌, ◌^◌, length, map, slice_set, vec_len};
 ghost use Rattle.std.specs.List.{concat};
 ghost use Rattle.hash_workers.specs.Claims.{HandsOutEach};
-ghost use Rattle.hash_workers.specs.Taking.{Rise, RiseForEach};
-ghost use Rattle.hash_workers.specs.Scattering.{AreBelow, AreKept, ArePlaced, ArePairs, AreScattered, items_of};
+ghost use Rattle.hash_workers.specs.parts.Taking.{NumbersRise, NumbersRiseForEach};
+ghost use Rattle.hash_workers.specs.parts.Scattering.{AreBelow, AreKept, ArePlaced, ArePairs, AreScattered, items_of};
 
 use measure_book::Outcome;
 
-/// Puts each outcome to its job, and the worker that it comes from beside it.
+/// Puts each outcome at the place of its job in `outcomes`, and its worker at that place in `by`.
 pub(crate) fn scatter(
     outcomes: &mut Vec<Outcome>,
     by: &mut Vec<u32>,
@@ -16,7 +16,7 @@ pub(crate) fn scatter(
     mut groups: Vec<Vec<Outcome>>,
 )
     requires each { HandsOutEach (vec_len outcomes.old) (concat (map items_of takings.now)) }
-    requires rise { RiseForEach (map items_of takings.now) }
+    requires rise { NumbersRiseForEach (map items_of takings.now) }
     requires pairs { ArePairs (map items_of takings.now) (map items_of groups.items) }
     requires sizes { vec_len by.old ≡ vec_len outcomes.old }
     requires few { vec_len groups < 2 ^ 32 }
@@ -29,7 +29,7 @@ pub(crate) fn scatter(
     }
 }
 
-// Puts the outcomes of one worker to its jobs.
+// Puts the outcomes of one worker at the places of its jobs.
 fn place(
     outcomes: &mut Vec<Outcome>,
     by: &mut Vec<u32>,
@@ -38,7 +38,7 @@ fn place(
     mut group: Vec<Outcome>,
 )
     requires below { AreBelow (vec_len outcomes.old) taken.now }
-    requires rise { Rise taken.now }
+    requires rise { NumbersRise taken.now }
     requires pairs { vec_len group ≡ length taken.now }
     requires sizes { vec_len by.old ≡ vec_len outcomes.old }
     ensures placed { ArePlaced taken.now group.items worker 0 outcomes.new.items by.new.items }
@@ -51,7 +51,7 @@ fn place(
     }
 }
 
-// Puts one outcome to its job.
+// Puts one outcome at the place of its job.
 fn put(outcomes: &mut Vec<Outcome>, by: &mut Vec<u32>, job: usize, outcome: Outcome, worker: u32)
     requires job { job < vec_len outcomes.old }
     requires by { job < vec_len by.old }

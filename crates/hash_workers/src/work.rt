@@ -1,13 +1,13 @@
-//! What one worker does.
+//! One worker: it draws jobs, makes their operations and records them.
 
 ghost use Rattle.std.specs.Prelude.{◌≡◌, ◌≢◌, ◌<◌, None, Some, map, IfOk, IfSome, OnErr, OnOk, MatchResult, option_map};
 ghost use Rattle.std.specs.Option.{option_copied};
 ghost use Rattle.measure_book.specs.Operations.{book_op_of, book_outcome_of};
-ghost use Rattle.hash_workers.specs.Taking.{Rise};
-ghost use Rattle.hash_workers.specs.Working.{IsWorked};
+ghost use Rattle.hash_workers.specs.parts.Taking.{NumbersRise};
+ghost use Rattle.hash_workers.specs.parts.Working.{IsWorked};
 ghost use Rattle.hash_workers.specs.declared.work.Turn.TheVariants.{Last};
-ghost use Rattle.hash_workers.specs.Ending.{AreHad, IsEnd, IsLack, IsLackAfter, IsNoted, KeepsOne, StopsFor, TakesOne, TellsAll};
-ghost use Rattle.hash_workers.specs.Seats.{IsNewSeat, IsSinglePlace};
+ghost use Rattle.hash_workers.specs.parts.Ending.{AreHad, IsEnd, IsLack, IsLackAfter, IsNoted, KeepsOne, StopsFor, TakesOne, TellsAll};
+ghost use Rattle.hash_workers.specs.parts.Seats.{IsNewSeat, IsSinglePlace};
 
 mod all;
 #[cfg(test)]
@@ -25,13 +25,13 @@ use std::alloc::{AllocError, Global};
 /// Why a worker takes no more jobs.
 #[derive(Clone, Copy, Debug, PartialEq, Eq)]
 enum End {
-    /// None is left.
+    /// No job is left.
     NoneLeft,
-    /// There was no memory to keep another one's outcome.
+    /// There was no memory to keep another job's outcome.
     OutOfMemory,
-    /// The book is of another origin.
+    /// The book has another origin.
     ForeignBook,
-    /// The operation of a job could not be had, for another cause than want of memory.
+    /// A job's operation could not be made, for a cause other than memory.
     NoOperation,
 }
 
@@ -60,19 +60,19 @@ impl From<ForeignBook> for End {
 enum Turn {
     /// It does.
     Next,
-    /// It does not, since the operation of the last one could not be had.
+    /// It does not: the operation of the last one could not be made.
     Last,
 }
 
-/// A job whose operation could not be had, and why.
+/// A job whose operation could not be made, and why.
 #[derive(Clone, Copy, Debug, PartialEq, Eq)]
 pub(crate) struct Lack {
     pub(crate) job: u32,
     pub(crate) fault: JobFault,
 }
 
-/// What a worker did: its seat, the jobs that it took, in its order, the outcome of each, the first whose operation it could not
-/// have, and why it took no more.
+/// What a worker did: its seat, the jobs that it took, in order, the outcome of each, the first job whose operation could not be
+/// made, and why it took no more.
 #[derive(Drop)]
 pub(crate) struct Work {
     pub(crate) seat: ClaimSeat,
@@ -82,8 +82,8 @@ pub(crate) struct Work {
     end: End,
 }
 
-/// Draws jobs from the claims and takes each, until none is left, or until one's operation cannot be had for another cause than want
-/// of memory. Then it draws all jobs that are left, so that no worker takes another.
+/// Draws jobs and takes each, until none is left or the worker has to stop. If a job's operation cannot be made for a cause other
+/// than memory, draws all jobs that are left, so that no worker takes another.
 pub(crate) fn take_jobs<B: Recorder, J: Jobs, G: Gate>(
     alloc: Global,
     recorder: &mut B,
@@ -96,7 +96,7 @@ pub(crate) fn take_jobs<B: Recorder, J: Jobs, G: Gate>(
     requires jobs { claims.now.jobs ≡ J.total jobs.now }
     requires seat { IsNewSeat claims.now seat }
     ensures seat { IsSinglePlace claims.now result.seat }
-    ensures taken { Rise result.taken.items }
+    ensures taken { NumbersRise result.taken.items }
     ensures worked { IsWorked origin.now (J.total jobs.now) (J.makes jobs.now origin.now.alg) result.taken.items
         (map book_outcome_of result.outcomes.items) }
     ensures had { AreHad (J.makes jobs.now origin.now.alg) result.taken.items result.lack }
@@ -130,8 +130,8 @@ pub(crate) fn take_jobs<B: Recorder, J: Jobs, G: Gate>(
 }
 
 impl Work {
-    // Takes one job: makes its operation, and has it recorded. Where the operation cannot be had, this is noted, and the job has the
-    // outcome of one for which memory ran out.
+    // Takes one job: makes its operation and records it. If the operation cannot be made, notes that, and gives the job the
+    // outcome `Refused(Memory)`, whatever the cause.
     fn take<B: Recorder, J: Jobs, G: Gate>(
         &mut self,
         alloc: Global,
@@ -166,7 +166,7 @@ impl Work {
         }
     }
 
-    // Notes that the operation of a job could not be had, if it is the first one; and whether the worker takes another.
+    // Notes the job as the one whose operation could not be made, if it is the first such. Returns whether the worker goes on.
     fn note(&mut self, job: u32, fault: JobFault) -> Turn
         ensures noted { IsNoted job fault self.old.lack self.new.lack }
         ensures same { (self.new.seat ≡ self.old.seat) × (self.new.end ≡ self.old.end) × (self.new.taken ≡ self.old.taken)
@@ -181,7 +181,7 @@ impl Work {
         }
     }
 
-    // Has the job's operation recorded, between the two calls of the gate. Both are made whatever becomes of it.
+    // Records the job's operation between the two calls to the gate, which are made whatever the outcome.
     fn pass<B: Recorder, G: Gate>(
         &mut self,
         recorder: &mut B,
@@ -204,8 +204,7 @@ impl Work {
         kept
     }
 
-    // Has an operation recorded, and keeps its outcome as that of this job. Where there is no operation it is refused as for want of
-    // memory.
+    // Records the operation, and keeps its outcome as that of the job: `Refused(Memory)` where there is no operation.
     fn keep<B: Recorder>(
         &mut self,
         recorder: &mut B,

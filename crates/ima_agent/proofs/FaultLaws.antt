@@ -1,4 +1,4 @@
--- The line of a job that was refused.
+-- The line of a refused job.
 use Rattle.std.proofs.Common.{◌≡◌, ℕ, codes, Some, refl}
 use Rattle.measure_book.specs.declared.fault.BookFault.{BookFault}
 use Rattle.measure_book.specs.declared.fault.BookFault.TheVariants as books

@@ -1,4 +1,4 @@
--- What was hashed of a source.
+-- What was hashed from a source.
 use Rattle.std.proofs.Common.{◌≡◌, ℕ, ◌+◌, ◌-◌, ◌<◌, ◌≤◌, List, [], ◌++◌, drop, length, take, Option, None, Some, sym, ap, ◌∙◌, append-nil, length-append, arith}
 use Rattle.std.specs.Prelude.{IfSome}
 use Rattle.std.proofs.Math.Seq.{take-append_seam}
@@ -16,7 +16,7 @@ use Rattle.ima_agent.specs.Hashing.{IsHashOfAll}
 use Rattle.ima_agent.specs.Loading.{LosesMoreThan}
 use Rattle.ima_agent.proofs.LoadingLemmas.{Consumes-append}
 
--- The hasher took what the source lost, and so many bytes more are allowed.
+-- The hasher took what the source lost, and `room` more bytes are allowed.
 pub record HasHashed (old new : Option (List ℕ)) (alg : Alg) (limit room : ℕ) (hasher : Hasher) : Type 0 where
   pub content : List ℕ
   pub lost : Consumes old new content
@@ -26,7 +26,7 @@ pub record HasHashed (old new : Option (List ℕ)) (alg : Alg) (limit room : ℕ
 pub hashed_nothing : (old : Option (List ℕ)) (alg : Alg) (limit : ℕ) (hasher : Hasher) → HasTaken hasher alg [] → HasHashed old old alg limit limit hasher
 hashed_nothing old alg limit hasher taken = record { content = []; lost = Consumes-none old; taken = taken; size = omega arith }
 
--- What was lost of a source that has nothing left is all.
+-- A source that has nothing left lost all of its bytes.
 whole : (old new : Option (List ℕ)) (content : List ℕ) → Consumes old new content → IsAtEnd new → IfSome old (λ all. content ≡ all)
 whole None new content lost end = tt
 whole (Some all) None content lost end = absurd lost
@@ -49,7 +49,7 @@ pub read_back : (buffer items : List ℕ) (size : ℕ) → length buffer ≡ siz
 read_back buffer items size e = rw (← e) (take-append_seam buffer (drop (length buffer) items))
 
 module _ (old mid new : Option (List ℕ)) {alg : Alg} {limit room : ℕ} {before : Hasher} (hashed : HasHashed old mid alg limit room before) where
-  -- After one piece more.
+  -- After one more piece.
   pub hashed_more : (after : Hasher) (buffer filled : List ℕ) (count : ℕ) → Consumes mid new (take count buffer) → count ≤ length buffer
       → filled ≡ buffer → count ≤ room
       → ((a : Alg) (taken : List ℕ) → HasTaken before a taken → HasTaken after a (taken ++ take count filled))
@@ -72,7 +72,7 @@ module _ (old mid new : Option (List ℕ)) {alg : Alg} {limit room : ℕ} {befor
     digest_is = gives alg hashed.content hashed.taken;
   }
 
-  -- After a piece, which is not hashed, or where the source failed.
+  -- After a piece that is not hashed, or after the source failed.
   pub lost_front : (piece : List ℕ) → Consumes mid new piece → LosesFront old new
   lost_front piece lost =
       record { front = hashed.content ++ piece; lost = Consumes-append old mid new hashed.content piece hashed.lost lost }

@@ -1,4 +1,4 @@
--- Files that are measured, and the first that was refused.
+-- Measured files, and the first refused one.
 use Rattle.std.proofs.Common.{rules, ◌≡◌, ℕ, ◌+◌, ◌<◌, ◌≤◌, List, [], length, map, get_or, Some, refl, sym, ap, ◌∙◌, subst, inl, inr, arith}
 use Rattle.std.specs.Prelude.{◌⊎◌, slice_get, String, string_bytes, IfErr, IfOk, IfSome, Result, Ok, Err}
 use Rattle.std.proofs.Math.Path.{fun_ext}
@@ -30,9 +30,10 @@ use Rattle.ima_agent.specs.declared.loading.LoadFault.{LoadFault}
 use Rattle.ima_agent.specs.declared.loading.LoadFault.TheVariants as loads
 use Rattle.ima_agent.specs.Hashing.{IsHashOfAll}
 use Rattle.ima_agent.specs.Loading.{Holds, Inputs, IsInputFault, IsTooLong, input_limit}
-use Rattle.ima_agent.specs.Measuring.{AreAllDone, Contents, HasFile, HasMeasured, IsFileFault, IsFileFaultOf, IsFileLack, IsFileMeasure, IsMeasuringFault, IsNamesFault, IsRecordingFault, IsSetOut, Manner, ShowsMeasured, all_names, files_in}
+use Rattle.ima_agent.specs.Measuring.{AreAllDone, Contents, HasFile, HasMeasured, IsFileFault, IsFileMeasure, IsMeasuringFault, IsNamesFault, IsRecordingFault, IsSetOut, Manner, ShowsMeasured, all_names, files_in}
+use Rattle.ima_agent.specs.parts.Measuring.{IsFileFaultOf, IsFileLack}
 use Rattle.ima_agent.specs.Program.{IsListedFault, OfInput}
-use Rattle.ima_agent.specs.NamedFiles.{job_fault_of}
+use Rattle.ima_agent.specs.parts.NamedFiles.{job_fault_of}
 
 -- No outcome before this one is a refusal.
 abbrev pub AreDoneBefore : List Outcome → ℕ → Type 0
@@ -64,7 +65,7 @@ all_done given i all before = λ job fault has.
 
 -- ---- files
 
--- What is measured of a file, where its digest is the hash of what it holds.
+-- What is measured of a file, if its digest is the hash of its content.
 measured_of_hash : (alg : Alg) (content path : List ℕ)
     → measured (digest_of alg (hash_of alg content)) path [] ≡ record { alg = alg; digest = hash_of alg content; path = path; sig = [] }
 measured_of_hash alg content path = search rules
@@ -104,13 +105,13 @@ file_had held names alg number name digest within is hashed = record {
   within = hashed.within;
 }
 
--- The same of a file that was asked for by these bytes of its name.
+-- The same of a file that was looked up by the same name.
 pub asked_for : (held : Contents) (alg : Alg) (digest : Digest) (name looked : List ℕ) → looked ≡ name
     → IsHashOfAll (held looked) alg input_limit digest → IsHashOfAll (held name) alg input_limit digest
 asked_for held alg digest name looked is hashed =
     let At : List ℕ → Type 0 = λ n. IsHashOfAll (held n) alg input_limit digest in subst At is hashed
 
--- One file more was had.
+-- One more file was read.
 pub had_more : (held : Contents) (names : List (List ℕ)) (number : ℕ)
     → ((earlier : ℕ) → earlier < number → HasFile held names earlier) → HasFile held names number → (earlier : ℕ) → earlier < number + 1
     → HasFile held names earlier
@@ -121,7 +122,7 @@ had_more held names number before here earlier below = elim (cases_lt earlier nu
       let At : ℕ → Type 0 = λ n. HasFile held names n in subst At same here
 ]
 
--- Why a file's operation cannot be had.
+-- Why a file has no operation.
 pub file_lacks : (held : Contents) (Fails : List ℕ → Type 0) (names : List (String Global)) (number : ℕ) (name : String Global)
     (fault : LoadFault) → number < length names → name ≡ get_or names number name
     → (fault ≡ loads.TooLong → IfSome (held (string_bytes name)) (λ all. input_limit < length all))
@@ -138,7 +139,7 @@ file_lacks held Fails names number name loads.Source within is too_long source =
 )
 file_lacks held Fails names number name loads.Memory within is too_long source = tt
 
--- The fault of a file whose operation cannot be had, where each before it was had.
+-- The fault of the first file without an operation.
 pub file_fault : (held : Contents) (Fails : List ℕ → Type 0) (names : List (List ℕ)) (number : ℕ) (cause : JobFault) (fault : RunFault)
     → number < length names → IsFileLack held Fails names number cause → IsFileFaultOf names number cause fault
     → ((earlier : ℕ) → earlier < number → HasFile held names earlier) → IsFileFault held names fault
@@ -157,13 +158,13 @@ file_fault held Fails names number lacks.Memory fault within lack says before =
     let at = within_at names number within in
     record { index = number; name = at.0; has = at.1; cause = inr (inr says); before = before }
 
--- What is known of files by one telling is known by another that tells the same.
+-- Two tellings of what files hold that agree on every name are the same.
 pub same_contents : (held told : Contents) → ((name : List ℕ) → held name ≡ told name) → held ≡ told
 same_contents held told same = fun_ext same
 
 -- ---- a measurement
 
--- So many names are as many files.
+-- There are as many names as files.
 pub measured_as_named : (origin : Origin) (files : List (String Global)) (Makes : ℕ → BookOp → Type 0) (workers : ℕ) (book : BookState)
     → HasMeasured origin (length files) Makes workers book → HasMeasured origin (length (map string_bytes files)) Makes workers book
 measured_as_named origin files Makes workers book known =
@@ -174,7 +175,7 @@ recording_as_named : (origin : Origin) (files : List (String Global)) (Makes : �
 recording_as_named origin files Makes workers fault known =
     let At : ℕ → Type 0 = λ n. IsRecordingFault origin n Makes workers fault in subst At (sym (length-map files string_bytes)) known
 
--- Why nothing is shown, where the files are not all recorded.
+-- Why nothing is shown if the files are not all recorded.
 pub not_recorded : (held : Contents) (log : List ℕ) (manner : Manner) (files : List (String Global)) (table : List Row)
     (events : List LogEvent) (origin : Origin) (fault : RunFault) → IsSetOut log manner table events origin
     → (IsFileFault held (map string_bytes files) fault
@@ -189,7 +190,7 @@ not_recorded held log manner files table events origin fault out (inr recording)
   cause = recording_as_named origin files (IsFileMeasure held (map string_bytes files) manner.alg) manner.workers fault recording;
 })))
 
--- What is shown of files that several threads read is shown of the inputs that they are.
+-- What is shown of files that several threads read is shown of the inputs that hold the same.
 pub shown_of : (inputs : Inputs) (held : Contents) (log : List ℕ) (manner : Manner) (print : Print) (names : List (List ℕ))
     (result : Result (Vec ℕ) RunFault) → ((name : List ℕ) → held name ≡ inputs (Some name))
     → IfOk result (λ shown. ShowsMeasured held log manner print names shown.items)

@@ -11,7 +11,7 @@ use Rattle.ima_list.specs.Spelling.{BeginsWith, IsReading}
 use Rattle.ima_agent.specs.Faults.{fault_of_list}
 use Rattle.ima_agent.specs.Showing.{IsNoListFor, ShowsList}
 
--- The text has the lines of the entries so far, and these bytes are left.
+-- The text has the lines of the entries so far, and `rest` is left of the list.
 pub record HasShown (list text rest : List ℕ) (number : ℕ) : Type 0 where
   pub entries : List ListEntry
   pub begins : BeginsWith list entries rest

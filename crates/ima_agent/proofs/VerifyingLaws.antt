@@ -1,4 +1,4 @@
--- The list of a verdict that was read from the source of an input: what it says of the input.
+-- What a list that was read from the source of an input says of the input.
 use Rattle.std.proofs.Common.{◌≡◌, ℕ, ◌<◌, List, [], ◌++◌, length, Option, None, Some, Ok, Err, refl, sym, ap, subst, ◌∙◌, append_assoc, append-nil, arith, inl, inr}
 use Rattle.std.specs.Prelude.{IfSome, IfOk, IfErr, Result}
 use Rattle.std.specs.Io.KnownBytes.{Consumes, IsAtEnd}
@@ -15,20 +15,21 @@ use Rattle.ima_agent.specs.declared.fault.RunFault.{RunFault}
 use Rattle.ima_agent.specs.declared.output.Output.{Output}
 use Rattle.ima_agent.specs.Faults.{IsFaultOfVerdict}
 use Rattle.ima_agent.specs.Loading.{Inputs, Holds, input_limit}
-use Rattle.ima_agent.specs.Verifying.{IsNoVerdictFrom, IsReportFault, IsReportFrom, ShowsReport}
+use Rattle.ima_agent.specs.parts.Verifying.{IsNoVerdictFrom, IsReportFrom}
+use Rattle.ima_agent.specs.Verifying.{IsReportFault, ShowsReport}
 
--- The source has just what the input holds to give.
+-- The source gives exactly what the input holds.
 abbrev pub HasAll : Option (List ℕ) → Option (List ℕ) → Type 0
 HasAll told remaining = IfSome told (λ all. remaining ≡ Some all)
 
--- ---- the list that came, and the input that it came from
+-- ---- the list that came, and its input
 
 whole_from : (all : List ℕ) (new : Option (List ℕ)) (list : List ℕ) → Consumes (Some all) new (list ++ []) → IsAtEnd new → list ≡ all
 whole_from all None list lost end = absurd lost
 whole_from all (Some rest) list lost end =
     sym (lost ∙ ap (λ (r : List ℕ). (list ++ []) ++ r) end ∙ append-nil (list ++ []) ∙ append-nil list)
 
--- A list that came whole is the input.
+-- A list that came whole is all of the input.
 pub held_whole : (told old new : Option (List ℕ)) (limit : ℕ) (list : List ℕ) → HasAll told old → CameWhole old new limit list
     → IfSome told (λ all. list ≡ all)
 held_whole None old new limit list has whole = tt
@@ -47,19 +48,19 @@ more_from bytes None list over lost = absurd lost
 more_from bytes (Some rest) list over lost =
     record { all = bytes; more = over ++ rest; held = refl; parts = lost ∙ append_assoc list over rest }
 
--- The input begins with a list of which some bytes came.
+-- The input begins with the list that came.
 held_more : (told old new : Option (List ℕ)) (limit : ℕ) (list over : List ℕ) → HasAll told old → CameFrom old new limit list over
     → HeldMore told list
 held_more None old new limit list over has came = record { all = list; more = []; held = tt; parts = sym (append-nil list) }
 held_more (Some bytes) old new limit list over has came =
     more_from bytes new list over (subst (λ (o : Option (List ℕ)). Consumes o new (list ++ over)) has came.lost)
 
--- Some input.
+-- An input holds some bytes.
 held_any : (told : Option (List ℕ)) → (all : List ℕ) × IfSome told (λ bytes. all ≡ bytes)
 held_any None = ([], tt)
 held_any (Some bytes) = (bytes, refl)
 
--- An input of which some bytes came, and more after them.
+-- An input from which more bytes came is longer than the list.
 longer : (told old new : Option (List ℕ)) (limit : ℕ) (list over : List ℕ) → HasAll told old → CameFrom old new limit list over
     → 0 < length over → IfSome told (λ all. (rest : List ℕ) × (0 < length rest) × (all ≡ list ++ rest))
 longer None old new limit list over has came some = tt

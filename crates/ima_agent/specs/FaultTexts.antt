@@ -16,12 +16,10 @@ use Rattle.boot_verdict.specs.declared.expected.ExpectFault.TheVariants as expec
 use Rattle.boot_verdict.specs.ExpectFaults.{expect_fault_number, expect_fault_line}
 use Rattle.ima_agent.specs.declared.fault.RunFault.{RunFault}
 use Rattle.ima_agent.specs.declared.fault.RunFault.TheVariants as runs
-use Rattle.ima_agent.specs.declared.texts.faults.FaultLine.{FaultLine}
-use Rattle.ima_agent.specs.declared.texts.faults.FaultLine.TheVariants.{Words, Number, Numbers, Name}
 
 -- ---- lines
 
--- Words and a number; and where there is a place, its words and its number.
+-- Words and a number; then, if there is a place, its words and its number.
 abbrev pub numbered_line : List ℕ → ℕ → List ℕ → Option ℕ → List ℕ
 numbered_line words number place-words None = words ++ (decimal number ++ codes "\n")
 numbered_line words number place-words (Some place) = words ++ (decimal number ++ (place-words ++ (decimal place ++ codes "\n")))
@@ -30,7 +28,7 @@ numbered_line words number place-words (Some place) = words ++ (decimal number +
 abbrev pub named_line : List ℕ → List ℕ → List ℕ
 named_line words name = words ++ (name ++ codes "\n")
 
--- That memory ran out has one line, wherever it ran out.
+-- Out of memory has one line, wherever it happens.
 abbrev pub memory_line : List ℕ
 memory_line = codes "failed: memory\n"
 
@@ -76,8 +74,8 @@ fault_line (runs.NotUtf8 name) = named_line (codes "refused: not UTF-8 ") (strin
 fault_line (runs.Gather fault) = gather_line fault
 fault_line runs.Memory = memory_line
 
--- The exit status after a fault: 2 for input that is refused, 3 where memory ran out, outcomes do not account for the book, or a
--- device failed.
+-- The exit status after a fault: 2 for refused input, 3 if memory ran out, outcomes do not account for the book, or a device
+-- failed.
 abbrev pub fault_status : RunFault → ℕ
 fault_status runs.Usage = 2
 fault_status runs.NotHex = 2
@@ -97,12 +95,3 @@ fault_status (runs.TooLong name) = 2
 fault_status (runs.Read name) = 3
 fault_status (runs.Gather fault) = 3
 fault_status runs.Memory = 3
-
--- ---- what contracts see of the code's value
-
--- The line that is made of these parts.
-abbrev pub line_of : FaultLine → List ℕ
-line_of (Words words) = words.now ++ codes "\n"
-line_of (Number words number) = numbered_line words.now number [] None
-line_of (Numbers words number place-words place) = numbered_line words.now number place-words.now (Some place)
-line_of (Name words name) = named_line words.now name.now

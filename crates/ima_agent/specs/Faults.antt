@@ -1,5 +1,5 @@
--- What the faults of the parts are to the program. That memory ran out is one fault, wherever it ran out. All of this is this project's
--- choice.
+-- How the faults of the parts become faults of the program. Out of memory is one fault, wherever it happens. All of this is this
+-- project's choice.
 use Rattle.std.specs.Prelude.{◌≡◌, ℕ, ◌⊎◌, List}
 use Rattle.command_line.specs.declared.fault.WordsFault.{WordsFault}
 use Rattle.command_line.specs.declared.fault.WordsFault.TheVariants as words
@@ -35,7 +35,7 @@ abbrev pub fault_of_expected : ExpectFault → RunFault
 fault_of_expected expects.Memory = runs.Memory
 fault_of_expected fault = runs.Expect fault
 
--- What the verifier's fault is to the program, where the list is the input of this name: a fault of its source names it.
+-- The program's fault for a verifier's fault, where the list is the input of this name; a fault of its source names it.
 abbrev pub IsFaultOfVerdict : List ℕ → VerifyFault → RunFault → Type 0
 IsFaultOfVerdict name (verdicts.Log first) fault = fault ≡ fault_of_log first
 IsFaultOfVerdict name (verdicts.List first) fault = fault ≡ fault_of_list first
@@ -44,7 +44,7 @@ IsFaultOfVerdict name verdicts.Source fault = IsNotRead name fault ⊎ (fault �
 IsFaultOfVerdict name verdicts.TooLong fault = IsTooLong name fault ⊎ (fault ≡ runs.Memory)
 IsFaultOfVerdict name verdicts.Memory fault = fault ≡ runs.Memory
 
--- A wrong number of workers is one of the command line.
+-- The program's fault for a fault of the workers. A wrong number of workers is a fault of the command line.
 abbrev pub fault_of_agent : AgentFault → RunFault
 fault_of_agent agents.Workers = runs.Usage
 fault_of_agent (agents.Book fault) = runs.Book fault
@@ -56,6 +56,6 @@ abbrev pub fault_of_job : ℕ → BookFault → RunFault
 fault_of_job job books.Memory = runs.Memory
 fault_of_job job fault = runs.Outcome job fault
 
--- The words are not those of a command, or memory ran out.
+-- The arguments are not those of a command, or memory ran out.
 abbrev pub IsWordsFault : RunFault → Type 0
 IsWordsFault fault = (fault ≡ runs.Usage) ⊎ (fault ≡ runs.Memory)

@@ -5,8 +5,8 @@ use Rattle.pcr_banks.specs.declared.digest.Digest.{Digest}
 use Rattle.pcr_banks.specs.Hashing.{hash_of}
 use Rattle.pcr_banks.specs.Digests.{digest_of}
 
--- The digest is the hash, by this algorithm, of all bytes of a file or a source, which are at most this limit. Where they are told, it is
--- that of these.
+-- The digest is the hash, by this algorithm, of all bytes of a file or a source, at most this limit. If its bytes are told, it is
+-- the hash of those.
 pub record IsHashOfAll (told : Option (List ℕ)) (alg : Alg) (limit : ℕ) (digest : Digest) : Type 0 where
   pub content : List ℕ
   pub held : IfSome told (λ all. content ≡ all)

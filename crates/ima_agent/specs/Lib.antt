@@ -9,4 +9,4 @@ pub mod Verifying
 pub mod Measuring
 pub mod Program
 pub mod System
-pub mod NamedFiles
+pub mod parts

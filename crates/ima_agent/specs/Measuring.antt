@@ -6,8 +6,6 @@ use Rattle.pcr_banks.specs.declared.banks.Banks.{Banks}
 use Rattle.pcr_banks.specs.Hashing.{hash_of}
 use Rattle.pcr_banks.specs.Registers.{IsReset}
 use Rattle.boot_log.specs.declared.fault.LogFault.{LogFault}
-use Rattle.boot_log.specs.declared.log.BootLog.{BootLog}
-use Rattle.boot_log.specs.BootLog.{algs_of, events_of}
 use Rattle.boot_log.specs.declared.header.Row.{Row}
 use Rattle.boot_log.specs.Spelling.{LogEvent, IsLog, algs_in}
 use Rattle.boot_log.specs.Reading.{log_fault}
@@ -19,16 +17,13 @@ use Rattle.measure_book.specs.declared.fault.BookFault.{BookFault}
 use Rattle.measure_book.specs.declared.gathers.GatherFault.{GatherFault}
 use Rattle.measure_book.specs.Operations.{BookOp, BookOutcome, measure, refused}
 use Rattle.measure_book.specs.Books.{BookState, exported}
-use Rattle.hash_workers.specs.declared.fault.JobFault.{JobFault}
-use Rattle.hash_workers.specs.declared.fault.JobFault.TheVariants as lacks
 use Rattle.hash_workers.specs.declared.fault.AgentFault.{AgentFault}
 use Rattle.hash_workers.specs.declared.fault.AgentFault.TheVariants as agents
 use Rattle.hash_workers.specs.Batches.{IsBatchOf}
 use Rattle.hash_workers.specs.Faults.{IsFaultOf}
-use Rattle.hash_workers.specs.Settling.{IsCauseOf}
+use Rattle.hash_workers.specs.Causes.{IsCauseOf}
 use Rattle.boot_verdict.specs.RegisterTexts.{registers_text}
 use Rattle.ima_agent.specs.declared.fault.RunFault.{RunFault}
-use Rattle.ima_agent.specs.declared.measuring.Measuring.{Measuring}
 use Rattle.ima_agent.specs.declared.fault.RunFault.TheVariants as runs
 use Rattle.command_line.specs.declared.plan.Print.{Print}
 use Rattle.command_line.specs.declared.plan.Print.TheVariants.{Ascii, Binary, Registers}
@@ -39,7 +34,7 @@ use Rattle.ima_agent.specs.Names.{names_of}
 
 -- ---- what is measured
 
--- What files hold: all bytes of the file of a name, where they are told.
+-- What files hold: all bytes of the file of a name; none if they are not told.
 abbrev pub Contents : Type 0
 Contents = List ℕ → Option (List ℕ)
 
@@ -47,7 +42,7 @@ Contents = List ℕ → Option (List ℕ)
 abbrev pub files_in : Inputs → Contents
 files_in inputs = λ name. inputs (Some name)
 
--- The file of this number, of those of these names, and all bytes that it holds, which are at most as many as an input may have.
+-- The name of the file of this number, and all bytes that it holds, at most as many as an input may have.
 pub record HasFile (held : Contents) (names : List (List ℕ)) (number : ℕ) : Type 0 where
   pub name : List ℕ
   pub content : List ℕ
@@ -55,7 +50,7 @@ pub record HasFile (held : Contents) (names : List (List ℕ)) (number : ℕ) : 
   pub held_is : IfSome (held name) (λ all. content ≡ all)
   pub within : length content ≤ input_limit
 
--- The operation is the measurement of this file: of its name, with the hash of what it holds by this algorithm, and without a signature.
+-- The operation is the measurement of this file: its name, the hash of what it holds by this algorithm, and no signature.
 pub record IsFileMeasure (held : Contents) (names : List (List ℕ)) (alg : Alg) (number : ℕ) (op : BookOp) : Type 0 where
   pub file : HasFile held names number
   pub op_is : op ≡ measure (record { alg = alg; digest = hash_of alg file.content; path = file.name; sig = [] })
@@ -64,32 +59,28 @@ pub record IsFileMeasure (held : Contents) (names : List (List ℕ)) (alg : Alg)
 abbrev pub AreAllDone : List BookOutcome → Type 0
 AreAllDone outcomes = (job : ℕ) (fault : BookFault) → slice_get outcomes job ≡ Some (refused fault) → ⊥
 
--- So many jobs, which become these operations, were recorded by the workers in this book, and each is done.
+-- The workers recorded `count` jobs in this book, each as an operation that it `Makes`, and none was refused.
 pub record HasMeasured (origin : Origin) (count : ℕ) (Makes : ℕ → BookOp → Type 0) (workers : ℕ) (book : BookState) : Type 0 where
   pub outcomes : List BookOutcome
   pub by : List ℕ
   pub batch : IsBatchOf origin count Makes workers book outcomes by
   pub done : AreAllDone outcomes
 
--- What is printed of a book: its list as text or binary, or the registers that differ from these.
+-- What is printed of a book: its list as text or binary, or its registers that differ from `reset`.
 abbrev pub printed : Print → Banks → BookState → List ℕ
 printed Ascii reset book = flat_map line_of book.entries
 printed Binary reset book = exported book
 printed Registers reset book = registers_text book.banks reset
 
--- How files are measured: the algorithm of their digests, the template of their entries, the number of workers and the greatest number
--- of records.
+-- How files are measured: the algorithm of their digests, the template of their entries, the number of workers and the maximum
+-- number of records.
 pub record Manner : Type 0 where
   pub alg : Alg
   pub template : Template
   pub workers : ℕ
   pub limit : ℕ
 
--- The manner that is asked for.
-abbrev pub manner_of : Measuring → Manner
-manner_of asked = record { alg = asked.alg; template = asked.template; workers = asked.workers; limit = asked.limit }
-
--- Files are to be measured in this manner, into a book of this origin, which starts with the registers that the events of this log make.
+-- Files are to be measured in this manner, into a book of this origin: it starts with the registers after the events of this log.
 pub record IsSetOut (log : List ℕ) (manner : Manner) (table : List Row) (events : List LogEvent) (origin : Origin) : Type 0 where
   pub log_is : IsLog log table events
   pub starts : IsFirmware (algs_in table) events origin.start
@@ -97,7 +88,7 @@ pub record IsSetOut (log : List ℕ) (manner : Manner) (table : List Row) (event
   pub template_is : origin.template ≡ manner.template
   pub limit_is : origin.limit ≡ manner.limit
 
--- What is shown is printed of a book that starts with the registers that this log makes, and in which the files of these names are
+-- What is shown is printed of a book that starts with the registers after this log, and in which the files of these names are
 -- measured, each under its name with all that it holds.
 pub record ShowsMeasured (held : Contents) (log : List ℕ) (manner : Manner) (print : Print) (names : List (List ℕ)) (shown : List ℕ)
     : Type 0 where
@@ -113,29 +104,13 @@ pub record ShowsMeasured (held : Contents) (log : List ℕ) (manner : Manner) (p
 
 -- ---- why nothing is shown
 
--- The bytes are no log, and this is their first fault.
-pub record IsNotLog (bytes : List ℕ) (fault : RunFault) : Type 0 where
+-- The bytes are no log, and the fault is their first.
+pub record HasLogFault (bytes : List ℕ) (fault : RunFault) : Type 0 where
   pub first : LogFault
   pub first_is : log_fault bytes ≡ Some first
   pub says : fault ≡ fault_of_log first
 
--- The operation of the file of this number cannot be had. It has too many bytes, where that is told; it could not be opened, or failed,
--- where that is told; or memory ran out.
-abbrev pub IsFileLack : Contents → (List ℕ → Type 0) → List (List ℕ) → ℕ → JobFault → Type 0
-IsFileLack held Fails names number lacks.TooLong =
-    (name : List ℕ) × (slice_get names number ≡ Some name) × IfSome (held name) (λ all. input_limit < length all)
-IsFileLack held Fails names number lacks.Source = (name : List ℕ) × (slice_get names number ≡ Some name) × Fails name
-IsFileLack held Fails names number lacks.Memory = Unit {0}
-
--- The fault says so of the file of this number, of those of these names.
-abbrev pub IsFileFaultOf : List (List ℕ) → ℕ → JobFault → RunFault → Type 0
-IsFileFaultOf names number lacks.TooLong fault =
-    ((name : List ℕ) × (slice_get names number ≡ Some name) × IsTooLong name fault) ⊎ (fault ≡ runs.Memory)
-IsFileFaultOf names number lacks.Source fault =
-    ((name : List ℕ) × (slice_get names number ≡ Some name) × IsNotRead name fault) ⊎ (fault ≡ runs.Memory)
-IsFileFaultOf names number lacks.Memory fault = fault ≡ runs.Memory
-
--- The file of one of these names was not had, and each before it was.
+-- The file of one of these names could not be read, and each before it was read.
 pub record IsFileFault (held : Contents) (names : List (List ℕ)) (fault : RunFault) : Type 0 where
   pub index : ℕ
   pub name : List ℕ
@@ -143,19 +118,19 @@ pub record IsFileFault (held : Contents) (names : List (List ℕ)) (fault : RunF
   pub cause : (IsTooLong name fault × IfSome (held name) (λ all. input_limit < length all)) ⊎ IsNotRead name fault ⊎ (fault ≡ runs.Memory)
   pub before : (earlier : ℕ) → earlier < index → HasFile held names earlier
 
--- The first job that was refused is the one of this number, for this cause.
+-- The first refused job has this number and this cause.
 pub record IsFirstRefused (outcomes : List BookOutcome) (job : ℕ) (fault : BookFault) : Type 0 where
   pub is_refused : slice_get outcomes job ≡ Some (refused fault)
   pub first : (earlier : ℕ) (cause : BookFault) → earlier < job → slice_get outcomes earlier ≡ Some (refused cause) → ⊥
 
--- The fault is that of the first job that was refused.
+-- The fault is that of the first refused job.
 pub record IsFirstRefusal (outcomes : List BookOutcome) (fault : RunFault) : Type 0 where
   pub job : ℕ
   pub cause : BookFault
   pub first : IsFirstRefused outcomes job cause
   pub says : fault ≡ fault_of_job job cause
 
--- The jobs were recorded by the workers in a book, and the first that it refused has this fault.
+-- The workers recorded the jobs in a book, and this is the fault of the first that the book refused.
 pub record IsRefusedJob (origin : Origin) (count : ℕ) (Makes : ℕ → BookOp → Type 0) (workers : ℕ) (fault : RunFault) : Type 0 where
   pub book : BookState
   pub outcomes : List BookOutcome
@@ -163,7 +138,7 @@ pub record IsRefusedJob (origin : Origin) (count : ℕ) (Makes : ℕ → BookOp 
   pub batch : IsBatchOf origin count Makes workers book outcomes by
   pub first : IsFirstRefusal outcomes fault
 
--- The workers gave no book. Where their receipts do not account for it, this is the first cause against what they got.
+-- Why the workers returned no batch. If their outcomes do not account for the book, this is the first cause against them.
 pub record IsNoBatch (origin : Origin) (count : ℕ) (Makes : ℕ → BookOp → Type 0) (workers : ℕ) (fault : RunFault) : Type 0 where
   pub first : AgentFault
   pub first_is : IsFaultOf workers origin first
@@ -175,7 +150,7 @@ abbrev pub IsRecordingFault : Origin → ℕ → (ℕ → BookOp → Type 0) →
 IsRecordingFault origin count Makes workers fault =
     IsNoBatch origin count Makes workers fault ⊎ IsRefusedJob origin count Makes workers fault
 
--- The files of these names were to be measured so over this log, and were not all recorded.
+-- The files of these names were to be measured in this manner over this log, and were not all recorded.
 pub record IsNotRecorded (held : Contents) (log : List ℕ) (manner : Manner) (names : List (List ℕ)) (fault : RunFault) : Type 0 where
   pub table : List Row
   pub events : List LogEvent
@@ -183,26 +158,20 @@ pub record IsNotRecorded (held : Contents) (log : List ℕ) (manner : Manner) (n
   pub set_out : IsSetOut log manner table events origin
   pub cause : IsRecordingFault origin (length names) (IsFileMeasure held names manner.alg) manner.workers fault
 
--- Why nothing is shown of a measurement of the files of these names over this log: it is none, a file was not had, the files were not
--- all recorded, or memory ran out.
+-- Why nothing is shown of a measurement of the files of these names over this log: the log is invalid, a file could not be read,
+-- the files were not all recorded, or memory ran out.
 abbrev pub IsMeasuringFault : Contents → List ℕ → Manner → List (List ℕ) → RunFault → Type 0
 IsMeasuringFault held log manner names fault =
-    IsNotLog log fault ⊎ IsFileFault held names fault ⊎ IsNotRecorded held log manner names fault ⊎ (fault ≡ runs.Memory)
+    HasLogFault log fault ⊎ IsFileFault held names fault ⊎ IsNotRecorded held log manner names fault ⊎ (fault ≡ runs.Memory)
 
 -- ---- names in a text
 
--- All names: those of the words, and then those in the text.
+-- All names: those in the arguments, and then those in the text.
 abbrev pub all_names : List (List ℕ) → NameEnd → List ℕ → List (List ℕ)
 all_names names ends text = names ++ names_of ends text
 
--- The names cannot be had of the text of the input of this name: it is not UTF-8, or there are 2^32 of them or more.
+-- Why the text of the input of this name gives no names: it is not UTF-8, there are 2^32 names or more in all, or memory ran out.
 abbrev pub IsNamesFault : List ℕ → List (List ℕ) → NameEnd → List ℕ → RunFault → Type 0
 IsNamesFault input names ends text fault =
     (IsNotUtf8 input fault × (IsUtf8 text → ⊥)) ⊎ ((fault ≡ runs.Usage) × (2 ^ 32 ≤ length (all_names names ends text)))
     ⊎ (fault ≡ runs.Memory)
-
--- ---- what contracts see of the steps
-
--- What was read of the bytes is a log.
-abbrev pub IsReadLog : List ℕ → BootLog → Type 0
-IsReadLog bytes log = (table : List Row) × IsLog bytes table (events_of log) × (algs_of log ≡ algs_in table)

@@ -9,6 +9,6 @@ abbrev pub byte_of : NameEnd → ℕ
 byte_of LineFeed = 10
 byte_of Nul = 0
 
--- The names in a text, in their order: its parts between the bytes that end names, but for the empty ones.
+-- The names in a text, in order: its parts between the bytes that end names, except empty ones.
 abbrev pub names_of : NameEnd → List ℕ → List (List ℕ)
 names_of ends text = filter (λ name. not (length name == 0)) (slice_split (λ byte. byte == byte_of ends) text)

@@ -1,4 +1,4 @@
--- What the program answers. All of this is this project's choice.
+-- What the program writes and returns. All of this is this project's choice.
 use Rattle.std.specs.Prelude.{◌≡◌, ℕ, ◌⊎◌, List, map, string_bytes, Option, None, Some, Result, Ok, Err, String}
 use Rattle.std.specs.Global.{Global, Vec}
 use Rattle.byte_streams.specs.declared.streams.Failed.{Failed}
@@ -10,19 +10,19 @@ use Rattle.command_line.specs.declared.plan.NameEnd.{NameEnd}
 use Rattle.command_line.specs.declared.plan.Plan.TheVariants.{Registers, Measure, MeasureListed, Verify, Show, Help}
 use Rattle.ima_agent.specs.Loading.{Inputs, Holds, IsInputFault}
 use Rattle.ima_agent.specs.Showing.{IsNoListFor, IsRefusedFor, ShowsList, ShowsRegisters}
-use Rattle.ima_agent.specs.Measuring.{IsMeasuringFault, IsNamesFault, IsNotLog, Manner, ShowsMeasured, all_names, files_in}
+use Rattle.ima_agent.specs.Measuring.{IsMeasuringFault, IsNamesFault, HasLogFault, Manner, ShowsMeasured, all_names, files_in}
 use Rattle.ima_agent.specs.Verifying.{IsReportFault, ShowsReport}
 use Rattle.command_line.specs.Plans.{IsAskedBy, IsWithinRanges}
 use Rattle.ima_agent.specs.Faults.{IsWordsFault}
 use Rattle.ima_agent.specs.FaultTexts.{fault_line, fault_status}
 
--- ---- what is asked for
+-- ---- a plan
 
--- This holds of the bytes of the input of this name: of some bytes, where its own are not told.
+-- This holds of the bytes of the input of this name; of some bytes, if its own are not told.
 abbrev pub OfInput : Inputs → Option (List ℕ) → (List ℕ → Type 0) → Type 0
 OfInput inputs name P = (bytes : List ℕ) × Holds inputs name bytes × P bytes
 
--- What is written is what is asked for, of these inputs, and this is the exit status.
+-- This text and this exit status are the output of the plan, with these inputs.
 abbrev pub IsOutputFor : Inputs → Plan → List ℕ → ℕ → Type 0
 IsOutputFor inputs Registers shown status = OfInput inputs None (λ text. ShowsRegisters text shown) × (status ≡ 0)
 IsOutputFor inputs (Measure alg template workers limit print log files) shown status =
@@ -40,16 +40,16 @@ IsOutputFor inputs (Verify log list expected) shown status =
 IsOutputFor inputs (Show list) shown status = OfInput inputs (Some (string_bytes list)) (λ bytes. ShowsList bytes shown) × (status ≡ 0)
 IsOutputFor inputs (Help text) shown status = (shown ≡ string_bytes text) × (status ≡ 0)
 
--- Why nothing is shown of a measurement over this log of the files of these names and of those in the text of the input of this name: it
--- is no log; the text was not had, or its names; or the files are not measured.
+-- Why nothing is shown of a measurement over this log of the files of these names and of those in the text of this input: the log
+-- is invalid; the text was not loaded, or gives no names; or the measurement failed.
 abbrev pub IsListedFault : Inputs → List ℕ → Manner → List (List ℕ) → List ℕ → NameEnd → RunFault → Type 0
 IsListedFault inputs log manner names input ends fault =
-    IsNotLog log fault ⊎ IsInputFault inputs (Some input) fault
+    HasLogFault log fault ⊎ IsInputFault inputs (Some input) fault
     ⊎ OfInput inputs (Some input) (λ text. IsNamesFault input names ends text fault
     ⊎ IsMeasuringFault (files_in inputs) log manner (all_names names ends text) fault)
     ⊎ (fault ≡ runs.Memory)
 
--- A fault that may come of what is asked for, with these inputs.
+-- The fault may come of the plan, with these inputs.
 abbrev pub IsFaultOf : Inputs → Plan → RunFault → Type 0
 IsFaultOf inputs Registers fault = IsInputFault inputs None fault ⊎ OfInput inputs None (λ text. IsRefusedFor text fault)
 IsFaultOf inputs (Measure alg template workers limit print log files) fault =
@@ -69,44 +69,44 @@ IsFaultOf inputs (Show list) fault =
     ⊎ OfInput inputs (Some (string_bytes list)) (λ bytes. IsNoListFor bytes fault)
 IsFaultOf inputs (Help text) fault = ⊥
 
--- ---- words
+-- ---- arguments
 
--- What the words ask for.
+-- The plan is what the arguments request.
 pub record IsPlanOf (words : List (String Global)) (plan : Plan) : Type 0 where
   pub asked : IsAskedBy words plan
   pub within : IsWithinRanges plan
 
--- What is written is what the words ask for.
+-- This text and this exit status are the output of what the arguments request.
 pub record ShowsFor (inputs : Inputs) (words : List (String Global)) (shown : List ℕ) (status : ℕ) : Type 0 where
   pub plan : Plan
   pub plan_is : IsPlanOf words plan
   pub output : IsOutputFor inputs plan shown status
 
--- A fault that may come of what the words ask for.
+-- The fault may come of what the arguments request.
 pub record IsFaultOfPlan (inputs : Inputs) (words : List (String Global)) (fault : RunFault) : Type 0 where
   pub plan : Plan
   pub plan_is : IsPlanOf words plan
   pub cause : IsFaultOf inputs plan fault
 
--- Why the words get no output: they ask for nothing, or what they ask for has this fault.
+-- Why the arguments have no output: they were refused, or what they request has this fault.
 abbrev pub IsFaultFor : Inputs → List (String Global) → RunFault → Type 0
 IsFaultFor inputs words fault = IsWordsFault fault ⊎ IsFaultOfPlan inputs words fault
 
--- ---- answers
+-- ---- outputs that are sent
 
--- The text is what is to be written for the words, and this is the status where the sink takes it all: what they ask for, or a fault's
--- line and its status.
+-- The text to be written for the arguments, and the status if the sink takes it all: the output of what they request, or a
+-- fault's line and its status.
 abbrev pub IsOutput : Inputs → List (String Global) → List ℕ → ℕ → Type 0
 IsOutput inputs words text status =
     ShowsFor inputs words text status
     ⊎ ((fault : RunFault) × IsFaultFor inputs words fault × (text ≡ fault_line fault) × (status ≡ fault_status fault))
 
--- The status of an output that was sent; 3 where the sink failed.
+-- The status after an output was sent; 3 if the sink failed.
 abbrev pub status_after : {A E : Type 0} → Result A E → ℕ → ℕ
 status_after (Ok value) status = status
 status_after (Err fault) status = 3
 
--- The answer to what is asked: some output was sent, and the answer is its status, or 3 where the sink failed.
+-- The returned status: an output was sent, and `answer` is its status, or 3 if the sink failed.
 pub record Answers (IsAsked : List ℕ → ℕ → Type 0) (answer : ℕ) (old new : SinkState) : Type 0 where
   pub text : List ℕ
   pub status : ℕ
@@ -115,7 +115,7 @@ pub record Answers (IsAsked : List ℕ → ℕ → Type 0) (answer : ℕ) (old n
   pub sends : Sends old new sent text
   pub answer_is : answer ≡ status_after sent status
 
--- The output where the words could not be had, as where memory ran out; else that of the words.
+-- The output for the arguments; if they could not be obtained, that of a program out of memory.
 abbrev pub IsOutputOf : {E : Type 0} → Inputs → Result (Vec (String Global)) E → List ℕ → ℕ → Type 0
 IsOutputOf inputs (Ok words) text status = IsOutput inputs words.items text status
 IsOutputOf inputs (Err fault) text status = (text ≡ fault_line runs.Memory) × (status ≡ fault_status runs.Memory)

@@ -18,8 +18,8 @@ use Rattle.ima_agent.specs.declared.fault.RunFault.TheVariants as runs
 use Rattle.ima_agent.specs.Faults.{fault_of_log, fault_of_list}
 use Rattle.ima_agent.specs.Hexadecimal.{without_white_space}
 
--- The text is a firmware event log in hexadecimal, and what is shown are the registers that differ from their reset
--- values after its events.
+-- The text is a firmware event log in hexadecimal, and what is shown are the registers that differ from their reset values after
+-- its events.
 pub record ShowsRegisters (text shown : List ℕ) : Type 0 where
   pub bytes : List ℕ
   pub table : List Row
@@ -32,8 +32,8 @@ pub record ShowsRegisters (text shown : List ℕ) : Type 0 where
   pub firmware : IsFirmware (algs_in table) events now
   pub text_is : shown ≡ registers_text now start
 
--- The text is hexadecimal, and its bytes have this first fault of a log.
-pub record IsNoLog (text : List ℕ) (fault : RunFault) : Type 0 where
+-- The text is hexadecimal, its bytes are no log, and the fault is their first.
+pub record SpellsNoLog (text : List ℕ) (fault : RunFault) : Type 0 where
   pub bytes : List ℕ
   pub decoded : decode_of (without_white_space text) ≡ Ok bytes
   pub first : LogFault
@@ -43,7 +43,7 @@ pub record IsNoLog (text : List ℕ) (fault : RunFault) : Type 0 where
 -- Why no registers are shown: the text is not hexadecimal, or its bytes are no log; or memory ran out.
 abbrev pub IsRefusedFor : List ℕ → RunFault → Type 0
 IsRefusedFor text fault =
-    ((fault ≡ runs.NotHex) × IsErr (decode_of (without_white_space text))) ⊎ IsNoLog text fault ⊎ (fault ≡ runs.Memory)
+    ((fault ≡ runs.NotHex) × IsErr (decode_of (without_white_space text))) ⊎ SpellsNoLog text fault ⊎ (fault ≡ runs.Memory)
 
 -- The bytes are a measurement list, and what is shown are the lines of its entries.
 pub record ShowsList (bytes shown : List ℕ) : Type 0 where
@@ -51,7 +51,7 @@ pub record ShowsList (bytes shown : List ℕ) : Type 0 where
   pub reading : IsReading bytes (Ok entries)
   pub text_is : shown ≡ flat_map line_of entries
 
--- The bytes read as this fault of a list.
+-- The bytes are no list, and the fault is that of their reading.
 pub record IsNoList (bytes : List ℕ) (fault : RunFault) : Type 0 where
   pub first : ListFault
   pub reading : IsReading bytes (Err first)

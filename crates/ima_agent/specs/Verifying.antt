@@ -1,18 +1,18 @@
 -- The report on a log, a list and expected registers, as the program writes it. All of this is this project's choice.
-use Rattle.std.specs.Prelude.{◌≡◌, ℕ, ◌<◌, ◌⊎◌, if◌then◌else◌, List, ◌++◌, length, Option, Some, IfSome}
+use Rattle.std.specs.Prelude.{◌≡◌, ℕ, ◌<◌, ◌⊎◌, if◌then◌else◌, List, ◌++◌, length, Some, IfSome}
 use Rattle.boot_verdict.specs.declared.expected.Expected.{Expected}
 use Rattle.boot_verdict.specs.declared.expected.ExpectFault.{ExpectFault}
 use Rattle.boot_verdict.specs.declared.verifier.VerifyFault.{VerifyFault}
 use Rattle.boot_verdict.specs.ExpectedTexts.{IsExpectedText, HasFirstFault}
-use Rattle.boot_verdict.specs.ListSources.{CameWhole, IsSound}
-use Rattle.boot_verdict.specs.Verdicts.{Verdict, IsSomeLog, IsVerdict, IsVerifyFault, IsVerifyFaultFrom, matches}
+use Rattle.boot_verdict.specs.ListSources.{IsSound}
+use Rattle.boot_verdict.specs.Verdicts.{Verdict, IsSomeLog, IsVerdict, IsVerifyFault, matches}
 use Rattle.boot_verdict.specs.ReportTexts.{report_text}
 use Rattle.ima_agent.specs.declared.fault.RunFault.{RunFault}
 use Rattle.ima_agent.specs.declared.fault.RunFault.TheVariants as runs
 use Rattle.ima_agent.specs.Faults.{IsFaultOfVerdict, fault_of_expected}
 use Rattle.ima_agent.specs.Loading.{Inputs, Holds, IsInputFault, IsNotRead, IsTooLong, input_limit}
 
--- The exit status of a verdict: 0 where all matches, else 1.
+-- The exit status of a verdict: 0 if all matches, else 1.
 abbrev pub verdict_status : Verdict → ℕ
 verdict_status verdict = if matches verdict then 0 else 1
 
@@ -23,7 +23,7 @@ pub record IsReportOn (log list : List ℕ) (expected : List Expected) (shown : 
   pub text_is : shown ≡ report_text verdict
   pub status_is : status ≡ verdict_status verdict
 
--- What is shown is the report on the log and the list of these names, and on the registers that the text of this name states.
+-- What is shown is the report on the log and the list of these names, and the registers stated by the text of this name.
 pub record ShowsReport (inputs : Inputs) (log_name list_name text_name : List ℕ) (shown : List ℕ) (status : ℕ) : Type 0 where
   pub log : List ℕ
   pub list : List ℕ
@@ -35,7 +35,7 @@ pub record ShowsReport (inputs : Inputs) (log_name list_name text_name : List �
   pub expected_is : IsExpectedText text expected
   pub report : IsReportOn log list expected shown status
 
--- The text of this name states no expected registers, and this is the fault of its first line that is wrong.
+-- The text of this name does not state expected registers, and the fault is that of its first wrong line.
 pub record IsNotExpected (inputs : Inputs) (name : List ℕ) (fault : RunFault) : Type 0 where
   pub text : List ℕ
   pub text_held : Holds inputs (Some name) text
@@ -43,12 +43,12 @@ pub record IsNotExpected (inputs : Inputs) (name : List ℕ) (fault : RunFault) 
   pub first_is : HasFirstFault text first
   pub says : fault ≡ fault_of_expected first
 
--- There is no verdict on this log and this list, whose input has this name, and this is the first cause; or memory ran out.
+-- There is no verdict on this log and this list, the input of this name, and the fault is the first cause; or memory ran out.
 abbrev pub IsNoVerdictOn : List ℕ → List ℕ → List ℕ → RunFault → Type 0
 IsNoVerdictOn list_name log list fault =
     ((first : VerifyFault) × IsVerifyFault log list first × IsFaultOfVerdict list_name first fault) ⊎ (fault ≡ runs.Memory)
 
--- The same, of the log and the list of these names.
+-- The same of the log and the list of these names.
 pub record IsNoVerdict (inputs : Inputs) (log_name list_name : List ℕ) (fault : RunFault) : Type 0 where
   pub log : List ℕ
   pub list : List ℕ
@@ -56,7 +56,8 @@ pub record IsNoVerdict (inputs : Inputs) (log_name list_name : List ℕ) (fault 
   pub list_held : Holds inputs (Some list_name) list
   pub cause : IsNoVerdictOn list_name log list fault
 
--- The first bytes of the input of this name, as many as an input may have, read as a list, or as one that is torn; and more follow.
+-- The input of this name is longer than an input may be, and its first bytes, as many as allowed, read as a list or as a
+-- truncated one.
 pub record HoldsSoundBytesAndMore (inputs : Inputs) (name : List ℕ) : Type 0 where
   pub list : List ℕ
   pub sound : IsSound list
@@ -69,29 +70,15 @@ pub record HoldsLog (inputs : Inputs) (name : List ℕ) : Type 0 where
   pub log_held : Holds inputs (Some name) log
   pub log_is : IsSomeLog log
 
--- Why the list of this name was not had: after a log that is one it has too many bytes, and no entry of those that are allowed is refused; or
--- it could not be opened, or failed; or memory ran out.
+-- Why the list of this name was not read: the log is valid, the list is too long, and no entry within the limit is refused; or it
+-- could not be opened or read; or memory ran out.
 abbrev pub IsListInputFault : Inputs → List ℕ → List ℕ → RunFault → Type 0
 IsListInputFault inputs log list fault =
     (IsTooLong list fault × HoldsSoundBytesAndMore inputs list × HoldsLog inputs log) ⊎ IsNotRead list fault ⊎ (fault ≡ runs.Memory)
 
--- Why there is no report on the files of these names: one was not had, the text states no expected registers, there is no verdict, or
--- memory ran out.
+-- Why there is no report on the files of these names: one was not read, the text does not state expected registers, there is no
+-- verdict, or memory ran out.
 abbrev pub IsReportFault : Inputs → List ℕ → List ℕ → List ℕ → RunFault → Type 0
 IsReportFault inputs log list text fault =
     IsInputFault inputs (Some log) fault ⊎ IsListInputFault inputs log list fault ⊎ IsInputFault inputs (Some text) fault
     ⊎ IsNotExpected inputs text fault ⊎ IsNoVerdict inputs log list fault ⊎ (fault ≡ runs.Memory)
-
--- ---- what contracts see of the steps of the report
-
--- What is shown is the report on this log, all that the list's source had left, and these expected registers.
-pub record IsReportFrom (log : List ℕ) (old new : Option (List ℕ)) (expected : List Expected) (shown : List ℕ) (status : ℕ) : Type 0 where
-  pub list : List ℕ
-  pub came : CameWhole old new input_limit list
-  pub report : IsReportOn log list expected shown status
-
--- There is no verdict on this log and the list that the source of this name had left, and this is the first cause; or memory ran out.
-abbrev pub IsNoVerdictFrom : List ℕ → List ℕ → Option (List ℕ) → Option (List ℕ) → RunFault → Type 0
-IsNoVerdictFrom list_name log old new fault =
-    ((first : VerifyFault) × IsVerifyFaultFrom log old new input_limit first × IsFaultOfVerdict list_name first fault)
-    ⊎ (fault ≡ runs.Memory)

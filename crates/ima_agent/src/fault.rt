@@ -1,4 +1,4 @@
-//! Why the program did not do what it was asked for.
+//! Why the program failed.
 
 ghost use Rattle.std.specs.Prelude.{◌≡◌};
 ghost use Rattle.ima_agent.specs.Faults.{fault_of_agent, fault_of_expected, fault_of_list, fault_of_log, fault_of_words};
@@ -13,11 +13,11 @@ use measure_book::{BookFault, GatherFault};
 use std::alloc::{AllocError, AllocFailed};
 use thiserror::Error;
 
-/// Why the program did not do what it was asked for.
+/// Why the program failed.
 #[derive(Debug, Drop, Error)]
 pub enum RunFault {
-    /// The words are not those of a command.
-    #[error("the words are not those of a command")]
+    /// The arguments are not those of a command, or 2^32 files or more are named.
+    #[error("the arguments are not those of a command")]
     Usage,
     /// A text is not hexadecimal.
     #[error("the text is not hexadecimal")]
@@ -32,12 +32,12 @@ pub enum RunFault {
     #[error("the list is not genuine: {0}")]
     Replay(ReplayFault),
     /// An input does not state expected registers.
-    #[error("no expected registers: {0}")]
+    #[error("not expected registers: {0}")]
     Expect(ExpectFault),
-    /// No book was opened for the files.
-    #[error("no book is opened: {0}")]
+    /// The book could not be opened.
+    #[error("the book cannot be opened: {0}")]
     Book(BookFault),
-    /// The file of this number was refused; files count from 0.
+    /// The book refused the file of this number; files count from 0.
     #[error("file {job} is refused: {fault}")]
     Outcome {
         /// The number of the file.
@@ -45,19 +45,19 @@ pub enum RunFault {
         /// Why the book refused it.
         fault: BookFault,
     },
-    /// The input of this name has more bytes than the program takes.
+    /// The input of this name is longer than 64 MiB.
     #[error("{0} is longer than 64 MiB")]
     TooLong(String),
     /// The input of this name could not be opened, or failed while it was read.
     #[error("cannot read {0}")]
     Read(String),
-    /// The text of names of this input is not UTF-8.
+    /// The text of file names in this input is not UTF-8.
     #[error("{0} is not UTF-8")]
     NotUtf8(String),
-    /// What the workers got does not account for the book's records.
-    #[error("the outcomes are not those of the book: {0}")]
+    /// The workers' outcomes do not account for the book's records.
+    #[error("the outcomes do not account for the book: {0}")]
     Gather(GatherFault),
-    /// The program is out of memory.
+    /// Out of memory.
     #[error("out of memory")]
     Memory,
 }

@@ -11,18 +11,17 @@ use std::alloc::Global;
 
 /// Where the program's inputs come from.
 ///
-/// The bytes of an input may be told: then its source has just these to give.
+/// An implementation may tell the bytes of its inputs (`told`): a source then gives exactly those.
 pub trait Files {
-    /// What gives the bytes of one input.
+    /// The source of one input's bytes.
     type Src: Source + Drop;
-    /// The same files, as several threads read them at once.
+    /// The same files, shared by several threads.
     type Shared: SharedFiles + Sync;
 
-    // All bytes of the file of a name, or of standard input where there is no name, where they are told.
+    // All bytes of the file of this name, or of standard input without a name; `None` if they are not told.
     ghost told: { Self → Option (List ℕ) → Option (List ℕ) } = { λ _ _. None };
 
-    /// The source of the file of this name, or of standard input where there is no name. `Failed` says that the file
-    /// could not be taken.
+    /// The source of the file of this name, or of standard input without a name. Fails if it cannot be opened.
     fn source(&mut self, name: Option<&str>) -> Result<Self::Src, Failed>
         ensures gives { IfOk result (λ source.
             GivesAll (told self.old (option_map (λ name. name.now) name.entry)) (Self.Src.state source)) }
@@ -35,19 +34,18 @@ pub trait Files {
 
 /// Files that several threads read at once.
 ///
-/// The bytes of a file may be told: then its hash is that of just these.
+/// An implementation may tell the bytes of a file (`held`): its hash is then that of exactly those.
 pub trait SharedFiles {
-    // All bytes of the file of a name, where they are told.
+    // All bytes of the file of this name; `None` if they are not told.
     ghost held: { Self → List ℕ → Option (List ℕ) } = { λ _ _. None };
 
-    // The file of this name cannot be opened, or fails while it is read, where that is told.
+    // That the file of this name cannot be opened, or fails while it is read; `⊤` if this is not told.
     ghost fails: { Self → List ℕ → Type 0 } = { λ _ _. ⊤ };
 
-    /// The hash, by this algorithm, of all bytes of the file of this name, which are at most `limit`. They are hashed as they are
-    /// read.
+    /// The hash, by this algorithm, of all bytes of the file of this name. They are hashed as they are read.
     ///
-    /// `TooLong` says that the file has more than `limit` bytes, `Source` that it could not be opened, or failed while it was
-    /// read.
+    /// Fails with `TooLong` if the file has more than `limit` bytes, and with `Source` if it cannot be opened, or fails while it
+    /// is read.
     fn hash(&self, alloc: Global, name: &str, alg: Alg, limit: u64) -> Result<Digest, LoadFault>
         ensures hashed { IfOk result (IsHashOfAll (held self.now name.now) alg limit) }
         ensures too_long { IsErrOf result LoadFault.TooLong → IfSome (held self.now name.now) (λ all. limit < length all) }

@@ -11,16 +11,16 @@ use byte_streams::Source;
 use pcr_banks::{Alg, Digest, Hasher};
 use std::alloc::Global;
 
-/// The most bytes that are read at once: 64 KiB.
+/// The most bytes per read: 64 KiB.
 const PIECE: usize = 65_536;
-/// The most bytes that the first read gives: 4 KiB, so that a small file costs little.
+/// The most bytes per read until one read gives as many: 4 KiB, so that a small file costs little.
 const FIRST_PIECE: usize = 4_096;
 
-/// The hash, by this algorithm, of all bytes that a source has left, which are at most `limit`. They are hashed as they are
-/// read, and at most 64 KiB of them are in memory at once.
+/// The hash, by this algorithm, of all bytes that a source has left. They are hashed as they are read; at most 64 KiB are in
+/// memory at once.
 ///
-/// `TooLong` says that more than `limit` bytes came, `Source` that the source failed during this call. After a fault the
-/// source has lost the bytes that it gave.
+/// Fails with `TooLong` if more than `limit` bytes come, and with `Source` if the source fails during this call. The bytes read
+/// before a fault are lost.
 pub fn hash_from<R: Source>(
     alloc: Global,
     source: &mut R,

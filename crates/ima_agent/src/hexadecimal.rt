@@ -9,30 +9,29 @@ use thiserror::Error;
 /// Why a text was not decoded.
 #[derive(Clone, Copy, Debug, PartialEq, Eq, Error)]
 pub(crate) enum HexFault {
-    /// A byte is no hexadecimal digit, or the number of digits is odd.
+    /// A byte is not a hexadecimal digit, or the number of digits is odd.
     #[error("not hexadecimal")]
     NotHex,
-    /// Memory was short.
+    /// Out of memory.
     #[error("out of memory")]
     Memory,
 }
 
-/// Whether a byte counts in a hexadecimal text: all do but space, tab, carriage return and line feed.
+/// Whether a byte of a hexadecimal text is kept: all but space, tab, carriage return and line feed.
 fn is_kept(byte: u8) -> bool
     ensures { result ≡ not (is_white_space byte) }
 {
     !matches!(byte, b' ' | b'\t' | b'\r' | b'\n')
 }
 
-// Drops white space from the text, in place.
+// Removes white space from the text, in place.
 fn drop_white_space(text: &mut Vec<u8>)
     ensures { text.new.items ≡ without_white_space text.old.items }
 {
     text.retain(|byte| is_kept(*byte));
 }
 
-/// The bytes that a text spells: two hexadecimal digits of either case for each, with white space anywhere. The digits are not
-/// copied.
+/// Decodes a text of two hexadecimal digits of either case per byte, with white space anywhere. The digits are not copied.
 pub(crate) fn decode_hexadecimal(alloc: Global, text: Vec<u8>) -> Result<Vec<u8>, HexFault>
     ensures ok { IfOk result (λ bytes. decode_of (without_white_space text.items) ≡ Ok bytes.items) }
     ensures not_hex { IsErrOf result HexFault.NotHex → IsErr (decode_of (without_white_space text.items)) }

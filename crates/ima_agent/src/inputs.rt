@@ -1,7 +1,8 @@
-//! The program's inputs: those that are loaded whole, and what is said of one that cannot be read.
+//! The program's inputs: loads them whole, and makes the faults that name one.
 
 ghost use Rattle.std.specs.Prelude.{◌≡◌, ◌≤◌, ◌⊎◌, option_map, vec_len, IfOk, IfErr, IfSome};
-ghost use Rattle.ima_agent.specs.Loading.{input_limit, Holds, IsInputFault, IsLoadFaultOf, IsNotRead, IsNotUtf8, IsTooLong};
+ghost use Rattle.ima_agent.specs.Loading.{input_limit, Holds, IsInputFault, IsNotRead, IsNotUtf8, IsTooLong};
+ghost use Rattle.ima_agent.specs.parts.Loading.{IsLoadFaultOf};
 ghost use Rattle.ima_agent.specs.declared.fault.RunFault.{RunFault};
 
 use crate::fault::RunFault;
@@ -10,14 +11,14 @@ use crate::loading::{LoadFault, load};
 use byte_streams::Source;
 use std::alloc::Global;
 
-/// How many bytes an input may have.
+/// The most bytes that an input may have: 64 MiB.
 pub(crate) const INPUT_LIMIT: u64 = 64 * 1024 * 1024;
 
-/// What standard input is called.
+/// The name of standard input in faults.
 const STANDARD_INPUT: &str = "-";
 
-/// All bytes of an input, which are at most 64 MiB: those of the file of this name, or of standard input where there is no
-/// name. A fault names the input; standard input is called `-`.
+/// All bytes, at most 64 MiB, of the file of this name, or of standard input without a name. A fault names the input; standard
+/// input is `-`.
 pub(crate) fn loaded<F: Files>(
     alloc: Global,
     files: &mut F,
@@ -35,7 +36,7 @@ pub(crate) fn loaded<F: Files>(
     }
 }
 
-// All bytes of the source of the input of this name, which are at most 64 MiB.
+// All bytes that the source has left, at most 64 MiB. A fault names the input.
 fn loaded_from<R: Source>(alloc: Global, source: &mut R, input: &str) -> Result<Vec<u8>, RunFault>
     ensures all { IfOk result (λ bytes. IfSome (R.state source.old).remaining (λ left. bytes.items ≡ left)) }
     ensures within { IfOk result (λ bytes. vec_len bytes ≤ input_limit) }
@@ -49,7 +50,7 @@ fn loaded_from<R: Source>(alloc: Global, source: &mut R, input: &str) -> Result<
     }
 }
 
-/// The fault that the input of this name could not be opened, or failed.
+/// The fault that this input could not be opened or read; `Memory` if its name cannot be copied.
 pub(crate) fn not_read(alloc: Global, input: &str) -> RunFault
     ensures { IsNotRead input.now result ⊎ (result ≡ RunFault.Memory) }
 {
@@ -59,7 +60,7 @@ pub(crate) fn not_read(alloc: Global, input: &str) -> RunFault
     }
 }
 
-/// The fault that the input of this name has too many bytes.
+/// The fault that this input is too long; `Memory` if its name cannot be copied.
 pub(crate) fn too_long(alloc: Global, input: &str) -> RunFault
     ensures { IsTooLong input.now result ⊎ (result ≡ RunFault.Memory) }
 {
@@ -69,7 +70,7 @@ pub(crate) fn too_long(alloc: Global, input: &str) -> RunFault
     }
 }
 
-/// The fault that the text of names of the input of this name is not UTF-8.
+/// The fault that the text of names in this input is not UTF-8; `Memory` if the input's name cannot be copied.
 pub(crate) fn not_utf8(alloc: Global, input: &str) -> RunFault
     ensures { IsNotUtf8 input.now result ⊎ (result ≡ RunFault.Memory) }
 {

@@ -1,5 +1,5 @@
-//! The agent as a library: loading, the program, and its files and streams. What words ask for is handed on from `command_line`,
-//! the verdict and its texts from `boot_verdict`.
+//! The agent as a library: the program, loading, and the system's files and streams. Re-exports what `command_line` reads from
+//! arguments, and the verdict and its texts from `boot_verdict`.
 #![tactic(auto)]
 
 mod fault;

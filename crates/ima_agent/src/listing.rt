@@ -1,4 +1,4 @@
-//! Names of files that a text names.
+//! The names of files in arguments and in a text.
 
 ghost use Rattle.std.specs.Prelude.{◌≡◌, ◌<◌, ◌^◌, map, string_bytes, vec_len, IfOk, IfErr};
 ghost use Rattle.ima_agent.specs.Measuring.{IsNamesFault, all_names};
@@ -9,7 +9,8 @@ use crate::names::{NamesFault, names_in};
 use command_line::NameEnd;
 use std::alloc::{AllocError, Global};
 
-/// These names, and then those in the text of the input of this name. There are fewer than 2^32.
+/// These names, and then those in the text of the input of this name. Fails with `NotUtf8` if the text is not UTF-8, and with
+/// `Usage` if there are 2^32 names or more.
 pub(crate) fn with_names_in(
     alloc: Global,
     first: &[String],

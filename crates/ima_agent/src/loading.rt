@@ -1,4 +1,4 @@
-//! All bytes of a source.
+//! Loads all bytes of a source.
 
 ghost use Rattle.std.specs.Prelude.{◌≡◌, ◌<◌, ◌≤◌, length, vec_len, is_some, IfOk, IfSome, IsErrOf, OnOk};
 ghost use Rattle.std.specs.Io.KnownBytes.{IsAtEnd};
@@ -13,13 +13,13 @@ use thiserror::Error;
 /// Why a source was not loaded.
 #[derive(Clone, Copy, Debug, PartialEq, Eq, Error)]
 pub enum LoadFault {
-    /// More bytes came than are allowed.
+    /// More bytes came than the limit allows.
     #[error("too many bytes")]
     TooLong,
     /// The source failed.
     #[error("the source failed")]
     Source,
-    /// Memory ran out.
+    /// Out of memory.
     #[error("out of memory")]
     Memory,
 }
@@ -51,10 +51,10 @@ impl From<AllocError> for LoadFault {
     }
 }
 
-/// Loads all bytes that a source has left, which are at most `limit`.
+/// All bytes that a source has left, at most `limit`.
 ///
-/// `TooLong` says that more than `limit` bytes came, `Source` that the source failed during this call. After a fault the
-/// source has lost the bytes that it gave.
+/// Fails with `TooLong` if more than `limit` bytes come, and with `Source` if the source fails during this call. The bytes read
+/// before a fault are lost.
 pub fn load<R: Source>(alloc: Global, source: &mut R, limit: u64) -> Result<Vec<u8>, LoadFault>
     ensures all { IfOk result (λ bytes. IfSome (R.state source.old).remaining (λ left. bytes.items ≡ left)) }
     ensures end { OnOk result (IsAtEnd (R.state source.new).remaining) }

@@ -1,10 +1,12 @@
-//! Files, measured into the registers of a log.
+//! Measures files into the registers of a log.
 
 ghost use Rattle.std.specs.Prelude.{◌≡◌, ◌<◌, ◌⊎◌, ◌^◌, length, map, string_bytes, Some, IfOk, IfErr, IfSome, IfNone};
 ghost use Rattle.measure_book.specs.Operations.{book_outcome_of};
 ghost use Rattle.ima_agent.specs.Loading.{IsInputFault};
-ghost use Rattle.ima_agent.specs.Measuring.{AreAllDone, HasMeasured, IsFileFault, IsFileMeasure, IsFirstRefusal, IsFirstRefused, IsMeasuringFault, IsReadLog, IsRecordingFault, ShowsMeasured, all_names, files_in, manner_of, printed};
-ghost use Rattle.ima_agent.specs.Program.{IsListedFault, OfInput};
+ghost use Rattle.ima_agent.specs.Measuring.{AreAllDone, HasMeasured, IsFileFault, IsFileMeasure, IsFirstRefusal, IsFirstRefused, IsMeasuringFault, IsRecordingFault, ShowsMeasured, all_names, files_in, printed};
+ghost use Rattle.ima_agent.specs.parts.Measuring.{IsAskedOf, MeasuresFiles, IsReadLog, manner_of};
+ghost use Rattle.ima_agent.specs.Program.{IsFaultOf, IsListedFault, IsOutputFor, OfInput};
+ghost use Rattle.command_line.specs.Plans.{IsWithinRanges};
 
 use crate::fault::RunFault;
 use crate::files::{Files, SharedFiles};
@@ -16,7 +18,7 @@ use crate::showing::lines;
 use boot_log::{BootLog, read_log};
 use boot_verdict::write_registers;
 use byte_streams::VecSink;
-use command_line::{NameEnd, Print};
+use command_line::{NameEnd, Plan, Print};
 use hash_workers::{AgentFault, Batch, JobsFault, record_jobs};
 use ima_list::Template;
 use measure_book::{Book, BookFault, Origin, Outcome};
@@ -34,9 +36,9 @@ pub(crate) struct Measuring<'a> {
     pub template: Template,
     /// How many workers hash at once.
     pub workers: usize,
-    /// The greatest number of records.
+    /// The maximum number of records.
     pub limit: u32,
-    /// What is printed.
+    /// What to print.
     pub print: Print,
     /// The name of the firmware event log.
     pub log: &'a str,
@@ -44,10 +46,71 @@ pub(crate) struct Measuring<'a> {
     pub files: &'a [String],
 }
 
-/// Measures the files into the registers of the log, and answers what is printed. The log is loaded and read first. Then each worker
-/// hashes one file after another, as it reads it. The fault is that of the first file that cannot be had, in their order, and else of
-/// the first that the book refuses.
-pub(crate) fn measured<R: Threads + Wait + Sync, F: Files, P: Progress>(
+impl<'a> Measuring<'a> {
+    /// The parts of a plan that measures files, but for the text that names further files.
+    pub fn of(plan: &'a Plan) -> Self
+        requires { MeasuresFiles plan.now }
+        ensures { IsAskedOf plan.now result }
+    {
+        match plan {
+            Plan::Measure {
+                alg,
+                template,
+                workers,
+                limit,
+                print,
+                log,
+                files,
+            }
+            | Plan::MeasureListed {
+                alg,
+                template,
+                workers,
+                limit,
+                print,
+                log,
+                files,
+                ..
+            } => Measuring {
+                alg: *alg,
+                template: *template,
+                workers: *workers,
+                limit: *limit,
+                print: *print,
+                log,
+                files,
+            },
+            _ => unreachable!(),
+        }
+    }
+}
+
+/// Measures the files of the plan, and returns what is printed.
+pub(crate) fn measured_for<R: Threads + Wait + Sync, F: Files, P: Progress>(
+    rt: &R,
+    alloc: Global,
+    files: &mut F,
+    plan: &Plan,
+    progress: &P,
+) -> Result<Vec<u8>, RunFault>
+    requires measures { MeasuresFiles plan.now }
+    requires within { IsWithinRanges plan.now }
+    ensures shown { IfOk result (λ shown. IsOutputFor (F.told files.old) plan.now shown.items 0) }
+    ensures fault { IfErr result (IsFaultOf (F.told files.old) plan.now) }
+{
+    let asked = Measuring::of(plan);
+    match plan {
+        Plan::MeasureListed { names, ends, .. } => {
+            measured_listed(rt, alloc, files, asked, names, *ends, progress)
+        }
+        _ => measured(rt, alloc, files, asked, progress),
+    }
+}
+
+// Measures the files into the registers of the log, and returns what to print. The log is loaded and read first; then each
+// worker hashes one file after another, as it reads it. Fails with the fault of the first file, in their order, that cannot be
+// read, else of the first that the book refuses.
+fn measured<R: Threads + Wait + Sync, F: Files, P: Progress>(
     rt: &R,
     alloc: Global,
     files: &mut F,
@@ -67,8 +130,9 @@ pub(crate) fn measured<R: Threads + Wait + Sync, F: Files, P: Progress>(
     measured_into(rt, alloc, files.shared(), &bytes, &log, asked, progress)
 }
 
-/// The same of these files, and then of those that the text of the input of this name names, which is loaded and read after the log.
-pub(crate) fn measured_listed<R: Threads + Wait + Sync, F: Files, P: Progress>(
+/// The same of these files, and then of those named by the text of the input of this name, which is loaded and read after the
+/// log.
+fn measured_listed<R: Threads + Wait + Sync, F: Files, P: Progress>(
     rt: &R,
     alloc: Global,
     files: &mut F,
@@ -95,7 +159,7 @@ pub(crate) fn measured_listed<R: Threads + Wait + Sync, F: Files, P: Progress>(
     measured_into(rt, alloc, files.shared(), &bytes, &log, asked, progress)
 }
 
-// The same over a log that was read, of the bytes that are named in contracts alone.
+// The same over a log that was read. Its bytes, `_bytes`, serve the contract alone.
 fn measured_into<R: Threads + Wait + Sync, S: SharedFiles + Sync, P: Progress>(
     rt: &R,
     alloc: Global,
@@ -125,7 +189,7 @@ fn measured_into<R: Threads + Wait + Sync, S: SharedFiles + Sync, P: Progress>(
     Ok(printed(alloc, asked.print, &book, &log.reset_registers())?)
 }
 
-// The book in which the files are recorded, each of them done.
+// The book in which all files are recorded.
 fn recorded<R: Threads + Wait + Sync, S: SharedFiles + Sync, P: Progress>(
     rt: &R,
     alloc: Global,
@@ -155,7 +219,7 @@ fn recorded<R: Threads + Wait + Sync, S: SharedFiles + Sync, P: Progress>(
     }
 }
 
-// The book of a batch, each job of which is done.
+// The book of a batch, if each of its jobs is done.
 fn all_done(batch: Batch) -> Result<Book, RunFault>
     requires small { length batch.outcomes.items < 2 ^ 32 }
     ensures done { IfOk result (λ book. (book ≡ batch.book) × AreAllDone (map book_outcome_of batch.outcomes.items)) }
@@ -182,7 +246,7 @@ fn first_refused(outcomes: &[Outcome]) -> Option<(u32, BookFault)>
     None
 }
 
-// What is printed of a book. The registers are compared with these.
+// What is printed of a book: with `Print::Registers`, the registers that differ from `reset`.
 fn printed(alloc: Global, print: Print, book: &Book, reset: &Banks) -> Result<Vec<u8>, AllocError>
     ensures { IfOk result (λ text. text.items ≡ printed print reset.now book.now) }
 {

@@ -1,8 +1,9 @@
-//! The files of names, as the jobs of workers.
+//! Named files as the workers' jobs.
 
 ghost use Rattle.std.specs.Prelude.{◌≡◌, ◌<◌, ◌^◌, length, map, string_bytes, IfErr};
-ghost use Rattle.ima_agent.specs.Measuring.{IsFileFault, IsFileFaultOf, IsFileLack, IsFileMeasure};
-ghost use Rattle.ima_agent.specs.NamedFiles.{job_fault_of};
+ghost use Rattle.ima_agent.specs.Measuring.{IsFileFault, IsFileMeasure};
+ghost use Rattle.ima_agent.specs.parts.Measuring.{IsFileFaultOf, IsFileLack};
+ghost use Rattle.ima_agent.specs.parts.NamedFiles.{job_fault_of};
 
 use crate::fault::RunFault;
 use crate::files::SharedFiles;
@@ -16,8 +17,8 @@ use pcr_banks::Alg;
 use std::alloc::Global;
 use std::sync::atomic::{AtomicU32, Ordering};
 
-/// The files of these names. Each becomes the measurement of its name, with the hash of what it holds, which is taken as it is read, and
-/// without a signature: extended attributes are not read.
+/// The files of these names, as jobs. Each becomes the measurement of its name, with the hash of its content, which is hashed as
+/// it is read, and without a signature: extended attributes are not read.
 #[derive(Clone, Copy)]
 pub(crate) struct NamedFiles<'a, S> {
     pub files: &'a S,
@@ -63,7 +64,8 @@ impl<S: SharedFiles> NamedFiles<'_, S> {
         }
     }
 
-    /// Looks at each file in their order, whether it can be had, where no book was opened that would tell.
+    /// Fails with the fault of the first file, in their order, that cannot be read. For the case that no book was opened, and so
+    /// no worker read them.
     pub fn check(&self, alloc: Global, alg: Alg) -> Result<(), RunFault>
         requires { length self.now.names.now < 2 ^ 32 }
         ensures { IfErr result (IsFileFault (S.held self.now.files.now) (map string_bytes self.now.names.now)) }
@@ -77,7 +79,7 @@ impl<S: SharedFiles> NamedFiles<'_, S> {
     }
 }
 
-// Why a file's operation cannot be had.
+// The job's fault for a file that could not be hashed.
 fn job_fault(fault: LoadFault) -> JobFault
     ensures { result ≡ job_fault_of fault }
 {
@@ -88,7 +90,7 @@ fn job_fault(fault: LoadFault) -> JobFault
     }
 }
 
-/// A gate of the workers, which tells how many files are done.
+/// A gate of the workers that reports how many files are done.
 #[derive(Drop)]
 pub(crate) struct Told<'a, P> {
     progress: &'a P,
@@ -97,7 +99,7 @@ pub(crate) struct Told<'a, P> {
 }
 
 impl<'a, P: Progress> Told<'a, P> {
-    /// A gate for so many files, none of which is done yet.
+    /// A gate for `all` files, none of which is done yet.
     pub fn new(progress: &'a P, all: u32) -> Self {
         Told {
             progress,

@@ -15,7 +15,7 @@ pub(crate) enum NamesFault {
     /// The text is not UTF-8.
     #[error("the text is not UTF-8")]
     NotUtf8,
-    /// Memory ran out.
+    /// Out of memory.
     #[error("out of memory")]
     Memory,
 }
@@ -47,10 +47,10 @@ fn end_char(ends: NameEnd) -> char
     }
 }
 
-/// Appends each name of the text to `names`, in their order. The text is cut at each byte that ends a name, which the last
-/// name may lack, and at no other. An empty name is none, and is left out.
+/// Appends each name of the text to `names`, in order. The text is split at each byte that ends a name, and at no other; the last
+/// name may lack it. Empty names are skipped.
 ///
-/// `NotUtf8` says that the text is not UTF-8; then nothing was appended. After `Memory` some of the names were.
+/// Fails with `NotUtf8` if the text is not UTF-8; nothing was appended then. After `Memory` some of the names were.
 pub(crate) fn names_in(
     alloc: Global,
     text: &[u8],

@@ -1,4 +1,4 @@
-//! What the program writes where nothing is refused.
+//! What the program writes if nothing is refused.
 
 ghost use Rattle.std.specs.Prelude.{◌≡◌};
 
@@ -7,12 +7,12 @@ ghost use Rattle.std.specs.Prelude.{◌≡◌};
 pub(crate) struct Output {
     /// The text, or a binary list.
     pub text: Vec<u8>,
-    /// The exit status once it is written.
+    /// The exit status once all of it is written.
     pub status: u8,
 }
 
 impl Output {
-    /// The output of a command that is done.
+    /// The output of a command that succeeded.
     pub fn done(text: Vec<u8>) -> Self
         ensures { (result.text ≡ text) × (result.status ≡ 0) }
     {
@@ -20,11 +20,11 @@ impl Output {
     }
 }
 
-/// The exit status where all went well.
+/// The exit status of success.
 pub(crate) const DONE: u8 = 0;
 
 /// The exit status of a report that does not match.
 pub(crate) const DIFFERS: u8 = 1;
 
-/// The exit status where the sink failed.
+/// The exit status if the sink failed.
 pub(crate) const FAILED: u8 = 3;

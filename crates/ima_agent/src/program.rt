@@ -1,4 +1,4 @@
-//! What the program does for its words.
+//! Runs the program.
 
 ghost use Rattle.std.specs.Prelude.{◌≡◌, IfOk, IfErr};
 ghost use Rattle.std.specs.Process.{exit_status};
@@ -8,7 +8,7 @@ ghost use Rattle.ima_agent.specs.Program.{Answers, IsFaultFor, IsFaultOf, IsOutp
 
 use crate::fault::RunFault;
 use crate::files::Files;
-use crate::measuring::{Measuring, measured, measured_listed};
+use crate::measuring::measured_for;
 use crate::output::{FAILED, Output};
 use crate::progress::{NoProgress, Progress};
 use crate::showing::{shown_list, shown_registers};
@@ -23,8 +23,9 @@ use std::process::ExitCode;
 use std::sync::Wait;
 use std::thread::Threads;
 
-/// Does what the words ask for, as [`run_with_progress`], and answers the process's exit code. Where the words could not be
-/// had, the program fails as one that is out of memory: the line `failed: memory`, and the status 3.
+/// Runs the program as [`run_with_progress`] does, and returns the process's exit code. If `words` is an error, the program fails
+/// as it does out of memory: with the line `failed: memory` and status 3.
+/// `main` returns it, so that the exit status has a contract.
 pub fn exit_code<R: Threads + Wait + Sync, F: Files, S: Sink, P: Progress>(
     rt: &R,
     alloc: Global,
@@ -48,16 +49,16 @@ fn exits_with(status: u8) -> ExitCode
     ExitCode::from(status)
 }
 
-/// Does what the words ask for, the program's name left out, and answers the exit status.
+/// Does what the program's arguments, without its name, request, and returns the exit status.
 ///
-/// Without words: loads standard input, a firmware event log in hexadecimal, and writes the registers that differ from
-/// their reset values. With words, as [`crate::read_words`] reads them: `measure` measures files into the registers of a log,
-/// and writes the list or the registers; `verify` writes the report on a log, a list and expected registers; `show` writes
-/// the line of each entry of a list; and `--help` the help.
+/// Without arguments: loads standard input, a firmware event log in hexadecimal, and writes the registers that differ from their
+/// reset values. With arguments, as [`crate::read_words`] reads them: `measure` measures files into the registers of a log, and
+/// writes the list or the registers; `verify` writes the report on a log, a list and expected registers; `show` writes the line
+/// of each entry of a list; and `--help` writes the help.
 ///
-/// The whole output is prepared before its first byte is written; a fault is written as one line. The status is 0 where all
-/// is done, 1 where the report does not match, 2 for input that is refused, and 3 where memory ran out, outcomes do not
-/// account for the book, or a device failed. After a fault of the sink nothing more is written.
+/// The whole output is prepared before its first byte is written; a fault is written as one line. The status is 0 on success, 1
+/// if the report does not match, 2 for refused input, and 3 if memory ran out, outcomes do not account for the book, or a device
+/// failed. After the sink fails, nothing more is written.
 pub fn run<R: Threads + Wait + Sync, F: Files, S: Sink>(
     rt: &R,
     alloc: Global,
@@ -70,7 +71,7 @@ pub fn run<R: Threads + Wait + Sync, F: Files, S: Sink>(
     run_with_progress(rt, alloc, words, files, sink, &NoProgress)
 }
 
-/// The same, and of a measurement somebody is told how many files are done. It changes nothing of the output.
+/// As [`run`]; also reports to `progress` how many files of a measurement are done. The output is the same.
 pub fn run_with_progress<R: Threads + Wait + Sync, F: Files, S: Sink, P: Progress>(
     rt: &R,
     alloc: Global,
@@ -87,14 +88,14 @@ pub fn run_with_progress<R: Threads + Wait + Sync, F: Files, S: Sink, P: Progres
     }
 }
 
-// Writes the line of the fault, and answers its status, or that of a sink that failed.
+// Writes the line of the fault, and returns its status, or that of a sink that failed.
 fn failed<S: Sink>(fault: &RunFault, sink: &mut S) -> u8
     ensures { Answers (λ text status. (text ≡ fault_line fault.now) × (status ≡ fault_status fault.now)) result (S.state sink.old) (S.state sink.new) }
 {
     status_after(write_fault(fault, sink), status_of(fault))
 }
 
-// The exit status of an output that was sent with this result.
+// The exit status after an output was sent with this result.
 fn status_after(sent: Result<(), Failed>, status: u8) -> u8
     ensures { result ≡ status_after sent status }
 {
@@ -104,7 +105,7 @@ fn status_after(sent: Result<(), Failed>, status: u8) -> u8
     }
 }
 
-// The whole output for the words.
+// The whole output for these arguments.
 fn output_of<R: Threads + Wait + Sync, F: Files, P: Progress>(
     rt: &R,
     alloc: Global,
@@ -119,7 +120,7 @@ fn output_of<R: Threads + Wait + Sync, F: Files, P: Progress>(
     output_for(rt, alloc, plan, files, progress)
 }
 
-// The whole output for what was asked for.
+// The whole output for this plan.
 fn output_for<R: Threads + Wait + Sync, F: Files, P: Progress>(
     rt: &R,
     alloc: Global,
@@ -133,48 +134,8 @@ fn output_for<R: Threads + Wait + Sync, F: Files, P: Progress>(
 {
     match plan {
         Plan::Registers => Ok(Output::done(shown_registers(alloc, files)?)),
-        Plan::Measure {
-            alg,
-            template,
-            workers,
-            limit,
-            print,
-            log,
-            files: names,
-        } => {
-            let asked = Measuring {
-                alg,
-                template,
-                workers,
-                limit,
-                print,
-                log: &log,
-                files: &names,
-            };
-            Ok(Output::done(measured(rt, alloc, files, asked, progress)?))
-        }
-        Plan::MeasureListed {
-            alg,
-            template,
-            workers,
-            limit,
-            print,
-            log,
-            files: first,
-            names,
-            ends,
-        } => {
-            let asked = Measuring {
-                alg,
-                template,
-                workers,
-                limit,
-                print,
-                log: &log,
-                files: &first,
-            };
-            let shown = measured_listed(rt, alloc, files, asked, &names, ends, progress)?;
-            Ok(Output::done(shown))
+        plan @ (Plan::Measure { .. } | Plan::MeasureListed { .. }) => {
+            Ok(Output::done(measured_for(rt, alloc, files, &plan, progress)?))
         }
         Plan::Verify {
             log,

@@ -1,20 +1,19 @@
-//! How far a measurement is.
+//! The progress of a measurement.
 
 use std::rt::Clock;
 use std::sync::atomic::{AtomicU64, Ordering};
 use std::time::Instant;
 
-/// Who is told how far a measurement is. Several threads tell it.
+/// Receives the progress of a measurement, from several threads.
 pub trait Progress: Sync {
-    /// So many of all files are done. Called by several threads at once, so smaller numbers may come after greater
-    /// ones.
+    /// `files` of `all` files are done. Called by several threads at once, so a smaller number may come after a greater one.
     fn done(&self, files: u32, all: u32);
 
     /// The measurement has ended.
     fn ended(&self);
 }
 
-/// Tells nobody.
+/// Ignores the progress.
 #[derive(Clone, Copy, Debug)]
 pub struct NoProgress;
 
@@ -29,20 +28,20 @@ const DELAY: u64 = 1_000;
 /// How many milliseconds pass at least from one number to the next.
 const INTERVAL: u64 = 100;
 
-/// Tells the user, on standard error, where it is a terminal and more than a second has passed, at most ten times a second:
-/// `123 of 10000 files`, written over what was told before. The line is erased when the measurement ends. Where the clock or
-/// the terminal fails, the number is not told, and that is no fault.
+/// Shows the progress on standard error, if that is a terminal: `123 of 10000 files`, after more than a second and at most ten
+/// times a second, written over what was shown before. The line is erased when the measurement ends. If the clock or the terminal
+/// fails, the number is not shown; this is no fault.
 #[derive(Drop)]
 pub struct SystemProgress<'a, R> {
     runtime: &'a R,
-    /// When the measurement began. Nothing is told where it is unknown, as it is where standard error is no terminal.
+    /// When the measurement began; `None` if standard error is no terminal, or the clock failed. Then nothing is shown.
     began: Option<Instant>,
-    /// After how many milliseconds the next number may be shown; more than at first, once one was.
+    /// After how many milliseconds the next number may be shown; greater than `DELAY` once one was shown.
     due: AtomicU64,
 }
 
 impl<'a, R: Eprint + Clock> SystemProgress<'a, R> {
-    /// What tells the user of a measurement that begins now. `is_terminal` says whether standard error is a terminal.
+    /// Shows the progress of a measurement that begins now. `is_terminal` says whether standard error is a terminal.
     pub fn new(runtime: &'a R, is_terminal: bool) -> Self {
         let began = if is_terminal {
             Instant::now(runtime).ok()
@@ -56,7 +55,7 @@ impl<'a, R: Eprint + Clock> SystemProgress<'a, R> {
         }
     }
 
-    // Whether a number is due, and this thread is the one that shows it.
+    // Whether a number is due and this thread is to show it.
     fn takes_turn(&self) -> bool {
         let Some(began) = self.began else {
             return false;

@@ -17,7 +17,7 @@ use ima_list::laws::entries_to_the_end_are_the_reading;
 use ima_list::{Entry, EntryRef};
 use std::alloc::{AllocError, Global};
 
-/// The registers that differ from their reset values after the log on standard input, which is in hexadecimal.
+/// The lines of the registers that differ from their reset values after the log in hexadecimal on standard input.
 pub(crate) fn shown_registers<F: Files>(alloc: Global, files: &mut F) -> Result<Vec<u8>, RunFault>
     ensures shown { IfOk result (λ shown. OfInput (F.told files.old) None (λ text. ShowsRegisters text shown.items)) }
     ensures fault { IfErr result (λ fault. IsInputFault (F.told files.old) None fault
@@ -59,7 +59,7 @@ fn lines_in(alloc: Global, list: &[u8]) -> Result<Vec<u8>, RunFault>
     Ok(text)
 }
 
-// The registers of a log in hexadecimal that differ from their reset values.
+// The lines of the registers that differ from their reset values after this log in hexadecimal.
 fn registers_in(alloc: Global, text: Vec<u8>) -> Result<Vec<u8>, RunFault>
     ensures shown { IfOk result (λ shown. ShowsRegisters text.items shown.items) }
     ensures refused { IfErr result (IsRefusedFor text.items) }

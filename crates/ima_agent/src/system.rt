@@ -17,9 +17,9 @@ use std::io;
 use std::io::{Read, Write};
 use std::rt::Files as FileSystem;
 
-/// A source over a reader of std.
+/// A source over a `std` reader.
 ///
-/// It tells no bytes. Each error of the reader is a failure, an interrupted call included.
+/// Its bytes are not told. Each error of the reader, an interrupted call included, counts as a failure.
 #[derive(Debug, Drop)]
 pub struct ReadSource<R> {
     reader: R,
@@ -27,7 +27,7 @@ pub struct ReadSource<R> {
 }
 
 impl<R: Read> ReadSource<R> {
-    /// A source that gives the reader's bytes and has not failed.
+    /// A source that gives the reader's bytes, with no failures so far.
     pub fn new(reader: R) -> Self
         ensures reader { reader_of result ≡ reader }
         ensures failures { reads_failed result ≡ 0 }
@@ -42,7 +42,7 @@ impl<R: Read> ReadSource<R> {
 impl<R: Read> Source for ReadSource<R> {
     ghost state = { read_source_state };
 
-    /// Gives what one read of the reader gives.
+    /// Reads once from the reader.
     fn read(&mut self, buffer: &mut [u8]) -> Result<usize, Failed>
         ensures within { IfOk result (λ n. n ≤ length buffer.old) }
         ensures reads { ReadConsumes (R.remaining (reader_of self.old)) (R.remaining (reader_of self.new)) result buffer.new }
@@ -58,10 +58,10 @@ impl<R: Read> Source for ReadSource<R> {
     }
 }
 
-/// A sink over a writer of std.
+/// A sink over a `std` writer.
 ///
-/// It tells no bytes. Each error of the writer, an interrupted call included, is a failure, and so is a write that takes
-/// none of the bytes that it is offered.
+/// Its bytes are not told. Each error of the writer, an interrupted call included, counts as a failure, and so does a write that
+/// takes none of the bytes offered.
 #[derive(Debug, Drop)]
 pub struct WriteSink<W> {
     writer: W,
@@ -69,7 +69,7 @@ pub struct WriteSink<W> {
 }
 
 impl<W: Write> WriteSink<W> {
-    /// A sink that hands bytes to the writer and has not failed.
+    /// A sink that hands bytes to the writer, with no failures so far.
     pub fn new(writer: W) -> Self
         ensures writer { writer_of result ≡ writer }
         ensures failures { writes_failed result ≡ 0 }
@@ -84,7 +84,7 @@ impl<W: Write> WriteSink<W> {
 impl<W: Write> Sink for WriteSink<W> {
     ghost state = { write_sink_state };
 
-    /// Takes what one write of the writer takes.
+    /// Writes once to the writer.
     fn write(&mut self, bytes: &[u8]) -> Result<usize, Failed>
         ensures within { IfOk result (λ n. n ≤ length bytes.now) }
         ensures advances { IfOk result (λ n. 0 < length bytes.now → 0 < n) }
@@ -123,7 +123,7 @@ impl<F: Read, I: Read> Read for Input<F, I> {
 
 /// The files and the standard input of a runtime.
 ///
-/// A name is a path of the system, relative to the folder that the program runs in. The name `-` is that of a file.
+/// A name is a path, relative to the working directory. The name `-` is that of a file.
 #[derive(Debug, Drop)]
 pub struct SystemFiles<'a, R> {
     runtime: &'a R,
@@ -143,7 +143,7 @@ impl<R: FileSystem + io::Input + Sync> Files for SystemFiles<'_, R> {
 
     type Shared = Self;
 
-    // What a file holds is not told.
+    // The contents of files are not told.
     ghost told = { λ _ _. None };
 
     /// Opens the file of this name, or standard input.
@@ -172,10 +172,10 @@ impl<R: FileSystem + io::Input + Sync> Files for SystemFiles<'_, R> {
 }
 
 impl<R: FileSystem> SharedFiles for SystemFiles<'_, R> {
-    // What a file holds is not told.
+    // The contents of files are not told.
     ghost held = { λ _ _. None };
 
-    /// Opens the file of this name, and hashes what it gives.
+    /// Opens and hashes the file of this name.
     fn hash(&self, alloc: Global, name: &str, alg: Alg, limit: u64) -> Result<Digest, LoadFault> {
         match File::open(self.runtime, name) {
             Ok(file) => hash_from(alloc, &mut ReadSource::new(file), alg, limit),

@@ -4,7 +4,8 @@ ghost use Rattle.std.specs.Prelude.{◌≡◌, IfOk, IfErr};
 ghost use Rattle.boot_verdict.specs.Verdicts.{verdict_of};
 ghost use Rattle.boot_verdict.specs.ReportTexts.{report_text};
 ghost use Rattle.ima_agent.specs.Faults.{IsFaultOfVerdict};
-ghost use Rattle.ima_agent.specs.Verifying.{IsNoVerdictFrom, IsReportFault, IsReportFrom, ShowsReport, verdict_status};
+ghost use Rattle.ima_agent.specs.parts.Verifying.{IsNoVerdictFrom, IsReportFrom};
+ghost use Rattle.ima_agent.specs.Verifying.{IsReportFault, ShowsReport, verdict_status};
 
 use crate::fault::RunFault;
 use crate::files::Files;
@@ -15,7 +16,7 @@ use byte_streams::{Failed, Source, VecSink};
 use std::alloc::{AllocError, Global};
 
 /// The report on the log, the list and the expected registers in the files of these names. The log is loaded first, then the
-/// expected registers are loaded and read, and then the list is taken, and verified as it is read: it is not loaded.
+/// expected registers are loaded and read, and then the list is opened and verified as it is read, without loading it.
 pub(crate) fn verified<F: Files>(
     alloc: Global,
     files: &mut F,
@@ -53,7 +54,7 @@ fn report_from<R: Source>(
     }
 }
 
-// Why there is no report, where the list is the input of this name.
+// The program's fault for a verifier's fault, where the list is the input of this name.
 fn verdict_fault(alloc: Global, name: &str, fault: VerifyFault) -> RunFault
     ensures { IsFaultOfVerdict name.now fault result }
 {

@@ -7,7 +7,7 @@ use std::process::ExitCode;
 use std::rt::Env;
 use std::{env, io};
 
-/// The words after the program's name; an error where memory runs out, or one is not UTF-8.
+/// The arguments after the program's name. Fails if memory runs out, or if one is not UTF-8.
 fn words(rt: &(impl Env + AllocGlobal)) -> io::Result<Vec<String>> {
     Ok(words_after_name(rt.alloc(), env::args(rt)?)?)
 }

@@ -1,4 +1,4 @@
--- Registers that are read one after another, and joined.
+-- Registers read one after another, and joined.
 use Rattle.std.proofs.Common.{◌≡◌, ℕ, zero, suc, ◌+◌, ◌<◌, true, List, [], ◌∷◌, ◌++◌, length, get_or, map, Option, Some, None, refl, sym, ap, ◌∙◌, append_assoc, arith}
 use Rattle.std.specs.Prelude.{option_map}
 use Rattle.std.specs.List.{range_with_len}
@@ -13,7 +13,7 @@ use Rattle.pcr_banks.specs.Digests.{bytes_of, digest_of}
 use Rattle.pcr_banks.specs.Hashers.{HasTaken}
 use Rattle.pcr_banks.specs.Registers.{bank_of, is_active, value_at}
 use Rattle.pcr_banks.proofs.BankLaws.{some_digest, no_digest, read_value, read_none, active_bank}
-use Rattle.ima_list.specs.Aggregates.{aggregated, all_joined, joined_values, boot_aggregate_of}
+use Rattle.ima_list.specs.Aggregates.{aggregate_register_count, all_joined, joined_values, boot_aggregate_of}
 
 -- ---- values joined
 
@@ -60,7 +60,7 @@ joined_lacks value_of count register lt e =
 
 -- ---- the loop
 
--- The hasher took the values of the registers before one, joined, and the bank that has any is active.
+-- The hasher took the values of the first `count` registers, joined; the bank is active if it took any.
 pub record HasJoined (hasher : Hasher) (banks : Banks) (alg : Alg) (count : ℕ) : Type 0 where
   pub text : List ℕ
   pub joined : joined_values (value_at banks alg) count ≡ Some text
@@ -88,9 +88,9 @@ joined_next old new banks alg register digest before e update =
       active = λ lt. active_bank alg (bank_of banks alg) register (bytes_of digest) value;
     }
 
--- A register that has no value: there is no aggregate.
-pub lacks_none : (banks : Banks) (alg : Alg) (count register : ℕ) → count ≡ aggregated alg → register < count
+-- Where a register has no value, there is no aggregate.
+pub lacks_none : (banks : Banks) (alg : Alg) (count register : ℕ) → count ≡ aggregate_register_count alg → register < count
     → no_digest ≡ option_map (digest_of alg) (value_at banks alg register) → boot_aggregate_of banks alg ≡ None
 lacks_none banks alg count register all lt e =
     let none = read_none alg (value_at banks alg register) e in
-    ap (option_map (hash_of alg)) (joined_lacks (value_at banks alg) (aggregated alg) register (omega arith) none)
+    ap (option_map (hash_of alg)) (joined_lacks (value_at banks alg) (aggregate_register_count alg) register (omega arith) none)

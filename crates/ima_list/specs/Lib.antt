@@ -1,7 +1,6 @@
 pub mod ListEntry
 pub mod ListFaults
 pub mod Spelling
-pub mod Reading
 pub mod Digesting
 pub mod FieldKinds
 pub mod Rows
@@ -10,9 +9,9 @@ pub mod Replaying
 pub mod Fields
 pub mod Lines
 pub mod Aggregates
-pub mod Entries
-pub mod Writing
 pub mod Pieces
 pub mod Binding
+pub mod Equality
+pub mod parts
 pub use Rattle.byte_streams.specs.Streams
 pub use Rattle.byte_streams.specs.Memory

@@ -1,26 +1,29 @@
 ghost use Rattle.std.specs.Prelude.{◌≡◌, option_map, is_some};
 ghost use Rattle.pcr_banks.specs.Digests.{digest_of};
 ghost use Rattle.pcr_banks.specs.Registers.{is_active};
-ghost use Rattle.ima_list.specs.Aggregates.{aggregated, boot_aggregate_of};
+ghost use Rattle.ima_list.specs.Aggregates.{aggregate_register_count, boot_aggregate_of};
 
 use pcr_banks::{Alg, Banks, Digest, Hasher};
 
-/// The boot aggregate of the algorithm's bank: the hash of PCR 0 to 7, joined, for SHA-1, of PCR 0 to 9 for any other
-/// algorithm. `None` where the bank is not active, and only there.
+/// The path of a list's first entry, which is the measurement of the boot aggregate.
+pub const BOOT_AGGREGATE_PATH: &[u8] = b"boot_aggregate";
+
+/// The boot aggregate of the algorithm's bank: the hash of PCR 0 to 7 joined for SHA-1, and of PCR 0 to 9 for any other
+/// algorithm. `None` exactly where the bank is not active.
 pub fn boot_aggregate(banks: &Banks, alg: Alg) -> Option<Digest>
     ensures value { result ≡ option_map (digest_of alg) (boot_aggregate_of banks.now alg) }
     ensures found { is_some result ≡ is_active banks.now alg }
 {
     let mut hasher = Hasher::new(alg);
-    for register in 0..aggregated(alg) {
+    for register in 0..aggregate_register_count(alg) {
         hasher.update(banks.read(alg, register)?.bytes());
     }
     Some(hasher.finish())
 }
 
-// How many registers, from PCR 0 on, the aggregate of a bank is taken over.
-fn aggregated(alg: Alg) -> u32
-    ensures { result ≡ aggregated alg }
+// How many registers, from PCR 0 on, the boot aggregate hashes.
+fn aggregate_register_count(alg: Alg) -> u32
+    ensures { result ≡ aggregate_register_count alg }
 {
     match alg {
         Alg::Sha1 => 8,

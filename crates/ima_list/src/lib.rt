@@ -1,11 +1,12 @@
-//! The measurement list of Linux IMA: templates, entries, their fields and lines, the binary list read and written, its
-//! replay into registers, and the boot aggregate (Linux kernel documentation, 'IMA Template Management Mechanism').
+//! The measurement list of Linux IMA: templates, entries with their fields and text lines, reading and writing the binary list,
+//! its replay into registers, and the boot aggregate (Linux kernel documentation, 'IMA Template Management Mechanism').
 //!
-//! The sinks and sources of `byte_streams` are exported from here too.
+//! The sinks and sources of `byte_streams` are re-exported.
 #![tactic(auto)]
 
 mod aggregate;
 mod entry;
+mod entry_hashing;
 mod entry_ref;
 mod fault;
 mod field_kind;
@@ -20,7 +21,7 @@ mod replaying;
 mod template;
 mod writing;
 
-pub use aggregate::boot_aggregate;
+pub use aggregate::{BOOT_AGGREGATE_PATH, boot_aggregate};
 pub use byte_streams::{Failed, Sink, SliceSource, Source, VecSink, send, send_pieces};
 pub use entry::Entry;
 pub use entry_ref::EntryRef;

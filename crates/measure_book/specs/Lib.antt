@@ -2,11 +2,7 @@ pub mod Operations
 pub mod Faults
 pub mod Histories
 pub mod Runs
-pub mod Indexes
 pub mod Books
 pub mod Equality
-pub mod Origins
-pub mod Steps
-pub mod BookParts
 pub mod Groups
-pub mod GroupParts
+pub mod parts

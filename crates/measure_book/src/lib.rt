@@ -1,6 +1,6 @@
-//! The book of a measuring agent. Each operation on it is a measurement, a violation or a read of a register; it appends one
-//! record, and is answered as if its caller were the only one. The book's list can be exported, and replayed from the
-//! registers at the start it gives the book's registers.
+//! The book of a measuring agent. An operation on it is a measurement, a violation or a read of a register. It appends one
+//! record, and is answered as if its caller were the only one. The book's list can be exported; replayed from the registers at
+//! the start, it gives the book's registers.
 #![tactic(auto)]
 
 mod answering;

@@ -1,4 +1,4 @@
--- All algorithms: what holds of each of the list holds of every one.
+-- All algorithms: what holds of each in the list holds of every one.
 use Rattle.std.proofs.Common.{rules, ◌≡◌, ℕ, zero, suc, ◌<◌, length, take, get_or, arith, ◌==◌, ◌&&◌, Bool, true, false, List, [], ◌∷◌, Option, Some, refl, sym, ap, ◌∙◌, inl, inr}
 use Rattle.std.specs.Prelude.{bytes_eq, find}
 use Rattle.std.specs.List.{list_all, list_any, AllByRecursion}
@@ -7,21 +7,21 @@ use Rattle.pcr_banks.specs.declared.alg.Alg.{Alg}
 use Rattle.pcr_banks.specs.declared.alg.Alg.TheVariants.{Sha1, Sha256, Sha384, Sha512}
 use Rattle.pcr_banks.specs.Hashing.{name_of, tpm_id_of, all_algs, same_alg}
 
--- What holds of each algorithm of the list holds of every one.
+-- What holds of each algorithm in the list holds of every one.
 pub every_alg : (P : Alg → Type 0) → AllByRecursion P all_algs → (alg : Alg) → P alg
 every_alg P each Sha1 = each.0
 every_alg P each Sha256 = each.1.0
 every_alg P each Sha384 = each.1.1.0
 every_alg P each Sha512 = each.1.1.1.0
 
--- What holds of every algorithm holds of each of a list.
+-- What holds of every algorithm holds of each in a list.
 pub each_of : (P : Alg → Type 0) → ((alg : Alg) → P alg) → (algs : List Alg) → AllByRecursion P algs
 each_of P every [] = tt
 each_of P every (alg ∷ algs) = (every alg, each_of P every algs)
 
 -- ---- one algorithm
 
--- The algorithm of an identifier, where there is one.
+-- The algorithm with an identifier, where there is one.
 abbrev alg_by : ℕ → List Alg → Option Alg
 alg_by id algs = find (λ alg. tpm_id_of alg == id) algs
 
@@ -34,14 +34,14 @@ same_alg_is a b e =
     let found : Some a ≡ Some b = sym (found_by_identifier a) ∙ ap (λ (id : ℕ). alg_by id all_algs) ids ∙ found_by_identifier b in
     cc
 
--- The algorithm of a name, where there is one.
+-- The algorithm with a name, where there is one.
 abbrev alg_named : List ℕ → List Alg → Option Alg
 alg_named name algs = find (λ alg. bytes_eq (name_of alg) name) algs
 
 found_by_name : (alg : Alg) → alg_named (name_of alg) all_algs ≡ Some alg
 found_by_name = every_alg _ (search rules)
 
--- Algorithms of one name are one.
+-- Algorithms with the same name are the same.
 pub same_name_is : (a b : Alg) → name_of a ≡ name_of b → a ≡ b
 same_name_is a b e =
     let found : Some a ≡ Some b = sym (found_by_name a) ∙ ap (λ (name : List ℕ). alg_named name all_algs) e ∙ found_by_name b in
@@ -60,14 +60,14 @@ all_pass : (test : Alg → Bool) (algs : List Alg) → AllByRecursion (λ alg. t
 all_pass test [] each = refl
 all_pass test (alg ∷ algs) each = and_from (test alg) (list_all test algs) each.0 (all_pass test algs each.1)
 
--- A test passes for every algorithm where it passes for all of the list.
+-- A test passes for every algorithm where it passes for all in the list.
 pub every_passes : (test : Alg → Bool) → list_all test all_algs ≡ true → (alg : Alg) → test alg ≡ true
 every_passes test e = every_alg _ (each_passes test all_algs e)
 
 pub list_passes : (test : Alg → Bool) → ((alg : Alg) → test alg ≡ true) → list_all test all_algs ≡ true
 list_passes test every = all_pass test all_algs (each_of _ every all_algs)
 
--- A test passes for some algorithm where it passes for one of the list.
+-- A test passes for some algorithm where it passes for one in a list.
 some_of : (test : Alg → Bool) (algs : List Alg) → list_any test algs ≡ true → (alg : Alg) × (test alg ≡ true)
 some_of test [] e = absurd cc
 some_of test (alg ∷ algs) e =
@@ -94,7 +94,7 @@ is_listed = every_alg _ (search rules)
 pub list_has : (test : Alg → Bool) (alg : Alg) → test alg ≡ true → list_any test all_algs ≡ true
 list_has test alg passes = any_has test alg all_algs passes (is_listed alg)
 
--- A test passes for no algorithm where it passes for none of the list.
+-- A test passes for no algorithm where it passes for none in the list.
 pub none_passes : (test : Alg → Bool) → list_any test all_algs ≡ false → (alg : Alg) → test alg ≡ false
 none_passes test e alg = false_from_ne_true (test alg) (λ passes. both_ways (list_any test all_algs) e (list_has test alg passes))
 
@@ -102,7 +102,7 @@ pub list_lacks : (test : Alg → Bool) → ((alg : Alg) → test alg ≡ false) 
 list_lacks test none = false_from_ne_true (list_any test all_algs)
     (λ e. let found = some_passes test e in both_ways (test found.0) (none found.0) found.1)
 
--- One of the list is this algorithm and passes a test exactly where this algorithm passes it.
+-- Some algorithm in the list is this one and passes a test exactly where this one passes it.
 pub one_of_all : (test : Alg → Bool) (a : Alg) → list_any (λ alg. same_alg a alg && test alg) all_algs ≡ test a
 one_of_all test a =
     let one = λ (alg : Alg). same_alg a alg && test alg in

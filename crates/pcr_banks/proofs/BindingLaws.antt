@@ -1,5 +1,5 @@
--- Extends that give one value are the same, or what they hash breaks the hash: shown from the last extend back, so that no
--- bytes are found that hash to a value between two extends alone.
+-- Extends that end in the same value are the same, or break the hash. This is shown from the last extend back, so that a preimage
+-- is always one of a value at the start, never of a value between two extends.
 use Rattle.std.proofs.Common.{subst, ◌≡◌, ℕ, ◌+◌, List, [], ◌∷◌, ◌++◌, length, refl, sym, ap, ◌∙◌, arith, inl, inr, append_assoc, length-append}
 use Rattle.std.specs.Prelude.{◌⊎◌, bytes_eq}
 use Rattle.std.proofs.lemmas.Bool.{cases_Bool, both_ways}
@@ -21,14 +21,14 @@ grown P more before [] here = subst P (sym (append-nil before)) here
 grown P more before (x ∷ after) here =
     subst P (append_snoc before x after) (grown P more (before ++ x ∷ []) after (more before x here))
 
--- What holds of the empty list, and of a list with one item more at its end, holds of every list.
+-- What holds of the empty list, and of every list with one more item at its end, holds of every list.
 pub from_the_end : {A : Type 0} (P : List A → Type 0) → P [] → ((before : List A) (last : A) → P before → P (before ++ last ∷ []))
     → (xs : List A) → P xs
 from_the_end P none more xs = grown P more [] xs none
 
 -- ---- bytes of another kind
 
--- A collision of bytes of two kinds is one of bytes of each two kinds that these are of too; so with a preimage.
+-- A collision of bytes of two kinds is one of any two kinds that include these; likewise a preimage.
 pub collision_of : (alg : Alg) (P Q R S : List ℕ → Type 0) → ((bytes : List ℕ) → P bytes → R bytes)
     → ((bytes : List ℕ) → Q bytes → S bytes) → Collision alg P Q → Collision alg R S
 collision_of alg P Q R S first second hit = record {
@@ -51,7 +51,7 @@ pub value_size : (alg : Alg) (value : List ℕ) (digests : List (List ℕ)) → 
 value_size alg value [] sized = sized
 value_size alg value (digest ∷ digests) sized = value_size alg (hash_of alg (value ++ digest)) digests (hash_size alg (value ++ digest))
 
--- The last extend.
+-- What the last extend hashes.
 last_extend : (alg : Alg) (value : List ℕ) (digests : List (List ℕ)) (digest : List ℕ)
     → extended_by_all alg value (digests ++ digest ∷ []) ≡ hash_of alg (extended_by_all alg value digests ++ digest)
 last_extend alg value digests digest = fold-append (extended_value alg) value digests (digest ∷ [])
@@ -70,7 +70,7 @@ earlier_input alg value digests digest bytes input = record {
   joined = input.joined;
 }
 
--- A preimage of the value at the start, where one list of digests has a last one and the other is empty.
+-- A preimage of the value at the start, where one list of digests has a last digest and the other is empty.
 start_is_hash : (alg : Alg) (value other : List ℕ) (digests : List (List ℕ)) (digest : List ℕ)
     → extended_by_all alg value (digests ++ digest ∷ []) ≡ other
     → Preimage alg (IsExtendInput alg value (digests ++ digest ∷ [])) other
@@ -83,14 +83,14 @@ start_is_hash alg value other digests digest same = record {
 one_more : (digests : List (List ℕ)) (digest : List ℕ) → length (digests ++ digest ∷ []) ≡ length digests + 1
 one_more digests digest = length-append digests (digest ∷ [])
 
--- ---- one value
+-- ---- the same value
 
--- Extends from one value by digests, and from another by others, are the same, or what they hash breaks the hash.
+-- Extends from one value by digests and from another by others are the same, or break the hash.
 abbrev AreSameOrBreakHash : Alg → List ℕ → List (List ℕ) → List ℕ → List (List ℕ) → Type 0
 AreSameOrBreakHash alg value digests other others =
     ((value ≡ other) × (digests ≡ others)) ⊎ ExtendsBreakHash alg value digests other others
 
--- What breaks the hash in the extends but for the last of each breaks it in all.
+-- What breaks the hash in all extends but the last of each breaks it in all.
 earlier_break : (alg : Alg) (value other : List ℕ) (digests others : List (List ℕ)) (digest last : List ℕ)
     → ExtendsBreakHash alg value digests other others
     → ExtendsBreakHash alg value (digests ++ digest ∷ []) other (others ++ last ∷ [])
@@ -112,7 +112,7 @@ earlier_break alg value other digests others digest last breaks =
       ]
     ]
 
--- Two byte strings whose fronts are of one length have the same front and the same rest.
+-- Equal byte strings whose fronts have the same length have the same front and the same rest.
 parts_of_joined : (first second rest other : List ℕ) → length first ≡ length second → first ++ rest ≡ second ++ other
     → (first ≡ second) × (rest ≡ other)
 parts_of_joined [] [] rest other sized same = (refl, same)
@@ -124,7 +124,7 @@ parts_of_joined (byte ∷ first) (other_byte ∷ second) rest other sized same =
     (cc, further.1)
 
 module _ (alg : Alg) (value other : List ℕ) (value_sized : length value ≡ size_of alg) (other_sized : length other ≡ size_of alg) where
-  -- Extends by these digests and by others that give one value are the same, or break the hash.
+  -- Extends by these digests and by others that end in the same value are the same, or break the hash.
   abbrev Tells : List (List ℕ) → List (List ℕ) → Type 0
   Tells digests others =
       extended_by_all alg value digests ≡ extended_by_all alg other others → AreSameOrBreakHash alg value digests other others
@@ -133,7 +133,7 @@ module _ (alg : Alg) (value other : List ℕ) (value_sized : length value ≡ si
   told_by_none = from_the_end (Tells []) (λ same. inl (same, refl)) (λ before last known same.
       inr (inr (inr (omega (arith, one_more before last), start_is_hash alg other value before last (sym same)))))
 
-  -- The last extends have the same bytes.
+  -- The last extends hash the same bytes.
   told_by_same : (digests others : List (List ℕ)) (digest last : List ℕ) → Tells digests others
       → extended_by_all alg value digests ++ digest ≡ extended_by_all alg other others ++ last
       → AreSameOrBreakHash alg value (digests ++ digest ∷ []) other (others ++ last ∷ [])
@@ -177,7 +177,7 @@ module _ (alg : Alg) (value other : List ℕ) (value_sized : length value ≡ si
   told_by_all : (digests others : List (List ℕ)) → Tells digests others
   told_by_all = from_the_end (λ digests. (others : List (List ℕ)) → Tells digests others) told_by_none told_by_more
 
--- Extends that give one value are the same, or break the hash.
+-- Extends that end in the same value are the same, or break the hash.
 pub same_or_broken : (alg : Alg) (value other : List ℕ) (digests others : List (List ℕ)) → length value ≡ size_of alg
     → length other ≡ size_of alg → extended_by_all alg value digests ≡ extended_by_all alg other others
     → ((value ≡ other) × (digests ≡ others)) ⊎ ExtendsBreakHash alg value digests other others

@@ -1,4 +1,4 @@
--- What hashes are: as many bytes as their algorithm has.
+-- A hash has as many bytes as its algorithm says.
 use Rattle.std.proofs.Common.{rules, ◌≡◌, ℕ, List, length}
 use Rattle.sha1.specs.Sha1 as sha1
 use Rattle.sha2.specs.Sha256 as sha256

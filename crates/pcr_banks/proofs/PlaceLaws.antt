@@ -8,7 +8,7 @@ use Rattle.std.proofs.lemmas.List.{get_or-set_same, get_or-set_other, length-set
 use Rattle.pcr_banks.specs.declared.alg.Alg.{Alg}
 use Rattle.pcr_banks.specs.Registers.{register_count, ExtendsBank, extended_value, extended_by, in_bank, value_in}
 
--- The items after one is set.
+-- An item that was set is found.
 set_here : (xs : List (List ℕ)) (i : ℕ) (y : List ℕ) → i < length xs → slice_get (set xs i y) i ≡ Some y
 set_here xs i y lt =
     slice_get-get_or (set xs i y) i y (rw (length-set xs i y) lt) ∙ ap (λ (v : List ℕ). Some v) (get_or-set_same xs i y y lt)
@@ -42,7 +42,7 @@ changed alg false false old new digest before is extended = refl
 changed alg true false old new digest before is extended = refl
 changed alg true true old new digest before is extended = rw (is refl) (ap (λ (v : List ℕ). Some v) extended)
 
--- A register extended by a digest, and the others as they were.
+-- A register extended by a digest, the others as they were.
 pub extends_one : (alg : Alg) (registers : List (List ℕ)) (index : ℕ) (old new digest : List ℕ) → index < length registers
     → slice_get registers index ≡ Some old → value_in alg new ≡ extended_value alg (value_in alg old) digest
     → ExtendsBank alg (Some registers) (Some (set registers index new)) index (Some digest)
@@ -58,6 +58,6 @@ kept true None = refl
 kept true (Some v) = refl
 kept false value = refl
 
--- A bank with no digest stays.
+-- A bank without a digest stays as it was.
 pub extends_none : (alg : Alg) (bank : Option (List (List ℕ))) (index : ℕ) → ExtendsBank alg bank bank index None
 extends_none alg bank index = record { active = refl; values = λ r. kept (eqb r index) (in_bank alg bank r) }

@@ -1,4 +1,4 @@
--- Sets of algorithms, and digests of all banks, are what they have for each algorithm.
+-- Sets of algorithms, and digests by bank, are determined by what they have for each algorithm.
 use Rattle.std.proofs.Common.{rules, ◌≡◌, ℕ, Bool, List, Option, Some, None, refl, sym, ap, ◌∙◌}
 use Rattle.std.specs.Prelude.{option_map}
 use Rattle.std.specs.Bool.{Decides}
@@ -17,15 +17,15 @@ use Rattle.pcr_banks.proofs.AlgLaws.{every_alg}
 
 -- ---- values of any kind
 
--- Values are those that a function of the algorithm gives, where each is.
+-- Values are those of a function where each is what the function gives.
 pub per_alg_is : {T : Type 0} (values : PerAlg T) (value : Alg → T) → ((alg : Alg) → at values alg ≡ value alg) → values ≡ per_alg value
 per_alg_is values value same = rw (← same Sha1, ← same Sha256, ← same Sha384, ← same Sha512) refl
 
--- The values that a function gives are these.
+-- The values that a function gives, algorithm by algorithm.
 pub at_given : {T : Type 0} (value : Alg → T) (alg : Alg) → at (per_alg value) alg ≡ value alg
 at_given value = every_alg _ (search rules)
 
--- Values that are the same for each algorithm are one.
+-- Values that agree for each algorithm are the same.
 pub same_values : {T : Type 0} (first second : PerAlg T) → ((alg : Alg) → at first alg ≡ at second alg) → first ≡ second
 same_values first second same = per_alg_is first (at second) same ∙ sym (per_alg_is second (at second) (λ alg. refl))
 
@@ -36,7 +36,7 @@ values_alike : {T : Type 0} (a a' b b' c c' d d' : T) → a ≡ a' → b ≡ b' 
     → values_of a b c d ≡ values_of a' b' c' d'
 values_alike a a' b b' c c' d d' e f g h = cc
 
--- The test by each algorithm decides whether two are one, where it does so of the values.
+-- Comparing algorithm by algorithm decides whether two are the same, where comparing the values does.
 pub per_alg_decided : {T : Type 0} (same : T → T → Bool) → ((a b : T) → Decides (same a b) (a ≡ b)) → (x y : PerAlg T)
     → Decides (same_per_alg same x y) (x ≡ y)
 per_alg_decided {T = T} same each x y =
@@ -55,18 +55,18 @@ per_alg_decided {T = T} same each x y =
 
 -- ---- sets and digests
 
--- A set is that of the algorithms that it has.
+-- A set is determined by the algorithms that it has.
 pub algs_are : (algs : AlgSet) (test : Alg → Bool) → ((alg : Alg) → has_alg algs alg ≡ test alg) → algs ≡ algs_where test
 algs_are algs test same = rw (per_alg_is algs.has test same) refl
 
--- The set of the algorithms that pass a test has these.
+-- The set of the algorithms that pass a test has exactly these.
 pub has_where : (test : Alg → Bool) (alg : Alg) → has_alg (algs_where test) alg ≡ test alg
 has_where = at_given
 
 pub bytes_again : (alg : Alg) (bytes : List ℕ) → bytes_of (digest_of alg bytes) ≡ bytes
 bytes_again = every_alg _ (search rules)
 
--- A digest is that of its algorithm and its bytes.
+-- A digest is determined by its algorithm and its bytes.
 pub digest_again : (digest : Digest) → digest_of (alg_of digest) (bytes_of digest) ≡ digest
 digest_again (digests.Sha1 bytes) = refl
 digest_again (digests.Sha256 bytes) = refl
@@ -77,20 +77,20 @@ pub same_bytes : (alg : Alg) (bytes : Option (List ℕ)) → option_map bytes_of
 same_bytes alg None = refl
 same_bytes alg (Some bytes) = ap (λ (b : List ℕ). Some b) (bytes_again alg bytes)
 
--- The digests that a function of the algorithm gives are these.
+-- The digests that a function gives, algorithm by algorithm.
 pub digest_of_bank : (bytes : Alg → Option (List ℕ)) (alg : Alg) → digest_in (per_bank bytes) alg ≡ bytes alg
 digest_of_bank bytes alg =
     ap (option_map bytes_of) (at_given (λ a. option_map (digest_of a) (bytes a)) alg) ∙ same_bytes alg (bytes alg)
 
--- Digests are those that a function of the algorithm gives, where each is.
+-- Digests are those of a function where each is what the function gives.
 pub per_bank_is : (digests : PerBank) (bytes : Alg → Option (List ℕ))
     → ((alg : Alg) → digest_for digests alg ≡ option_map (digest_of alg) (bytes alg)) → digests ≡ per_bank bytes
 per_bank_is digests bytes same = rw (per_alg_is digests.digests (λ alg. option_map (digest_of alg) (bytes alg)) same) refl
 
--- Sets that have the same algorithms are one.
+-- Sets that have the same algorithms are the same.
 pub same_algs : (first second : AlgSet) → ((alg : Alg) → has_alg first alg ≡ has_alg second alg) → first ≡ second
 same_algs first second same = rw (same_values first.has second.has same) refl
 
--- Digests that are the same for each algorithm are one.
+-- Digests that agree for each algorithm are the same.
 pub same_digests : (first second : PerBank) → ((alg : Alg) → digest_for first alg ≡ digest_for second alg) → first ≡ second
 same_digests first second same = rw (same_values first.digests second.digests same) refl

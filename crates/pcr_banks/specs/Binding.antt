@@ -1,4 +1,4 @@
--- What the value of a register tells of the digests that it was extended by.
+-- What a register's value tells about the digests that it was extended by.
 use Rattle.std.specs.Prelude.{◌≡◌, ◌⊎◌, ℕ, ◌<◌, List, ◌∷◌, ◌++◌, length}
 use Rattle.pcr_banks.specs.declared.alg.Alg.{Alg}
 use Rattle.pcr_banks.specs.Hashing.{hash_of}
@@ -6,10 +6,10 @@ use Rattle.pcr_banks.specs.Registers.{extended_by_all}
 
 -- ---- bytes that break a hash
 
--- There are more byte strings than hashes, so that some two have one hash says nothing. Hence each of these two records has
--- the kind of its bytes as a parameter.
+-- There are more byte strings than hashes, so some two always have the same hash. These two records therefore take as parameters
+-- which byte strings they are about.
 
--- Two different byte strings with one hash, the first of one kind and the second of another.
+-- Two different byte strings with the same hash: the first is an `IsFirst`, the second an `IsSecond`.
 pub record Collision (alg : Alg) (IsFirst IsSecond : List ℕ → Type 0) : Type 0 where
   pub first : List ℕ
   pub second : List ℕ
@@ -18,7 +18,7 @@ pub record Collision (alg : Alg) (IsFirst IsSecond : List ℕ → Type 0) : Type
   pub different : first ≡ second → ⊥
   pub one_hash : hash_of alg first ≡ hash_of alg second
 
--- Bytes of a kind whose hash is this value.
+-- A byte string of this kind whose hash is this value.
 pub record Preimage (alg : Alg) (IsKind : List ℕ → Type 0) (value : List ℕ) : Type 0 where
   pub bytes : List ℕ
   pub kind : IsKind bytes
@@ -26,7 +26,7 @@ pub record Preimage (alg : Alg) (IsKind : List ℕ → Type 0) (value : List ℕ
 
 -- ---- the extends of a register
 
--- Of the extends from a value by digests, one hashes these bytes: the value so far, followed by a digest.
+-- One of the extends, in order, of `value` by `digests` hashes these bytes: the value before it, followed by its digest.
 pub record IsExtendInput (alg : Alg) (value : List ℕ) (digests : List (List ℕ)) (bytes : List ℕ) : Type 0 where
   pub before : List (List ℕ)
   pub digest : List ℕ
@@ -34,9 +34,9 @@ pub record IsExtendInput (alg : Alg) (value : List ℕ) (digests : List (List �
   pub parts : digests ≡ before ++ digest ∷ after
   pub joined : bytes ≡ extended_by_all alg value before ++ digest
 
--- Two runs of extends, from a value by digests and from another value by others, break the hash: what the one hashes and
--- what the other hashes has a collision; or, only where one list is longer, what its extends hash has a preimage of the value
--- from which the other run starts.
+-- Two runs of extends, from `value` by `digests` and from `other` by `others`, break the hash: something that one run hashes
+-- collides with something that the other hashes; or, only where one list is longer, one of its extends hashes to the value from
+-- which the other run starts.
 abbrev pub ExtendsBreakHash : Alg → List ℕ → List (List ℕ) → List ℕ → List (List ℕ) → Type 0
 ExtendsBreakHash alg value digests other others =
     Collision alg (IsExtendInput alg value digests) (IsExtendInput alg other others)

@@ -1,4 +1,4 @@
--- What a digest is: an algorithm, and as many bytes as its hash has.
+-- A digest: an algorithm, and as many bytes as its hash has.
 use Rattle.std.specs.Prelude.{ℕ, List}
 use Rattle.pcr_banks.specs.declared.alg.Alg.{Alg}
 use Rattle.pcr_banks.specs.declared.alg.Alg.TheVariants as algs

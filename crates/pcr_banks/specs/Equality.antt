@@ -1,4 +1,5 @@
--- The tests that `==` makes of algorithms, digests and banks. Each decides whether two are one value (`proofs/EqualityLaws.antt`).
+-- What `==` computes for algorithms, digests and banks: true exactly where the two are the same value
+-- (`proofs/EqualityLaws.antt`).
 use Rattle.std.specs.Prelude.{ℕ, Bool, List, ◌&&◌, ◌==◌, bytes_eq}
 use Rattle.std.specs.Option.{option_eq}
 use Rattle.std.specs.Cmp.Lexicographic.{pointwise}
@@ -11,11 +12,11 @@ use Rattle.pcr_banks.specs.Hashing.{same_alg}
 use Rattle.pcr_banks.specs.Digests.{alg_of, bytes_of}
 use Rattle.pcr_banks.specs.PerAlgs.{same_per_alg}
 
--- Algorithms are one where they are one variant.
+-- Algorithms are equal where they are the same variant.
 abbrev pub same_variant : Alg → Alg → Bool
 same_variant x y = sameb algs.the_type x y
 
--- Digests are one where their algorithms and their bytes are.
+-- Digests are equal where their algorithms and their bytes are.
 abbrev pub same_digest : Digest → Digest → Bool
 same_digest x y = same_alg (alg_of x) (alg_of y) && bytes_eq (bytes_of x) (bytes_of y)
 
@@ -23,6 +24,6 @@ same_digest x y = same_alg (alg_of x) (alg_of y) && bytes_eq (bytes_of x) (bytes
 abbrev pub same_registers : List (List ℕ) → List (List ℕ) → Bool
 same_registers x y = pointwise (pointwise (λ a b. a == b)) x y
 
--- Banks are compared one algorithm after another.
+-- Banks are compared algorithm by algorithm.
 abbrev pub same_banks : Banks → Banks → Bool
 same_banks x y = same_per_alg (option_eq same_registers) x.banks y.banks

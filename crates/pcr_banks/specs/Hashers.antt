@@ -8,7 +8,7 @@ use Rattle.pcr_banks.specs.declared.hashing.Hasher.{Hasher}
 use Rattle.pcr_banks.specs.declared.hashing.State.{State}
 use Rattle.pcr_banks.specs.declared.hashing.State.TheVariants as states
 
--- The state is one of this algorithm, after these bytes.
+-- The state of this algorithm's hasher after these bytes.
 abbrev pub StateAfter : State → Alg → List ℕ → Type 0
 StateAfter (states.Sha1 hasher) algs.Sha1 taken = Holds hasher taken
 StateAfter (states.Sha256 hasher) algs.Sha256 taken = Holds256 hasher taken
@@ -16,6 +16,6 @@ StateAfter (states.Sha384 hasher) algs.Sha384 taken = Holds384 hasher taken
 StateAfter (states.Sha512 hasher) algs.Sha512 taken = Holds512 hasher taken
 StateAfter state alg taken = ⊥
 
--- The hasher is one of this algorithm, and these bytes are the pieces that it took, joined.
+-- The hasher is for this algorithm, and the pieces that it took, joined, are these bytes.
 abbrev pub HasTaken : Hasher → Alg → List ℕ → Type 0
 HasTaken hasher alg taken = StateAfter hasher.state alg taken

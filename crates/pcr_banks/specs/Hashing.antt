@@ -1,4 +1,4 @@
--- The hash algorithms of the banks: their hashes, and what the TPM and the texts call them.
+-- The hash algorithms of the banks: their hashes, their sizes, and how the TPM and texts name them.
 use Rattle.std.specs.Prelude.{ℕ, Bool, ◌==◌, List, [], ◌∷◌, codes}
 use Rattle.sha1.specs.Sha1.{sha1}
 use Rattle.sha2.specs.Sha256.{sha256}
@@ -13,8 +13,8 @@ hash_of Sha256 bytes = sha256 bytes
 hash_of Sha384 bytes = sha384 bytes
 hash_of Sha512 bytes = sha512 bytes
 
--- A row of the table of algorithms: how many bytes a hash has (FIPS 180-4, section 1, figure 1: message digest size), the
--- TPM_ALG_ID (TCG Algorithm Registry, 'TPM_ALG_ID'), and the name in texts, in lower case as the Linux kernel's crypto API has it.
+-- A row of the table of algorithms: the size of a hash in bytes (FIPS 180-4, section 1, figure 1: message digest size), the
+-- TPM_ALG_ID (TCG Algorithm Registry, 'TPM_ALG_ID'), and the name in texts, in lower case as in the Linux kernel's crypto API.
 pub record AlgRow : Type 0 where
   pub size : ℕ
   pub tpm_id : ℕ
@@ -39,6 +39,6 @@ name_of alg = (row_of alg).name
 abbrev pub all_algs : List Alg
 all_algs = Sha1 ∷ Sha256 ∷ Sha384 ∷ Sha512 ∷ []
 
--- Whether two algorithms are one: they have one identifier.
+-- Whether two algorithms are the same: they have the same identifier.
 abbrev pub same_alg : Alg → Alg → Bool
 same_alg a b = tpm_id_of a == tpm_id_of b

@@ -6,3 +6,4 @@ pub mod Registers
 pub mod Hashers
 pub mod Binding
 pub mod Equality
+pub mod parts

@@ -1,4 +1,4 @@
--- Sets of algorithms, and a digest or nothing for each algorithm.
+-- Sets of algorithms, and at most one digest for each algorithm.
 use Rattle.std.specs.Prelude.{ℕ, Bool, List, Option, option_map}
 use Rattle.pcr_banks.specs.declared.alg.Alg.{Alg}
 use Rattle.pcr_banks.specs.declared.digest.Digest.{Digest}
@@ -23,6 +23,6 @@ digest_for digests alg = at digests.digests alg
 abbrev pub digest_in : PerBank → Alg → Option (List ℕ)
 digest_in digests alg = option_map bytes_of (digest_for digests alg)
 
--- The digests that a function of the algorithm gives.
+-- For each algorithm the digest with the bytes that the function gives, where it gives any.
 abbrev pub per_bank : (Alg → Option (List ℕ)) → PerBank
 per_bank bytes = record { digests = per_alg (λ alg. option_map (digest_of alg) (bytes alg)) }

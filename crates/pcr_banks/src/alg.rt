@@ -2,24 +2,24 @@ ghost use Rattle.std.specs.Prelude.{◌≡◌, ◌≢◌, ◌≤◌, ◌↔◌, 
 ghost use Rattle.pcr_banks.specs.declared.alg.Alg.{Alg};
 ghost use Rattle.pcr_banks.specs.Hashing.{size_of, tpm_id_of, name_of};
 
-/// A hash algorithm that a bank of registers may use. The variants are in the order of algorithms.
+/// A hash algorithm that a register bank may use. The variants are in the order of [`Alg::ALL`].
 #[derive(Clone, Copy, Debug, PartialEq, Eq)]
 pub enum Alg {
-    /// SHA-1, of 20 bytes (FIPS 180-4, section 6.1).
+    /// SHA-1, 20 bytes (FIPS 180-4, section 6.1).
     Sha1,
-    /// SHA-256, of 32 bytes (FIPS 180-4, section 6.2).
+    /// SHA-256, 32 bytes (FIPS 180-4, section 6.2).
     Sha256,
-    /// SHA-384, of 48 bytes (FIPS 180-4, section 6.5).
+    /// SHA-384, 48 bytes (FIPS 180-4, section 6.5).
     Sha384,
-    /// SHA-512, of 64 bytes (FIPS 180-4, section 6.4).
+    /// SHA-512, 64 bytes (FIPS 180-4, section 6.4).
     Sha512,
 }
 
 impl Alg {
-    /// All algorithms, each once, in order.
+    /// All algorithms, each once, in order. Crates that handle every algorithm iterate over it and keep no list of their own.
     pub const ALL: [Alg; 4] = [Alg::Sha1, Alg::Sha256, Alg::Sha384, Alg::Sha512];
 
-    // The algorithm's row.
+    // The algorithm's row of the table.
     fn row(self) -> Row
         ensures size { result.size ≡ size_of self }
         ensures tpm_id { result.tpm_id ≡ tpm_id_of self }
@@ -34,7 +34,7 @@ impl Alg {
         Row { size, tpm_id, name }
     }
 
-    /// How many bytes a digest has.
+    /// The size of a digest in bytes.
     pub fn size(self) -> usize
         ensures value { result ≡ size_of self }
         ensures most { result ≤ 64 }
@@ -49,14 +49,14 @@ impl Alg {
         self.row().tpm_id
     }
 
-    /// The name, in lower case as the Linux kernel writes it.
+    /// The name in lowercase, as the Linux kernel writes it.
     pub fn name(self) -> &'static str
         ensures { result.now ≡ name_of self }
     {
         self.row().name
     }
 
-    /// The algorithm with this `TPM_ALG_ID`, or `None` for an identifier that this project does not know.
+    /// The algorithm with this `TPM_ALG_ID`, or `None` if no known algorithm has it.
     pub fn from_id(id: u16) -> Option<Self>
         ensures found { IfSome result (λ alg. tpm_id_of alg ≡ id) }
         ensures unknown { IfNone result ((alg : Alg) → tpm_id_of alg ≢ id) }
@@ -64,7 +64,7 @@ impl Alg {
         Alg::first(|alg| alg.tpm_id() == id)
     }
 
-    /// The algorithm with this name, or `None` for a name that this project does not know. Names are in lower case.
+    /// The algorithm with this lowercase name, or `None` if no known algorithm has it.
     pub fn from_name(name: &[u8]) -> Option<Self>
         ensures found { IfSome result (λ alg. name_of alg ≡ name.now) }
         ensures unknown { IfNone result ((alg : Alg) → name_of alg ≢ name.now) }
@@ -72,7 +72,7 @@ impl Alg {
         Alg::first(|alg| alg.has_name(name))
     }
 
-    // The first algorithm that passes a test.
+    // The first algorithm that passes the test.
     #[tactic(auto, using(crate::proofs::AlgLaws::one_more, crate::proofs::AlgLaws::every_alg))]
     fn first<F: Fn(Alg) -> bool + Drop>(test: F) -> Option<Self>
         requires { F.IsAlwaysCallable test }
@@ -95,7 +95,7 @@ impl Alg {
     }
 }
 
-// A row of the table of algorithms: how long a digest is, and what the TPM and the texts call the algorithm.
+// A row of the table of algorithms: digest size in bytes, `TPM_ALG_ID`, and name.
 #[derive(Drop)]
 struct Row {
     size: usize,

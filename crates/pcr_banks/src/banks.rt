@@ -6,27 +6,26 @@ use crate::digest::MOST_BYTES;
 use crate::per_alg::PerAlg;
 use crate::{Alg, AlgSet, Digest, Hasher, PerBank};
 
-/// How many registers a bank has, numbered from 0 (PC Client Platform TPM Profile, 'PCR Attributes').
+/// The number of registers in a bank, numbered from 0 (PC Client Platform TPM Profile, 'PCR Attributes').
 pub const REGISTERS: u32 = 24;
 
-// The same, as a length.
+// `REGISTERS` as a length.
 const PLACES: usize = REGISTERS as usize;
 
-// A register: its value is at the front, as many bytes as the algorithm's size.
+// A register. Its value is the first `Alg::size` bytes.
 type Register = [u8; MOST_BYTES];
 
 type Bank = [Register; PLACES];
 
-/// The register banks of a TPM: for each active algorithm the values of PCR 0 to 23.
+/// The register banks of a TPM: the values of PCR 0 to 23 for each active algorithm.
 #[derive(Clone, Copy, Debug, PartialEq, Eq)]
 pub struct Banks {
     banks: PerAlg<Option<Bank>>,
 }
 
 impl Banks {
-    /// The banks of these algorithms after a start from the locality (PC Client Platform TPM Profile, 'PCR Initial
-    /// and Reset Values'): the locality is the last byte of PCR 0, PCR 17 to 22 have all bits set, and every other
-    /// byte is zero.
+    /// The banks of these algorithms after a TPM startup from the locality (PC Client Platform TPM Profile, 'PCR Initial and
+    /// Reset Values'): the last byte of PCR 0 is the locality, PCR 17 to 22 have all bits set, and every other byte is zero.
     pub fn new(algs: AlgSet, locality: u8) -> Self
         ensures { IsReset algs locality result }
     {
@@ -42,7 +41,7 @@ impl Banks {
         self.banks.get(alg).is_some()
     }
 
-    /// The value of a register, or `None` where the bank is not active or the register is not below [`REGISTERS`].
+    /// Returns the value of a register, or `None` if the bank is not active or the register is not below [`REGISTERS`].
     pub fn read(&self, alg: Alg, register: u32) -> Option<Digest>
         ensures value { result ≡ option_map (digest_of alg) (value_at self.now alg register) }
         ensures found { IsTrue (is_active self.now alg) → register < register_count → IsSome result }
@@ -51,8 +50,8 @@ impl Banks {
         Digest::from_bytes(alg, &register[..alg.size()])
     }
 
-    /// Extends a register in each active bank that has a digest among these: the new value is the hash of the old
-    /// one followed by the digest (TPM 2.0 Library, part 1, 'Extend of a PCR'). Nothing else changes.
+    /// Extends a register in each active bank for which there is a digest: the new value is the hash of the old value followed by
+    /// the digest (TPM 2.0 Library, part 1, 'Extend of a PCR'). Nothing else changes.
     pub fn extend(&mut self, register: u32, digests: &PerBank)
         requires { register < register_count }
         ensures { Extends self.old self.new register digests.now }
@@ -81,7 +80,7 @@ impl Banks {
     }
 }
 
-// The bank of an algorithm after a start from the locality, where the algorithm is active.
+// The bank of an algorithm after a startup from the locality; `None` if the algorithm is not active.
 fn reset_bank(alg: Alg, active: bool, locality: u8) -> Option<Bank>
     ensures active { is_some result ≡ active }
     ensures values { (r : ℕ) → in_bank alg result r
@@ -94,7 +93,7 @@ fn reset_bank(alg: Alg, active: bool, locality: u8) -> Option<Bank>
     }
 }
 
-// The registers of a bank after a start from the locality.
+// The registers of a bank after a startup from the locality.
 fn reset_registers(alg: Alg, locality: u8) -> Bank
     ensures { (r : ℕ) → r < register_count
         → option_map (value_in alg) (slice_get result r) ≡ Some (reset_value alg r locality) }
@@ -106,7 +105,7 @@ fn reset_registers(alg: Alg, locality: u8) -> Bank
     registers
 }
 
-// A register after a start from the locality.
+// A register after a startup from the locality.
 fn reset_register(alg: Alg, register: usize, locality: u8) -> Register
     ensures { value_in alg result ≡ reset_value alg register locality }
 {
@@ -121,7 +120,7 @@ fn reset_register(alg: Alg, register: usize, locality: u8) -> Register
     }
 }
 
-// Extends a register of the algorithm's bank, where there are a bank and a digest.
+// Extends a register of the algorithm's bank if there are both a bank and a digest.
 #[tactic(auto, using(crate::proofs::PlaceLaws::extends_none))]
 fn extend_bank(alg: Alg, bank: &mut Option<Bank>, index: usize, digest: &Option<Digest>)
     requires { index < register_count }

@@ -7,13 +7,13 @@ ghost use Rattle.pcr_banks.specs.Digests.{alg_of, bytes_of, digest_of};
 use crate::Alg;
 use hex::FromHex;
 
-/// The most bytes that a digest has: those of SHA-512, the longest hash of FIPS 180-4.
+/// The size of the largest digest in bytes, that of SHA-512 (FIPS 180-4).
 pub(crate) const MOST_BYTES: usize = 64;
 
-/// The most hexadecimal digits that a digest has.
+/// The largest number of hexadecimal digits in a digest, and the size of the buffer for [`Digest::hex_into`].
 pub const MOST_DIGITS: usize = 2 * MOST_BYTES;
 
-/// The digest of a message: an algorithm, and as many bytes as its hash has.
+/// A message digest: an algorithm, and as many bytes as its hash has.
 #[derive(Clone, Copy, Debug, PartialEq, Eq)]
 pub enum Digest {
     Sha1([u8; 20]),
@@ -35,7 +35,7 @@ impl Digest {
         }
     }
 
-    /// The bytes, as many as the algorithm's size.
+    /// The bytes, [`Alg::size`] of them.
     pub fn bytes(&self) -> &[u8]
         ensures value { result.now ≡ bytes_of self.now }
         ensures size { length result.now ≡ size_of (alg_of self.now) }
@@ -48,7 +48,7 @@ impl Digest {
         }
     }
 
-    /// All bytes 0x00: the value of most registers at reset.
+    /// The digest whose bytes are all 0x00, the reset value of most registers.
     pub fn zero(alg: Alg) -> Self
         ensures { result ≡ digest_of alg (replicate (size_of alg) 0) }
     {
@@ -60,7 +60,7 @@ impl Digest {
         }
     }
 
-    /// All bytes 0xFF.
+    /// The digest whose bytes are all 0xFF.
     pub fn ones(alg: Alg) -> Self
         ensures { result ≡ digest_of alg (replicate (size_of alg) 255) }
     {
@@ -72,7 +72,7 @@ impl Digest {
         }
     }
 
-    /// The digest with these bytes, or `None` where they are not as many as the algorithm's size.
+    /// Returns the digest with these bytes, or `None` if their number is not the algorithm's size.
     pub fn from_bytes(alg: Alg, bytes: &[u8]) -> Option<Self>
         ensures found { IsSome result ↔ (length bytes.now ≡ size_of alg) }
         ensures value { IfSome result (λ digest. digest ≡ digest_of alg bytes.now) }
@@ -85,8 +85,8 @@ impl Digest {
         }
     }
 
-    /// The digest that the text spells, or `None` where the text is not twice the algorithm's size in hexadecimal
-    /// digits of either case.
+    /// Parses hexadecimal digits of either case. Returns `None` if the text's length is not exactly twice the algorithm's size,
+    /// or if it has any other character.
     pub fn from_hex(alg: Alg, text: &[u8]) -> Option<Self>
         ensures found { IsSome result ↔ ((length text.now ≡ 2 * size_of alg) × AllPass is_hex_digit text.now) }
         ensures value { IfSome result (λ digest.
@@ -100,7 +100,7 @@ impl Digest {
         }
     }
 
-    /// Writes the lower case digits at the front, leaves the rest, and answers how many digits there are.
+    /// Writes the lowercase hexadecimal digits to the front of `out` and returns their number. The rest of `out` is unchanged.
     pub fn hex_into(&self, out: &mut [u8; MOST_DIGITS]) -> usize
         ensures count { result ≡ 2 * size_of (alg_of self.now) }
         ensures written { out.new ≡ encode_lower (bytes_of self.now) ++ drop result out.old }
@@ -112,7 +112,7 @@ impl Digest {
     }
 }
 
-// The bytes of 2 N hexadecimal digits.
+// Parses 2 N hexadecimal digits.
 fn decode_array<const N: usize>(text: &[u8]) -> Option<[u8; N]>
     ensures found { IsSome result ↔ ((length text.now ≡ 2 * N) × AllPass is_hex_digit text.now) }
     ensures value { IfSome result (λ bytes. decode_of text.now ≡ Ok bytes) }

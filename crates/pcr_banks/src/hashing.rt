@@ -8,7 +8,7 @@ use crate::{Alg, Digest};
 use sha1::Sha1;
 use sha2::{Digest as Hashes, Sha256, Sha384, Sha512};
 
-/// The hash of the bytes (FIPS 180-4).
+/// Hashes the bytes (FIPS 180-4).
 pub fn hash(alg: Alg, bytes: &[u8]) -> Digest
     ensures { result ≡ digest_of alg (hash_of alg bytes.now) }
 {
@@ -17,7 +17,7 @@ pub fn hash(alg: Alg, bytes: &[u8]) -> Digest
     hasher.finish()
 }
 
-/// A hash of bytes that come in pieces: the hash of all pieces joined (FIPS 180-4).
+/// Hashes bytes given in pieces: the result is the hash of all pieces joined (FIPS 180-4).
 #[derive(Drop)]
 pub struct Hasher {
     state: State,
@@ -45,7 +45,7 @@ impl Hasher {
         Hasher { state }
     }
 
-    /// Takes the next piece.
+    /// Adds the next piece.
     pub fn update(&mut self, bytes: &[u8])
         ensures { (alg : Alg) (taken : List ℕ) → HasTaken self.old alg taken → HasTaken self.new alg (taken ++ bytes.now) }
     {

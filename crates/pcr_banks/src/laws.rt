@@ -1,4 +1,4 @@
-//! Laws of the definitions. Each is the contract of a function that does nothing, or that only reads.
+//! Laws: consequences of the definitions, each the contract of a function that does nothing, or only reads.
 
 ghost use Rattle.std.specs.Prelude.{◌≡◌, ◌↔◌, ◌⊎◌, ℕ, Bool, List, length, count_by, IsTrue};
 ghost use Rattle.std.specs.List.{list_all, list_any};
@@ -14,9 +14,8 @@ ghost use Rattle.pcr_banks.specs.Binding.{ExtendsBreakHash};
 
 use crate::{Alg, Banks};
 
-/// The list of all algorithms has each algorithm once, and [`Alg::ALL`](crate::Alg::ALL) is that list: a test passes
-/// for every algorithm exactly where it passes for all of the list, and for some algorithm exactly where it passes for
-/// one of the list.
+/// [`Alg::ALL`](crate::Alg::ALL) is `all_algs`, which lists each algorithm once. A test passes for every algorithm if and only
+/// if it passes for all of the list, and for some algorithm if and only if it passes for one of the list.
 pub fn each_alg_once()
     ensures listed { ALL ≡ all_algs }
     ensures once { (alg : Alg) → count_by (same_alg alg) all_algs ≡ 1 }
@@ -24,19 +23,20 @@ pub fn each_alg_once()
     ensures some { (test : Alg → Bool) → IsTrue (list_any test all_algs) ↔ ((alg : Alg) × IsTrue (test alg)) }
 {}
 
-/// Two algorithms are one exactly where they have one identifier.
+/// `same_alg`, which compares identifiers, is equality.
 pub fn same_alg_is_equality()
     ensures { (a b : Alg) → IsTrue (same_alg a b) ↔ (a ≡ b) }
 {}
 
-/// Sets that have the same algorithms are one, and so are digests of all banks that are the same for each algorithm.
+/// Two [`AlgSet`](crate::AlgSet)s with the same algorithms are equal, and so are two [`PerBank`](crate::PerBank)s with the same
+/// digest for each algorithm.
 pub fn sets_are_what_they_have()
     ensures sets { (first second : AlgSet) → ((a : Alg) → has_alg first a ≡ has_alg second a) → first ≡ second }
     ensures digests { (first second : PerBank)
         → ((a : Alg) → digest_for first a ≡ digest_for second a) → first ≡ second }
 {}
 
-/// The value of a register has as many bytes as a hash of its bank's algorithm.
+/// If a register has a value, the value is as long as a hash of its bank's algorithm.
 pub fn register_has_the_size_of_a_hash(banks: &Banks, alg: Alg, register: u32)
     ensures { ForSome (value_at banks.now alg register) (λ value. length value ≡ size_of alg) }
 {
@@ -45,11 +45,10 @@ pub fn register_has_the_size_of_a_hash(banks: &Banks, alg: Alg, register: u32)
     }
 }
 
-/// What the value of a register tells. Where extends from one value by digests, and extends from another by others, end in
-/// one value, they started at the same value and had the same digests, in order; or they break the hash. Then there are two
-/// different byte strings with one hash, each the value and the digest of an extend, the one of the first extends and the
-/// other of the second; or, only where one list of digests is longer, one of its extends hashed to the value from which the
-/// other started.
+/// What the value of a register tells. If two sequences of extends end in the same value, they have the same start value and the
+/// same digests in the same order, or they break the hash. Each extend hashes one input: the value before it, followed by its
+/// digest. The break is a collision between an input of the first sequence and one of the second; or, only if one sequence is
+/// longer, a preimage of the other's start value among the inputs of the longer one.
 pub fn value_tells_extends()
     ensures { (alg : Alg) (value other : List ℕ) (digests others : List (List ℕ)) → length value ≡ size_of alg
         → length other ≡ size_of alg → extended_by_all alg value digests ≡ extended_by_all alg other others

@@ -1,6 +1,6 @@
 //! Platform configuration registers in software: hash algorithms, digests, and the register banks of a TPM 2.0.
 //!
-//! No call of this crate takes memory.
+//! No call of this crate allocates.
 #![tactic(auto)]
 
 mod alg;

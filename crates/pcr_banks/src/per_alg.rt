@@ -15,7 +15,7 @@ pub struct PerAlg<T> {
 }
 
 impl<T> PerAlg<T> {
-    /// The values that a function of the algorithm gives.
+    /// Calls `value` for each algorithm.
     pub fn of<F: Fn(Alg) -> T + Drop>(value: F) -> Self
         requires { F.IsAlwaysCallable value }
         ensures { (a : Alg) → F.post value a (at result a) }
@@ -42,7 +42,7 @@ impl<T> PerAlg<T> {
 }
 
 impl<T: Copy> PerAlg<T> {
-    /// This value for each algorithm.
+    /// The same value for each algorithm.
     pub fn all(value: T) -> Self
         ensures { (a : Alg) → at result a ≡ value }
     {
@@ -54,7 +54,7 @@ impl<T: Copy> PerAlg<T> {
         }
     }
 
-    /// Makes this the algorithm's value. The others stay.
+    /// Sets the algorithm's value. The others stay.
     pub fn set(&mut self, alg: Alg, value: T)
         ensures { (a : Alg) → at self.new a ≡ (if same_alg a alg then value else at self.old a) }
     {

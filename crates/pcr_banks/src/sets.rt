@@ -15,7 +15,7 @@ pub struct AlgSet {
 }
 
 impl AlgSet {
-    /// The set that has no algorithm.
+    /// The empty set.
     pub fn empty() -> Self
         ensures { (a : Alg) → has_alg result a ≡ false }
     {
@@ -24,7 +24,7 @@ impl AlgSet {
         }
     }
 
-    /// The set with this algorithm besides its own.
+    /// The set with this algorithm added.
     pub fn with(mut self, alg: Alg) -> Self
         ensures { (a : Alg) → has_alg result a ≡ (same_alg a alg || has_alg self a) }
     {
@@ -39,14 +39,14 @@ impl AlgSet {
         *self.has.get(alg)
     }
 
-    /// Whether the set has no algorithm.
+    /// Whether the set is empty.
     pub fn is_empty(self) -> bool
         ensures { IsTrue result ↔ ((a : Alg) → has_alg self a ≡ false) }
     {
         !self.has_any()
     }
 
-    // Whether the set has one of all algorithms.
+    // Whether the set has some algorithm.
     fn has_any(self) -> bool
         ensures { result ≡ list_any (has_alg self) all_algs }
     {
@@ -54,14 +54,14 @@ impl AlgSet {
     }
 }
 
-/// For each algorithm one digest of it, or nothing.
+/// For each algorithm, a digest or none.
 #[derive(Clone, Copy, Debug, PartialEq, Eq)]
 pub struct PerBank {
     digests: PerAlg<Option<Digest>>,
 }
 
 impl PerBank {
-    /// No digest for any algorithm.
+    /// No digests.
     pub fn empty() -> Self
         ensures digest { (a : Alg) → digest_for result a ≡ None }
         ensures bytes { (a : Alg) → digest_in result a ≡ None }
@@ -71,7 +71,8 @@ impl PerBank {
         }
     }
 
-    /// The digests that a function of the algorithm gives, each for its algorithm.
+    /// Calls `digest` for each algorithm and keeps the result for that algorithm. No contract requires a digest to be of the
+    /// algorithm that it is kept for; the caller ensures that.
     pub fn of<F: Fn(Alg) -> Option<Digest> + Drop>(digest: F) -> Self
         requires { F.IsAlwaysCallable digest }
         ensures { (a : Alg) → F.post digest a (digest_for result a) }
@@ -81,7 +82,7 @@ impl PerBank {
         }
     }
 
-    /// These digests, with this one for its algorithm.
+    /// The same digests, with this one set for its algorithm.
     pub fn with(mut self, digest: Digest) -> Self
         ensures digest { (a : Alg) → digest_for result a
             ≡ (if same_alg a (alg_of digest) then Some digest else digest_for self a) }
@@ -92,14 +93,14 @@ impl PerBank {
         self
     }
 
-    /// The algorithm's digest.
+    /// The algorithm's digest, if there is one.
     pub fn get(self, alg: Alg) -> Option<Digest>
         ensures { result ≡ digest_for self alg }
     {
         *self.digests.get(alg)
     }
 
-    // The same, where it lies.
+    // As `get`, by reference.
     pub(crate) fn digest(&self, alg: Alg) -> &Option<Digest>
         ensures { result.now ≡ digest_for self.now alg }
     {

@@ -15,48 +15,25 @@ mod rest;
 mod signatures;
 mod told;
 
-use hash_workers::{AgentFault, Batch, Job, NoGate, measure_files};
-use ima_list::{Sig, Template};
+use hash_workers::{AgentFault, Batch, Job, NoGate, measure_files, op_of};
+use ima_list::Sig;
 use measure_book::{BookFault, Op, Origin, Outcome, Receipt};
-use pcr_banks::{Alg, AlgSet, Banks, Digest, hash};
+use pcr_banks::Alg;
 use std::alloc::{AllocError, Global};
 use std::sync::Wait;
 use std::test::Fail;
 use std::thread::Threads;
+use test_kit::copied;
+use test_kit::lists::sig_of;
 
 /// How many jobs a batch may have.
 const MOST_JOBS: usize = 0xFFFF_FFFF;
-
-/// An origin with banks of SHA-256 alone after a start from locality 0, the template `ima-ng` and SHA-256.
-fn origin(limit: u32) -> Origin {
-    Origin {
-        start: Banks::new(AlgSet::empty().with(Alg::Sha256), 0),
-        template: Template::ImaNg,
-        alg: Alg::Sha256,
-        limit,
-    }
-}
-
-/// The SHA-256 of these bytes.
-fn sha256(bytes: &[u8]) -> Digest {
-    hash(Alg::Sha256, bytes)
-}
-
-/// The bytes in a vector; once more where an allocation was refused.
-fn copied(alloc: Global, bytes: &[u8]) -> Result<Vec<u8>, AllocError> {
-    Vec::from_slice(alloc, bytes).or_else(|_| Vec::from_slice(alloc, bytes))
-}
 
 fn file(alloc: Global, path: &[u8], content: &[u8]) -> Result<Job, AllocError> {
     let path = copied(alloc, path)?;
     let content = copied(alloc, content)?;
     let sig = Sig::empty(alloc);
     Ok(Job::File { path, content, sig })
-}
-
-/// A signature; once more where an allocation was refused.
-fn sig_of(alloc: Global, bytes: &[u8]) -> Result<Sig, Fail> {
-    Ok(Sig::new(copied(alloc, bytes)?).ok().ok_or("no signature")?)
 }
 
 fn signed_file(alloc: Global, path: &[u8], content: &[u8], sig: &[u8]) -> Result<Job, Fail> {
@@ -75,18 +52,9 @@ fn read(alg: Alg, register: u32) -> Job {
     Job::Read { alg, register }
 }
 
-/// The operation of a file with this digest, without a signature.
-fn measured(alloc: Global, path: &[u8], digest: Digest) -> Result<Op, AllocError> {
-    let path = copied(alloc, path)?;
-    let sig = Sig::empty(alloc);
-    Ok(Op::Measure { path, digest, sig })
-}
-
-/// The operation of a file with this digest and this signature.
-fn measured_with(alloc: Global, path: &[u8], digest: Digest, sig: &[u8]) -> Result<Op, Fail> {
-    let path = copied(alloc, path)?;
-    let sig = sig_of(alloc, sig)?;
-    Ok(Op::Measure { path, digest, sig })
+/// The operation of a job; once more where an allocation was refused.
+fn operation(alloc: Global, job: &Job, alg: Alg) -> Result<Op, AllocError> {
+    op_of(alloc, job, alg).or_else(|_| op_of(alloc, job, alg))
 }
 
 /// The batch of these jobs; once more where an allocation was refused.

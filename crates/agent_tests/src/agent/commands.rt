@@ -2,12 +2,12 @@
 
 use super::devices::{answered, bytes_of};
 use super::logs::HEADER;
-use super::show::{MEASUREMENT, MEASUREMENT_LINE};
 use super::verdicts::{EXPECTED, log_and_list};
 use std::process::Abort;
 use std::sync::Wait;
 use std::test::Fail;
 use std::thread::Threads;
+use test_kit::lists::{MEASUREMENT, MEASUREMENT_LINE};
 
 /// The value of PCR 10 after the boot aggregate of registers at reset and the measurement of `abc` as `/bin/sh`.
 pub const SHELL_LINE: &[u8] =

@@ -1,20 +1,17 @@
-//! Files and sinks in memory.
+//! Files in memory, and what the program makes of them.
 
-ghost use Rattle.std.specs.Prelude.{None};
 ghost use Rattle.agent_tests.specs.Devices.{bytes_of_standard_input};
 
-use super::list_sources::PieceSource;
-use boot_log::LogFault;
-use byte_streams::{Failed, Sink, SliceSource, VecSink};
+use byte_streams::{Failed, SliceSource, VecSink};
 use hex::FromHexError;
-use ima_agent::{ExpectFault, Files, LoadFault, SharedFiles, VerifyFault, hash_from, run};
-use ima_list::ListFault;
-use measure_book::BookFault;
+use ima_agent::{Files, LoadFault, SharedFiles, hash_from, run};
 use pcr_banks::{Alg, Digest};
 use std::alloc::{AllocError, Global};
 use std::sync::Wait;
 use std::test::Fail;
 use std::thread::Threads;
+use test_kit::devices::PieceSource;
+use test_kit::once_more;
 
 /// No files.
 #[derive(Drop)]
@@ -119,132 +116,9 @@ impl<'a, S: SharedFiles + Sync> Files for MeasuredFiles<'a, S> {
     }
 }
 
-/// How many bytes a short sink takes at most.
-const MOST: usize = 16;
-
-/// A sink that takes one byte a write, and fails once it has as many bytes as it has room for.
-#[derive(Drop)]
-pub struct ShortSink {
-    bytes: [u8; MOST],
-    count: usize,
-    room: usize,
-    failures: u64,
-}
-
-impl ShortSink {
-    pub fn new(room: usize) -> Self {
-        ShortSink {
-            bytes: [0; MOST],
-            count: 0,
-            room,
-            failures: 0,
-        }
-    }
-
-    pub fn bytes(&self) -> &[u8] {
-        self.bytes.get(..self.count).unwrap_or(&[])
-    }
-
-    pub fn failures(&self) -> u64 {
-        self.failures
-    }
-}
-
-impl Sink for ShortSink {
-    ghost state = { λ sink. record { taken = None; failures = sink.failures } };
-
-    fn write(&mut self, bytes: &[u8]) -> Result<usize, Failed> {
-        let Some(first) = bytes.first() else {
-            return Ok(0);
-        };
-        if self.count >= self.room || self.count >= self.bytes.len() {
-            self.failures = self.failures.saturating_add(1);
-            return Err(Failed);
-        }
-        self.bytes[self.count] = *first;
-        self.count += 1;
-        Ok(1)
-    }
-}
-
-/// A fault that may say that an allocation was refused.
-pub trait Refusal: Drop {
-    fn is_refusal(&self) -> bool;
-}
-
-impl Refusal for AllocError {
-    fn is_refusal(&self) -> bool {
-        true
-    }
-}
-
-impl Refusal for Failed {
-    fn is_refusal(&self) -> bool {
-        true
-    }
-}
-
-impl Refusal for LoadFault {
-    fn is_refusal(&self) -> bool {
-        *self == LoadFault::Memory
-    }
-}
-
-impl Refusal for FromHexError {
-    fn is_refusal(&self) -> bool {
-        matches!(self, FromHexError::OutOfMemory)
-    }
-}
-
-impl Refusal for LogFault {
-    fn is_refusal(&self) -> bool {
-        *self == LogFault::Memory
-    }
-}
-
-impl Refusal for ListFault {
-    fn is_refusal(&self) -> bool {
-        *self == ListFault::Memory
-    }
-}
-
-impl Refusal for ExpectFault {
-    fn is_refusal(&self) -> bool {
-        *self == ExpectFault::Memory
-    }
-}
-
-impl Refusal for VerifyFault {
-    fn is_refusal(&self) -> bool {
-        *self == VerifyFault::Memory
-    }
-}
-
-impl Refusal for BookFault {
-    fn is_refusal(&self) -> bool {
-        *self == BookFault::Memory
-    }
-}
-
-/// What the attempt answers; where it says that an allocation was refused, what it answers once more.
-pub fn once_more<T: Drop, E: Refusal, F: Fn() -> Result<T, E>>(attempt: F) -> Result<T, E>
-    requires { F.IsAlwaysCallable attempt }
-{
-    let first = attempt();
-    match &first {
-        Err(fault) if fault.is_refusal() => attempt(),
-        _ => first,
-    }
-}
-
-/// The parts joined.
-pub fn joined(alloc: Global, parts: &[&[u8]]) -> Result<Vec<u8>, AllocError> {
-    once_more(|| parts.concat(alloc))
-}
-
 /// The texts joined.
 pub fn text_of(alloc: Global, parts: &[&str]) -> Result<String, AllocError> {
-    once_more(|| {
+    once_more(AllocError, || {
         let mut text = String::new(alloc);
         for part in parts {
             text.push_str(part)?;
@@ -256,7 +130,7 @@ pub fn text_of(alloc: Global, parts: &[&str]) -> Result<String, AllocError> {
 /// The bytes that hexadecimal texts spell, joined; white space does not count.
 pub fn bytes_of(alloc: Global, parts: &[&str]) -> Result<Vec<u8>, Fail> {
     let text = text_of(alloc, parts)?;
-    let digits = once_more(|| {
+    let digits = once_more(AllocError, || {
         let mut digits = Vec::with_capacity(alloc, text.len())?;
         for byte in text.bytes() {
             if !byte.is_ascii_whitespace() {
@@ -265,12 +139,12 @@ pub fn bytes_of(alloc: Global, parts: &[&str]) -> Result<Vec<u8>, Fail> {
         }
         Ok::<Vec<u8>, AllocError>(digits)
     })?;
-    Ok(once_more(|| hex::decode(alloc, &digits))?)
+    Ok(once_more(FromHexError::OutOfMemory, || hex::decode(alloc, &digits))?)
 }
 
 /// The words of a command.
 pub fn words_of(alloc: Global, words: &[&str]) -> Result<Vec<String>, AllocError> {
-    once_more(|| {
+    once_more(AllocError, || {
         let mut owned = Vec::new(alloc);
         for word in words {
             owned.push(String::from_str(alloc, word)?)?;

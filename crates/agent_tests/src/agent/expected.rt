@@ -1,12 +1,14 @@
 //! Expected registers, read from text.
 
-use super::devices::{once_more, text_of};
+use super::devices::text_of;
 use super::loading::loaded;
 use byte_streams::{Failed, VecSink};
 use ima_agent::{ExpectFault, Expected, LoadFault, read_expected, write_registers};
 use pcr_banks::{Alg, AlgSet, Banks, Digest};
 use std::alloc::Global;
 use std::test::Fail;
+use test_kit::once_more;
+use test_kit::registers::sha256_of;
 
 /// The digits of a SHA-256 digest, of both cases.
 const DIGITS: &str = "f5a5fd42d16a20302798ef6ed309979b43003d2320d9f0e8ea9831a92759FB4B";
@@ -18,7 +20,10 @@ const SHA512_DIGITS: &str = "ab942f526272e456ed68a979f50202905ca903a141ed9844356
 /// Reads the text that these parts make; once more where an allocation was refused.
 fn expected_of(alloc: Global, parts: &[&str]) -> Result<Vec<Expected>, ExpectFault> {
     let text = text_of(alloc, parts).map_err(|_| ExpectFault::Memory)?;
-    once_more(|| read_expected(alloc, text.as_bytes()))
+    once_more(
+        ExpectFault::Memory,
+        || read_expected(alloc, text.as_bytes()),
+    )
 }
 
 /// No text, a register of 24, a register twice; and inputs at the limit and past it.
@@ -87,7 +92,7 @@ fn four_registers(alloc: Global, end: &str) -> Result<Vec<Expected>, ExpectFault
 /// The last line may have either end, or none, and empty lines may follow it.
 #[test]
 fn expected_registers_in_their_order(rt: HostRuntime) -> Result<(), Fail> {
-    let value = Digest::from_hex(Alg::Sha256, DIGITS.as_bytes()).ok_or("no digest")?;
+    let value = sha256_of(DIGITS.as_bytes())?;
     let longest = Digest::from_hex(Alg::Sha512, SHA512_DIGITS.as_bytes()).ok_or("no digest")?;
     let wanted = [
         (Alg::Sha256, 4, value),
@@ -122,8 +127,8 @@ fn written_registers_are_read_back(rt: HostRuntime) -> Result<(), Fail> {
     let alloc = rt.alloc();
     let now = Banks::new(AlgSet::empty().with(Alg::Sha1).with(Alg::Sha512), 3);
     let start = Banks::new(AlgSet::empty(), 0);
-    let text = once_more(|| registers_text(alloc, &now, &start))?;
-    let read = once_more(|| read_expected(alloc, &text))?;
+    let text = once_more(Failed, || registers_text(alloc, &now, &start))?;
+    let read = once_more(ExpectFault::Memory, || read_expected(alloc, &text))?;
     assert_eq!(rt; read.len(), 48);
     for expected in &read {
         let value = now.read(expected.alg, expected.register);

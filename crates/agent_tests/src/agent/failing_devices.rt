@@ -3,17 +3,14 @@
 ghost use Rattle.std.specs.Prelude.{None};
 
 use super::commands::SHELL_LINE;
-use super::devices::{
-    NamedFiles, NoFiles, StandardInput, bytes_of, joined, once_more, ran_over, text_of, words_of,
-};
-use super::list_sources::{PieceSource, REPORT, fault_of};
+use super::devices::{NamedFiles, NoFiles, StandardInput, bytes_of, ran_over, text_of, words_of};
+use super::list_sources::{REPORT, fault_of};
 use super::logs::{EVENT, EXTENDED_LINE, HEADER, TWO_BANKS_LINES};
-use super::show::{MEASUREMENT, MEASUREMENT_LINE};
 use super::verdicts::{EXPECTED, LIST, book_of, log_and_list, registers_of};
 use byte_streams::{Failed, Sink};
 use ima_agent::{
-    Files, LoadFault, Report, RunFault, VerifyFault, load, read_expected, run, verify, write_fault,
-    write_registers, write_report,
+    ExpectFault, Files, LoadFault, Report, RunFault, VerifyFault, load, read_expected, run, verify,
+    write_fault, write_registers, write_report,
 };
 use ima_list::ListFault;
 use measure_book::{Book, BookFault};
@@ -22,6 +19,9 @@ use std::process::Abort;
 use std::sync::Wait;
 use std::test::Fail;
 use std::thread::Threads;
+use test_kit::devices::PieceSource;
+use test_kit::lists::{MEASUREMENT, MEASUREMENT_LINE};
+use test_kit::{joined, once_more};
 
 /// Takes so many bytes at a time at most, one at least, fails after some writes, and tells no bytes. It looks whether what it
 /// takes is a text that it was made with.
@@ -124,10 +124,16 @@ fn texts_to_failing_sinks(rt: HostRuntime) -> Result<(), Fail> {
     let alloc = rt.alloc();
     let (log, list) = log_and_list(alloc)?;
     let registers = registers_of(alloc, &log)?;
-    let book = once_more(|| book_of(alloc, registers))?;
+    let book = once_more(BookFault::Memory, || book_of(alloc, registers))?;
     assert_sent(&rt, &Text::List(&book), &bytes_of(alloc, &[LIST])?);
-    let expected = once_more(|| read_expected(alloc, EXPECTED.as_bytes()))?;
-    let report = once_more(|| verify(alloc, &log, &list, &expected))?;
+    let expected = once_more(
+        ExpectFault::Memory,
+        || read_expected(alloc, EXPECTED.as_bytes()),
+    )?;
+    let report = once_more(
+        VerifyFault::Memory,
+        || verify(alloc, &log, &list, &expected),
+    )?;
     assert_sent(&rt, &Text::Report(&report), REPORT);
     let start = Banks::new(AlgSet::empty().with(Alg::Sha1).with(Alg::Sha384), 0);
     let zeros = PerBank::empty()

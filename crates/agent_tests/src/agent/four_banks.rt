@@ -6,7 +6,7 @@
 
 use super::devices::{answered, bytes_of};
 use super::real_boot::FIRMWARE_LOG;
-use super::real_boot_list::{list_bytes, log_of};
+use super::real_boot_list::list_bytes;
 use boot_log::{BootLog, Event};
 use pcr_banks::{Alg, hash};
 use std::alloc::{AllocError, Global};
@@ -14,6 +14,7 @@ use std::process::Abort;
 use std::sync::Wait;
 use std::test::Fail;
 use std::thread::Threads;
+use test_kit::logs::log_of;
 
 /// A header that declares four banks.
 const HEADER: &str = "00000000 03000000 0000000000000000000000000000000000000000 2d000000

@@ -2,14 +2,14 @@
 
 ghost use Rattle.std.specs.Prelude.{None};
 
-use super::devices::once_more;
-use super::list_sources::PieceSource;
 use byte_streams::{Failed, Source};
 use ima_agent::{LoadFault, hash_from};
 use pcr_banks::{Alg, Digest};
 use std::alloc::{AllocError, Global};
 use std::process::Abort;
 use std::test::Fail;
+use test_kit::devices::PieceSource;
+use test_kit::once_more;
 
 /// Counts of bytes, and the hashes of so many bytes by each algorithm, in the order of `Alg::ALL`. The bytes are 0, 1 and on to
 /// 250, again and again.
@@ -106,7 +106,7 @@ static HASHES: [(usize, [&str; 4]); 8] = [
 
 /// So many bytes: 0, 1 and on to 250, again and again.
 fn counting_bytes(alloc: Global, count: usize) -> Result<Vec<u8>, AllocError> {
-    once_more(|| {
+    once_more(AllocError, || {
         let mut bytes = Vec::with_capacity(alloc, count)?;
         for index in 0..count {
             bytes.push((index % 251) as u8)?;
@@ -122,7 +122,7 @@ pub fn hashed(
     alg: Alg,
     limit: usize,
 ) -> Result<Digest, LoadFault> {
-    once_more(|| {
+    once_more(LoadFault::Memory, || {
         let mut source = *source;
         hash_from(alloc, &mut source, alg, limit as u64)
     })

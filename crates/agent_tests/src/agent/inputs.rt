@@ -1,11 +1,13 @@
 //! Inputs of a megabyte and more, and inputs that are nearly right.
 
-use super::devices::{NoFiles, answered, bytes_of, joined, once_more, ran, ran_over, words_of};
+use super::devices::{NoFiles, answered, bytes_of, ran, ran_over, words_of};
 use super::logs::{EVENT, EXTENDED_LINE, HEADER};
-use super::show::{MEASUREMENT, MEASUREMENT_LINE};
 use byte_streams::{Failed, SliceSource};
 use ima_agent::Files;
+use std::alloc::AllocError;
 use std::test::Fail;
+use test_kit::lists::{MEASUREMENT, MEASUREMENT_LINE};
+use test_kit::{joined, once_more};
 
 /// More bytes than a mebibyte has.
 const MANY: usize = 1_500_000;
@@ -14,7 +16,7 @@ const MANY: usize = 1_500_000;
 #[test]
 fn hexadecimal_text_of_many_bytes(rt: HostRuntime) -> Result<(), Fail> {
     let alloc = rt.alloc();
-    let space = once_more(|| vec![in alloc; b' '; MANY])?;
+    let space = once_more(AllocError, || vec![in alloc; b' '; MANY])?;
     let input = joined(
         alloc,
         &[&space, HEADER.as_bytes(), &space, EVENT.as_bytes()],
@@ -73,7 +75,7 @@ impl<'a> Files for OnceOnly<'a> {
 fn list_of_many_bytes(rt: HostRuntime) -> Result<(), Fail> {
     const COUNT: usize = 16_000;
     let alloc = rt.alloc();
-    let bytes = once_more(|| {
+    let bytes = once_more(AllocError, || {
         let mut bytes = Vec::with_capacity(alloc, COUNT * MEASUREMENT.len())?;
         for _ in 0..COUNT {
             bytes.extend_from_slice(MEASUREMENT)?;

@@ -1,12 +1,13 @@
 //! Inputs of mebibytes through the program's words.
 
-use super::devices::{answered, bytes_of, joined, once_more};
+use super::devices::{answered, bytes_of};
 use super::logs::{EVENT, EXTENDED_LINE, HEADER};
-use super::show::MEASUREMENT;
 use std::alloc::{AllocError, Global};
 use std::sync::Wait;
 use std::test::Fail;
 use std::thread::Threads;
+use test_kit::lists::MEASUREMENT;
+use test_kit::{joined, once_more};
 
 /// Two mebibytes.
 const TWO: usize = 2 * 1024 * 1024;
@@ -16,7 +17,7 @@ const FORTY: usize = 40 * 1024 * 1024;
 
 /// This byte, so many times.
 fn filled(alloc: Global, byte: u8, count: usize) -> Result<Vec<u8>, AllocError> {
-    once_more(|| vec![in alloc; byte; count])
+    once_more(AllocError, || vec![in alloc; byte; count])
 }
 
 /// Forty mebibytes that begin and end so, with the byte 0xAB between.

@@ -1,69 +1,22 @@
 //! Reports on lists that come from a source, piece by piece.
 
-ghost use Rattle.std.specs.Prelude.{None};
-
-use super::devices::{NoFiles, bytes_of, joined, once_more, ran_over, words_of};
+use super::devices::{NoFiles, bytes_of, ran_over, words_of};
 use super::logs::{EVENT, EXTENDED_LINE, HEADER};
 use super::real_boot::FIRMWARE_LOG;
 use super::real_boot_list::{REGISTER, list_bytes};
-use super::show::{MEASUREMENT, VIOLATION};
 use super::verdicts::{EXPECTED, log_and_list};
 use boot_log::LogFault;
-use byte_streams::{Failed, SliceSource, Source, VecSink};
+use byte_streams::{Failed, SliceSource, VecSink};
 use ima_agent::{
-    Expected, Files, Report, VerifyFault, read_expected, verify, verify_from, write_report,
+    ExpectFault, Expected, Files, Report, VerifyFault, read_expected, verify, verify_from,
+    write_report,
 };
 use ima_list::{ListFault, ReplayFault};
 use std::alloc::Global;
 use std::test::Fail;
-
-/// Gives so many bytes at a time at most, fails after some reads, and tells no bytes.
-#[derive(Clone, Copy)]
-pub struct PieceSource<'a> {
-    rest: &'a [u8],
-    most: usize,
-    reads: usize,
-    failures: u64,
-}
-
-impl<'a> PieceSource<'a> {
-    /// Gives these bytes, and never fails.
-    pub fn new(bytes: &'a [u8], most: usize) -> Self {
-        PieceSource::failing(bytes, most, usize::MAX)
-    }
-
-    /// Gives these bytes, and fails from the read on that comes after so many.
-    pub fn failing(bytes: &'a [u8], most: usize, reads: usize) -> Self {
-        PieceSource {
-            rest: bytes,
-            most,
-            reads,
-            failures: 0,
-        }
-    }
-
-    /// How many reads failed.
-    pub fn failures(&self) -> u64 {
-        self.failures
-    }
-}
-
-impl Source for PieceSource<'_> {
-    ghost state = { λ source. record { remaining = None; failures = source.failures } };
-
-    fn read(&mut self, buffer: &mut [u8]) -> Result<usize, Failed> {
-        if self.reads == 0 {
-            self.failures = self.failures.saturating_add(1);
-            return Err(Failed);
-        }
-        self.reads -= 1;
-        let count = self.rest.len().min(self.most).min(buffer.len());
-        let (front, rest) = self.rest.split_at(count);
-        buffer[..count].copy_from_slice(front);
-        self.rest = rest;
-        Ok(count)
-    }
-}
+use test_kit::devices::PieceSource;
+use test_kit::lists::{MEASUREMENT, VIOLATION};
+use test_kit::{joined, once_more};
 
 /// The report on a list that stands in memory, through a source; once more where an allocation was refused.
 pub fn report_within(
@@ -73,7 +26,10 @@ pub fn report_within(
     limit: u64,
     expected: &[Expected],
 ) -> Result<Report, VerifyFault> {
-    once_more(|| verify_from(alloc, log, &mut SliceSource::new(list), limit, expected))
+    once_more(
+        VerifyFault::Memory,
+        || verify_from(alloc, log, &mut SliceSource::new(list), limit, expected),
+    )
 }
 
 /// The report on a list that comes in pieces; once more where an allocation was refused.
@@ -84,7 +40,7 @@ fn report_in_pieces(
     most: usize,
     expected: &[Expected],
 ) -> Result<Report, VerifyFault> {
-    once_more(|| {
+    once_more(VerifyFault::Memory, || {
         let mut source = PieceSource::new(list, most);
         verify_from(alloc, log, &mut source, u64::MAX, expected)
     })
@@ -95,16 +51,16 @@ pub fn fault_of(alloc: Global, log: &[u8], source: PieceSource<'_>) -> (Option<V
     let mut first = source;
     let fault = verify_from(alloc, log, &mut first, u64::MAX, &[]).err();
     if fault != Some(VerifyFault::Memory) {
-        return (fault, first.failures);
+        return (fault, first.failures());
     }
     let mut second = source;
     let fault = verify_from(alloc, log, &mut second, u64::MAX, &[]).err();
-    (fault, second.failures)
+    (fault, second.failures())
 }
 
 /// The text of a report.
 pub fn written(alloc: Global, report: &Report) -> Result<Vec<u8>, Failed> {
-    once_more(|| {
+    once_more(Failed, || {
         let mut sink = VecSink::new(Vec::new(alloc));
         write_report(report, &mut sink)?;
         Ok(sink.into_bytes())
@@ -127,7 +83,10 @@ verdict differ
 fn report_on_a_list_from_a_source(rt: HostRuntime) -> Result<(), Fail> {
     let alloc = rt.alloc();
     let (log, list) = log_and_list(alloc)?;
-    let expected = once_more(|| read_expected(alloc, EXPECTED.as_bytes()))?;
+    let expected = once_more(
+        ExpectFault::Memory,
+        || read_expected(alloc, EXPECTED.as_bytes()),
+    )?;
     let report = report_within(alloc, &log, &list, u64::MAX, &expected)?;
     assert_eq!(rt; written(alloc, &report)?.as_slice(), REPORT);
     for most in [1, 7, 100, 4_096] {
@@ -179,8 +138,11 @@ fn real_boot_list_in_pieces(rt: HostRuntime) -> Result<(), Fail> {
     let log = bytes_of(alloc, &[FIRMWARE_LOG])?;
     let list = list_bytes(alloc)?;
     let text = joined(alloc, &[b"sha256 10 ", REGISTER])?;
-    let expected = once_more(|| read_expected(alloc, &text))?;
-    let whole = once_more(|| verify(alloc, &log, &list, &expected))?;
+    let expected = once_more(ExpectFault::Memory, || read_expected(alloc, &text))?;
+    let whole = once_more(
+        VerifyFault::Memory,
+        || verify(alloc, &log, &list, &expected),
+    )?;
     let whole = written(alloc, &whole)?;
     assert_eq!(rt;
         whole.as_slice(),
@@ -259,7 +221,7 @@ fn source_fault_behind_a_forged_entry(rt: HostRuntime) -> Result<(), Fail> {
 fn empty_list_from_a_source(rt: HostRuntime) -> Result<(), Fail> {
     let alloc = rt.alloc();
     let log = bytes_of(alloc, &[HEADER, EVENT])?;
-    let expected = once_more(|| read_expected(alloc, EXTENDED_LINE))?;
+    let expected = once_more(ExpectFault::Memory, || read_expected(alloc, EXTENDED_LINE))?;
     for limit in [0, 1, u64::MAX] {
         let report = report_within(alloc, &log, b"", limit, &expected)?;
         assert_eq!(rt;

@@ -1,7 +1,6 @@
 //! Many words, and many files in one measurement.
 
-use super::devices::{MeasuredFiles, NamedFiles, Untold, bytes_of, once_more, ran_over, words_of};
-use super::list_sources::PieceSource;
+use super::devices::{MeasuredFiles, NamedFiles, Untold, bytes_of, ran_over, words_of};
 use super::logs::HEADER;
 use super::seventy_files::{FILES, LINES};
 use ima_agent::{LoadFault, SharedFiles, hash_from};
@@ -11,6 +10,8 @@ use std::process::Abort;
 use std::sync::Wait;
 use std::test::Fail;
 use std::thread::Threads;
+use test_kit::devices::PieceSource;
+use test_kit::once_more;
 
 /// `abc` under every name.
 #[derive(Drop)]
@@ -75,7 +76,7 @@ fn seventy_measured(
     workers: &str,
 ) -> Result<(u8, Vec<u8>), AllocError> {
     let alloc = rt.alloc();
-    let words = once_more(|| {
+    let words = once_more(AllocError, || {
         let mut words = words_of(alloc, &["measure", "--workers", workers])?;
         for (name, _) in &FILES {
             words.push(String::from_str(alloc, name)?)?;

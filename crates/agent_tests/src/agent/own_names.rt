@@ -1,9 +1,6 @@
 //! Files that hold their own names, and some that fail or have no end.
 
-use super::devices::{
-    MeasuredFiles, NamedFiles, Untold, bytes_of, once_more, ran_over, text_of, words_of,
-};
-use super::list_sources::PieceSource;
+use super::devices::{MeasuredFiles, NamedFiles, Untold, bytes_of, ran_over, text_of, words_of};
 use super::logs::HEADER;
 use super::program::OddSource;
 use ima_agent::{LoadFault, SharedFiles, hash_from};
@@ -12,6 +9,8 @@ use std::alloc::{AllocError, Global};
 use std::sync::Wait;
 use std::test::Fail;
 use std::thread::Threads;
+use test_kit::devices::PieceSource;
+use test_kit::once_more;
 
 /// Files that hold their own names, and give them byte by byte. Some fail at their second read, and some have no end.
 #[derive(Clone, Copy)]
@@ -57,7 +56,7 @@ pub fn names_text(
     between: &str,
     end: &str,
 ) -> Result<String, AllocError> {
-    once_more(|| {
+    once_more(AllocError, || {
         let mut text = String::new(alloc);
         for number in first..count {
             if number > first {

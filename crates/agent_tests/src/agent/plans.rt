@@ -1,6 +1,6 @@
 //! What words ask for, compared whole.
 
-use super::devices::{Refusal, once_more, words_of};
+use super::devices::words_of;
 use ima_agent::{NameEnd, Plan, Print, RunFault, read_words};
 use ima_list::Template;
 use pcr_banks::Alg;
@@ -8,16 +8,13 @@ use std::alloc::Global;
 use std::process::Abort;
 use std::test::Fail;
 
-impl Refusal for RunFault {
-    fn is_refusal(&self) -> bool {
-        matches!(self, RunFault::Memory)
-    }
-}
-
 /// What the words ask for; once more where an allocation was refused.
 fn plan_of(alloc: Global, words: &[&str]) -> Result<Plan, Fail> {
     let words = words_of(alloc, words)?;
-    Ok(once_more(|| read_words(alloc, &words))?)
+    match read_words(alloc, &words) {
+        Err(RunFault::Memory) => Ok(read_words(alloc, &words)?),
+        answer => Ok(answer?),
+    }
 }
 
 /// Words, and the measurement that they ask for.

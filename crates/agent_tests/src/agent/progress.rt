@@ -2,13 +2,13 @@
 
 use super::devices::{NamedFiles, bytes_of, words_of};
 use super::logs::HEADER;
-use super::show::MEASUREMENT;
 use byte_streams::VecSink;
 use ima_agent::{Progress, run_with_progress};
 use std::sync::Wait;
 use std::sync::atomic::{AtomicU32, Ordering};
 use std::test::Fail;
 use std::thread::Threads;
+use test_kit::lists::MEASUREMENT;
 
 /// Notes what it is told of five files.
 #[derive(Drop)]

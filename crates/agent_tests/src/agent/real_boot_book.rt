@@ -1,31 +1,22 @@
 //! The list of a real boot, made again by a book.
 
-use super::devices::{bytes_of, once_more};
+use super::devices::bytes_of;
 use super::real_boot::FIRMWARE_LOG;
-use super::real_boot_list::{REGISTER, entries_of, list_bytes, log_of};
+use super::real_boot_list::{REGISTER, list_bytes};
 use ima_list::{Entry, Fields, Sig, Template};
-use measure_book::{Answer, Book, BookFault, Op, Origin, Receipt};
+use measure_book::{Answer, BookFault, Op, Origin};
 use pcr_banks::{Alg, Banks, Digest, REGISTERS};
 use std::alloc::{AllocError, Global};
 use std::process::Abort;
 use std::test::Fail;
-
-/// Opens a book; once more where an allocation was refused.
-fn opened(alloc: Global, origin: Origin) -> Result<Book, BookFault> {
-    once_more(|| Book::open(alloc, origin))
-}
-
-/// Does an operation; once more where an allocation was refused.
-fn applied(book: &mut Book, op: &Op) -> Result<Receipt, BookFault> {
-    match book.apply(op) {
-        Err(BookFault::Memory) => book.apply(op),
-        answer => answer,
-    }
-}
+use test_kit::books::{applied, opened};
+use test_kit::lists::list_of;
+use test_kit::logs::log_of;
+use test_kit::once_more;
 
 /// The operation that an entry with these fields comes of; once more where an allocation was refused.
 fn operation_of(alloc: Global, entry: &Entry, fields: &Fields) -> Result<Op, AllocError> {
-    let path = once_more(|| Vec::from_slice(alloc, fields.path))?;
+    let path = once_more(AllocError, || Vec::from_slice(alloc, fields.path))?;
     Ok(if entry.is_violation() {
         Op::Violation { path }
     } else {
@@ -67,7 +58,7 @@ fn real_boot_book(rt: HostRuntime) -> Result<(), Fail> {
     let alloc = rt.alloc();
     let log = bytes_of(alloc, &[FIRMWARE_LOG])?;
     let start = log_of(alloc, &log)?.registers();
-    let list = entries_of(alloc, &list_bytes(alloc)?)?;
+    let list = list_of(alloc, &list_bytes(alloc)?)?;
     let origin = Origin {
         start,
         template: Template::ImaNg,

@@ -1,11 +1,10 @@
 //! The measurement list of a real boot, and PCR 10 as the TPM had it after the list.
 
-use super::devices::{bytes_of, once_more};
-use boot_log::{BootLog, LogFault, read_log};
-use ima_list::{Entry, ListFault, read_list, write_entry};
+use super::devices::bytes_of;
 use pcr_banks::{Alg, AlgSet, Banks, Digest};
-use std::alloc::{AllocError, Global};
+use std::alloc::Global;
 use std::test::Fail;
+use test_kit::lists::{append_entry, list_of};
 
 /// How many bytes the list has.
 const LENGTH: usize = 11_929;
@@ -18,33 +17,12 @@ pub fn list_bytes(alloc: Global) -> Result<Vec<u8>, Fail> {
     bytes_of(alloc, &[LIST])
 }
 
-/// Reads the list; once more where an allocation was refused.
-pub fn entries_of(alloc: Global, bytes: &[u8]) -> Result<Vec<Entry>, ListFault> {
-    once_more(|| read_list(alloc, bytes))
-}
-
-/// Reads the firmware log; once more where an allocation was refused.
-pub fn log_of(alloc: Global, bytes: &[u8]) -> Result<BootLog<'_>, LogFault> {
-    match read_log(alloc, bytes) {
-        Err(LogFault::Memory) => read_log(alloc, bytes),
-        answer => answer,
-    }
-}
-
-/// Appends an entry's spelling; once more where an allocation was refused.
-fn append_entry(entry: &Entry, out: &mut Vec<u8>) -> Result<(), AllocError> {
-    match write_entry(entry, out) {
-        Err(AllocError) => write_entry(entry, out),
-        answer => answer,
-    }
-}
-
 #[test]
 fn real_boot_list(rt: HostRuntime) -> Result<(), Fail> {
     let alloc = rt.alloc();
     let bytes = list_bytes(alloc)?;
     assert_eq!(rt; bytes.len(), LENGTH);
-    let entries = entries_of(alloc, &bytes)?;
+    let entries = list_of(alloc, &bytes)?;
     assert_eq!(rt; entries.len(), 99);
     let violations = entries.iter().filter(|entry| entry.is_violation());
     assert_eq!(rt; violations.count(), 3);

@@ -2,30 +2,37 @@
 //! the same call answers the latter. `faults/sweep.py` refuses the allocations, one in each run.
 
 use super::commands::SHELL_LINE;
-use super::devices::{NamedFiles, StandardInput, bytes_of, once_more, text_of, words_of};
+use super::devices::{NamedFiles, StandardInput, bytes_of, text_of, words_of};
 use super::hashing::hashed;
-use super::list_sources::{PieceSource, REPORT, report_within, written};
+use super::list_sources::{REPORT, report_within, written};
 use super::loading::loaded;
 use super::logs::{EVENT, EXTENDED_LINE, HEADER};
-use super::show::{MEASUREMENT, MEASUREMENT_LINE};
 use super::verdicts::{EXPECTED, log_and_list};
 use byte_streams::VecSink;
 use ima_agent::{
     ExpectFault, Expected, Files, LoadFault, VerifyFault, read_expected, run, verify, verify_from,
 };
 use pcr_banks::{Alg, Digest};
+use std::alloc::AllocError;
 use std::process::Abort;
 use std::sync::Wait;
 use std::test::Fail;
 use std::thread::Threads;
+use test_kit::devices::PieceSource;
+use test_kit::lists::{MEASUREMENT, MEASUREMENT_LINE};
+use test_kit::once_more;
+use test_kit::registers::sha256_of;
 
 /// The three registers of `EXPECTED`; a line of a register that there is not, and a register twice.
 #[test]
 fn each_allocation_refused_in_read_expected(rt: HostRuntime) -> Result<(), Fail> {
     const FIRST: &[u8] = b"d54d476b0532a0a009e48de651cd01544e8d093d584ca3dbb93dd0f1b69b7cc4";
     let alloc = rt.alloc();
-    let read = once_more(|| read_expected(alloc, EXPECTED.as_bytes()))?;
-    let value = Digest::from_hex(Alg::Sha256, FIRST).ok_or("no digest")?;
+    let read = once_more(
+        ExpectFault::Memory,
+        || read_expected(alloc, EXPECTED.as_bytes()),
+    )?;
+    let value = sha256_of(FIRST)?;
     let expected = |alg, register, value| Expected {
         alg,
         register,
@@ -43,10 +50,18 @@ fn each_allocation_refused_in_read_expected(rt: HostRuntime) -> Result<(), Fail>
     );
     let (line, _) = EXPECTED.split_once('\n').ok_or("no line")?;
     let twice = text_of(alloc, &[line, "\n", line, "\n"])?;
-    let fault = once_more(|| read_expected(alloc, twice.as_bytes())).err();
+    let fault = once_more(
+        ExpectFault::Memory,
+        || read_expected(alloc, twice.as_bytes()),
+    )
+    .err();
     assert_eq!(rt; fault, Some(ExpectFault::DoubleLine { line: 2 }));
     let none = text_of(alloc, &["sha256 24", &line[9..]])?;
-    let fault = once_more(|| read_expected(alloc, none.as_bytes())).err();
+    let fault = once_more(
+        ExpectFault::Memory,
+        || read_expected(alloc, none.as_bytes()),
+    )
+    .err();
     assert_eq!(rt; fault, Some(ExpectFault::BadLine { line: 1 }));
     Ok(())
 }
@@ -89,8 +104,14 @@ fn each_allocation_refused_in_hash_from(rt: HostRuntime) -> Result<(), Fail> {
 fn each_allocation_refused_in_verify(rt: HostRuntime) -> Result<(), Fail> {
     let alloc = rt.alloc();
     let (log, list) = log_and_list(alloc)?;
-    let expected = once_more(|| read_expected(alloc, EXPECTED.as_bytes()))?;
-    let report = once_more(|| verify(alloc, &log, &list, &expected))?;
+    let expected = once_more(
+        ExpectFault::Memory,
+        || read_expected(alloc, EXPECTED.as_bytes()),
+    )?;
+    let report = once_more(
+        VerifyFault::Memory,
+        || verify(alloc, &log, &list, &expected),
+    )?;
     assert_eq!(rt; written(alloc, &report)?.as_slice(), REPORT);
     Ok(())
 }
@@ -100,10 +121,13 @@ fn each_allocation_refused_in_verify(rt: HostRuntime) -> Result<(), Fail> {
 fn each_allocation_refused_in_verify_from(rt: HostRuntime) -> Result<(), Fail> {
     let alloc = rt.alloc();
     let (log, list) = log_and_list(alloc)?;
-    let expected = once_more(|| read_expected(alloc, EXPECTED.as_bytes()))?;
+    let expected = once_more(
+        ExpectFault::Memory,
+        || read_expected(alloc, EXPECTED.as_bytes()),
+    )?;
     let report = report_within(alloc, &log, &list, u64::MAX, &expected)?;
     assert_eq!(rt; written(alloc, &report)?.as_slice(), REPORT);
-    let report = once_more(|| {
+    let report = once_more(VerifyFault::Memory, || {
         let mut source = PieceSource::failing(&list, 7, usize::MAX);
         verify_from(alloc, &log, &mut source, u64::MAX, &expected)
     })?;
@@ -124,8 +148,8 @@ fn assert_answered<R: Threads + Wait + Sync + AllocGlobal + Abort, F: Files>(
 ) -> Result<(), Fail> {
     let alloc = rt.alloc();
     let words = words_of(alloc, words)?;
-    let mut sink = VecSink::new(once_more(|| Vec::with_capacity(alloc, 4096))?);
-    let mut again = VecSink::new(once_more(|| Vec::with_capacity(alloc, 4096))?);
+    let mut sink = VecSink::new(once_more(AllocError, || Vec::with_capacity(alloc, 4096))?);
+    let mut again = VecSink::new(once_more(AllocError, || Vec::with_capacity(alloc, 4096))?);
     let mut answer = run(rt, alloc, &words, files, &mut sink);
     let mut text = sink.into_bytes();
     if answer == 3 && text.as_slice() == b"failed: memory\n".as_slice() {

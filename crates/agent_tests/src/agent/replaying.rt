@@ -1,22 +1,15 @@
 //! The examples of replays and of fields, as the program shows them.
 
-use super::devices::{answered, bytes_of, joined};
+use super::devices::{answered, bytes_of};
 use super::logs::HEADER;
-use super::show::{MEASUREMENT, MEASUREMENT_LINE, VIOLATION};
 use std::process::Abort;
 use std::sync::Wait;
 use std::test::Fail;
 use std::thread::Threads;
-
-/// The line of the violation of `/etc/x`.
-const VIOLATION_LINE: &[u8] = b"10 0000000000000000000000000000000000000000 ima-ng \
-    sha256:0000000000000000000000000000000000000000000000000000000000000000 /etc/x\n";
-
-/// The line of the measurement where its template has the name `ima-xx`, which has no fields that are known.
-const OTHER_LINE: &[u8] = b"10 83fdff315175587157ed3aa604e7f9ec63ca0b42 ima-xx \
-    28000000736861323536\
-    3a00ba7816bf8f01cfea414140de5dae2223b00361a396177a9cb410ff61f20015ad\
-    080000002f62696e2f736800\n";
+use test_kit::joined;
+use test_kit::lists::{
+    MEASUREMENT, MEASUREMENT_LINE, OTHER_TEMPLATE_LINE, VIOLATION, VIOLATION_LINE,
+};
 
 /// An entry with fields, a violation, and an entry without fields; an empty list, a list that is cut short, and a file that
 /// is not there.
@@ -34,7 +27,7 @@ fn assert_fields_shown(
     for (name, status, text) in [
         ("measured", 0, MEASUREMENT_LINE),
         ("violated", 0, VIOLATION_LINE),
-        ("other", 0, OTHER_LINE),
+        ("other", 0, OTHER_TEMPLATE_LINE),
         ("empty", 0, b""),
         ("cut", 2, b"refused: list fault 1 at entry 0\n"),
         ("x", 3, b"failed: read x\n"),

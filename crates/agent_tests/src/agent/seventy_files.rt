@@ -1,15 +1,10 @@
 //! Seventy files, and the list that one worker makes of them.
 
+use test_kit::logs::HEADER;
+
 /// The log `L`, whose header declares SHA-256 alone, and the files: every other one has a name of more than 64 bytes.
 pub static FILES: [(&str, &[u8]); 71] = [
-    (
-        "L",
-        b"\x00\x00\x00\x00\x03\x00\x00\x00\
-        \x00\x00\x00\x00\x00\x00\x00\x00\x00\x00\x00\x00\x00\x00\x00\x00\x00\x00\x00\x00\
-        \x21\x00\x00\x00\
-        Spec ID Event03\x00\
-        \x00\x00\x00\x00\x00\x02\x00\x02\x01\x00\x00\x00\x0b\x00\x20\x00\x00",
-    ),
+    ("L", HEADER),
     ("f0", b"content of file 0"),
     (
         "/usr/lib/modules/6.12.38-generic/kernel/drivers/measured/boot/agent/module_1.ko",

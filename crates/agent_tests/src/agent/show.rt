@@ -1,31 +1,9 @@
 //! The program's words `show LIST` over files in memory.
 
-use super::devices::{StandardInput, answered, joined, ran_over, words_of};
+use super::devices::{StandardInput, answered, ran_over, words_of};
 use std::test::Fail;
-
-/// The entry of `/bin/sh`, measured into PCR 10 with the SHA-256 of `abc`, in the template `ima-ng`.
-pub const MEASUREMENT: &[u8] = b"\x0a\x00\x00\x00\
-    \x83\xfd\xff\x31\x51\x75\x58\x71\x57\xed\x3a\xa6\x04\xe7\xf9\xec\x63\xca\x0b\x42\
-    \x06\x00\x00\x00ima-ng\
-    \x38\x00\x00\x00\
-    \x28\x00\x00\x00sha256:\x00\
-    \xba\x78\x16\xbf\x8f\x01\xcf\xea\x41\x41\x40\xde\x5d\xae\x22\x23\
-    \xb0\x03\x61\xa3\x96\x17\x7a\x9c\xb4\x10\xff\x61\xf2\x00\x15\xad\
-    \x08\x00\x00\x00/bin/sh\x00";
-
-/// Its line.
-pub const MEASUREMENT_LINE: &[u8] = b"10 83fdff315175587157ed3aa604e7f9ec63ca0b42 ima-ng \
-    sha256:ba7816bf8f01cfea414140de5dae2223b00361a396177a9cb410ff61f20015ad /bin/sh\n";
-
-/// The entry of a violation of `/etc/x` in PCR 10, in the template `ima-ng` with SHA-256.
-pub const VIOLATION: &[u8] = b"\x0a\x00\x00\x00\
-    \x00\x00\x00\x00\x00\x00\x00\x00\x00\x00\x00\x00\x00\x00\x00\x00\x00\x00\x00\x00\
-    \x06\x00\x00\x00ima-ng\
-    \x37\x00\x00\x00\
-    \x28\x00\x00\x00sha256:\x00\
-    \x00\x00\x00\x00\x00\x00\x00\x00\x00\x00\x00\x00\x00\x00\x00\x00\
-    \x00\x00\x00\x00\x00\x00\x00\x00\x00\x00\x00\x00\x00\x00\x00\x00\
-    \x07\x00\x00\x00/etc/x\x00";
+use test_kit::joined;
+use test_kit::lists::{MEASUREMENT, MEASUREMENT_LINE};
 
 /// What comes after the digest in an entry of the template `ima` whose path is said to have 256 bytes.
 const IMA_PART: &[u8] = b"\x03\0\0\0ima\

@@ -9,6 +9,7 @@ use ima_agent::{Files, LoadFault, ReadSource, SharedFiles, SystemFiles, WriteSin
 use pcr_banks::{Alg, Digest};
 use std::io::{self, Error, ErrorKind, Read, Write};
 use std::test::Fail;
+use test_kit::registers::SHA256_OF_NOTHING;
 
 /// A device of std whose second call is interrupted. Each other call gives, or takes, two bytes at most.
 #[derive(Drop)]
@@ -112,10 +113,9 @@ fn folder_is_no_input(rt: HostRuntime) -> Result<(), Fail> {
 /// no file has.
 #[test]
 fn system_files_are_hashed(rt: HostRuntime) {
-    const NONE: &[u8] = b"e3b0c44298fc1c149afbf4c8996fb92427ae41e4649b934ca495991b7852b855";
     let files = SystemFiles::new(&rt);
     let empty = files.hash(rt.alloc(), "/dev/null", Alg::Sha256, 0).ok();
-    assert_eq!(rt; empty, Digest::from_hex(Alg::Sha256, NONE));
+    assert_eq!(rt; empty, Digest::from_hex(Alg::Sha256, SHA256_OF_NOTHING));
     for (name, fault) in [
         ("/dev/zero", LoadFault::TooLong),
         ("/", LoadFault::Source),

@@ -1,6 +1,6 @@
 //! The lines of registers and faults.
 
-use super::devices::{once_more, text_of};
+use super::devices::text_of;
 use boot_log::LogFault;
 use byte_streams::{Failed, VecSink};
 use ima_agent::{ExpectFault, RunFault, status_of, write_fault, write_registers};
@@ -9,10 +9,11 @@ use measure_book::{BookFault, GatherFault};
 use pcr_banks::{Alg, AlgSet, Banks, Digest, PerBank};
 use std::alloc::Global;
 use std::test::Fail;
+use test_kit::once_more;
 
 /// The line of a fault.
 fn line_of(alloc: Global, fault: &RunFault) -> Result<Vec<u8>, Failed> {
-    once_more(|| {
+    once_more(Failed, || {
         let mut sink = VecSink::new(Vec::new(alloc));
         write_fault(fault, &mut sink)?;
         Ok(sink.into_bytes())
@@ -21,7 +22,7 @@ fn line_of(alloc: Global, fault: &RunFault) -> Result<Vec<u8>, Failed> {
 
 /// The lines of the registers that differ.
 fn lines_of(alloc: Global, now: &Banks, start: &Banks) -> Result<Vec<u8>, Failed> {
-    once_more(|| {
+    once_more(Failed, || {
         let mut sink = VecSink::new(Vec::new(alloc));
         write_registers(now, start, &mut sink)?;
         Ok(sink.into_bytes())

@@ -1,8 +1,7 @@
 //! Reports on logs, lists and expected registers.
 
-use super::devices::{answered, bytes_of, once_more};
+use super::devices::{answered, bytes_of};
 use super::logs::{EVENT, EXTENDED_LINE, HEADER, HEADER_WITH_SHA512};
-use super::show::VIOLATION;
 use boot_log::{LogFault, read_log};
 use byte_streams::{Failed, VecSink};
 use ima_agent::{Aggregate, Expected, Report, State, VerifyFault, verify};
@@ -12,6 +11,9 @@ use pcr_banks::{Alg, Banks, Digest, hash};
 use std::alloc::{AllocError, Global};
 use std::process::Abort;
 use std::test::Fail;
+use test_kit::lists::VIOLATION;
+use test_kit::once_more;
+use test_kit::registers::{SHA256_OF_64_ZEROS, SHA512_AGGREGATE, sha256_of};
 
 /// The report; once more where an allocation was refused.
 fn report_on(
@@ -20,12 +22,12 @@ fn report_on(
     list: &[u8],
     expected: &[Expected],
 ) -> Result<Report, VerifyFault> {
-    once_more(|| verify(alloc, log, list, expected))
+    once_more(VerifyFault::Memory, || verify(alloc, log, list, expected))
 }
 
 /// The registers after a header and one event.
 pub fn registers_of(alloc: Global, log: &[u8]) -> Result<Banks, LogFault> {
-    once_more(|| Ok(read_log(alloc, log)?.registers()))
+    once_more(LogFault::Memory, || Ok(read_log(alloc, log)?.registers()))
 }
 
 /// A book over these registers in which a file was measured, again, and with other content.
@@ -48,7 +50,7 @@ pub fn book_of(alloc: Global, start: Banks) -> Result<Book, BookFault> {
 
 /// The list of a book.
 fn list_of(alloc: Global, book: &Book) -> Result<Vec<u8>, Failed> {
-    once_more(|| {
+    once_more(Failed, || {
         let mut sink = VecSink::new(Vec::new(alloc));
         book.export(&mut sink).map_err(|_| Failed)?;
         Ok(sink.into_bytes())
@@ -78,7 +80,7 @@ pub const LIST: &str = "
 pub fn log_and_list(alloc: Global) -> Result<(Vec<u8>, Vec<u8>), Fail> {
     let log = bytes_of(alloc, &[HEADER, EVENT])?;
     let start = registers_of(alloc, &log)?;
-    let book = once_more(|| book_of(alloc, start))?;
+    let book = once_more(BookFault::Memory, || book_of(alloc, start))?;
     let list = list_of(alloc, &book)?;
     Ok((log, list))
 }
@@ -147,9 +149,6 @@ fn report_on_empty_list(rt: HostRuntime) -> Result<(), Fail> {
     Ok(())
 }
 
-/// PCR 4 after the log of one event: the SHA-256 of 64 zero bytes.
-const EXTENDED: &[u8] = b"f5a5fd42d16a20302798ef6ed309979b43003d2320d9f0e8ea9831a92759fb4b";
-
 /// The expected register of this number, and how it compares with the registers after that log, where PCR 4 is this.
 fn numbered(number: u32, extended: Digest) -> (Expected, State) {
     let register = number % 25;
@@ -181,8 +180,8 @@ fn thousand_and_one_expected_registers(rt: HostRuntime) -> Result<(), Fail> {
     const COUNT: u32 = 1_001;
     let alloc = rt.alloc();
     let log = bytes_of(alloc, &[HEADER, EVENT])?;
-    let extended = Digest::from_hex(Alg::Sha256, EXTENDED).ok_or("no digest")?;
-    let expected = once_more(|| {
+    let extended = sha256_of(SHA256_OF_64_ZEROS)?;
+    let expected = once_more(AllocError, || {
         let mut expected = Vec::new(alloc);
         for number in 0..COUNT {
             expected.push(numbered(number, extended).0)?;
@@ -219,10 +218,6 @@ fn first_entry(
 /// The boot aggregate of the registers after the log of one event.
 const AGGREGATE: &[u8] = b"3ef781bb9b62116d8b9e7c9e9136670fb2d7b7b9cca79a98ddc7fbdec1f68768";
 
-/// The boot aggregate of registers of SHA-512 at reset.
-const SHA512_AGGREGATE: &[u8] = b"aa79444dee5810832cae9935b883c71557be3d3b048ae1005c5104a43559345b\
-    bea963771375065c88210ab12e14b25b83930d9f75f9666028aa1fd0df7c2225";
-
 /// A first entry by SHA-512 speaks of the bank of SHA-512, where the log has it.
 #[test]
 fn aggregates_by_sha512(rt: HostRuntime) -> Result<(), Fail> {
@@ -238,7 +233,10 @@ fn aggregates_by_sha512(rt: HostRuntime) -> Result<(), Fail> {
         (HEADER, good, Aggregate::NoBank),
     ] {
         let log = bytes_of(alloc, &[header])?;
-        let list = once_more(|| first_entry(alloc, Template::ImaNg, b"boot_aggregate", &digest))?;
+        let list = once_more(
+            AllocError,
+            || first_entry(alloc, Template::ImaNg, b"boot_aggregate", &digest),
+        )?;
         let report = report_on(alloc, &log, &list, &[])?;
         assert_eq!(rt; report.aggregate, aggregate);
     }
@@ -248,7 +246,7 @@ fn aggregates_by_sha512(rt: HostRuntime) -> Result<(), Fail> {
 /// What the first entry of a list of this template says of the log's registers.
 fn assert_aggregates(rt: &impl Abort, alloc: Global, template: Template) -> Result<(), Fail> {
     let log = bytes_of(alloc, &[HEADER, EVENT])?;
-    let good = Digest::from_hex(Alg::Sha256, AGGREGATE).ok_or("no digest")?;
+    let good = sha256_of(AGGREGATE)?;
     let none = Digest::zero(Alg::Sha384);
     for (path, digest, aggregate) in [
         (b"boot_aggregate".as_slice(), good, Aggregate::Good),
@@ -256,7 +254,7 @@ fn assert_aggregates(rt: &impl Abort, alloc: Global, template: Template) -> Resu
         (b"boot_aggregate", none, Aggregate::NoBank),
         (b"boot_aggregat", good, Aggregate::Missing),
     ] {
-        let list = once_more(|| first_entry(alloc, template, path, &digest))?;
+        let list = once_more(AllocError, || first_entry(alloc, template, path, &digest))?;
         let report = report_on(alloc, &log, &list, &[])?;
         assert_eq!(rt; report.aggregate, aggregate);
         assert_eq!(rt; report.matches(), aggregate == Aggregate::Good);

@@ -1,43 +1,27 @@
 //! Operations that are done, and what they are answered.
 
-use super::exports::{ShortSink, spellings};
-use super::{
-    MEASUREMENT, VIOLATION, applied, measure, opened, origin, read, receipt, run_on_new, sha256,
-    start, three_measurements, value, violation,
-};
-use ima_list::{Entry, replay, write_entry};
+use super::{read, receipt, run_on_new, three_measurements, value, violation};
+use ima_list::replay;
 use measure_book::laws::{
     fronts_are_histories, operations_have_one_answer, reads_are_replays, runs_go_on,
 };
 use measure_book::{Answer, BookFault, ExportFault, Outcome, Record};
 use pcr_banks::{Alg, Digest};
-use std::alloc::{AllocError, Global};
 use std::test::Fail;
+use test_kit::books::{AFTER_OPENING, AFTER_TWO, applied, measure, opened, origin};
+use test_kit::devices::ShortSink;
+use test_kit::lists::{MEASUREMENT, VIOLATION, spelling_of, spellings};
+use test_kit::registers::{sha256, start};
 
-/// PCR 10 after the boot aggregate of registers at reset.
-pub const AFTER_OPENING: &str = "bf0d858e3904704b36740bc2ddcf4820b93a9323c1098338b7c38e338735257b";
-
-/// PCR 10 after this entry and the measurement of `/bin/sh` with the content `abc`; then also with no content.
-pub const AFTER_TWO: &str = "5fcef84d490a160058b8f1b7e33abea9f2df325f2b7ccb294d1d28f3459db9d5";
-
-pub const AFTER_THREE: &str = "8969ed91a785f4fbb88b785dd3e6cf2d5bf6d1ba1550c61a202e9d644685bf9c";
+pub const AFTER_THREE: &[u8] = b"8969ed91a785f4fbb88b785dd3e6cf2d5bf6d1ba1550c61a202e9d644685bf9c";
 
 /// PCR 10 after the boot aggregate and a violation of `/etc/x`; then also after the measurement of this path with a digest
 /// of zero bytes, and a second violation.
-pub const AFTER_VIOLATION: &str =
-    "f452d7d9f5e9d973174411f620ab7dace63a48de8c1cccdca0830ac7d06a0146";
+pub const AFTER_VIOLATION: &[u8] =
+    b"f452d7d9f5e9d973174411f620ab7dace63a48de8c1cccdca0830ac7d06a0146";
 
-const AFTER_TWO_VIOLATIONS: &str =
-    "438c0bc73f9e938c832f47438e12b63e37f7520ecb0c992c71b251192b8c50d2";
-
-/// An entry's spelling; once more where an allocation was refused.
-pub fn spelling_of(alloc: Global, entry: &Entry) -> Result<Vec<u8>, AllocError> {
-    let mut bytes = Vec::new(alloc);
-    if write_entry(entry, &mut bytes).is_err() {
-        write_entry(entry, &mut bytes)?;
-    }
-    Ok(bytes)
-}
+const AFTER_TWO_VIOLATIONS: &[u8] =
+    b"438c0bc73f9e938c832f47438e12b63e37f7520ecb0c992c71b251192b8c50d2";
 
 #[test]
 fn three_operations(rt: HostRuntime) -> Result<(), Fail> {
@@ -140,9 +124,9 @@ fn run_with_refusal_between(rt: HostRuntime) -> Result<(), Fail> {
     let zero = applied(&mut book, &read(Alg::Sha256, 0))?;
     assert_eq!(rt; zero.answer, Answer::Value(Digest::zero(Alg::Sha256)));
     let text = spellings(alloc, book.entries())?;
-    let mut sink = ShortSink::new();
+    let mut sink = ShortSink::new(100);
     assert_eq!(rt; book.export(&mut sink), Err(ExportFault::Sink));
-    assert_eq!(rt; sink.failures, 1);
+    assert_eq!(rt; sink.failures(), 1);
     assert_eq!(rt; sink.bytes().len(), 100);
     assert!(rt; text.starts_with(sink.bytes()));
     Ok(())

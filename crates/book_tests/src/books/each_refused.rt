@@ -1,17 +1,17 @@
 //! Calls that are made once while any one allocation is refused: the answer is that of the call, or that memory ran out.
 //! Then the book is as before, and the same call gives its answer.
 
-use super::books::{AFTER_OPENING, AFTER_THREE, AFTER_TWO, AFTER_VIOLATION, spelling_of};
+use super::books::{AFTER_THREE, AFTER_VIOLATION};
 use super::gathering::{book_of_three, group, group_of};
-use super::{
-    MEASUREMENT, VIOLATION, applied, assert_shows, measure, opened, origin, read, receipt, sha256,
-    shown_by, three_measurements, value, violation,
-};
+use super::{assert_shows, read, receipt, shown_by, three_measurements, value, violation};
 use measure_book::{Answer, Book, BookFault, GatherFault, Op, Outcome, Receipt, Record, gather};
 use pcr_banks::Alg;
 use std::alloc::{AllocError, Global};
 use std::process::Abort;
 use std::test::Fail;
+use test_kit::books::{AFTER_OPENING, AFTER_TWO, applied, measure, opened, origin};
+use test_kit::lists::{MEASUREMENT, VIOLATION, spelling_of};
+use test_kit::registers::sha256;
 
 /// The entry of the boot aggregate of registers at reset: the SHA-256 of 320 zero bytes.
 const OPENING: &[u8] = b"\x0a\x00\x00\x00\
@@ -39,7 +39,7 @@ fn assert_book(
     alloc: Global,
     book: &Book,
     counts: (usize, usize),
-    digits: &str,
+    digits: &[u8],
 ) -> Result<(), Fail> {
     assert_eq!(rt; (book.records().len(), book.entries().len()), counts);
     let first = book.records().first().ok_or("no record")?;
@@ -165,7 +165,7 @@ fn each_allocation_refused_in_apply_read(rt: HostRuntime) -> Result<(), Fail> {
 struct Run {
     answers: [Option<(u32, Answer)>; 3],
     counts: (usize, usize),
-    value: &'static str,
+    value: &'static [u8],
 }
 
 const NONE_REFUSED: Run = Run {

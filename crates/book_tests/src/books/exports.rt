@@ -1,67 +1,18 @@
 //! Books that are exported.
 
-ghost use Rattle.std.specs.Prelude.{None};
-
-use super::{origin, run_on_new, start, three_measurements};
-use ima_list::{
-    Entry, Failed, ListFault, ReplayFault, Sink, VecSink, read_list, replay, write_entry,
-};
+use super::{run_on_new, three_measurements};
+use ima_list::{ReplayFault, VecSink, replay};
 use measure_book::{Book, ExportFault};
-use std::alloc::{AllocError, Global};
+use std::alloc::Global;
 use std::test::Fail;
+use test_kit::books::origin;
+use test_kit::devices::ShortSink;
+use test_kit::lists::{list_of, spellings};
+use test_kit::registers::start;
+use test_kit::words_of;
 
-/// How many bytes a short sink takes at most.
+/// How many bytes the sink that fails has room for.
 const ROOM: usize = 100;
-
-/// Takes one byte at a time, fails once it has a hundred, and tells no bytes.
-#[derive(Drop)]
-pub struct ShortSink {
-    taken: [u8; ROOM],
-    count: usize,
-    pub failures: u64,
-}
-
-impl ShortSink {
-    pub fn new() -> Self {
-        ShortSink {
-            taken: [0; ROOM],
-            count: 0,
-            failures: 0,
-        }
-    }
-
-    pub fn bytes(&self) -> &[u8] {
-        self.taken.get(..self.count).unwrap_or(&[])
-    }
-}
-
-impl Sink for ShortSink {
-    ghost state = { λ sink. record { taken = None; failures = sink.failures } };
-
-    fn write(&mut self, bytes: &[u8]) -> Result<usize, Failed> {
-        let Some(first) = bytes.first() else {
-            return Ok(0);
-        };
-        if self.count >= ROOM {
-            self.failures = self.failures.saturating_add(1);
-            return Err(Failed);
-        }
-        self.taken[self.count] = *first;
-        self.count += 1;
-        Ok(1)
-    }
-}
-
-/// The spellings of the entries, joined; once more where an allocation was refused.
-pub fn spellings(alloc: Global, entries: &[Entry]) -> Result<Vec<u8>, AllocError> {
-    let mut bytes = Vec::new(alloc);
-    for entry in entries {
-        if write_entry(entry, &mut bytes).is_err() {
-            write_entry(entry, &mut bytes)?;
-        }
-    }
-    Ok(bytes)
-}
 
 /// The book's export; into another sink once more where an allocation was refused.
 pub fn export_of(alloc: Global, book: &Book) -> Result<Vec<u8>, ExportFault> {
@@ -71,14 +22,6 @@ pub fn export_of(alloc: Global, book: &Book) -> Result<Vec<u8>, ExportFault> {
         book.export(&mut sink)?;
     }
     Ok(sink.into_bytes())
-}
-
-/// Reads a list; once more where an allocation was refused.
-pub fn list_of(alloc: Global, bytes: &[u8]) -> Result<Vec<Entry>, ListFault> {
-    match read_list(alloc, bytes) {
-        Err(ListFault::Memory) => read_list(alloc, bytes),
-        answer => answer,
-    }
 }
 
 #[test]
@@ -121,9 +64,9 @@ fn export_stops_where_the_sink_fails(rt: HostRuntime) -> Result<(), Fail> {
         &mut outcomes,
     )?;
     let text = spellings(alloc, book.entries())?;
-    let mut sink = ShortSink::new();
+    let mut sink = ShortSink::new(ROOM);
     assert_eq!(rt; book.export(&mut sink), Err(ExportFault::Sink));
-    assert_eq!(rt; sink.failures, 1);
+    assert_eq!(rt; sink.failures(), 1);
     assert_eq!(rt; sink.bytes().len(), ROOM);
     assert!(rt; text.starts_with(sink.bytes()));
     Ok(())
@@ -132,10 +75,7 @@ fn export_stops_where_the_sink_fails(rt: HostRuntime) -> Result<(), Fail> {
 #[test]
 fn export_fault_in_words(rt: HostRuntime) -> Result<(), Fail> {
     let fault = ExportFault::Sink;
-    let text = match format!(in rt.alloc(); "{fault}") {
-        Ok(text) => text,
-        Err(_) => format!(in rt.alloc(); "{fault}")?,
-    };
+    let text = words_of(rt.alloc(), fault)?;
     assert_eq!(rt; text.as_str(), "the sink failed");
     Ok(())
 }

@@ -1,9 +1,6 @@
 //! Outcomes of all callers, held against a book's records.
 
-use super::{
-    applied, copied_op, measure, opened, origin, read, receipt, run_on_new, sha256, start,
-    three_measurements,
-};
+use super::{copied_op, read, receipt, run_on_new, three_measurements};
 use measure_book::laws::accounts_are_one_to_one;
 use measure_book::{Answer, Book, BookFault, GatherFault, Outcome, Receipt, gather};
 use pcr_banks::{Alg, Digest};
@@ -12,6 +9,8 @@ use std::sync::{Mutex, Wait};
 use std::test::Fail;
 use std::thread;
 use std::thread::Threads;
+use test_kit::books::{applied, measure, opened, origin};
+use test_kit::registers::{sha256, start};
 
 /// Gathers for the usual origin with this limit; once more where an allocation was refused.
 fn gathered(

@@ -1,19 +1,19 @@
 //! Books of thousands of records, and one that may have as many as there are numbers: a body that gives up without cause
 //! fails here.
 
-use super::{
-    applied, measure, opened, origin, read, receipt, sha256, three_measurements, value, violation,
-};
+use super::{read, receipt, three_measurements, value, violation};
 use measure_book::{Answer, Book, BookFault, GatherFault, Op, Outcome, gather};
 use pcr_banks::{Alg, Digest};
 use std::alloc::{AllocError, Global};
 use std::test::Fail;
+use test_kit::books::{applied, measure, opened, origin};
+use test_kit::registers::sha256;
 
 /// How many operations are done after the opening.
 const MANY: u32 = 5_000;
 
 /// PCR 10 after them.
-const AFTER_MANY: &str = "b82a376544a3c9ad3d39a37535a83e2fb0b49e684566c5b36e51d949810149d8";
+const AFTER_MANY: &[u8] = b"b82a376544a3c9ad3d39a37535a83e2fb0b49e684566c5b36e51d949810149d8";
 
 /// The operation of this number. Of each eight the first measures a file, the second measures it again, the third is its
 /// violation, and the others read a register that no entry extends.
@@ -87,7 +87,8 @@ fn dealt(alloc: Global, outcomes: Vec<Outcome>) -> Result<Vec<Vec<Outcome>>, All
 
 /// PCR 10 after the boot aggregate of registers at reset, the measurements of `/f/0` to `/f/1999` with the content `abc`, and
 /// a violation.
-const AFTER_TWO_THOUSAND: &str = "92f024f4a01e9cf1337aa968158bc679bce5c95c17bfccc2110c76de14aa4877";
+const AFTER_TWO_THOUSAND: &[u8] =
+    b"92f024f4a01e9cf1337aa968158bc679bce5c95c17bfccc2110c76de14aa4877";
 
 /// The measurement of the file of this number; once more where an allocation was refused.
 fn file_of(alloc: Global, number: u32) -> Result<Op, AllocError> {

@@ -1,11 +1,11 @@
 //! Calls that find memory, and calls that do not.
 
-use super::{
-    assert_shows, measure, opened, origin, read, sha256, shown_by, three_measurements, violation,
-};
+use super::{assert_shows, read, shown_by, three_measurements, violation};
 use measure_book::{Answer, Book, BookFault, Outcome};
 use pcr_banks::Alg;
 use std::test::Fail;
+use test_kit::books::{measure, opened, origin};
+use test_kit::registers::sha256;
 
 /// Wants all its memory: each call is made once.
 #[test]

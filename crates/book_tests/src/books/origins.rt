@@ -1,13 +1,15 @@
 //! Books of each template and each algorithm that may open, over one bank and over all.
 
-use super::exports::{export_of, list_of};
-use super::{applied, measure, opened, read, violation};
+use super::exports::export_of;
+use super::{read, violation};
 use ima_list::{Template, replay};
 use measure_book::{Answer, Origin};
 use pcr_banks::{Alg, AlgSet, Banks, Digest, hash};
 use std::alloc::Global;
 use std::process::Abort;
 use std::test::Fail;
+use test_kit::books::{applied, measure, opened, origin};
+use test_kit::lists::list_of;
 
 /// A template, an algorithm that it takes, and PCR 10 of each bank after three entries: the boot aggregate of registers at
 /// reset, the measurement of `/bin/sh` with the content `abc`, and a violation of `/etc/x`.
@@ -244,5 +246,21 @@ fn each_form_over_all_banks(rt: HostRuntime) -> Result<(), Fail> {
     for form in &FORMS {
         assert_book(&rt, rt.alloc(), form, all)?;
     }
+    Ok(())
+}
+
+/// A book is of the origin that it was opened with, and of none that differs from it in its limit, template or algorithm.
+#[test]
+fn book_is_of_its_origin(rt: HostRuntime) -> Result<(), Fail> {
+    let own = origin(3);
+    let book = opened(rt.alloc(), own)?;
+    assert!(rt; book.is_of_origin(&own));
+    assert!(rt; !book.is_of_origin(&origin(4)));
+    let mut signed = own;
+    signed.template = Template::ImaSig;
+    assert!(rt; !book.is_of_origin(&signed));
+    let mut of_sha1 = own;
+    of_sha1.alg = Alg::Sha1;
+    assert!(rt; !book.is_of_origin(&of_sha1));
     Ok(())
 }

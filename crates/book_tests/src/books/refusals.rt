@@ -1,10 +1,12 @@
 //! Operations that are refused, and books that are not opened.
 
-use super::{applied, assert_shows, measure, opened, origin, read, sha256, shown_by, violation};
+use super::{assert_shows, read, shown_by, violation};
 use ima_list::Template;
 use measure_book::{Answer, Book, BookFault, Origin};
 use pcr_banks::{Alg, hash};
 use std::test::Fail;
+use test_kit::books::{applied, measure, opened, origin};
+use test_kit::registers::sha256;
 
 #[test]
 fn full_book_and_order_of_causes(rt: HostRuntime) -> Result<(), Fail> {

@@ -1,15 +1,13 @@
 //! A book of SHA-512.
 
-use super::exports::spellings;
-use super::{applied, measure, opened, violation};
+use super::violation;
 use ima_list::{Fields, Template};
 use measure_book::{Answer, BookFault, Origin};
 use pcr_banks::{Alg, AlgSet, Banks, Digest, hash};
 use std::test::Fail;
-
-/// The boot aggregate of registers at reset: the SHA-512 of 640 zero bytes.
-const AGGREGATE: &[u8] = b"aa79444dee5810832cae9935b883c71557be3d3b048ae1005c5104a43559345b\
-    bea963771375065c88210ab12e14b25b83930d9f75f9666028aa1fd0df7c2225";
+use test_kit::books::{applied, measure, opened};
+use test_kit::lists::spellings;
+use test_kit::registers::SHA512_AGGREGATE;
 
 /// The spelling of the measurement of `/bin/sh` with the content `abc`: the payload has 88 bytes, its fields have 72 and 8.
 const SHELL: &[u8] = b"\x0a\x00\x00\x00\
@@ -40,7 +38,7 @@ fn sha512_bank_in_a_book(rt: HostRuntime) -> Result<(), Fail> {
     let ima = opened(alloc, origin(Template::Ima));
     assert_eq!(rt; ima.err(), Some(BookFault::WrongHash));
     let mut book = opened(alloc, origin(Template::ImaNg))?;
-    let file = Digest::from_hex(Alg::Sha512, AGGREGATE).ok_or("no digest")?;
+    let file = Digest::from_hex(Alg::Sha512, SHA512_AGGREGATE).ok_or("no digest")?;
     let path = b"boot_aggregate";
     let sig = b"";
     let first = book.entries().first().ok_or("no entry")?;

@@ -1,40 +1,23 @@
 //! Measurements with signatures: in books of `ima-sig`, and in those whose template has none.
 
-use super::books::spelling_of;
 use super::each_refused::{applied_once, assert_newest};
-use super::exports::{export_of, list_of};
-use super::{
-    applied, copied, measure, measure_with, opened, origin, receipt, sha256, start, value,
-    violation,
-};
-use ima_list::{Sig, Template, replay};
+use super::exports::export_of;
+use super::{receipt, value, violation};
+use ima_list::{Template, replay};
 use measure_book::{Answer, Book, GatherFault, Op, Origin, Outcome, Receipt, gather};
 use pcr_banks::{Alg, AlgSet, Banks, hash};
 use std::alloc::{AllocError, Global};
 use std::process::Abort;
 use std::test::Fail;
-
-/// A signature.
-const THREE_BYTES: &[u8] = b"\x03\x02\x04";
-
-/// The spelling of the measurement of `/bin/sh` with the content `abc` and this signature.
-const SIGNED: &[u8] = b"\x0a\x00\x00\x00\
-    \xa4\x6f\x5e\x1f\x6d\x52\x23\x45\x53\x7b\x5d\x5b\xdf\x66\x66\x49\x28\x27\xb4\xf2\
-    \x07\x00\x00\x00ima-sig\
-    \x3f\x00\x00\x00\
-    \x28\x00\x00\x00sha256:\x00\
-    \xba\x78\x16\xbf\x8f\x01\xcf\xea\x41\x41\x40\xde\x5d\xae\x22\x23\
-    \xb0\x03\x61\xa3\x96\x17\x7a\x9c\xb4\x10\xff\x61\xf2\x00\x15\xad\
-    \x08\x00\x00\x00/bin/sh\x00\
-    \x03\x00\x00\x00\x03\x02\x04";
+use test_kit::books::{AFTER_SIGNED, applied, measure, measure_with, opened, origin};
+use test_kit::lists::{SIGNED, THREE_BYTES, list_of, sig_of, spelling_of};
+use test_kit::registers::{sha256, start};
 
 /// PCR 10 after the boot aggregate of registers at reset and `/bin/sh` without a signature; then also with it; then also a
 /// violation of `/etc/x`.
-const AFTER_UNSIGNED: &str = "64ebf747fc16038434613eb06f62c2c4889e064f367a71cecbdfc8d5b6d49161";
+const AFTER_UNSIGNED: &[u8] = b"64ebf747fc16038434613eb06f62c2c4889e064f367a71cecbdfc8d5b6d49161";
 
-const AFTER_SIGNED: &str = "e6c150967e16f38eba5623c9195907955f304a32182c5359ccd7d59e055103f4";
-
-const AFTER_VIOLATION: &str = "b019843228bf4131a3f3ae6292e0a8d11c8575b2d581918a28837569ad01d4ab";
+const AFTER_VIOLATION: &[u8] = b"b019843228bf4131a3f3ae6292e0a8d11c8575b2d581918a28837569ad01d4ab";
 
 /// An origin of this template.
 fn origin_of(template: Template, limit: u32) -> Origin {
@@ -46,7 +29,7 @@ fn origin_of(template: Template, limit: u32) -> Origin {
 
 /// The measurement of `/bin/sh` with the content `abc` and this signature.
 fn shell(alloc: Global, sig: &[u8]) -> Result<Op, Fail> {
-    let sig = Sig::new(copied(alloc, sig)?).ok().ok_or("no signature")?;
+    let sig = sig_of(alloc, sig)?;
     Ok(measure_with(alloc, b"/bin/sh", sha256(b"abc"), &sig)?)
 }
 
@@ -138,7 +121,7 @@ fn signatures_in_a_book_of_ima(rt: HostRuntime) -> Result<(), Fail> {
         (THREE_BYTES, Answer::Known(1)),
         (b"\x03", Answer::Known(1)),
     ] {
-        let sig = Sig::new(copied(alloc, sig)?).ok().ok_or("no signature")?;
+        let sig = sig_of(alloc, sig)?;
         let op = measure_with(alloc, b"/bin/sh", file, &sig)?;
         assert_eq!(rt; applied(&mut book, &op)?.answer, answer);
     }
@@ -188,7 +171,7 @@ fn gathered(
 const MANY: u32 = 2_500;
 
 /// PCR 10 after them.
-const AFTER_MANY: &str = "5b32ef94fefb70adbc679445c3364053ff1a7454b674a76ca2f108da459bedfa";
+const AFTER_MANY: &[u8] = b"5b32ef94fefb70adbc679445c3364053ff1a7454b674a76ca2f108da459bedfa";
 
 /// The measurement of this number: of each two one has a signature, and they differ in nothing else.
 fn numbered(alloc: Global, number: u32) -> Result<Op, Fail> {
@@ -197,9 +180,7 @@ fn numbered(alloc: Global, number: u32) -> Result<Op, Fail> {
     if number % 2 == 0 {
         return Ok(measure(alloc, path.as_bytes(), sha256(b"abc"))?);
     }
-    let sig = Sig::new(copied(alloc, THREE_BYTES)?)
-        .ok()
-        .ok_or("no signature")?;
+    let sig = sig_of(alloc, THREE_BYTES)?;
     Ok(measure_with(alloc, path.as_bytes(), sha256(b"abc"), &sig)?)
 }
 

@@ -2,6 +2,7 @@
 
 use measure_book::BookFault;
 use std::test::Fail;
+use test_kit::words_of;
 
 #[test]
 fn faults_in_words(rt: HostRuntime) -> Result<(), Fail> {
@@ -15,10 +16,7 @@ fn faults_in_words(rt: HostRuntime) -> Result<(), Fail> {
         (BookFault::Full, "the book is full"),
         (BookFault::Memory, "out of memory"),
     ] {
-        let text = match format!(in rt.alloc(); "{fault}") {
-            Ok(text) => text,
-            Err(_) => format!(in rt.alloc(); "{fault}")?,
-        };
+        let text = words_of(rt.alloc(), fault)?;
         assert_eq!(rt; text.as_str(), words);
     }
     Ok(())

@@ -39,7 +39,7 @@ fn write_register<S: Sink>(
     )
 }
 
-// The line of a register that has a value other than before.
+// Writes the register's line if its value differs from `before`.
 fn write_change<S: Sink>(
     register: u32,
     before: Option<Digest>,
@@ -65,11 +65,11 @@ fn write_bank<S: Sink>(now: &Banks, start: &Banks, alg: Alg, sink: &mut S) -> Re
     Ok(())
 }
 
-/// Writes a register line for each register whose value in `now` is not that in `start`, or whose bank `start` lacks:
-/// the banks in the order of algorithms, the registers rising.
+/// Writes a line for each register whose value in `now` differs from that in `start`, or whose bank `start` lacks: by bank in the
+/// order of [`Alg::ALL`], then by register.
 ///
-/// A line is the algorithm's name, the register in decimal and the value in lower case hexadecimal, separated by spaces,
-/// with a line feed at the end. After `Err` the sink took a prefix of the text.
+/// A line is the algorithm's name, the register in decimal and the value in lower case hexadecimal, separated by spaces, with a
+/// line feed at the end. After `Err` the sink has taken a prefix of the text.
 pub fn write_registers<S: Sink>(now: &Banks, start: &Banks, sink: &mut S) -> Result<(), Failed>
     ensures { Sends (S.state sink.old) (S.state sink.new) result (registers_text now.now start.now) }
 {

@@ -12,11 +12,12 @@ use byte_streams::{Failed, Sink, send, send_pieces};
 use itoa::Buffer;
 use pcr_banks::MOST_DIGITS;
 
-/// Writes a report: a line with the number of events and the locality, one with the number of entries, one with the state of
-/// the boot aggregate, one for each expected register, and the verdict.
+/// Writes a report: a line with the number of events and the locality, one with the number of entries, one with the state of the
+/// boot aggregate, one for each expected register, and the verdict.
 ///
-/// `sha256 4 match` says that the register has the expected value, `sha256 4 differ` that it has the value that follows, in
-/// lower case hexadecimal, and `sha1 4 absent` that the log has no such bank, or there is no such register. After `Err` the sink took a prefix of the text.
+/// `sha256 4 match`: the register has the expected value. `sha256 4 differ` and a value in lower case hexadecimal: it has this
+/// value. `sha1 4 absent`: the log has no such bank, or there is no such register. After `Err` the sink has taken a prefix of the
+/// text.
 pub fn write_report<S: Sink>(report: &Report, sink: &mut S) -> Result<(), Failed>
     ensures { Sends (S.state sink.old) (S.state sink.new) result (report_text (verdict_of report.now)) }
 {
@@ -79,7 +80,7 @@ fn write_row<S: Sink>(row: &Row, sink: &mut S) -> Result<(), Failed>
     }
 }
 
-// The line of an expected register: a word on it, and digits after the word.
+// Writes the line of an expected register, with this word and then these digits.
 fn write_line<S: Sink>(
     expected: &Expected,
     word: &str,
@@ -92,7 +93,7 @@ fn write_line<S: Sink>(
     send_pieces(&[word.as_bytes(), digits, b"\n"], sink)
 }
 
-// What a line on an expected register begins with.
+// Writes the start of an expected register's line: the algorithm's name and the register.
 fn write_register_words<S: Sink>(expected: &Expected, sink: &mut S) -> Result<(), Failed>
     ensures { Sends (S.state sink.old) (S.state sink.new) result (register_words expected.now) }
 {

@@ -1,11 +1,13 @@
 //! Lists that are cut short anywhere, and lists whose lengths lie.
 
 use super::pieces::fed;
-use super::{MEASUREMENT, PAYLOAD_LENGTH, PAYLOAD_PLACE, VIOLATION, ima_entry, joined, list_of};
+use super::{PAYLOAD_LENGTH, PAYLOAD_PLACE, ima_entry};
 use ima_list::{ListFault, read_list};
 use std::alloc::{AllocError, Global};
 use std::process::Abort;
 use std::test::Fail;
+use test_kit::joined;
+use test_kit::lists::{MEASUREMENT, VIOLATION, list_of};
 
 /// A length of more bytes than any list has.
 const LYING: &[u8] = b"\xff\xff\xff\xff";

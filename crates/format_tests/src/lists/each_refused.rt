@@ -2,16 +2,16 @@
 //! Then what was handed in is as before, and the same call gives its answer.
 
 use super::cuts::lying_lists;
-use super::pieces::spelled;
-use super::{
-    DIGEST_PLACE, EMPTY_ENTRY, MEASUREMENT, MEASUREMENT_LINE, PAYLOAD_PLACE, VIOLATION, entry_of,
-    joined, measured, spelling_of, violated,
-};
+use super::{DIGEST_PLACE, EMPTY_ENTRY, PAYLOAD_PLACE, entry_of, measured, violated};
 use ima_list::{Entry, ListFault, ListReader, Template, read_list, write_entry};
 use pcr_banks::{Alg, hash};
 use std::alloc::Global;
 use std::process::Abort;
 use std::test::Fail;
+use test_kit::joined;
+use test_kit::lists::{
+    MEASUREMENT, MEASUREMENT_LINE, VIOLATION, VIOLATION_LINE, spelling_of, spellings,
+};
 
 /// The payload of the entry of `/bin/sh`, measured with the SHA-1 of `abc` in the template `ima`.
 const IMA_PAYLOAD: &[u8] =
@@ -26,10 +26,6 @@ const IMA_DIGEST: &[u8] =
 const IMA_VIOLATION_PAYLOAD: &[u8] =
     b"\x00\x00\x00\x00\x00\x00\x00\x00\x00\x00\x00\x00\x00\x00\x00\x00\x00\x00\x00\x00\
     \x06\x00\x00\x00/etc/x";
-
-/// The line of the violation of `/etc/x`.
-const VIOLATION_LINE: &[u8] = b"10 0000000000000000000000000000000000000000 ima-ng \
-    sha256:0000000000000000000000000000000000000000000000000000000000000000 /etc/x\n";
 
 /// The path of an entry of the template `ima`, as long as there is one.
 const LONGEST: [u8; 255] = [b'a'; 255];
@@ -247,7 +243,7 @@ fn feed_once(
 ) -> Result<(), Fail> {
     match reader.feed(piece) {
         Err(ListFault::Memory) => {
-            let entries = spelled(alloc, reader.entries())?;
+            let entries = spellings(alloc, reader.entries())?;
             assert_eq!(rt; entries.as_slice(), before);
             reader.feed(piece)?;
         }
@@ -316,8 +312,8 @@ fn each_allocation_refused_under_lying_lengths(rt: HostRuntime) -> Result<(), Fa
     Ok(())
 }
 
-/// A reader of these bytes in one piece: a torn entry is kept, which memory may be refused for, and told at the end. Any
-/// other fault is told at once, and keeps nothing.
+/// A reader of these bytes in one piece: an entry that is cut short is kept, which memory may be refused for, and told at
+/// the end. Any other fault is told at once, and keeps nothing.
 fn assert_told_by_a_reader(
     rt: &impl Abort,
     alloc: Global,

@@ -2,14 +2,18 @@
 
 use super::replaying::MEASURED;
 use super::{
-    DIGEST_PLACE, EMPTY_ENTRY, MEASUREMENT, MEASUREMENT_LINE, NAME_END, PAYLOAD_LENGTH,
-    PAYLOAD_PLACE, REGISTER_PLACE, VIOLATION, entry_of, hashed_of, joined, line_of, list_of,
-    measured, measurement_with, once_more, spelling_of, violated,
+    DIGEST_PLACE, EMPTY_ENTRY, NAME_END, PAYLOAD_LENGTH, PAYLOAD_PLACE, REGISTER_PLACE, entry_of,
+    hashed_of, line_of, measured, measurement_with, violated,
 };
 use ima_list::{EntryFault, Fields, ListFault, Template, replay};
 use pcr_banks::{Alg, AlgSet, Banks, Digest, hash};
 use std::alloc::AllocError;
 use std::test::Fail;
+use test_kit::lists::{
+    MEASUREMENT, MEASUREMENT_LINE, OTHER_TEMPLATE_LINE, VIOLATION, list_of, spelling_of,
+};
+use test_kit::registers::sha256_of;
+use test_kit::{joined, once_more};
 
 /// Of 255 bytes of path: what is hashed of the entry, how it is written and read; and one byte more is refused.
 #[test]
@@ -101,12 +105,6 @@ fn violation_entry_layout(rt: HostRuntime) -> Result<(), Fail> {
     Ok(())
 }
 
-/// The line of the entry of `/bin/sh` where its template has the name `ima-xx`: its payload has no fields that are known.
-const OTHER_TEMPLATE_LINE: &[u8] = b"10 83fdff315175587157ed3aa604e7f9ec63ca0b42 ima-xx \
-    28000000736861323536\
-    3a00ba7816bf8f01cfea414140de5dae2223b00361a396177a9cb410ff61f20015ad\
-    080000002f62696e2f736800\n";
-
 #[test]
 fn other_template_as_bytes(rt: HostRuntime) -> Result<(), Fail> {
     let alloc = rt.alloc();
@@ -124,7 +122,7 @@ fn other_template_as_bytes(rt: HostRuntime) -> Result<(), Fail> {
     assert_eq!(rt; entry.fields(), None);
     assert_eq!(rt; line_of(alloc, &entry)?.as_slice(), OTHER_TEMPLATE_LINE);
     let banks = replay(Banks::new(AlgSet::empty().with(Alg::Sha256), 0), &[entry])?;
-    let value = Digest::from_hex(Alg::Sha256, MEASURED).ok_or("no digest")?;
+    let value = sha256_of(MEASURED)?;
     assert_eq!(rt; banks.read(Alg::Sha256, 10), Some(value));
     Ok(())
 }

@@ -1,10 +1,12 @@
 //! What payloads tell of files.
 
-use super::{MEASUREMENT, PAYLOAD_LENGTH, entry_of, joined};
+use super::{PAYLOAD_LENGTH, entry_of};
 use ima_list::{Entry, Fields};
 use pcr_banks::{Alg, hash};
 use std::alloc::{AllocError, Global};
 use std::test::Fail;
+use test_kit::joined;
+use test_kit::lists::MEASUREMENT;
 
 /// The front of the field d-ng of the entry of `/bin/sh`.
 const FRONT: &[u8] = b"\x28\0\0\0sha256:\0";

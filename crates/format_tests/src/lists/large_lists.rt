@@ -1,14 +1,14 @@
 //! Many entries and large ones, of each register and of each algorithm: a body that gives up without cause fails here.
 
-use super::{
-    MEASUREMENT, OTHER_HEAD, REGISTER_PLACE, append_entry, entry_of, joined, line_of, list_of,
-    measured, measurement_with, once_more, spelling_of, violated,
-};
+use super::{OTHER_HEAD, REGISTER_PLACE, entry_of, line_of, measured, measurement_with, violated};
 use ima_list::{Fields, Template, replay};
 use pcr_banks::{Alg, AlgSet, Banks, Digest, REGISTERS, hash};
 use std::alloc::{AllocError, Global};
 use std::process::Abort;
 use std::test::Fail;
+use test_kit::lists::{MEASUREMENT, append_entry, list_of, spelling_of};
+use test_kit::registers::sha256_of;
+use test_kit::{joined, once_more};
 
 /// A measurement into each register, which its replay alone changes.
 #[test]
@@ -68,7 +68,7 @@ fn twelve_thousand_entries(rt: HostRuntime) -> Result<(), Fail> {
     assert!(rt; written.as_slice() == bytes.as_slice());
     let start = Banks::new(AlgSet::empty().with(Alg::Sha256), 0);
     let banks = replay(start, &entries)?;
-    let value = Digest::from_hex(Alg::Sha256, MEASURED_TIMES).ok_or("no digest")?;
+    let value = sha256_of(MEASURED_TIMES)?;
     assert_eq!(rt; banks.read(Alg::Sha256, 10), Some(value));
     Ok(())
 }

@@ -1,8 +1,8 @@
 //! The laws do nothing, or only read.
 
-use super::MEASUREMENT;
 use ima_list::laws;
 use pcr_banks::{Alg, AlgSet, Banks};
+use test_kit::lists::MEASUREMENT;
 
 #[test]
 fn laws_do_nothing() {

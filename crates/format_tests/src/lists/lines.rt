@@ -1,9 +1,9 @@
 //! Entries as lines of text.
 
-use super::{
-    MEASUREMENT_LINE, REGISTER_PLACE, entry_of, ima_entry, joined, line_of, measurement_with,
-};
+use super::{REGISTER_PLACE, entry_of, ima_entry, line_of, measurement_with};
 use std::test::Fail;
+use test_kit::joined;
+use test_kit::lists::MEASUREMENT_LINE;
 
 /// The register is right-aligned to width 2, and nothing else of the line depends on it.
 #[test]

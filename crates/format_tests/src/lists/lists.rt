@@ -2,14 +2,16 @@
 
 use super::sending::assert_sent_byte_by_byte;
 use super::{
-    EMPTY_ENTRY, MEASUREMENT, NAME_END, PAYLOAD_LENGTH, REGISTER_PLACE, VIOLATION, entry_of,
-    ima_entry, joined, list_of, measurement_with, spelling_of, violated, words_of,
+    EMPTY_ENTRY, NAME_END, PAYLOAD_LENGTH, REGISTER_PLACE, entry_of, ima_entry, measurement_with,
+    violated,
 };
 use ima_list::{ListFault, Template, read_list};
 use pcr_banks::Alg;
 use std::alloc::Global;
 use std::process::Abort;
 use std::test::Fail;
+use test_kit::lists::{MEASUREMENT, VIOLATION, list_of, spelling_of};
+use test_kit::{joined, words_of};
 
 /// A list of no entries needs no memory.
 #[test]
@@ -18,7 +20,7 @@ fn empty_list(rt: HostRuntime) -> Result<(), Fail> {
     Ok(())
 }
 
-/// The entry with no name and no payload, a name with a NUL, a violation, torn ends, and an entry sent byte by byte.
+/// The entry with no name and no payload, a name with a NUL, a violation, lists that are cut short, and an entry sent byte by byte.
 #[test]
 fn entries_and_torn_ends(rt: HostRuntime) -> Result<(), Fail> {
     let alloc = rt.alloc();

@@ -2,14 +2,13 @@
 
 ghost use Rattle.std.specs.Prelude.{◌<◌};
 
-use super::{
-    MEASUREMENT, OTHER_HEAD, REGISTER_PLACE, VIOLATION, append_entry, entry_of, ima_entry, joined,
-    line_of, list_of, measurement_with, once_more, spelling_of,
-};
-use ima_list::{Entry, EntryRef, ListFault, ListReader};
+use super::{OTHER_HEAD, REGISTER_PLACE, entry_of, ima_entry, line_of, measurement_with};
+use ima_list::{EntryRef, ListFault, ListReader};
 use std::alloc::{AllocError, Global};
 use std::process::Abort;
 use std::test::Fail;
+use test_kit::lists::{MEASUREMENT, VIOLATION, list_of, spelling_of, spellings};
+use test_kit::{joined, once_more};
 
 /// Feeds a piece; once more where memory was refused.
 fn feed(reader: &mut ListReader, piece: &[u8]) -> Result<(), ListFault> {
@@ -25,15 +24,6 @@ pub fn fed(alloc: Global, bytes: &[u8], size: usize) -> Result<ListReader, ListF
         feed(&mut reader, piece)?;
     }
     Ok(reader)
-}
-
-/// What entries are spelled as.
-pub fn spelled(alloc: Global, entries: &[Entry]) -> Result<Vec<u8>, AllocError> {
-    let mut bytes = Vec::new(alloc);
-    for entry in entries {
-        append_entry(entry, &mut bytes)?;
-    }
-    Ok(bytes)
 }
 
 /// No entry before its last byte; then the entry of `/bin/sh`.
@@ -107,7 +97,7 @@ fn assert_many_in_pieces(rt: &impl Abort, alloc: Global, size: usize) -> Result<
     let bytes = once_more(AllocError, || MEASUREMENT.repeat(alloc, 12_000))?;
     let entries = fed(alloc, &bytes, size)?.finish()?;
     assert_eq!(rt; entries.len(), 12_000);
-    assert!(rt; spelled(alloc, &entries)?.as_slice() == bytes.as_slice());
+    assert!(rt; spellings(alloc, &entries)?.as_slice() == bytes.as_slice());
     Ok(())
 }
 
@@ -161,7 +151,7 @@ fn large_payload_cut_anywhere(rt: HostRuntime) -> Result<(), Fail> {
         let entries = reader.finish()?;
         assert_eq!(rt; entries.len(), 2, "cut at {cut}");
         assert!(rt;
-            spelled(alloc, &entries)?.as_slice() == bytes.as_slice(),
+            spellings(alloc, &entries)?.as_slice() == bytes.as_slice(),
             "cut at {cut}"
         );
     }
@@ -174,7 +164,7 @@ fn large_payload_byte_by_byte(rt: HostRuntime) -> Result<(), Fail> {
     let bytes = large_and_small(alloc)?;
     let entries = fed(alloc, &bytes, 1)?.finish()?;
     assert_eq!(rt; entries.len(), 2);
-    assert!(rt; spelled(alloc, &entries)?.as_slice() == bytes.as_slice());
+    assert!(rt; spellings(alloc, &entries)?.as_slice() == bytes.as_slice());
     Ok(())
 }
 

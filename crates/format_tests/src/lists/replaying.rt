@@ -1,20 +1,15 @@
 //! Lists replayed into registers.
 
 use super::aggregates::RESET_AGGREGATES;
-use super::{
-    DIGEST_PLACE, MEASUREMENT, PAYLOAD_LENGTH, PAYLOAD_PLACE, VIOLATION, entry_of, joined, list_of,
-    measurement_with, words_of,
-};
+use super::{DIGEST_PLACE, PAYLOAD_LENGTH, PAYLOAD_PLACE, entry_of, measurement_with};
 use ima_list::{Fields, ReplayFault, boot_aggregate, replay};
 use pcr_banks::{Alg, AlgSet, Banks, Digest, REGISTERS, hash};
 use std::alloc::Global;
 use std::process::Abort;
 use std::test::Fail;
-
-/// The banks of these examples at their start, of SHA-256 alone.
-fn start() -> Banks {
-    Banks::new(AlgSet::empty().with(Alg::Sha256), 0)
-}
+use test_kit::lists::{MEASUREMENT, VIOLATION, list_of};
+use test_kit::registers::{sha256_of, start};
+use test_kit::{joined, words_of};
 
 /// PCR 10 after a measurement, after a violation, and after a measurement, a violation and the same measurement again.
 pub const MEASURED: &[u8] = b"b5d40d04bac9491388df368bfb22d52254d875ae2ac067181bcab312acde96a9";
@@ -63,7 +58,7 @@ fn assert_replayed(
     digits: &[u8],
 ) -> Result<(), Fail> {
     let banks = replay(start(), &list_of(alloc, bytes)?)?;
-    let value = Digest::from_hex(Alg::Sha256, digits).ok_or("no digest")?;
+    let value = sha256_of(digits)?;
     for register in 0..REGISTERS {
         let expected = match register {
             10 => Some(value),

@@ -1,10 +1,11 @@
 //! An entry that is sent, to a sink that fails too.
 
-use super::{MEASUREMENT, entry_of};
-use crate::sinks::{MOST, ShortSink};
+use super::entry_of;
 use ima_list::{Entry, Failed, send_entry};
 use std::process::Abort;
 use std::test::Fail;
+use test_kit::devices::{MOST, ShortSink};
+use test_kit::lists::MEASUREMENT;
 
 /// Sending takes no memory: the sink has none to refuse.
 pub(super) fn assert_sent_byte_by_byte(rt: &impl Abort, entry: &Entry) {

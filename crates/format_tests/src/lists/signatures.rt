@@ -1,13 +1,13 @@
 //! Signatures, and entries of the template `ima-sig`.
 
-use super::{
-    entry_of, hashed_of, joined, line_of, list_of, measured_with, once_more, sig_of, spelling_of,
-};
+use super::{entry_of, hashed_of, line_of, measured_with};
 use ima_list::{Entry, Fields, Sig, Template};
 use pcr_banks::{Alg, Digest, hash};
 use std::alloc::{AllocError, Global};
 use std::process::Abort;
 use std::test::Fail;
+use test_kit::lists::{SIGNED, THREE_BYTES, list_of, sig_of, spelling_of};
+use test_kit::{joined, once_more};
 
 /// The entry of `/bin/sh`, measured into PCR 10 with the SHA-256 of `abc`, in the template `ima-sig`, without a signature.
 pub const UNSIGNED: &[u8] = b"\x0a\x00\x00\x00\
@@ -23,20 +23,6 @@ pub const UNSIGNED: &[u8] = b"\x0a\x00\x00\x00\
 /// The line of this entry, in which no signature leaves its space.
 pub const UNSIGNED_LINE: &[u8] = b"10 ffb8dc2f2f8c5ac2cd367f14f94881c5f5f9797c ima-sig \
     sha256:ba7816bf8f01cfea414140de5dae2223b00361a396177a9cb410ff61f20015ad /bin/sh \n";
-
-/// A signature.
-pub const THREE_BYTES: &[u8] = b"\x03\x02\x04";
-
-/// The same entry with this signature.
-pub const SIGNED: &[u8] = b"\x0a\x00\x00\x00\
-    \xa4\x6f\x5e\x1f\x6d\x52\x23\x45\x53\x7b\x5d\x5b\xdf\x66\x66\x49\x28\x27\xb4\xf2\
-    \x07\x00\x00\x00ima-sig\
-    \x3f\x00\x00\x00\
-    \x28\x00\x00\x00sha256:\x00\
-    \xba\x78\x16\xbf\x8f\x01\xcf\xea\x41\x41\x40\xde\x5d\xae\x22\x23\
-    \xb0\x03\x61\xa3\x96\x17\x7a\x9c\xb4\x10\xff\x61\xf2\x00\x15\xad\
-    \x08\x00\x00\x00/bin/sh\x00\
-    \x03\x00\x00\x00\x03\x02\x04";
 
 /// Its line.
 pub const SIGNED_LINE: &[u8] = b"10 a46f5e1f6d522345537b5d5bdf6666492827b4f2 ima-sig \

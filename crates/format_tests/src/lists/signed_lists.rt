@@ -1,12 +1,15 @@
 //! Lists of the template `ima-sig` that are read, and what their payloads tell.
 
-use super::pieces::{fed, spelled};
-use super::signatures::{SIGNED, SIGNED_PAYLOAD_LENGTH, SIGNED_PAYLOAD_PLACE, UNSIGNED};
-use super::{entry_of, joined, line_of, list_of, once_more, spelling_of, violated};
+use super::pieces::fed;
+use super::signatures::{SIGNED_PAYLOAD_LENGTH, SIGNED_PAYLOAD_PLACE, UNSIGNED};
+use super::{entry_of, line_of, violated};
 use ima_list::{Entry, Fields, ListFault, Template, replay};
 use pcr_banks::{Alg, AlgSet, Banks, Digest, hash};
 use std::alloc::{AllocError, Global};
 use std::test::Fail;
+use test_kit::lists::{SIGNED, list_of, spelling_of, spellings};
+use test_kit::registers::sha256_of;
+use test_kit::{joined, once_more};
 
 /// The entry of the boot aggregate of registers at reset, as the kernel writes it: without a signature.
 const AGGREGATE: &[u8] = b"\x0a\x00\x00\x00\
@@ -164,11 +167,11 @@ fn list_of_the_kernel(rt: HostRuntime) -> Result<(), Fail> {
         once_more(AllocError, || entry.line(&mut lines))?;
     }
     assert_eq!(rt; lines.as_slice(), LINES);
-    assert!(rt; spelled(alloc, &entries)?.as_slice() == bytes.as_slice());
+    assert!(rt; spellings(alloc, &entries)?.as_slice() == bytes.as_slice());
     let made = violated(alloc, Template::ImaSig, Alg::Sha256, b"/etc/x")?;
     assert_eq!(rt; spelling_of(alloc, &made)?.as_slice(), VIOLATION);
     let banks = replay(Banks::new(AlgSet::empty().with(Alg::Sha256), 0), &entries)?;
-    let value = Digest::from_hex(Alg::Sha256, REPLAYED).ok_or("no digest")?;
+    let value = sha256_of(REPLAYED)?;
     assert_eq!(rt; banks.read(Alg::Sha256, 10), Some(value));
     Ok(())
 }
@@ -269,7 +272,7 @@ fn payloads_of_no_signed_file(rt: HostRuntime) -> Result<(), Fail> {
     Ok(())
 }
 
-/// Byte by byte, in pieces and at once the list is the same; without its last byte it is torn.
+/// Byte by byte, in pieces and at once the list is the same; without its last byte it is cut short.
 #[test]
 fn signed_list_in_pieces(rt: HostRuntime) -> Result<(), Fail> {
     let alloc = rt.alloc();

@@ -1,11 +1,13 @@
 //! Templates, and why they have no entry.
 
-use super::signatures::{SIGNED, SIGNED_PAYLOAD_PLACE, UNSIGNED};
-use super::{MEASUREMENT, PAYLOAD_PLACE, filled_hash, sig_of, words_of};
+use super::signatures::{SIGNED_PAYLOAD_PLACE, UNSIGNED};
+use super::{PAYLOAD_PLACE, filled_hash};
 use ima_list::{EntryFault, Sig, Template};
 use pcr_banks::{Alg, hash};
 use std::process::Abort;
 use std::test::Fail;
+use test_kit::lists::{MEASUREMENT, SIGNED, sig_of};
+use test_kit::words_of;
 
 /// Each template has its name, and no other name is that of a template.
 #[test]

@@ -1,11 +1,11 @@
 //! The claim rule, and the steps that keep it.
 
-ghost use Rattle.hash_workers.specs.ClaimRule.{KeepsRule, first_view, Draws, DrawsAll, Looks, giver, taker, merged, spent};
+ghost use Rattle.hash_workers.specs.parts.ClaimRule.{KeepsRule, first_view, Draws, DrawsAll, Looks, giver, taker, merged, spent};
 
 use super::view::{Allotment, SeatView};
 use atomic_table::{Join, Play, Split, TableRule};
 
-/// What holds of the word and of all views between any two steps.
+/// The invariant of the word and all views, between any two steps.
 #[derive(Clone, Copy)]
 pub(crate) struct ClaimRule;
 
@@ -36,7 +36,7 @@ impl Play<(), SeatView> for Look {
     ghost then = { Looks };
 }
 
-/// One place is cut off.
+/// One place goes to a new seat.
 pub(crate) struct Cut;
 
 impl Split<SeatView> for Cut {

@@ -1,11 +1,11 @@
-//! What the claims' word and its seats are known by.
+//! What proofs know of a seat, and the size of the claims.
 
 ghost use Rattle.std.specs.Prelude.{ℕ, List, Bool};
 ghost use Rattle.std.specs.Borrow.{ftrue};
 
 use std::marker::Model;
 
-/// What a seat knows, in proofs alone: no value of it is made.
+/// What proofs know of a seat. All fields are ghost; no value is made at run time.
 pub(crate) struct SeatView {
     pub(crate) ghost jobs: { ℕ },
     pub(crate) ghost seats: { ℕ },
@@ -18,7 +18,7 @@ impl Model for SeatView {
     ghost also_owns = { λ _. ftrue };
 }
 
-/// How many jobs there are, and the places of how many seats.
+/// The number of jobs, and of places for seats.
 #[derive(Clone, Copy)]
 pub(crate) struct Allotment {
     pub(crate) jobs: u32,

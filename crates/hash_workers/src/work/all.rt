@@ -1,40 +1,40 @@
-//! What all workers did.
+//! What all workers did, collected.
 
 ghost use Rattle.std.specs.Prelude.{◌≡◌, ◌≢◌, ◌+◌, ◌<◌, ◌≤◌, ◌++◌, ◌||◌, true, false, None, length, map, vec_len, All, IfOk, IfSome, MatchBool};
 ghost use Rattle.std.specs.List.{concat};
 ghost use Rattle.hash_workers.specs.Claims.{HandsOutEach, IsSeat};
-ghost use Rattle.hash_workers.specs.Seats.{AreJoined, HandBack, HasEnd, HasNoEnd, HaveLacks, IsEarlier, IsLeastLack, IsSinglePlace, draws_in, draws_of, ended_in, outcomes_of, places_in, seat_of, taken_of};
-ghost use Rattle.hash_workers.specs.Scattering.{items_of};
-ghost use Rattle.hash_workers.specs.Settling.{AreTakenBefore, IsLackOf, IsMadeOf, takings_of};
+ghost use Rattle.hash_workers.specs.parts.Seats.{AreJoined, HandBack, HasEnd, HasNoEnd, HaveLacks, IsEarlier, IsLeastLack, IsSinglePlace, draws_in, draws_of, ended_in, outcomes_of, places_in, seat_of, taken_of};
+ghost use Rattle.hash_workers.specs.parts.Scattering.{items_of};
+ghost use Rattle.hash_workers.specs.parts.Settling.{AreTakenBefore, IsLackOf, IsMadeOf, takings_of};
 
 use super::{End, Lack, Work};
 use crate::claims::{ClaimSeat, Claims};
 use measure_book::{BookFault, Outcome};
 use std::alloc::{AllocError, Global};
 
-/// What all workers did, a list for each worker in its order, and a place for each job.
+/// What all workers did, with one list per worker, and room for the outcome of each job.
 #[derive(Drop)]
 pub(crate) struct AllWork {
     /// The jobs that each worker took.
     pub(crate) takings: Vec<Vec<u32>>,
-    /// The outcome of each of these.
+    /// The outcomes of these jobs.
     pub(crate) groups: Vec<Vec<Outcome>>,
-    /// Whether a worker found a book of another origin.
+    /// Whether a worker found that the book has another origin.
     pub(crate) foreign: bool,
-    /// The first job whose operation could not be had, where a worker stopped for one.
+    /// The first job whose operation could not be made, if a worker stopped for one.
     pub(crate) lack: Option<Lack>,
     /// A place for the outcome of each job.
     pub(crate) outcomes: Vec<Outcome>,
-    /// A place for the worker of each job.
+    /// A place for the number of each job's worker.
     pub(crate) by: Vec<u32>,
 }
 
 impl AllWork {
-    /// What these workers did, with places for this number of jobs. Their seats are joined, and the claims are closed, so
-    /// that each job was taken once where no worker stopped; and each before the first whose operation could not be had.
+    /// Collects what these workers did, with places for `count` jobs. Joins their seats and closes the claims, which shows that
+    /// each job was taken once if no worker stopped; if one stopped for a job's operation, each job before the first such one.
     ///
-    /// Refused where a worker found no memory, or there is none for the lists and the places. How a worker ended is told by
-    /// nothing else, so whatever is found of that comes after the memory.
+    /// Fails where a worker ran out of memory, or where there is none for the lists and places. Nothing else tells how a worker
+    /// ended, so any other cause comes after memory.
     pub(crate) fn of(
         alloc: Global,
         claims: Claims,
@@ -67,7 +67,7 @@ impl AllWork {
     }
 }
 
-// The first lack of these workers, where one of them stopped for one.
+// The first lack, if a worker stopped for one.
 fn lack_of(works: &[Work]) -> Option<Lack>
     requires { HaveLacks works.now }
     ensures { IsLackOf works.now result }
@@ -79,7 +79,7 @@ fn lack_of(works: &[Work]) -> Option<Lack>
     }
 }
 
-// The first lack of these workers, in the order of the jobs.
+// The first lack in the order of the jobs.
 fn first_lack(works: &[Work]) -> Option<Lack>
     ensures { IsLeastLack works.now (length works.now) result }
 {
@@ -90,7 +90,7 @@ fn first_lack(works: &[Work]) -> Option<Lack>
     first
 }
 
-// The earlier of two lacks, where there are any.
+// The earlier of two lacks, if there are any.
 fn earlier(one: Option<Lack>, other: Option<Lack>) -> Option<Lack>
     ensures { IsEarlier one other result }
 {
@@ -100,7 +100,7 @@ fn earlier(one: Option<Lack>, other: Option<Lack>) -> Option<Lack>
     }
 }
 
-// Whether some worker ended so.
+// Whether some worker ended this way.
 fn has_end(works: &[Work], end: End) -> bool
     ensures { MatchBool result (HasEnd works.now end) (HasNoEnd works.now end (length works.now)) }
 {
@@ -123,10 +123,10 @@ fn places(alloc: Global, count: usize) -> Result<Vec<Outcome>, AllocError>
     Ok(outcomes)
 }
 
-/// The jobs that each worker took, the outcomes of these, and the seats.
+/// The jobs that each worker took, their outcomes, and the seats.
 type Parts = (Vec<Vec<u32>>, Vec<Vec<Outcome>>, Vec<ClaimSeat>);
 
-// The jobs, the outcomes and the seat of each worker, apart.
+// Splits the workers' results into jobs, outcomes and seats.
 fn split(alloc: Global, works: Vec<Work>) -> Result<Parts, AllocError>
     ensures takings { IfOk result (λ lists. map items_of lists.0.items ≡ map taken_of works.items) }
     ensures groups { IfOk result (λ lists. map items_of lists.1.items ≡ map outcomes_of works.items) }
@@ -143,7 +143,7 @@ fn split(alloc: Global, works: Vec<Work>) -> Result<Parts, AllocError>
     Ok((takings, groups, seats))
 }
 
-// Closes the claims with all of their seats, which have one place each. Where every seat is ended, they drew each number.
+// Closes the claims with all of their seats, which have one place each. If every seat is ended, they drew each number once.
 fn close(claims: Claims, seats: Vec<ClaimSeat>)
     requires some { 1 ≤ claims.seats }
     requires seats { All (IsSinglePlace claims) seats.items }
@@ -155,7 +155,7 @@ fn close(claims: Claims, seats: Vec<ClaimSeat>)
     }
 }
 
-// The seats as one, joined in turn.
+// Joins the seats into one.
 fn joined(claims: &Claims, seats: Vec<ClaimSeat>) -> Option<ClaimSeat>
     requires { All (IsSinglePlace claims.now) seats.items }
     ensures { AreJoined claims.now seats.items result }
@@ -167,7 +167,7 @@ fn joined(claims: &Claims, seats: Vec<ClaimSeat>) -> Option<ClaimSeat>
     all
 }
 
-// The seats that were joined so far, and one more.
+// Joins one more seat to those joined so far.
 fn with(claims: &Claims, others: Option<ClaimSeat>, seat: ClaimSeat) -> ClaimSeat
     requires seat { IsSinglePlace claims.now seat }
     requires others { IfSome others (λ all. all.claims ≡ claims.now) }

@@ -1,4 +1,4 @@
-//! What becomes of one job, and what the gate is told of it, over a recorder whose book is seen.
+//! The outcome of one job, and the calls to the gate, with a recorder whose book the tests can see.
 
 ghost use Rattle.std.specs.Prelude.{Some, ◌<◌};
 
@@ -18,11 +18,11 @@ use std::test::Fail;
 /// The last step of a job.
 const END: u32 = 3;
 
-/// A job that left its course.
+/// A job whose steps came in a wrong order.
 const LOST: u32 = 4;
 
-/// How far a job is: the gate is told that it is hashed (1), its operation is recorded, where there is one (2), the gate is
-/// told that it is recorded (3).
+/// How far a job is: the gate was told that it is hashed (1), its operation, if any, was recorded (2), the gate was told that it
+/// is recorded (3).
 #[derive(Drop)]
 struct Course {
     step: AtomicU32,
@@ -35,7 +35,7 @@ impl Course {
         }
     }
 
-    /// Goes on from one step to the next; from another one the course is lost.
+    /// Moves from one step to the next. If the job is at another step, it is `LOST`.
     fn goes_on(&self, from: u32, to: u32) {
         let next = if self.step.load(Ordering::SeqCst) == from {
             to
@@ -56,7 +56,7 @@ impl Gate for Course {
     }
 }
 
-/// A book that nobody else has, which a recorder tells.
+/// A recorder with a book of its own, which contracts know.
 #[derive(Drop)]
 struct OwnBook<'a> {
     book: Book,
@@ -109,7 +109,8 @@ fn jobs(alloc: Global) -> Result<[Job; 3], AllocError> {
     ])
 }
 
-/// Takes a job with a book of this limit, where one of the limit 100 is asked for; how far the job came, and the records.
+/// Takes a job with a book of this limit, where one of limit 100 is expected. Returns the result, how far the job came, and the
+/// number of records.
 fn taken(
     alloc: Global,
     work: &mut Work,
@@ -137,7 +138,7 @@ fn taken(
     Ok((taken, course.step.load(Ordering::SeqCst), records))
 }
 
-/// The same of a job whose operation found no memory.
+/// The same for a job whose operation could not be made.
 fn passed(
     alloc: Global,
     work: &mut Work,
@@ -154,8 +155,8 @@ fn passed(
     Ok((passed, course.step.load(Ordering::SeqCst), records))
 }
 
-/// The gate is told of each job as hashed, before it is recorded, and then as recorded: also of a job at which the worker
-/// stops, for a book of another origin, which is left as it is, and of one that cannot be recorded.
+/// The gate is told of each job before it is recorded and after: also of a job at which the worker stops because the book has
+/// another origin (the book is not changed), and of one without an operation.
 #[test]
 fn gate_is_told_where_a_worker_stops(rt: HostRuntime) -> Result<(), Fail> {
     let alloc = rt.alloc();

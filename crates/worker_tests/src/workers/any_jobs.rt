@@ -2,18 +2,19 @@
 
 use super::many::{Wanted, path_of, wrong_in};
 use super::numbered::{Failing, Trial, answer_of};
-use super::{measured, sha256};
 use hash_workers::{AgentFault, JobFault, JobsFault};
 use measure_book::BookFault;
 use std::alloc::{AllocError, Global};
 use std::test::Fail;
+use test_kit::books::measure;
+use test_kit::registers::sha256;
 
 /// What the first jobs of the tests' own are recorded as, this many, of which one has found no memory.
 fn wanted_of(alloc: Global, count: u32, without: Option<u32>) -> Result<Vec<Wanted>, AllocError> {
     let mut wanted = Vec::new(alloc);
     for job in 0..count {
         let path = path_of(job);
-        let op = measured(alloc, &path, sha256(&path))?;
+        let op = measure(alloc, &path, sha256(&path))?;
         wanted.push(if without == Some(job) {
             Wanted::refused(op, BookFault::Memory)
         } else {

@@ -1,16 +1,16 @@
 //! What batches make of the list and of PCR 10.
 
 use super::many::{Wanted, wrong_in};
-use super::{batch_of, copied, file, measured, origin, read, receipt_of, sha256, violation};
+use super::{batch_of, file, read, receipt_of, violation};
 use hash_workers::{Batch, Job};
 use ima_list::Sig;
 use measure_book::{Answer, Op};
 use pcr_banks::{Alg, Digest};
 use std::alloc::{AllocError, Global};
 use std::test::Fail;
-
-/// PCR 10 after the opening of a book and the measurement of `/bin/sh` with the content `abc`.
-const PCR_10: &[u8] = b"5fcef84d490a160058b8f1b7e33abea9f2df325f2b7ccb294d1d28f3459db9d5";
+use test_kit::books::{AFTER_TWO, measure, origin};
+use test_kit::copied;
+use test_kit::registers::{sha256, sha256_of};
 
 /// Three contents, and their SHA-256.
 const ONE: &[u8] = b"7692c3ad3540bb803c020b3aee66cd8887123234ea0c6e7143c0add73ff431ed";
@@ -29,12 +29,12 @@ fn one_worker_keeps_job_order(rt: HostRuntime) -> Result<(), Fail> {
     let alloc = rt.alloc();
     let jobs = [file(alloc, b"/bin/sh", b"abc")?, read(Alg::Sha256, 10)];
     let batch = batch_of(&rt, alloc, origin(100), &jobs, 1)?;
-    let value = Digest::from_hex(Alg::Sha256, PCR_10).ok_or("no digest")?;
+    let value = sha256_of(AFTER_TWO)?;
     let first = receipt_of(&batch, 0).ok_or("refused")?;
     let second = receipt_of(&batch, 1).ok_or("refused")?;
     assert_eq!(rt; (first.place, first.answer), (1, Answer::Added(1)));
     assert_eq!(rt; (second.place, second.answer), (2, Answer::Value(value)));
-    assert_eq!(rt; first.op, measured(alloc, b"/bin/sh", sha256(b"abc"))?);
+    assert_eq!(rt; first.op, measure(alloc, b"/bin/sh", sha256(b"abc"))?);
     assert_eq!(rt; batch.by.as_slice(), [0, 0].as_slice());
     assert_eq!(rt; batch.book.banks().read(Alg::Sha256, 10), Some(value));
     Ok(())
@@ -60,9 +60,9 @@ fn one_path_three_times(rt: HostRuntime) -> Result<(), Fail> {
     }
     let path = copied(alloc, b"/bin/sh")?;
     let wanted = [
-        Wanted::done(measured(alloc, b"/bin/sh", sha256(b"abc"))?),
+        Wanted::done(measure(alloc, b"/bin/sh", sha256(b"abc"))?),
         Wanted::done(Op::Violation { path }),
-        Wanted::done(measured(alloc, b"/bin/sh", sha256(b"abc"))?),
+        Wanted::done(measure(alloc, b"/bin/sh", sha256(b"abc"))?),
     ];
     assert_eq!(rt; wrong_in(alloc, &batch, &wanted)?, None);
     assert_eq!(rt; batch.by.as_slice(), [0, 0, 0].as_slice());
@@ -120,7 +120,7 @@ fn contents_in_the_list(rt: HostRuntime) -> Result<(), Fail> {
         (b"/c", THREE),
         (b"/large", LARGE_HASH),
     ] {
-        let digest = Digest::from_hex(Alg::Sha256, digest).ok_or("no digest")?;
+        let digest = sha256_of(digest)?;
         assert!(rt; lists(&batch, path, digest), "{path:?}");
     }
     Ok(())

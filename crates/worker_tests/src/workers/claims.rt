@@ -2,7 +2,7 @@
 
 ghost use Rattle.std.specs.Prelude.{◌≡◌, ◌≤◌, IfOk};
 
-use super::{file, origin};
+use super::file;
 use hash_workers::{Batch, ClaimSeat, Claims, Gate, Job, measure_files};
 use measure_book::Op;
 use std::alloc::{AllocError, Global};
@@ -10,6 +10,7 @@ use std::sync::Wait;
 use std::sync::atomic::{AtomicBool, Ordering};
 use std::test::Fail;
 use std::thread::{Threads, join};
+use test_kit::books::origin;
 
 /// How often a gate looks for another job at most.
 const TURNS: u32 = 100_000_000;

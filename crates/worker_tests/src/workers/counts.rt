@@ -1,7 +1,7 @@
 //! What a gate is told of each job.
 
 use super::many::{Wanted, plan_of, wrong_in};
-use super::{MOST_JOBS, origin, ran_out};
+use super::{MOST_JOBS, ran_out};
 use hash_workers::{Batch, Gate, Job, measure_files};
 use measure_book::Op;
 use std::alloc::{AllocError, Global};
@@ -9,6 +9,7 @@ use std::sync::Wait;
 use std::sync::atomic::{AtomicBool, AtomicU32, Ordering};
 use std::test::Fail;
 use std::thread::Threads;
+use test_kit::books::origin;
 
 /// How often a gate was told that a job was hashed, and that it was recorded.
 #[derive(Drop)]

@@ -1,31 +1,18 @@
 //! Calls that are made once plainly, and once more where an allocation was refused in the first one.
 
 use super::numbered::{Failing, Trial, tried};
-use super::{
-    copied, file, measured, measured_with, origin, read, receipt_of, signed_file, violation,
-};
+use super::{file, read, receipt_of, signed_file, violation};
 use hash_workers::{AgentFault, Batch, Job, JobFault, JobsFault, NoGate, measure_files, op_of};
 use measure_book::{Answer, BookFault, Op, Outcome};
-use pcr_banks::{Alg, Digest};
+use pcr_banks::Alg;
 use std::alloc::{AllocError, Global};
 use std::sync::Wait;
 use std::test::Fail;
 use std::thread::Threads;
-
-/// The SHA-256 of `abc`, and that of no bytes.
-const ABC: &[u8] = b"ba7816bf8f01cfea414140de5dae2223b00361a396177a9cb410ff61f20015ad";
-
-const EMPTY: &[u8] = b"e3b0c44298fc1c149afbf4c8996fb92427ae41e4649b934ca495991b7852b855";
-
-/// PCR 10 after the opening of a book, and after the measurement of `/bin/sh` with the content `abc` too.
-const AFTER_OPENING: &[u8] = b"bf0d858e3904704b36740bc2ddcf4820b93a9323c1098338b7c38e338735257b";
-
-const AFTER_TWO: &[u8] = b"5fcef84d490a160058b8f1b7e33abea9f2df325f2b7ccb294d1d28f3459db9d5";
-
-/// The digest that is written so.
-fn digest_of(hex: &[u8]) -> Result<Digest, &'static str> {
-    Digest::from_hex(Alg::Sha256, hex).ok_or("no digest")
-}
+use test_kit::books::{AFTER_OPENING, AFTER_TWO, measure, measure_with, origin};
+use test_kit::copied;
+use test_kit::lists::sig_of;
+use test_kit::registers::{SHA256_OF_ABC, SHA256_OF_NOTHING, sha256_of};
 
 /// The place and the answer of a job that was done; none where memory was refused for it.
 type Found = Option<(u32, Answer)>;
@@ -88,7 +75,7 @@ fn is_violation(job: &Job, wanted: &[u8]) -> bool {
 fn each_allocation_refused_in_op_of(rt: HostRuntime) -> Result<(), Fail> {
     let alloc = rt.alloc();
     let job = file(alloc, b"/bin/sh", b"abc")?;
-    let wanted = measured(alloc, b"/bin/sh", digest_of(ABC)?)?;
+    let wanted = measure(alloc, b"/bin/sh", sha256_of(SHA256_OF_ABC)?)?;
     let op = match op_of(alloc, &job, Alg::Sha256) {
         Ok(op) => op,
         Err(AllocError) => {
@@ -112,7 +99,8 @@ fn each_allocation_refused_in_op_of_a_signed_file(rt: HostRuntime) -> Result<(),
             op_of(alloc, &job, Alg::Sha256)?
         }
     };
-    let wanted = measured_with(alloc, b"/bin/sh", digest_of(ABC)?, b"\x03\x02\x04")?;
+    let sig = sig_of(alloc, b"\x03\x02\x04")?;
+    let wanted = measure_with(alloc, b"/bin/sh", sha256_of(SHA256_OF_ABC)?, &sig)?;
     assert_eq!(rt; op, wanted);
     Ok(())
 }
@@ -160,15 +148,15 @@ fn each_allocation_refused_with_one_worker(rt: HostRuntime) -> Result<(), Fail> 
     let alloc = rt.alloc();
     let jobs = [file(alloc, b"/bin/sh", b"abc")?, read(Alg::Sha256, 10)];
     let ops = [
-        measured(alloc, b"/bin/sh", digest_of(ABC)?)?,
+        measure(alloc, b"/bin/sh", sha256_of(SHA256_OF_ABC)?)?,
         Op::Read {
             alg: Alg::Sha256,
             register: 10,
         },
     ];
     let added = Some((1, Answer::Added(1)));
-    let value = Some((2, Answer::Value(digest_of(AFTER_TWO)?)));
-    let alone = Some((1, Answer::Value(digest_of(AFTER_OPENING)?)));
+    let value = Some((2, Answer::Value(sha256_of(AFTER_TWO)?)));
+    let alone = Some((1, Answer::Value(sha256_of(AFTER_OPENING)?)));
     match measure_files(&rt, alloc, origin(100), &jobs, 1, &NoGate) {
         Ok(batch) => {
             let found = found_of_two(&batch, &ops, 1)?;
@@ -231,8 +219,8 @@ fn each_allocation_refused_with_two_workers(rt: HostRuntime) -> Result<(), Fail>
         file(alloc, b"/bin/ls", b"")?,
     ];
     let ops = [
-        measured(alloc, b"/bin/sh", digest_of(ABC)?)?,
-        measured(alloc, b"/bin/ls", digest_of(EMPTY)?)?,
+        measure(alloc, b"/bin/sh", sha256_of(SHA256_OF_ABC)?)?,
+        measure(alloc, b"/bin/ls", sha256_of(SHA256_OF_NOTHING)?)?,
     ];
     done_by_two(&rt, alloc, &jobs, &ops, Answer::Added(2))?;
     assert!(rt; is_file(jobs.first().ok_or("no job")?, b"/bin/sh", b"abc"));
@@ -248,8 +236,8 @@ fn each_allocation_refused_with_one_file_twice(rt: HostRuntime) -> Result<(), Fa
         file(alloc, b"/bin/sh", b"abc")?,
     ];
     let ops = [
-        measured(alloc, b"/bin/sh", digest_of(ABC)?)?,
-        measured(alloc, b"/bin/sh", digest_of(ABC)?)?,
+        measure(alloc, b"/bin/sh", sha256_of(SHA256_OF_ABC)?)?,
+        measure(alloc, b"/bin/sh", sha256_of(SHA256_OF_ABC)?)?,
     ];
     done_by_two(&rt, alloc, &jobs, &ops, Answer::Known(1))?;
     assert!(rt; is_file(jobs.first().ok_or("no job")?, b"/bin/sh", b"abc"));

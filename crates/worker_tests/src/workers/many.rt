@@ -3,12 +3,15 @@
 ghost use Rattle.std.specs.Prelude.{◌≡◌};
 ghost use Rattle.worker_tests.specs.Numbered.{path_of_number};
 
-use super::{batch_of, copied, file, measured, origin, read, sha256, violation};
+use super::{batch_of, file, read, violation};
 use hash_workers::{Batch, Job};
 use measure_book::{BookFault, Op, Outcome, Record};
 use pcr_banks::Alg;
 use std::alloc::{AllocError, Global};
 use std::test::Fail;
+use test_kit::books::{measure, origin};
+use test_kit::copied;
+use test_kit::registers::sha256;
 
 /// What a job is recorded as, or why it is refused.
 #[derive(Drop)]
@@ -78,7 +81,7 @@ fn job_of(alloc: Global, number: u32, kind: u32) -> Result<Job, AllocError> {
 fn wanted_of(alloc: Global, number: u32, kind: u32) -> Result<Wanted, AllocError> {
     let path = path_of(number);
     let (op, refusal) = match kind {
-        0 => (measured(alloc, &path, sha256(&path))?, None),
+        0 => (measure(alloc, &path, sha256(&path))?, None),
         1 => (
             Op::Violation {
                 path: copied(alloc, &path)?,
@@ -93,7 +96,7 @@ fn wanted_of(alloc: Global, number: u32, kind: u32) -> Result<Wanted, AllocError
             None,
         ),
         3 => (
-            measured(alloc, b"/nul\0", sha256(&path))?,
+            measure(alloc, b"/nul\0", sha256(&path))?,
             Some(BookFault::NulInPath),
         ),
         _ => (

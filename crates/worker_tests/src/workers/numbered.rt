@@ -7,7 +7,7 @@ ghost use Rattle.worker_tests.specs.Numbered.{operation_of_number};
 
 use super::many::path_of;
 use super::overlap::comes;
-use super::{copied, origin, ran_out};
+use super::ran_out;
 use hash_workers::{AgentFault, Batch, Gate, JobFault, Jobs, JobsFault, record_jobs};
 use ima_list::Sig;
 use measure_book::Op;
@@ -16,6 +16,7 @@ use std::alloc::{AllocError, Global};
 use std::sync::Wait;
 use std::sync::atomic::{AtomicBool, AtomicU32, Ordering};
 use std::thread::Threads;
+use test_kit::books::origin;
 
 /// How often a job that is held looks for its release at most.
 const TURNS: u32 = 1_000_000_000;

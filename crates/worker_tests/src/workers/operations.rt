@@ -1,19 +1,15 @@
 //! The operations of jobs.
 
-use super::{copied, file, measured, read, sha256, violation};
-use hash_workers::{Job, op_of};
+use super::{file, operation, read, violation};
 use measure_book::Op;
 use pcr_banks::{Alg, Digest};
-use std::alloc::{AllocError, Global};
 use std::test::Fail;
+use test_kit::books::measure;
+use test_kit::copied;
+use test_kit::registers::sha256;
 
 /// The SHA-1 of `abc`.
 const SHA1_ABC: &[u8] = b"a9993e364706816aba3e25717850c26c9cd0d89d";
-
-/// The operation of a job; once more where an allocation was refused.
-fn operation(alloc: Global, job: &Job, alg: Alg) -> Result<Op, AllocError> {
-    op_of(alloc, job, alg).or_else(|_| op_of(alloc, job, alg))
-}
 
 #[test]
 fn operations_of_jobs(rt: HostRuntime) -> Result<(), Fail> {
@@ -22,11 +18,11 @@ fn operations_of_jobs(rt: HostRuntime) -> Result<(), Fail> {
     let digest = Digest::from_hex(Alg::Sha1, SHA1_ABC).ok_or("no digest")?;
     assert_eq!(rt;
         operation(alloc, &job, Alg::Sha1)?,
-        measured(alloc, b"/bin/sh", digest)?
+        measure(alloc, b"/bin/sh", digest)?
     );
     assert_eq!(rt;
         operation(alloc, &job, Alg::Sha256)?,
-        measured(alloc, b"/bin/sh", sha256(b"abc"))?
+        measure(alloc, b"/bin/sh", sha256(b"abc"))?
     );
     let path = copied(alloc, b"/etc/x")?;
     assert_eq!(rt;

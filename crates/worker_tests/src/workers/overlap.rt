@@ -1,6 +1,6 @@
 //! Two workers at once.
 
-use super::{batch_of, file, measured, origin, receipt_of, sha256};
+use super::{batch_of, file, receipt_of};
 use hash_workers::{Batch, Gate, Job, measure_files};
 use measure_book::{Answer, Op};
 use std::alloc::{AllocError, Global};
@@ -8,6 +8,8 @@ use std::sync::Wait;
 use std::sync::atomic::{AtomicBool, Ordering};
 use std::test::Fail;
 use std::thread::Threads;
+use test_kit::books::{measure, origin};
+use test_kit::registers::sha256;
 
 /// How often a gate looks for another job at most.
 const TURNS: u32 = 100_000_000;
@@ -45,8 +47,8 @@ struct OtherFirst {
 
 impl OtherFirst {
     fn new(alloc: Global, held: u32) -> Result<Self, AllocError> {
-        let first = measured(alloc, b"/bin/sh", sha256(b"abc"))?;
-        let second = measured(alloc, b"/bin/ls", sha256(b""))?;
+        let first = measure(alloc, b"/bin/sh", sha256(b"abc"))?;
+        let second = measure(alloc, b"/bin/ls", sha256(b""))?;
         Ok(OtherFirst {
             jobs: [Stages::of(first), Stages::of(second)],
             held,

@@ -1,11 +1,12 @@
 //! Jobs that are refused, and batches that are.
 
-use super::{batch_of, file, origin, read, receipt_of, violation};
+use super::{batch_of, file, read, receipt_of, violation};
 use hash_workers::{AgentFault, Batch};
 use ima_list::Template;
 use measure_book::{Answer, BookFault, Outcome};
 use pcr_banks::Alg;
 use std::test::Fail;
+use test_kit::books::origin;
 
 /// Why a job was refused.
 fn refusal_of(batch: &Batch, job: usize) -> Option<BookFault> {

@@ -1,20 +1,13 @@
 //! Files with signatures.
 
-use super::{batch_of, measured_with, origin, receipt_of, sha256, signed_file};
-use hash_workers::{Job, op_of};
+use super::{batch_of, operation, receipt_of, signed_file};
 use ima_list::Template;
 use measure_book::{Answer, Op, Origin};
 use pcr_banks::{Alg, Digest};
-use std::alloc::{AllocError, Global};
 use std::test::Fail;
-
-/// A signature.
-const THREE_BYTES: &[u8] = b"\x03\x02\x04";
-
-/// The operation of a job; once more where an allocation was refused.
-fn operation(alloc: Global, job: &Job) -> Result<Op, AllocError> {
-    op_of(alloc, job, Alg::Sha256).or_else(|_| op_of(alloc, job, Alg::Sha256))
-}
+use test_kit::books::{AFTER_SIGNED, measure_with, origin};
+use test_kit::lists::{THREE_BYTES, sig_of};
+use test_kit::registers::sha256;
 
 /// The operation of a file has its signature, none and the longest too.
 #[test]
@@ -23,8 +16,8 @@ fn operations_of_signed_files(rt: HostRuntime) -> Result<(), Fail> {
     let longest = [7; 65_536];
     for sig in [b"".as_slice(), THREE_BYTES, &longest] {
         let job = signed_file(alloc, b"/bin/sh", b"abc", sig)?;
-        let wanted = measured_with(alloc, b"/bin/sh", sha256(b"abc"), sig)?;
-        let op = operation(alloc, &job)?;
+        let wanted = measure_with(alloc, b"/bin/sh", sha256(b"abc"), &sig_of(alloc, sig)?)?;
+        let op = operation(alloc, &job, Alg::Sha256)?;
         assert!(rt; op == wanted);
         let Op::Measure { sig: copied, .. } = &op else {
             return Err("no measurement".into());
@@ -33,9 +26,6 @@ fn operations_of_signed_files(rt: HostRuntime) -> Result<(), Fail> {
     }
     Ok(())
 }
-
-/// PCR 10 after the boot aggregate of registers at reset, and `/bin/sh` with the content `abc`, without a signature and with one.
-const AFTER_SIGNED: &[u8] = b"e6c150967e16f38eba5623c9195907955f304a32182c5359ccd7d59e055103f4";
 
 /// One worker records the files in their order; a file that differs by its signature alone is added.
 #[test]
@@ -60,7 +50,8 @@ fn signed_files_are_recorded(rt: HostRuntime) -> Result<(), Fail> {
         assert_eq!(rt; done.answer, answer, "job {job}");
     }
     let done = receipt_of(&batch, 1).ok_or("no receipt")?;
-    let wanted = measured_with(alloc, b"/bin/sh", sha256(b"abc"), THREE_BYTES)?;
+    let sig = sig_of(alloc, THREE_BYTES)?;
+    let wanted = measure_with(alloc, b"/bin/sh", sha256(b"abc"), &sig)?;
     assert!(rt; done.op == wanted);
     let after = Digest::from_hex(Alg::Sha256, AFTER_SIGNED);
     assert!(rt; after.is_some());

@@ -1,7 +1,6 @@
 //! What a gate is told of a job whose operation cannot be had.
 
 use super::numbered::{Failing, Numbered, Trial};
-use super::origin;
 use hash_workers::{AgentFault, Gate, JobFault, JobsFault, record_jobs};
 use measure_book::Op;
 use std::alloc::Global;
@@ -9,6 +8,7 @@ use std::sync::Wait;
 use std::sync::atomic::{AtomicU32, Ordering};
 use std::test::Fail;
 use std::thread::Threads;
+use test_kit::books::origin;
 
 /// What the gate was told of a job: nothing; that it is hashed, with an operation or without one; the same, and then that it is
 /// recorded; or something else.

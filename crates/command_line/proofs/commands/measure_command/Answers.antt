@@ -1,6 +1,7 @@
 use Rattle.std.proofs.Common.{ℕ, List, codes, subst}
 use Rattle.std.proofs.lemmas.Result.{IfOk-weaker}
-use Rattle.command_line.specs.Commands.{IsArgument, optional}
+use Rattle.command_line.specs.parts.Commands.{IsArgument}
+use Rattle.command_line.specs.Commands.{optional}
 use Rattle.command_line.proofs.CommandLemmas.{one_argument_more}
 use Rattle.command_line.proofs.commands.measure_command.Goals as goal
 

@@ -4,8 +4,8 @@ use Rattle.std.specs.Prelude.{Vec}
 use Rattle.std.specs.declared.alloc.Global.{Global}
 use Rattle.measure_book.specs.declared.op.Outcome.{Outcome}
 use Rattle.measure_book.specs.Groups.{AccountsForAll, groups_of}
-use Rattle.hash_workers.specs.Scattering.{AreScattered, items_of}
-use Rattle.hash_workers.specs.Settling.{takings_of}
+use Rattle.hash_workers.specs.parts.Scattering.{AreScattered, items_of}
+use Rattle.hash_workers.specs.parts.Settling.{takings_of}
 use Rattle.hash_workers.proofs.BatchLaws.{batch_of}
 use Rattle.hash_workers.proofs.SettlingLaws.{foreign_unsettled}
 use Rattle.hash_workers.proofs.TakingLaws.{take_each}

@@ -1,7 +1,7 @@
 use Rattle.std.proofs.Common.{◌≡◌, ◌<◌, length, vec_len, subst, arith}
 use Rattle.std.proofs.lemmas.Option.{slice_get_within, get_or_from_slice_get}
 use Rattle.hash_workers.specs.declared.work.Work.{Work}
-use Rattle.hash_workers.specs.Seats.{IsWorkOf}
+use Rattle.hash_workers.specs.parts.Seats.{IsWorkOf}
 use Rattle.hash_workers.proofs.fan.fan_out.Goals as goal
 
 pub returns : goal.returns

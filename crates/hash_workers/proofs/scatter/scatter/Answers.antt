@@ -1,12 +1,12 @@
 use Rattle.std.proofs.Common.{◌≡◌, ◌+◌, ℕ, List, length, map, vec_len, Some, sym, ◌∙◌, ap, subst, arith}
 use Rattle.std.specs.Prelude.{slice_get}
-use Rattle.hash_workers.specs.Taking.{Rise}
-use Rattle.hash_workers.specs.Scattering.{AreBelow, ArePlaced, items_of}
+use Rattle.hash_workers.specs.parts.Taking.{NumbersRise}
+use Rattle.hash_workers.specs.parts.Scattering.{AreBelow, ArePlaced, items_of}
 use Rattle.hash_workers.proofs.ScatterLaws.{items_here, items_at, below_of, rise_of, front_less, front_last, scattered_more}
 use Rattle.hash_workers.proofs.TakingLaws.{take_each}
 use Rattle.hash_workers.proofs.scatter.scatter.Goals as goal
 
--- The list that is taken out of the takings is that of the worker.
+-- The list taken out of the takings is that of the worker.
 pub place-requires-clause-below : goal.place-requires-clause-below
 place-requires-clause-below c =
     let kept = c.loop-group.invariant in
@@ -26,7 +26,7 @@ place-requires-clause-rise c =
     let step : vec_len c.pop.new.self + 1 ≡ vec_len c.loop-group.groups = c.in-Some.ensures.cases in
     let at : c.len-worker.result ≡ vec_len c.pop.new.self = c.len-worker.ensures in
     let here = items_here c.args.takings.now c.len-worker.result c.index-takings-worker.result (omega arith) c.index-takings-worker.is in
-    let At : List ℕ → Type 0 = λ xs. Rise xs in
+    let At : List ℕ → Type 0 = λ xs. NumbersRise xs in
     subst At (sym c.deref.ensures.value) (rise_of (map items_of c.args.takings.now) c.len-worker.result
     c.index-takings-worker.result.items c.requires.rise here)
 

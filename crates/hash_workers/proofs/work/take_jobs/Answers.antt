@@ -5,7 +5,7 @@ use Rattle.hash_workers.specs.Claims.{SeatState}
 use Rattle.hash_workers.proofs.WorkLaws.{had_more, lack_below, rise_more, stop_tells, tells_last, turn_smaller, turn_worked, turn_tells}
 use Rattle.hash_workers.proofs.work.take_jobs.Goals as goal
 
--- The job is above all that the worker took, which are its seat's draws.
+-- The job is above all that the worker took, which is what its seat drew.
 pub loop-number-smaller : goal.loop-number-smaller
 loop-number-smaller g c =
     let kept = c.loop-number.invariant in

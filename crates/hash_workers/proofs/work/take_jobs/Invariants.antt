@@ -3,9 +3,9 @@ use Rattle.std.specs.Prelude.{IfSome}
 use Rattle.measure_book.specs.Operations.{book_outcome_of}
 use Rattle.hash_workers.specs.declared.work.End.TheVariants.{NoneLeft}
 use Rattle.hash_workers.specs.Claims.{IsSeat}
-use Rattle.hash_workers.specs.Taking.{Rise}
-use Rattle.hash_workers.specs.Working.{IsWorked}
-use Rattle.hash_workers.specs.Ending.{AreHad, IsLack, TellsAll}
+use Rattle.hash_workers.specs.parts.Taking.{NumbersRise}
+use Rattle.hash_workers.specs.parts.Working.{IsWorked}
+use Rattle.hash_workers.specs.parts.Ending.{AreHad, IsLack, TellsAll}
 use Rattle.hash_workers.proofs.work.take_jobs.Given as goal
 
 abbrev pub invariant-loop-number : goal.invariant-loop-number
@@ -14,7 +14,7 @@ invariant-loop-number g l =
     let Makes = g.J.Jobs.makes l.jobs l.origin.alg in
     record {
       seat : IsSeat l.claims 1 l.work.taken.items false l.work.seat;
-      rises : Rise l.work.taken.items;
+      rises : NumbersRise l.work.taken.items;
       worked : IsWorked l.origin count Makes l.work.taken.items (map book_outcome_of l.work.outcomes.items);
       had : AreHad Makes l.work.taken.items l.work.lack;
       lack : IfSome l.work.lack (IsLack count (g.J.Jobs.lacks l.jobs) l.work.taken.items);

@@ -1,5 +1,6 @@
 use Rattle.std.proofs.Common.{Some, ap, ◌∙◌, map, string_bytes}
-use Rattle.ima_agent.specs.Measuring.{IsMeasuringFault, ShowsMeasured, files_in, manner_of}
+use Rattle.ima_agent.specs.Measuring.{IsMeasuringFault, ShowsMeasured, files_in}
+use Rattle.ima_agent.specs.parts.Measuring.{manner_of}
 use Rattle.ima_agent.proofs.MeasuringLaws.{err_of, fault_of, ok_of, shown_of}
 use Rattle.ima_agent.proofs.measuring.measured.Goals as goal
 

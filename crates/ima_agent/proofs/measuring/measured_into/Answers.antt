@@ -1,7 +1,7 @@
 use Rattle.std.proofs.Common.{refl}
 use Rattle.std.proofs.lemmas.Result.{err_from_is_err_and}
 use Rattle.boot_log.specs.BootLog.{events_of}
-use Rattle.ima_agent.specs.Measuring.{manner_of}
+use Rattle.ima_agent.specs.parts.Measuring.{manner_of}
 use Rattle.ima_agent.proofs.MeasuringLaws.{measured_as_named, not_recorded}
 use Rattle.ima_agent.proofs.measuring.measured_into.Goals as goal
 

@@ -1,7 +1,8 @@
 use Rattle.std.proofs.Common.{List, ℕ, Some, ap, ◌∙◌, inl, inr, map, string_bytes}
 use Rattle.std.specs.Prelude.{IfErr, IfOk}
 use Rattle.std.proofs.lemmas.Result.{err_from_is_err_and}
-use Rattle.ima_agent.specs.Measuring.{IsMeasuringFault, IsNamesFault, ShowsMeasured, all_names, files_in, manner_of}
+use Rattle.ima_agent.specs.Measuring.{IsMeasuringFault, IsNamesFault, ShowsMeasured, all_names, files_in}
+use Rattle.ima_agent.specs.parts.Measuring.{manner_of}
 use Rattle.ima_agent.specs.Program.{IsListedFault, OfInput}
 use Rattle.ima_agent.proofs.MeasuringLaws.{err_inr, err_of, fault_of, listed_err, named_so, ok_of, shown_of}
 use Rattle.ima_agent.proofs.measuring.measured_listed.Goals as goal

@@ -6,19 +6,6 @@ returns-in_err-shown_list-in-Show-clause-fault g c =
     let p = err_from_is_err_and c.from_residual-in_err-shown_list-in-Show.result c.from_residual-in_err-shown_list-in-Show.ensures.1 in
     rw (p.1, p.2, c.in-Show.is, ← c.deref-in-Show.ensures) c.in_err-shown_list-in-Show.ensures.fault
 
-pub returns-in_err-shown-in-MeasureListed-clause-fault : goal.returns-in_err-shown-in-MeasureListed-clause-fault
-returns-in_err-shown-in-MeasureListed-clause-fault g c =
-    let p = err_from_is_err_and c.from_residual-in_err-shown-in-MeasureListed.result
-    c.from_residual-in_err-shown-in-MeasureListed.ensures.1 in
-    rw (
-      p.1,
-      p.2,
-      c.in-MeasureListed.is,
-      ← c.deref-in-MeasureListed.ensures,
-      ← c.deref-in-MeasureListed-2.ensures.value,
-      ← c.deref-in-MeasureListed-3.ensures,
-    ) c.in_err-shown-in-MeasureListed.ensures.fault
-
 pub returns-in-Verify-clause-fault : goal.returns-in-Verify-clause-fault
 returns-in-Verify-clause-fault g c =
-    rw c.in-Verify.is (rw (c.deref-in-Verify.ensures, c.deref-in-Verify-2.ensures, c.deref-in-Verify-3.ensures) at c.verified.ensures.fault)
+    rw c.in-Verify.is (rw (c.deref.ensures, c.deref-in-Verify.ensures, c.deref-in-Verify-2.ensures) at c.verified.ensures.fault)

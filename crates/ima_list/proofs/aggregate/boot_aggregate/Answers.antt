@@ -9,8 +9,8 @@ loop-register-init c = joined_at_first c.new-hasher.result c.args.banks.now c.ar
 
 pub returns-in_err-read-clause-value : goal.returns-in_err-read-clause-value
 returns-in_err-read-clause-value c =
-    let none = lacks_none c.args.banks.now c.args.alg c.aggregated-register-end.result c.loop-register.register
-    c.aggregated-register-end.ensures c.loop-register-test.true c.in_err-read.ensures.value in
+    let none = lacks_none c.args.banks.now c.args.alg c.aggregate_register_count-register-end.result c.loop-register.register
+    c.aggregate_register_count-register-end.ensures c.loop-register-test.true c.in_err-read.ensures.value in
     c.from_residual.ensures ∙ ap (option_map (digest_of c.args.alg)) (sym none)
 
 pub loop-register-preserved : goal.loop-register-preserved

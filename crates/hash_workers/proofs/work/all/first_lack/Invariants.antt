@@ -1,4 +1,4 @@
-use Rattle.hash_workers.specs.Seats.{IsLeastLack}
+use Rattle.hash_workers.specs.parts.Seats.{IsLeastLack}
 use Rattle.hash_workers.proofs.work.all.first_lack.Given as goal
 
 abbrev pub invariant-loop-work : goal.invariant-loop-work

@@ -1,4 +1,4 @@
-use Rattle.hash_workers.specs.Seats.{AreJoined}
+use Rattle.hash_workers.specs.parts.Seats.{AreJoined}
 use Rattle.hash_workers.proofs.work.all.joined.Given as goal
 
 abbrev pub invariant-loop-seat : goal.invariant-loop-seat

@@ -2,7 +2,7 @@ use Rattle.std.proofs.Common.{ℕ, ◌<◌, map, string_bytes}
 use Rattle.ima_agent.specs.Measuring.{HasFile}
 use Rattle.ima_agent.proofs.named_files.NamedFiles.check.Given as goal
 
--- Each file so far was had.
+-- Each file so far was read.
 abbrev pub invariant-loop-index : goal.invariant-loop-index
 invariant-loop-index g l =
     (earlier : ℕ) → earlier < l.index → HasFile (g.S.SharedFiles.held l.self.files.now) (map string_bytes l.self.names.now) earlier

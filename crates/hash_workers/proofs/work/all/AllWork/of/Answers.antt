@@ -3,8 +3,8 @@ use Rattle.std.specs.List.{All}
 use Rattle.hash_workers.specs.declared.work.End.TheVariants.{ForeignBook, NoOperation, OutOfMemory}
 use Rattle.hash_workers.specs.declared.work.Work.{Work}
 use Rattle.hash_workers.specs.Claims.{SeatState}
-use Rattle.hash_workers.specs.Seats.{HasNoEnd, IsSinglePlace}
-use Rattle.hash_workers.specs.Settling.{IsLackOf}
+use Rattle.hash_workers.specs.parts.Seats.{HasNoEnd, IsSinglePlace}
+use Rattle.hash_workers.specs.parts.Settling.{IsLackOf}
 use Rattle.hash_workers.proofs.SeatLaws.{all_single, have_lacks, no_end_of, taken_before_lack, taken_each}
 use Rattle.hash_workers.proofs.work.all.AllWork.of.Goals as goal
 

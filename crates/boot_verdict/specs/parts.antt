@@ -1,0 +1,3 @@
+pub mod ExpectedLines
+pub mod ListReplays
+pub mod Rows

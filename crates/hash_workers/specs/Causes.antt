@@ -1,0 +1,28 @@
+-- The first job whose operation could not be had, and the first cause against what the workers got.
+use Rattle.std.specs.Prelude.{◌≡◌, ℕ, ◌<◌, List, length, Some}
+use Rattle.measure_book.specs.declared.origin.Origin.{Origin}
+use Rattle.measure_book.specs.declared.gathers.GatherFault.{GatherFault}
+use Rattle.measure_book.specs.Operations.{BookOp, BookOutcome}
+use Rattle.measure_book.specs.Groups.{outcome_at, IsFirstFault}
+use Rattle.measure_book.specs.Books.{BookState}
+use Rattle.hash_workers.specs.declared.fault.JobFault.{JobFault}
+use Rattle.hash_workers.specs.Outcomes.{IsAt, IsOutcomeOf}
+
+-- This job, one of `count`, has no operation, for this cause, and each job before it has one.
+pub record IsFirstLack (count : ℕ) (Makes : ℕ → BookOp → Type 0) (Lacks : ℕ → JobFault → Type 0) (job : ℕ) (fault : JobFault) : Type 0 where
+  pub within : job < count
+  pub cause : Lacks job fault
+  pub before : (earlier : ℕ) → earlier < job → (op : BookOp) × Makes earlier op
+
+-- This is the first cause against some book and a group for each of these workers, of outcomes of these jobs.
+pub record IsCauseOf (workers : ℕ) (origin : Origin) (count : ℕ) (Makes : ℕ → BookOp → Type 0) (cause : GatherFault) : Type 0 where
+  pub book : BookState
+  pub groups : List (List BookOutcome)
+  pub one_each : length groups ≡ workers
+  pub of_jobs : (worker index : ℕ) (outcome : BookOutcome) → outcome_at groups worker index ≡ Some outcome
+      → (job : ℕ) × IsOutcomeOf origin count Makes job outcome
+  pub first : IsFirstFault book origin groups cause
+
+-- The same of jobs that become these operations.
+abbrev pub IsCauseAmong : ℕ → Origin → List BookOp → GatherFault → Type 0
+IsCauseAmong workers origin ops cause = IsCauseOf workers origin (length ops) (IsAt ops) cause

@@ -1,0 +1,135 @@
+-- The workers' seats, and what each worker hands back.
+use Rattle.std.specs.Prelude.{◌≡◌, ◌≢◌, ℕ, ◌<◌, ◌≤◌, ◌⊎◌, ◌||◌, Bool, true, false, List, [], ◌∷◌, length, map, slice_get, Option, None, Some, IfSome}
+use Rattle.std.specs.List.{concat}
+use Rattle.measure_book.specs.declared.origin.Origin.{Origin}
+use Rattle.measure_book.specs.declared.op.Outcome.{Outcome}
+use Rattle.measure_book.specs.Operations.{BookOp, book_outcome_of}
+use Rattle.hash_workers.specs.declared.fault.JobFault.{JobFault}
+use Rattle.hash_workers.specs.declared.work.End.{End}
+use Rattle.hash_workers.specs.declared.work.End.TheVariants.{NoneLeft, NoOperation}
+use Rattle.hash_workers.specs.declared.work.Lack.{Lack}
+use Rattle.hash_workers.specs.declared.work.Work.{Work}
+use Rattle.hash_workers.specs.Claims.{ClaimsState, SeatState, IsSeat}
+use Rattle.hash_workers.specs.parts.Taking.{NumbersRise}
+use Rattle.hash_workers.specs.parts.Working.{IsWorked}
+use Rattle.hash_workers.specs.parts.Ending.{AnyCause, AreHad, DrewBeyond, IsEnd, IsFrom, IsLack}
+
+-- ---- seats
+
+-- A worker's seat before its first draw: one place of these claims.
+abbrev pub IsNewSeat : ClaimsState → SeatState → Type 0
+IsNewSeat claims seat = IsSeat claims 1 [] false seat
+
+-- The seat has one place of these claims, whatever it drew.
+abbrev pub IsSinglePlace : ClaimsState → SeatState → Type 0
+IsSinglePlace claims seat = (seat.claims ≡ claims) × (seat.places ≡ 1)
+
+abbrev pub draws_of : SeatState → List ℕ
+draws_of seat = seat.draws
+
+-- Whether one of the seats is ended.
+abbrev pub some_ended : List SeatState → Bool
+some_ended [] = false
+some_ended (seat ∷ seats) = seat.ended || some_ended seats
+
+-- ---- seats that are joined in turn, none at first
+
+abbrev pub places_in : Option SeatState → ℕ
+places_in None = 0
+places_in (Some seat) = seat.places
+
+abbrev pub draws_in : Option SeatState → List ℕ
+draws_in None = []
+draws_in (Some seat) = seat.draws
+
+abbrev pub ended_in : Option SeatState → Bool
+ended_in None = false
+ended_in (Some seat) = seat.ended
+
+-- These seats, of one place each, are joined to this one.
+pub record AreJoined (claims : ClaimsState) (seats : List SeatState) (all : Option SeatState) : Type 0 where
+  pub claims_are : IfSome all (λ seat. seat.claims ≡ claims)
+  pub places : places_in all ≡ length seats
+  pub draws : draws_in all ≡ concat (map draws_of seats)
+  pub ended : ended_in all ≡ some_ended seats
+
+-- ---- what workers hand back
+
+-- What a worker did: its jobs rise; each has one outcome; each before the first lack has an operation; its seat is still one of
+-- these claims; and this is why it took no more.
+pub record IsWorkOf (origin : Origin) (Makes : ℕ → BookOp → Type 0) (Lacks : ℕ → JobFault → Type 0) (claims : ClaimsState) (work : Work) :
+    Type 0 where
+  pub rises : NumbersRise work.taken.items
+  pub worked : IsWorked origin claims.jobs Makes work.taken.items (map book_outcome_of work.outcomes.items)
+  pub had : AreHad Makes work.taken.items work.lack
+  pub lack : IfSome work.lack (IsLack claims.jobs Lacks work.taken.items)
+  pub seat : IsSinglePlace claims work.seat
+  pub ends : IsEnd origin work.seat work.taken.items work.lack work.end
+
+-- There is one worker for each place of the claims, and each did its work.
+pub record AreWorksOf (origin : Origin) (Makes : ℕ → BookOp → Type 0) (Lacks : ℕ → JobFault → Type 0) (claims : ClaimsState)
+    (works : List Work) : Type 0 where
+  pub one_each : length works ≡ claims.seats
+  pub each : (worker : ℕ) (work : Work) → slice_get works worker ≡ Some work → IsWorkOf origin Makes Lacks claims work
+
+-- How a worker's seat ended. `NoneLeft`: it drew what the worker took. `NoOperation`: there is a first lack, and it drew what the
+-- worker took and then numbers above these, if any.
+abbrev pub IsSeatEnd : Work → End → Type 0
+IsSeatEnd work NoneLeft = (work.seat.ended ≡ true) × (work.seat.draws ≡ work.taken.items)
+IsSeatEnd work NoOperation = (work.seat.ended ≡ true) × DrewBeyond work.seat.draws work.taken.items × (work.lack ≢ None)
+IsSeatEnd work end = Unit {0}
+
+-- There is one worker for each place of the claims; each hands its seat back, ended as its work ended, and its first lack is a
+-- job that it took.
+pub record HandBack (claims : ClaimsState) (works : List Work) : Type 0 where
+  pub one_each : length works ≡ claims.seats
+  pub seat : (worker : ℕ) (work : Work) → slice_get works worker ≡ Some work → IsSinglePlace claims work.seat
+  pub ended : (worker : ℕ) (work : Work) → slice_get works worker ≡ Some work → IsSeatEnd work work.end
+  pub lack : (worker : ℕ) (work : Work) (lack : Lack) → slice_get works worker ≡ Some work → work.lack ≡ Some lack
+      → IsLack claims.jobs AnyCause work.taken.items lack
+
+-- Some worker has this first lack.
+pub record HasLack (works : List Work) (lack : Lack) : Type 0 where
+  pub worker : ℕ
+  pub work : Work
+  pub stands : slice_get works worker ≡ Some work
+  pub has : work.lack ≡ Some lack
+
+-- `least` is a first lack of some worker, and none of the first `count` workers has an earlier one.
+pub record IsLeastLack (works : List Work) (count : ℕ) (least : Option Lack) : Type 0 where
+  pub some : IfSome least (HasLack works)
+  pub none_before : (worker : ℕ) (work : Work) (lack : Lack) → worker < count → slice_get works worker ≡ Some work
+      → work.lack ≡ Some lack → IsFrom least lack.job
+
+-- Each worker that stopped for a job without an operation has a first lack.
+abbrev pub HaveLacks : List Work → Type 0
+HaveLacks works = (worker : ℕ) (work : Work) → slice_get works worker ≡ Some work → work.end ≡ NoOperation → work.lack ≢ None
+
+-- This is the earlier of two lacks; none if there is none.
+abbrev pub IsEarlier : Option Lack → Option Lack → Option Lack → Type 0
+IsEarlier None other first = first ≡ other
+IsEarlier (Some one) None first = first ≡ Some one
+IsEarlier (Some one) (Some other) first =
+    ((first ≡ Some one) × (one.job ≤ other.job)) ⊎ ((first ≡ Some other) × (other.job ≤ one.job))
+
+-- Some worker ended for this reason.
+pub record HasEnd (works : List Work) (end : End) : Type 0 where
+  pub worker : ℕ
+  pub work : Work
+  pub stands : slice_get works worker ≡ Some work
+  pub ends : work.end ≡ end
+
+-- None of the first `count` workers ended for this reason.
+pub record HasNoEnd (works : List Work) (end : End) (count : ℕ) : Type 0 where
+  pub each : (worker : ℕ) (work : Work) → worker < count → slice_get works worker ≡ Some work → work.end ≢ end
+
+-- ---- of the code's values
+
+abbrev pub taken_of : Work → List ℕ
+taken_of work = work.taken.items
+
+abbrev pub outcomes_of : Work → List Outcome
+outcomes_of work = work.outcomes.items
+
+abbrev pub seat_of : Work → SeatState
+seat_of work = work.seat

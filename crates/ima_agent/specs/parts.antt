@@ -1,0 +1,5 @@
+pub mod FaultTexts
+pub mod Loading
+pub mod Measuring
+pub mod NamedFiles
+pub mod Verifying

@@ -1,0 +1,66 @@
+-- What is known of a measurement while it is prepared.
+use Rattle.std.specs.Prelude.{◌≡◌, ℕ, ◌<◌, ◌⊎◌, List, length, slice_get, Some, IfSome, String, string_bytes}
+use Rattle.std.specs.Global.{Global}
+use Rattle.boot_log.specs.declared.log.BootLog.{BootLog}
+use Rattle.boot_log.specs.BootLog.{algs_of, events_of}
+use Rattle.boot_log.specs.declared.header.Row.{Row}
+use Rattle.boot_log.specs.Spelling.{IsLog, algs_in}
+use Rattle.hash_workers.specs.declared.fault.JobFault.{JobFault}
+use Rattle.hash_workers.specs.declared.fault.JobFault.TheVariants as lacks
+use Rattle.command_line.specs.declared.plan.Plan.{Plan}
+use Rattle.command_line.specs.declared.plan.Plan.TheVariants as plans
+use Rattle.command_line.specs.declared.plan.Print.{Print}
+use Rattle.ima_agent.specs.declared.fault.RunFault.{RunFault}
+use Rattle.ima_agent.specs.declared.measuring.Measuring.{Measuring}
+use Rattle.ima_agent.specs.declared.fault.RunFault.TheVariants as runs
+use Rattle.ima_agent.specs.Loading.{IsNotRead, IsTooLong, input_limit}
+use Rattle.ima_agent.specs.Measuring.{Contents, Manner}
+
+-- The requested manner.
+abbrev pub manner_of : Measuring → Manner
+manner_of asked = record { alg = asked.alg; template = asked.template; workers = asked.workers; limit = asked.limit }
+
+-- Why the file of this number has no operation: it is too long, it could not be opened or read (both only as far as this is
+-- told), or memory ran out.
+abbrev pub IsFileLack : Contents → (List ℕ → Type 0) → List (List ℕ) → ℕ → JobFault → Type 0
+IsFileLack held Fails names number lacks.TooLong =
+    (name : List ℕ) × (slice_get names number ≡ Some name) × IfSome (held name) (λ all. input_limit < length all)
+IsFileLack held Fails names number lacks.Source = (name : List ℕ) × (slice_get names number ≡ Some name) × Fails name
+IsFileLack held Fails names number lacks.Memory = Unit {0}
+
+-- The fault of the program for this cause, of the file of this number: it names the file, or memory ran out.
+abbrev pub IsFileFaultOf : List (List ℕ) → ℕ → JobFault → RunFault → Type 0
+IsFileFaultOf names number lacks.TooLong fault =
+    ((name : List ℕ) × (slice_get names number ≡ Some name) × IsTooLong name fault) ⊎ (fault ≡ runs.Memory)
+IsFileFaultOf names number lacks.Source fault =
+    ((name : List ℕ) × (slice_get names number ≡ Some name) × IsNotRead name fault) ⊎ (fault ≡ runs.Memory)
+IsFileFaultOf names number lacks.Memory fault = fault ≡ runs.Memory
+
+-- The bytes are a log, and this is what was read of it.
+abbrev pub IsReadLog : List ℕ → BootLog → Type 0
+IsReadLog bytes log = (table : List Row) × IsLog bytes table (events_of log) × (algs_of log ≡ algs_in table)
+
+-- The plan is to measure files.
+abbrev pub MeasuresFiles : Plan → Type 0
+MeasuresFiles plans.Registers = ⊥
+MeasuresFiles (plans.Measure alg template workers limit print log files) = Unit {0}
+MeasuresFiles (plans.MeasureListed alg template workers limit print log files names ends) = Unit {0}
+MeasuresFiles (plans.Verify log list expected) = ⊥
+MeasuresFiles (plans.Show list) = ⊥
+MeasuresFiles (plans.Help text) = ⊥
+
+-- These are the parts of a plan that measures files.
+abbrev pub HasParts : Measuring → Manner → Print → List ℕ → List (String Global) → Type 0
+HasParts asked manner print log files =
+    (manner_of asked ≡ manner) × (asked.print ≡ print) × (asked.log.now ≡ log) × (asked.files.now ≡ files)
+
+-- This is what a plan that measures files asks for.
+abbrev pub IsAskedOf : Plan → Measuring → Type 0
+IsAskedOf plans.Registers asked = ⊥
+IsAskedOf (plans.Measure alg template workers limit print log files) asked =
+    HasParts asked (record { alg = alg; template = template; workers = workers; limit = limit }) print (string_bytes log) files.items
+IsAskedOf (plans.MeasureListed alg template workers limit print log files names ends) asked =
+    HasParts asked (record { alg = alg; template = template; workers = workers; limit = limit }) print (string_bytes log) files.items
+IsAskedOf (plans.Verify log list expected) asked = ⊥
+IsAskedOf (plans.Show list) asked = ⊥
+IsAskedOf (plans.Help text) asked = ⊥

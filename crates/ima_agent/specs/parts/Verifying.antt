@@ -1,0 +1,24 @@
+-- The report on a list that comes from a source, and why there is none.
+use Rattle.std.specs.Prelude.{◌≡◌, ℕ, ◌⊎◌, List, Option}
+use Rattle.boot_verdict.specs.declared.expected.Expected.{Expected}
+use Rattle.boot_verdict.specs.declared.verifier.VerifyFault.{VerifyFault}
+use Rattle.boot_verdict.specs.ListSources.{CameWhole}
+use Rattle.boot_verdict.specs.Verdicts.{IsVerifyFaultFrom}
+use Rattle.ima_agent.specs.declared.fault.RunFault.{RunFault}
+use Rattle.ima_agent.specs.declared.fault.RunFault.TheVariants as runs
+use Rattle.ima_agent.specs.Faults.{IsFaultOfVerdict}
+use Rattle.ima_agent.specs.Loading.{input_limit}
+use Rattle.ima_agent.specs.Verifying.{IsReportOn}
+
+-- What is shown is the report on this log, all that the list's source had left, and these expected registers.
+pub record IsReportFrom (log : List ℕ) (old new : Option (List ℕ)) (expected : List Expected) (shown : List ℕ) (status : ℕ) : Type 0 where
+  pub list : List ℕ
+  pub came : CameWhole old new input_limit list
+  pub report : IsReportOn log list expected shown status
+
+-- There is no verdict on this log and the list that the source of this name had left, and the fault is the first cause; or memory
+-- ran out.
+abbrev pub IsNoVerdictFrom : List ℕ → List ℕ → Option (List ℕ) → Option (List ℕ) → RunFault → Type 0
+IsNoVerdictFrom list_name log old new fault =
+    ((first : VerifyFault) × IsVerifyFaultFrom log old new input_limit first × IsFaultOfVerdict list_name first fault)
+    ⊎ (fault ≡ runs.Memory)

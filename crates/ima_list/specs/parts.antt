@@ -1,0 +1,5 @@
+pub mod Entries
+pub mod HashedFields
+pub mod Pieces
+pub mod Reading
+pub mod Writing

@@ -1,0 +1,5 @@
+pub mod BookParts
+pub mod EqualityProofs
+pub mod GroupParts
+pub mod Indexes
+pub mod Steps

@@ -1,0 +1,108 @@
+//! Each use on a small log, and what comes of it.
+
+mod samples;
+
+use crate::{
+    UseFault, boot_manager_register, measure_by_four, measurement, registers_match, share_book,
+};
+use boot_log::LogFault;
+use boot_verdict::{ExpectFault, VerifyFault};
+use hash_workers::Job;
+use ima_list::{ListFault, Sig};
+use measure_book::{Answer, BookFault, Outcome};
+use pcr_banks::{Alg, Digest};
+use samples::{AFTER_THREE, AFTER_TWO, EXPECTED, LIST, LOG, PCR_4};
+use std::alloc::{AllocError, Global};
+use std::test::Fail;
+
+/// The bytes of hexadecimal digits.
+fn bytes_of(alloc: Global, digits: &str) -> Result<Vec<u8>, Fail> {
+    Ok(hex::decode(alloc, digits.as_bytes())?)
+}
+
+/// The SHA-256 digest of these digits.
+fn sha256_of(digits: &str) -> Option<Digest> {
+    Digest::from_hex(Alg::Sha256, digits.as_bytes())
+}
+
+/// A file without a signature.
+fn file(alloc: Global, path: &[u8], content: &[u8]) -> Result<Job, AllocError> {
+    Ok(Job::File {
+        path: Vec::from_slice(alloc, path)?,
+        content: Vec::from_slice(alloc, content)?,
+        sig: Sig::empty(alloc),
+    })
+}
+
+#[test]
+fn ample_memory_reads_the_boot_manager_register(rt: HostRuntime) -> Result<(), Fail> {
+    let alloc = rt.alloc();
+    let log = bytes_of(alloc, LOG)?;
+    assert_eq!(rt; boot_manager_register(alloc, &log), Ok(sha256_of(PCR_4)));
+    let torn = boot_manager_register(alloc, &log[..log.len() / 2]);
+    assert_eq!(rt; torn, Err(LogFault::Truncated { event: 0 }));
+    Ok(())
+}
+
+#[test]
+fn ample_memory_compares_registers(rt: HostRuntime) -> Result<(), Fail> {
+    let alloc = rt.alloc();
+    let log = bytes_of(alloc, LOG)?;
+    let list = bytes_of(alloc, LIST)?;
+    let match_on = |list: &[u8], text: &str| registers_match(alloc, &log, list, text.as_bytes());
+    assert_eq!(rt; match_on(&list, EXPECTED), Ok(true));
+    assert_eq!(rt; match_on(&list[..0], EXPECTED), Ok(false));
+    let wrong = match_on(&list, "sha256 four");
+    assert_eq!(rt;
+        wrong,
+        Err(UseFault::Expected(ExpectFault::BadLine { line: 1 }))
+    );
+    let torn = match_on(&list[1..], EXPECTED);
+    assert!(rt; matches!(torn, Err(UseFault::Verdict(VerifyFault::List(_)))));
+    Ok(())
+}
+
+/// One caller measures a file and again the same; another one measures it empty, and a path with a NUL, which is refused.
+#[test]
+fn ample_memory_shares_a_book(rt: HostRuntime) -> Result<(), Fail> {
+    let alloc = rt.alloc();
+    let log = bytes_of(alloc, LOG)?;
+    let first = [
+        measurement(alloc, b"/bin/sh", b"abc")?,
+        measurement(alloc, b"/bin/sh", b"abc")?,
+    ];
+    let second = [
+        measurement(alloc, b"/bin/sh", b"")?,
+        measurement(alloc, b"/bin/\0sh", b"")?,
+    ];
+    let (book, [one, other]) = share_book(alloc, &log, &first, &second)?;
+    assert_eq!(rt; book.banks().read(Alg::Sha256, 10), sha256_of(AFTER_THREE));
+    assert_eq!(rt; book.records().len(), 4);
+    for (outcome, answer) in [
+        (&one[0], Answer::Added(1)),
+        (&one[1], Answer::Known(1)),
+        (&other[0], Answer::Added(2)),
+    ] {
+        assert!(rt; matches!(outcome, Outcome::Done(receipt) if receipt.answer == answer));
+    }
+    assert!(rt; matches!(&other[1], Outcome::Refused(BookFault::NulInPath)));
+    Ok(())
+}
+
+#[test]
+fn ample_memory_measures_by_four(rt: HostRuntime) -> Result<(), Fail> {
+    let alloc = rt.alloc();
+    let log = bytes_of(alloc, LOG)?;
+    let jobs = [
+        file(alloc, b"/bin/sh", b"abc")?,
+        file(alloc, b"/bin/sh", b"abc")?,
+    ];
+    let batch = measure_by_four(&rt, alloc, &log, &jobs)?;
+    assert_eq!(rt;
+        batch.book.banks().read(Alg::Sha256, 10),
+        sha256_of(AFTER_TWO)
+    );
+    assert_eq!(rt; batch.book.records().len(), 3);
+    assert_eq!(rt; batch.outcomes.len(), 2);
+    Ok(())
+}

@@ -1,0 +1,73 @@
+#!/usr/bin/env python3
+"""Requires that the pages quote proved callers to the letter.
+
+docs/quotes.py [ROOT]: the tree whose README.md and docs/*.md are read, or else the one that this file is in.
+
+Each block that begins with ```rust must stand, as whole lines that follow one another, in one file of crates/uses/src: as they are in
+that file, or as they are in it with contracts, doc comments or both left out. A contract is what stands between the signature of a
+function and the line `{` of its body; where it is left out, the `{` ends the signature's last line. A doc comment is a line that begins
+with `///`. At least one block must be there.
+
+For a block that is not found, the lines are printed in which it differs from what is nearest to it. The last line is 'N passed, M failed'."""
+
+import difflib
+import re
+import sys
+from pathlib import Path
+
+BLOCK = re.compile(r"^```rust\n(.*?)^```$", re.MULTILINE | re.DOTALL)
+CONTRACT = re.compile(r"\n(?:    (?:requires|ensures|//) ?.*\n(?:        .*\n)*)+\{\n")
+DOC_COMMENT = re.compile(r"^ *///.*\n", re.MULTILINE)
+
+
+def without_contracts(text):
+    return CONTRACT.sub(" {\n", text)
+
+
+def without_doc_comments(text):
+    return DOC_COMMENT.sub("", text)
+
+
+def readings(text):
+    """The lines of a source: as they are, and with contracts, doc comments or both left out."""
+    bare = without_contracts(text)
+    return [each.splitlines() for each in (text, bare, without_doc_comments(text), without_doc_comments(bare))]
+
+
+def stands_in(block, lines):
+    """Whether the lines of a block follow one another among these."""
+    return any(lines[start : start + len(block)] == block for start in range(len(lines) - len(block) + 1))
+
+
+def nearest(block, sources):
+    """The lines, as many as the block has, that are most like it."""
+    windows = (lines[start : start + len(block)] for lines in sources for start in range(max(1, len(lines) - len(block) + 1)))
+    return max(windows, key=lambda lines: difflib.SequenceMatcher(None, block, lines).ratio())
+
+
+def main():
+    root = Path(sys.argv[1]) if len(sys.argv) > 1 else Path(__file__).resolve().parent.parent
+    files = sorted((root / "crates/uses/src").glob("**/*.rt"))
+    sources = [lines for file in files for lines in readings(file.read_text())]
+    passed = failed = 0
+    for page in [root / "README.md", *sorted((root / "docs").glob("*.md"))]:
+        text = page.read_text()
+        for found in BLOCK.finditer(text):
+            block = found[1].splitlines()
+            if block and any(stands_in(block, lines) for lines in sources):
+                passed += 1
+                continue
+            failed += 1
+            line = text.count("\n", 0, found.start()) + 1
+            print(f"{page.relative_to(root)}:{line}: the block does not stand in crates/uses/src")
+            for difference in difflib.unified_diff(block, nearest(block, sources), "page", "source", lineterm="", n=1):
+                print(f"    {difference}")
+    if passed + failed == 0:
+        print("no block to look for in README.md and docs/*.md")
+        failed = 1
+    print(f"{passed} passed, {failed} failed")
+    return failed != 0
+
+
+if __name__ == "__main__":
+    sys.exit(main())
