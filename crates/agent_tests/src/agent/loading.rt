@@ -28,18 +28,23 @@ fn load_joins_pieces(rt: HostRuntime) -> Result<(), Fail> {
     Ok(())
 }
 
+/// What a load from a source that fails after some reads answers, and how often the source failed.
+fn load_that_fails(alloc: Global, bytes: &[u8], reads: usize) -> (Option<LoadFault>, u64) {
+    let mut source = PieceSource::failing(bytes, 4, reads);
+    let answer = load(alloc, &mut source, 100).err();
+    (answer, source.failures())
+}
+
 /// The source fails at the first read, or at a later one.
 #[test]
 fn load_says_that_the_source_failed(rt: HostRuntime) {
     let bytes = [7; 100];
     for reads in [0, 2] {
-        let mut source = PieceSource::failing(&bytes, 4, reads);
-        let mut answer = load(rt.alloc(), &mut source, 100).err();
+        let (mut answer, mut failures) = load_that_fails(rt.alloc(), &bytes, reads);
         if answer == Some(LoadFault::Memory) {
-            source = PieceSource::failing(&bytes, 4, reads);
-            answer = load(rt.alloc(), &mut source, 100).err();
+            (answer, failures) = load_that_fails(rt.alloc(), &bytes, reads);
         }
         assert_eq!(rt; answer, Some(LoadFault::Source));
-        assert_eq!(rt; source.failures(), 1);
+        assert_eq!(rt; failures, 1);
     }
 }
