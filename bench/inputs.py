@@ -7,6 +7,7 @@ HASHES = {"sha1": hashlib.sha1, "sha256": hashlib.sha256}
 TPM_IDS = {"sha1": 0x0004, "sha256": 0x000B}
 EV_NO_ACTION = 3
 EV_EVENT_TAG = 6
+TYPE_NAMES = {EV_NO_ACTION: "EV_NO_ACTION", EV_EVENT_TAG: "EV_EVENT_TAG"}
 IMA_REGISTER = 10
 
 
@@ -19,10 +20,11 @@ def with_length(data):
 
 
 class Registers:
-    """The registers of a TPM: 24 values for each bank."""
+    """The registers of a TPM: 24 values for each bank, and the place in log and list where each got its value."""
 
     def __init__(self, algs, locality):
         self.banks = {}
+        self.places = ["at reset"] * 24
         for alg in algs:
             size = HASHES[alg]().digest_size
             bank = [bytes(size)] * 24
@@ -48,17 +50,20 @@ class Registers:
 
 
 def make_log(algs, events):
-    """A firmware log of `events` events, the first of which states locality 3, and the registers after it."""
+    """A firmware log of `events` events, the first of which states locality 3; the registers after it; and its events as text."""
     registers = Registers(algs, locality=3)
     table = b"".join(struct.pack("<HH", TPM_IDS[alg], HASHES[alg]().digest_size) for alg in algs)
     ident = b"Spec ID Event03\0" + number(0) + bytes([0, 2, 0, 2]) + number(len(algs)) + table + b"\0"
     parts = [number(0), number(EV_NO_ACTION), bytes(20), with_length(ident)]
+    lines = ["algorithms" + "".join(f" {alg}:{HASHES[alg]().digest_size}" for alg in algs)]
 
     def add(register, kind, digests, data):
         parts.extend((number(register), number(kind), number(len(algs))))
         for alg in algs:
             parts.extend((struct.pack("<H", TPM_IDS[alg]), digests[alg]))
         parts.append(with_length(data))
+        digest_fields = "".join(f" {alg}:{digests[alg].hex()}" for alg in algs)
+        lines.append(f"{len(lines)} {register} {TYPE_NAMES[kind]}{digest_fields} {len(data)}")
 
     add(0, EV_NO_ACTION, {alg: bytes(HASHES[alg]().digest_size) for alg in algs}, b"StartupLocality\0\x03")
     for k in range(1, events):
@@ -66,7 +71,8 @@ def make_log(algs, events):
         digests = {alg: HASHES[alg](data).digest() for alg in algs}
         add(k % 10, EV_EVENT_TAG, digests, data)
         registers.extend(k % 10, digests)
-    return b"".join(parts), registers
+        registers.places[k % 10] = f"after event {k + 1}"
+    return b"".join(parts), registers, "".join(f"{line}\n" for line in lines).encode()
 
 
 def entry(path, content_digest):
@@ -87,6 +93,7 @@ def make_list(registers, measurements):
         spellings.append(spelling)
         lines.append(line)
         registers.extend(IMA_REGISTER, digests)
+    registers.places[IMA_REGISTER] = f"after entry {len(lines) - 1}"
     return b"".join(spellings), b"".join(lines)
 
 

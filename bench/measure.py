@@ -125,7 +125,8 @@ def print_ratio(what, seconds, others):
 
 def small_log():
     """A log of SHA-256 alone, and its registers, for a list to extend."""
-    return inputs.make_log(["sha256"], 24)
+    log, registers, _ = inputs.make_log(["sha256"], 24)
+    return log, registers
 
 
 def report_of_match(entries):
@@ -136,10 +137,16 @@ def report_of_match(entries):
     ).encode()
 
 
+def places_text(registers):
+    """What `locate` prints of registers that have their present values as expected ones."""
+    rows = "".join(f"sha256 {register} {place}\n" for register, place in enumerate(registers.places))
+    return (rows + "located\n").encode()
+
+
 def lists():
-    """`verify` and `show` of made lists: time and peak memory."""
+    """`verify`, `locate` and `show` of made lists: time and peak memory."""
     sizes = (40_000, 440_000)
-    verified, shown, memory = [], [], {"verify": [], "show": []}
+    verified, located, shown, memory = [], [], [], {"verify": [], "locate": [], "show": []}
     log, _ = small_log()
     store("made.log", log)
     store("none.txt", b"")
@@ -148,18 +155,26 @@ def lists():
         spelling, text = inputs.make_list(registers, inputs.made_measurements(entries - 1))
         names = "made.log", store("made.list", spelling), store("expected.txt", registers.lines())
         verified.append(median_time(["verify", *names], report_of_match(entries)))
+        located.append(median_time(["locate", *names], places_text(registers)))
         shown.append(median_time(["show", "made.list"], text))
+        memory["locate"].append(peak_memory(["locate", *names], places_text(registers)))
         memory["verify"].append(peak_memory(["verify", *names], report_of_match(entries)))
         memory["show"].append(peak_memory(["show", "made.list"], text))
     print_growth("verify", "entries", sizes, verified)
+    print_growth("locate", "entries", sizes, located)
     print_growth("show", "entries", sizes, shown)
     hashed = median_of_tools(["sha1sum", "made.list"], ["sha256sum", "made.list"])
     hashed_once = median_of_tools(["sha256sum", "made.list"])
     copied = median_of_tools(["cat", "made.list"])
     nothing = b"events 24 locality 3\nentries 0\nboot_aggregate missing\nverdict differ\n"
-    empty = {"verify": peak_memory(["verify", "made.log", NO_INPUT, "none.txt"], nothing, 1), "show": peak_memory(["show", NO_INPUT], b"")}
+    empty = {
+        "verify": peak_memory(["verify", "made.log", NO_INPUT, "none.txt"], nothing, 1),
+        "locate": peak_memory(["locate", "made.log", NO_INPUT, "none.txt"], b"located\n"),
+        "show": peak_memory(["show", NO_INPUT], b""),
+    }
     PEAKS.extend((what, "entries", sizes, empty[what], peaks) for what, peaks in memory.items())
     return [
+        (f"locate of {sizes[1]:,} entries, to verify of the same", located[1], verified[1]),
         (f"verify of {sizes[1]:,} entries, to sha1sum and sha256sum of the list", verified[1], hashed),
         (f"verify of {sizes[1]:,} entries, to sha256sum of the list", verified[1], hashed_once),
         (f"show of {sizes[1]:,} entries, to sha256sum of the list", shown[1], hashed_once),
@@ -168,18 +183,24 @@ def lists():
 
 
 def logs():
-    """The registers of made logs, in hexadecimal on standard input."""
+    """The events of made logs, and their registers in hexadecimal on standard input."""
     sizes = (32_000, 320_000)
     algs = ["sha256"]
     reset = inputs.Registers(algs, locality=3)
-    times = []
+    times, shown = [], []
     for events in sizes:
-        log, registers = inputs.make_log(algs, events)
+        log, registers, text = inputs.make_log(algs, events)
+        shown.append(median_time(["events", store("log.bin", log)], text))
         store("log.hex", inputs.hexadecimal(log))
         times.append(median_time([], registers.lines(reset), stdin="log.hex"))
+    print_growth("events of a log", "events", sizes, shown)
     print_growth("registers of a log", "events", sizes, times)
     hashed = median_of_tools(["sha256sum", "log.hex"])
-    return [(f"registers of a log of {sizes[1]:,} events, to sha256sum of its hexadecimal", times[1], hashed)]
+    hashed_log = median_of_tools(["sha256sum", "log.bin"])
+    return [
+        (f"events of a log of {sizes[1]:,} events, to sha256sum of the log", shown[1], hashed_log),
+        (f"registers of a log of {sizes[1]:,} events, to sha256sum of its hexadecimal", times[1], hashed),
+    ]
 
 
 def measure_call(workers, contents):

@@ -1,5 +1,5 @@
 #!/usr/bin/env python3
-"""Requires that the pages quote proved callers to the letter.
+"""Requires that the pages quote proved callers, and the tables of faults in the program's help, to the letter.
 
 docs/quotes.py [ROOT]: the tree whose README.md and docs/*.md are read, or else the one that this file is in.
 
@@ -7,6 +7,9 @@ Each block that begins with ```rust must stand, as whole lines that follow one a
 that file, or as they are in it with contracts, doc comments or both left out. A contract is what stands between the signature of a
 function and the line `{` of its body; where it is left out, the `{` ends the signature's last line. A doc comment is a line that begins
 with `///`. At least one block must be there.
+
+Each block that begins with ```text faults must be one of the tables of crates/command_line/src/fault_tables.rt, and each of these must
+be quoted once.
 
 For a block that is not found, the lines are printed in which it differs from what is nearest to it. The last line is 'N passed, M failed'."""
 
@@ -16,6 +19,8 @@ import sys
 from pathlib import Path
 
 BLOCK = re.compile(r"^```rust\n(.*?)^```$", re.MULTILINE | re.DOTALL)
+FAULTS = re.compile(r"^```text faults\n(.*?)^```$", re.MULTILINE | re.DOTALL)
+TABLE = re.compile(r'"\\\n(.*?\n)" "\\n"', re.DOTALL)
 CONTRACT = re.compile(r"\n(?:    (?:requires|ensures|//) ?.*\n(?:        .*\n)*)+\{\n")
 DOC_COMMENT = re.compile(r"^ *///.*\n", re.MULTILINE)
 
@@ -45,26 +50,66 @@ def nearest(block, sources):
     return max(windows, key=lambda lines: difflib.SequenceMatcher(None, block, lines).ratio())
 
 
-def main():
-    root = Path(sys.argv[1]) if len(sys.argv) > 1 else Path(__file__).resolve().parent.parent
+def check_callers(root, pages):
+    """How many blocks of callers stand in the sources, and how many do not."""
     files = sorted((root / "crates/uses/src").glob("**/*.rt"))
     sources = [lines for file in files for lines in readings(file.read_text())]
     passed = failed = 0
-    for page in [root / "README.md", *sorted((root / "docs").glob("*.md"))]:
-        text = page.read_text()
-        for found in BLOCK.finditer(text):
-            block = found[1].splitlines()
-            if block and any(stands_in(block, lines) for lines in sources):
-                passed += 1
-                continue
-            failed += 1
-            line = text.count("\n", 0, found.start()) + 1
-            print(f"{page.relative_to(root)}:{line}: the block does not stand in crates/uses/src")
-            for difference in difflib.unified_diff(block, nearest(block, sources), "page", "source", lineterm="", n=1):
-                print(f"    {difference}")
+    for page, line, text in blocks(root, pages, BLOCK):
+        block = text.splitlines()
+        if block and any(stands_in(block, lines) for lines in sources):
+            passed += 1
+            continue
+        failed += 1
+        print(f"{page}:{line}: the block does not stand in crates/uses/src")
+        print_differences(block, nearest(block, sources))
     if passed + failed == 0:
         print("no block to look for in README.md and docs/*.md")
         failed = 1
+    return passed, failed
+
+
+def check_tables(root, pages):
+    """How many tables of faults are quoted once and to the letter, and how many are not."""
+    tables = TABLE.findall((root / "crates/command_line/src/fault_tables.rt").read_text())
+    quoted = list(blocks(root, pages, FAULTS))
+    passed = failed = 0
+    for table in tables:
+        count = sum(text == table for _, _, text in quoted)
+        if count == 1:
+            passed += 1
+            continue
+        failed += 1
+        print(f"quoted {count} times, and not once: {table.splitlines()[0]}")
+    for page, line, text in quoted:
+        if text not in tables:
+            failed += 1
+            print(f"{page}:{line}: the block is no table of the help")
+            print_differences(text.splitlines(), nearest(text.splitlines(), [table.splitlines() for table in tables]))
+    if not tables:
+        print("no table of faults in crates/command_line/src/fault_tables.rt")
+        failed += 1
+    return passed, failed
+
+
+def blocks(root, pages, pattern):
+    """The blocks of the pages that match: the page, the line and the text of each."""
+    for page in pages:
+        text = page.read_text()
+        for found in pattern.finditer(text):
+            yield page.relative_to(root), text.count("\n", 0, found.start()) + 1, found[1]
+
+
+def print_differences(block, source):
+    for difference in difflib.unified_diff(block, source, "page", "source", lineterm="", n=1):
+        print(f"    {difference}")
+
+
+def main():
+    root = Path(sys.argv[1]) if len(sys.argv) > 1 else Path(__file__).resolve().parent.parent
+    pages = [root / "README.md", *sorted((root / "docs").glob("*.md"))]
+    counts = [check_callers(root, pages), check_tables(root, pages)]
+    passed, failed = (sum(column) for column in zip(*counts))
     print(f"{passed} passed, {failed} failed")
     return failed != 0
 

@@ -27,6 +27,7 @@ MOST_REFUSALS = 100_000
 TESTS = "each_allocation_refused"
 OUT_OF_MEMORY = (3, b"failed: memory\n")
 MEBIBYTE = 1 << 20
+ONE_EVENT = f"algorithms sha256:32\n1 4 EV_SEPARATOR sha256:{64 * '0'} 4 00000000\n".encode()
 LARGE_FILES = 50
 LARGE_FILE_BYTES = 40 * MEBIBYTE
 ADDRESS_SPACE = 64 * MEBIBYTE
@@ -55,6 +56,20 @@ def list_lines(expected, files):
         yield f"10 {hashlib.sha1(payload).hexdigest()} ima-ng sha256:{digest.hex()} {name.decode()}\n"
 
 
+def replayed_lines(measurements):
+    """The lines of register 10 in each bank, after this list alone, whose entries are all of it."""
+    values = {name: bytes(hashlib.new(name).digest_size) for name in ("sha1", "sha256", "sha384", "sha512")}
+    rest = measurements
+    while rest:
+        digest, (size,) = rest[4:24], struct.unpack_from("<I", rest, 24)
+        (data_size,) = struct.unpack_from("<I", rest, 28 + size)
+        data, rest = rest[32 + size : 32 + size + data_size], rest[32 + size + data_size :]
+        for name, value in values.items():
+            own = b"\xff" * len(value) if not any(digest) else hashlib.new(name, data).digest()
+            values[name] = hashlib.new(name, value + own).digest()
+    return "".join(f"{name} 10 {value.hex()}\n" for name, value in values.items())
+
+
 def program_of(root):
     return root / "crates/ima_agent_program/out/ima_agent_program"
 
@@ -78,12 +93,23 @@ def command_runs(root, folder):
     other = folder / "other"
     other.write_text("sha1 10 " + 40 * "0")
     absent = "events 24 locality 0\nentries 99\nboot_aggregate good\nsha1 10 absent\nverdict differ\n"
+    tenth = folder / "tenth"
+    tenth.write_text(lines.splitlines()[10] + "\n")
+    one_event = folder / "one-event"
+    one_event.write_bytes(bytes.fromhex((root / "samples/one-event.hex").read_text()))
     entries = "".join(list_lines(lines, [(str(file).encode(), hashlib.sha256(b"abc").digest())]))
     for title, words, given, status, output in (
         ("registers", [], log.read_bytes().hex().encode(), 0, (boot / "registers.txt").read_bytes()),
         ("no text of a log", [], b"Z", 2, b"refused: not hexadecimal\n"),
         ("a verdict", ["verify", log, listed, expected], b"", 0, report.encode()),
         ("a verdict that differs", ["verify", log, listed, other], b"", 1, absent.encode()),
+        ("places", ["locate", log, listed, tenth], b"", 0, b"sha256 10 after entry 98\nlocated\n"),
+        ("places of which one is none", ["locate", log, listed, other], b"", 1, b"sha1 10 absent\nnot located\n"),
+        ("expected registers", ["expected", boot / "tpm2_pcrread.txt"], b"", 0, expected.read_bytes()),
+        ("expected registers of a range", ["expected", "--registers=10", boot / "tpm2_pcrread.txt"], b"", 0, tenth.read_bytes()),
+        ("registers after a log", ["registers", log], b"", 0, (boot / "registers.txt").read_bytes()),
+        ("events", ["events", "--data", one_event], b"", 0, ONE_EVENT),
+        ("a list replayed", ["replay", listed], b"", 0, replayed_lines(listed.read_bytes()).encode()),
         ("a list shown", ["show", listed], b"", 0, (boot / "ima.ascii").read_bytes()),
         ("a file measured", ["measure", log, file], b"", 0, entries.encode()),
         ("a file measured by one worker", ["measure", "--workers=1", log, file], b"", 0, entries.encode()),

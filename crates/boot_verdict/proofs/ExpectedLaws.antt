@@ -48,7 +48,7 @@ one_cut byte (first ∷ front) (second ∷ other) rest more p q e =
 
 -- ---- spaces
 
-digits_lack : (digits : List ℕ) → AllDigits 10 digits → Lacks 32 digits
+pub digits_lack : (digits : List ℕ) → AllDigits 10 digits → Lacks 32 digits
 digits_lack [] all = tt
 digits_lack (first ∷ digits) all =
     let within = digit_from_value first all.0 in
@@ -58,14 +58,14 @@ pub decimal_lacks : (n : ℕ) → n < 2 ^ 64 → Lacks 32 (decimal n)
 decimal_lacks n small = digits_lack (decimal n) ((decimal_is_IsNumeral n small).0.1)
 
 -- Bytes above a space.
-abbrev AllAbove : List ℕ → Type 0
+abbrev pub AllAbove : List ℕ → Type 0
 AllAbove bytes = AllByRecursion (λ byte. 32 < byte) bytes
 
 lacks_above : (bytes : List ℕ) → AllAbove bytes → Lacks 32 bytes
 lacks_above [] all = tt
 lacks_above (first ∷ bytes) all = (λ e. absurd (omega (arith, e, all.0)), lacks_above bytes all.1)
 
-name_above : (alg : Alg) → AllAbove (name_of alg)
+pub name_above : (alg : Alg) → AllAbove (name_of alg)
 name_above = every_alg _ (search rules)
 
 pub name_lacks : (alg : Alg) → Lacks 32 (name_of alg)
@@ -73,7 +73,7 @@ name_lacks alg = lacks_above (name_of alg) (name_above alg)
 
 -- ---- lines
 
-feed_cuts : (front rest : List ℕ) → Lacks 10 front → split_at_feeds (front ++ 10 ∷ rest) ≡ front ∷ split_at_feeds rest
+pub feed_cuts : (front rest : List ℕ) → Lacks 10 front → split_at_feeds (front ++ 10 ∷ rest) ≡ front ∷ split_at_feeds rest
 feed_cuts [] rest lacks = refl
 feed_cuts (first ∷ front) rest lacks = search (rules, feed_cuts front rest lacks.1, lacks.0)
 
@@ -210,12 +210,12 @@ both_false : (a b : Bool) → (a || b) ≡ false → (a ≡ false) × (b ≡ fal
 both_false false b e = (refl, e)
 both_false true b e = absurd cc
 
-all_more : (x e : Expected) (expected : List Expected) → AllByRecursion (λ y. same_register x y ≡ false) expected → same_register x e ≡ false
+pub all_more : (x e : Expected) (expected : List Expected) → AllByRecursion (λ y. same_register x y ≡ false) expected → same_register x e ≡ false
     → AllByRecursion (λ y. same_register x y ≡ false) (expected ++ e ∷ [])
 all_more x e [] all one = (one, tt)
 all_more x e (y ∷ expected) all one = (all.0, all_more x e expected all.1 one)
 
-distinct_more : (expected : List Expected) (e : Expected) → IsDistinct same_register expected
+pub distinct_more : (expected : List Expected) (e : Expected) → IsDistinct same_register expected
     → list_any (λ x. same_register x e) expected ≡ false → IsDistinct same_register (expected ++ e ∷ [])
 unfolding IsDistinct
 distinct_more [] e distinct none = (tt, tt)
@@ -234,11 +234,11 @@ are_more before (byte ∷ line) expected after are takes = rw takes.3 (record {
   distinct = distinct_more expected takes.0 are.distinct takes.2;
 })
 
-left_within : (left : List ℕ) (rest : Option (Bor (List ℕ))) → IfSome rest (λ r. length r.now < length left) → left_count rest ≤ length left
+pub left_within : (left : List ℕ) (rest : Option (Bor (List ℕ))) → IfSome rest (λ r. length r.now < length left) → left_count rest ≤ length left
 left_within left None shorter = omega arith
 left_within left (Some rest) shorter = omega (arith, shorter)
 
-parts_more : (text : List ℕ) (before : List (List ℕ)) (line : List ℕ) (left rest : List (List ℕ)) → lines_of text ≡ before ++ left
+pub parts_more : (text : List ℕ) (before : List (List ℕ)) (line : List ℕ) (left rest : List (List ℕ)) → lines_of text ≡ before ++ left
     → left ≡ line ∷ rest → lines_of text ≡ (before ++ line ∷ []) ++ rest
 parts_more text before line left rest parts first =
     parts ∙ ap (λ (lines : List (List ℕ)). before ++ lines) first ∙ sym (append_assoc before (line ∷ []) rest)
@@ -324,7 +324,7 @@ all_at : (x e : Expected) (front back : List Expected) → AllByRecursion (λ y.
 all_at x e [] back all = all.0
 all_at x e (y ∷ front) back all = all_at x e front back all.1
 
-distinct_apart : (front : List Expected) (e : Expected) (back : List Expected) → IsDistinct same_register (front ++ e ∷ back)
+pub distinct_apart : (front : List Expected) (e : Expected) (back : List Expected) → IsDistinct same_register (front ++ e ∷ back)
     → list_any (λ x. same_register x e) front ≡ false
 unfolding IsDistinct
 distinct_apart [] e back distinct = refl

@@ -1,4 +1,14 @@
 pub mod RegisterLaws
 pub mod ExpectedLaws
 pub mod VerdictLaws
+pub mod WatchLaws
+pub mod PlaceLaws
+pub mod FollowLaws
+pub mod LocateLaws
 pub mod ReplayLaws
+pub mod EventTextLaws
+pub mod PcrReadLaws
+pub mod RangeLaws
+pub mod WrittenLaws
+pub mod LineLaws
+pub mod ReadingLaws

@@ -4,4 +4,11 @@ pub mod ExpectedTexts
 pub mod Verdicts
 pub mod ReportTexts
 pub mod ListSources
+pub mod Places
+pub mod PlaceTexts
+pub mod Replays
 pub mod parts
+pub mod EventTexts
+pub mod PcrReadTexts
+pub mod RegisterRanges
+pub mod WrittenTexts

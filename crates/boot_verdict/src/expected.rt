@@ -1,19 +1,15 @@
 //! Expected registers, read from text.
 
-ghost use Rattle.std.specs.Prelude.{◌≡◌, ◌<◌, ◌⊎◌, ℕ, List, ◌∷◌, length, decimal, option_map, IfSome, IfNone, IfOk, IfErr, IsErrOf, OnOk};
+ghost use Rattle.std.specs.Prelude.{◌≡◌, ◌⊎◌, List, false, ◌∷◌, ◌++◌, [], IfSome, IfNone, IfOk, IfErr, IsErrOf, IsTrue, OnOk};
 ghost use Rattle.std.specs.List.{list_any};
-ghost use Rattle.std.specs.Str.{bytes_eq};
-ghost use Rattle.std.specs.Str.Iter.{LacksByte};
-ghost use Rattle.pcr_banks.specs.Registers.{register_count};
 ghost use Rattle.boot_verdict.specs.declared.expected.Expected.{Expected};
-ghost use Rattle.boot_verdict.specs.declared.expected.ExpectFault.TheVariants.{Memory};
+ghost use Rattle.boot_verdict.specs.declared.expected.ExpectFault.TheVariants.{DoubleLine, Memory};
 ghost use Rattle.boot_verdict.specs.ExpectFaults.{expect_fault_number, expect_fault_line};
-ghost use Rattle.boot_verdict.specs.ExpectedTexts.{BeginsWithRegister, IsExpectedText, IsLineFault, IsRegisterLine, HasFirstFault, lines_of, same_register, without_return};
-ghost use Rattle.boot_verdict.specs.parts.ExpectedLines.{IsSplitOnce, SpellsAnother, TakesLine, lines_left};
+ghost use Rattle.boot_verdict.specs.ExpectedTexts.{BeginsWithRegister, IsExpectedText, IsLineFault, IsRegisterLine, HasFirstFault, same_register};
+ghost use Rattle.boot_verdict.specs.parts.ExpectedLines.{SpellsAnother, TakesLine};
 
-use itoa::Buffer;
-use memchr::memchr;
-use pcr_banks::{Alg, Digest, REGISTERS};
+use crate::lines::{line_at, register_named, split_once};
+use pcr_banks::{Alg, Digest};
 use std::alloc::{AllocError, AllocFailed, Global};
 use thiserror::Error;
 
@@ -31,7 +27,7 @@ pub struct Expected {
 /// Why a text of expected registers was refused: the first wrong line, counted from 1, or out of memory.
 #[derive(Clone, Copy, Debug, PartialEq, Eq, Error)]
 pub enum ExpectFault {
-    /// 1: the line is neither empty nor a register line.
+    /// 1: the line is neither empty nor a register line; in what tpm2_pcrread prints, nor one of the others that it may have.
     #[error("line {line} is not a register line")]
     BadLine { line: usize },
     /// 2: the line names a register of a bank that an earlier line names.
@@ -77,7 +73,7 @@ impl<T: Drop> From<AllocFailed<T>> for ExpectFault {
 /// hexadecimal digits of either case, separated by single spaces, as in `sha256 4 f5a5..`.
 ///
 /// The last line feed may be missing, one carriage return at a line's end is dropped, and empty lines are skipped.
-/// [`crate::write_registers`] writes lines of this form.
+/// [`crate::write_registers`] and [`crate::write_expected`] write lines of this form.
 ///
 /// Fails with the fault of the first wrong line, or with [`ExpectFault::Memory`], which is possible only if the first line that
 /// is not empty names a register.
@@ -115,6 +111,21 @@ fn take_line(expected: &mut Vec<Expected>, number: usize, line: &[u8]) -> Result
     let Some(register) = register_on(line) else {
         return Err(ExpectFault::BadLine { line: number });
     };
+    add_register(expected, number, register)
+}
+
+/// Appends this register, which the line of this number names.
+pub(crate) fn add_register(
+    expected: &mut Vec<Expected>,
+    number: usize,
+    register: Expected,
+) -> Result<(), ExpectFault>
+    ensures added { OnOk result ((list_any (λ x. same_register x register) expected.old.items ≡ false)
+        × (expected.new.items ≡ expected.old.items ++ register ∷ [])) }
+    ensures fault { IfErr result (λ fault. (fault ≡ ExpectFault.Memory)
+        ⊎ ((fault ≡ DoubleLine number) × IsTrue (list_any (λ x. same_register x register) expected.old.items))) }
+    ensures memory { IsErrOf result ExpectFault.Memory → list_any (λ x. same_register x register) expected.old.items ≡ false }
+{
     if is_among(&register, expected) {
         return Err(ExpectFault::DoubleLine { line: number });
     }
@@ -127,24 +138,6 @@ fn is_among(register: &Expected, expected: &[Expected]) -> bool
     ensures { result ≡ list_any (λ x. same_register x register.now) expected.now }
 {
     expected.iter().any(|other| other.alg == register.alg && other.register == register.register)
-}
-
-// The first line, without a carriage return at its end, and the text after its line feed, if it has one.
-fn line_at(text: &[u8]) -> (&[u8], Option<&[u8]>)
-    ensures line { lines_of text.now ≡ result.0.now ∷ lines_left (option_map (λ rest. rest.now) result.1) }
-    ensures shorter { IfSome result.1 (λ rest. length rest.now < length text.now) }
-{
-    match split_once(b'\n', text) {
-        Some((line, rest)) => (without_return(line), Some(rest)),
-        None => (without_return(text), None),
-    }
-}
-
-// The line without its trailing carriage return, if it has one.
-fn without_return(line: &[u8]) -> &[u8]
-    ensures { result.now ≡ without_return line.now }
-{
-    line.strip_suffix(b"\r").unwrap_or(line)
 }
 
 // The register that the line names, if it is a register line.
@@ -162,33 +155,4 @@ fn register_on(line: &[u8]) -> Option<Expected>
         register,
         value,
     })
-}
-
-// The register below 24 whose number in decimal is this text.
-fn register_named(text: &[u8]) -> Option<u32>
-    ensures found { IfSome result (λ register. (register < register_count) × (text.now ≡ decimal register)) }
-    ensures none { IfNone result ((register : ℕ) → register < register_count → text.now ≡ decimal register → ⊥) }
-{
-    for register in 0..REGISTERS {
-        if is_decimal_of(register, text) {
-            return Some(register);
-        }
-    }
-    None
-}
-
-// Whether the text is this number in decimal.
-fn is_decimal_of(number: u32, text: &[u8]) -> bool
-    ensures { result ≡ bytes_eq (decimal number) text.now }
-{
-    Buffer::new().format(number).as_bytes() == text
-}
-
-// The bytes before the first `byte` and those after it; `None` if the text lacks it.
-fn split_once(byte: u8, text: &[u8]) -> Option<(&[u8], &[u8])>
-    ensures cut { IfSome result (λ x. IsSplitOnce byte text.now x.0.now x.1.now) }
-    ensures none { IfNone result (LacksByte byte text.now) }
-{
-    let at = memchr(byte, text)?;
-    Some((&text[..at], &text[at + 1..]))
 }

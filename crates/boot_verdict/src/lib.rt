@@ -1,13 +1,28 @@
-//! The verdict on a firmware log, a measurement list and expected registers, and the texts of registers and reports.
+//! The verdict on a firmware log, a measurement list and expected registers; where registers first have their expected values; and the
+//! texts of events, registers, reports and places.
 #![tactic(auto)]
 
 mod expected;
+pub mod laws;
+mod lines;
 mod list_replay;
+mod locating;
+mod pcr_read;
+mod places;
+mod register_range;
+mod replaying;
 mod report;
 mod texts;
 mod verifier;
 
 pub use expected::{ExpectFault, Expected, read_expected};
+pub use locating::{locate, locate_from};
+pub use pcr_read::read_pcrread;
+pub use places::{Located, Place, all_found};
+pub use register_range::RegisterRange;
+pub use replaying::{list_start, replay_from};
 pub use report::{Aggregate, Report, Row, State};
-pub use texts::{write_registers, write_report};
+pub use texts::{
+    EventData, write_events, write_expected, write_places, write_registers, write_report,
+};
 pub use verifier::{VerifyFault, verify, verify_from};

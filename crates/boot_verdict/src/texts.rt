@@ -1,8 +1,14 @@
-//! Registers and reports as text.
+//! The texts of events, expected registers, places, registers and reports.
 
 mod digits;
+mod events;
+mod expected;
+mod places;
 mod registers;
 mod report;
 
+pub use events::{EventData, write_events};
+pub use expected::write_expected;
+pub use places::write_places;
 pub use registers::write_registers;
 pub use report::write_report;

@@ -12,6 +12,7 @@ ghost use Rattle.boot_log.specs.Replaying.{IsFirmware};
 ghost use Rattle.ima_list.specs.ListEntry.{ListEntry};
 ghost use Rattle.ima_list.specs.Spelling.{IsReading};
 ghost use Rattle.ima_list.specs.Replaying.{AreGenuine};
+ghost use Rattle.boot_verdict.specs.declared.places.Watch.{Watch};
 ghost use Rattle.boot_verdict.specs.declared.verifier.VerifyFault.TheVariants.{Memory, Replay};
 ghost use Rattle.boot_verdict.specs.Verdicts.{HasSomethingToKeep, IsSomeLog, IsVerdict, IsVerdictFrom, IsVerifyFault, IsVerifyFaultFrom, aggregate_of, aggregate_state, fault_of_list, fault_of_log, fault_of_reading, row_state, verdict_of, verdict_on};
 ghost use Rattle.boot_verdict.specs.parts.Rows.{row_of};
@@ -20,6 +21,7 @@ ghost use Rattle.boot_verdict.specs.parts.ListReplays.{IsReportFault, Replays};
 
 use crate::expected::Expected;
 use crate::list_replay::ListReplay;
+use crate::places::Watch;
 use crate::report::{Aggregate, Report, Row, State};
 use boot_log::{BootLog, LogFault, read_log};
 use byte_streams::{ReadFault, Source};
@@ -33,13 +35,13 @@ use thiserror::Error;
 #[derive(Clone, Copy, Debug, PartialEq, Eq, Error)]
 pub enum VerifyFault {
     /// The log is not a firmware event log.
-    #[error("log: {0}")]
+    #[error("the log is refused: {0}")]
     Log(LogFault),
     /// The list is not a measurement list.
-    #[error("list: {0}")]
+    #[error("the list is refused: {0}")]
     List(ListFault),
     /// An entry of the list is not genuine.
-    #[error("replay: {0}")]
+    #[error("the list is not genuine: {0}")]
     Replay(ReplayFault),
     /// The source of the list failed.
     #[error("the source of the list failed")]
@@ -125,7 +127,7 @@ pub fn verify(
     list_has_one_reading(list);
     let log = read_log(alloc, log)?;
     let start = log.registers();
-    let replay = ListReplay::of_list(start, list)?;
+    let replay = ListReplay::of_list(Watch::of_none(alloc, start), list)?;
     report_on(alloc, &log, &start, &replay, expected)
 }
 
@@ -161,7 +163,7 @@ pub fn verify_from<R: Source>(
     no_bytes_have_two_readings();
     let firmware = read_log(alloc, log)?;
     let start = firmware.registers();
-    let replay = ListReplay::of_source(alloc, start, list, limit)?;
+    let replay = ListReplay::of_source(alloc, Watch::of_none(alloc, start), list, limit)?;
     report_on(alloc, &firmware, &start, &replay, expected)
 }
 
@@ -174,9 +176,9 @@ fn report_on(
     expected: &[Expected],
 ) -> Result<Report, VerifyFault>
     requires { IsFirmware (algs_of log.now) (events_of log.now) start.now }
-    ensures report { IfOk result (λ report. (entries : List ListEntry) → Replays start.now entries replay.now
+    ensures report { IfOk result (λ report. (from : Watch) (entries : List ListEntry) → from.banks ≡ start.now → Replays from entries replay.now
         → AreGenuine entries × (verdict_of report ≡ verdict_on (algs_of log.now) (events_of log.now) entries expected.now)) }
-    ensures fault { IfErr result (λ fault. (entries : List ListEntry) → Replays start.now entries replay.now → IsReportFault entries fault) }
+    ensures fault { IfErr result (λ fault. (from : Watch) (entries : List ListEntry) → Replays from entries replay.now → IsReportFault entries fault) }
 {
     if let Some(entry) = replay.forged {
         return Err(ReplayFault::BadTemplateDigest { entry }.into());
@@ -186,7 +188,7 @@ fn report_on(
         locality: log.locality(),
         entries: replay.entries,
         aggregate: aggregate_of(start, replay.stated),
-        rows: rows_on(alloc, &replay.banks, expected)?,
+        rows: rows_on(alloc, &replay.watch.banks, expected)?,
     })
 }
 

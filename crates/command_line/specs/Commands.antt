@@ -8,10 +8,12 @@ use Rattle.clap.specs.declared.builder.ArgAction.TheVariants.{Append, SetTrue}
 use Rattle.clap.specs.declared.builder.ValueParser.{ValueParser}
 use Rattle.pcr_banks.specs.Hashing.{name_of}
 use Rattle.ima_list.specs.Templates.{template_name}
+use Rattle.command_line.specs.declared.plan.DataShown.{DataShown}
+use Rattle.command_line.specs.declared.plan.DataShown.TheVariants.{Size, Bytes}
 use Rattle.command_line.specs.declared.plan.NameEnd.{NameEnd}
 use Rattle.command_line.specs.declared.plan.NameEnd.TheVariants.{LineFeed, Nul}
 use Rattle.command_line.specs.declared.plan.Plan.{Plan}
-use Rattle.command_line.specs.declared.plan.Plan.TheVariants.{Registers, Measure, MeasureListed, Verify, Show, Help}
+use Rattle.command_line.specs.declared.plan.Plan.TheVariants.{Registers, Measure, MeasureListed, Verify, Locate, Expected, RegistersAfter, Events, Show, Replay, Help}
 use Rattle.command_line.specs.declared.plan.Print.{Print}
 use Rattle.command_line.specs.declared.plan.Print.TheVariants as prints
 
@@ -42,6 +44,10 @@ optional id default parser = record (new_rule id) {
 abbrev pub without_default : Text → Rule
 without_default id = record (new_rule id) { long = Some id; value_names = 1 }
 
+-- A flag.
+abbrev pub flag : Text → Rule
+flag id = record (new_rule id) { long = Some id; action = Some SetTrue }
+
 -- A flag that requires another option. Which one that is, a plan says (`HasValues`).
 abbrev pub flag_beside : Text → Rule
 flag_beside id = record (new_rule id) { long = Some id; action = Some SetTrue; is_free = false }
@@ -70,8 +76,24 @@ abbrev pub verify_app : App
 verify_app =
     with_rule (with_rule (with_rule (new_app (codes "verify")) (required (codes "LOG"))) (required (codes "LIST"))) (required (codes "EXPECTED"))
 
+abbrev pub locate_app : App
+locate_app =
+    with_rule (with_rule (with_rule (new_app (codes "locate")) (required (codes "LOG"))) (required (codes "LIST"))) (required (codes "EXPECTED"))
+
+abbrev pub expected_app : App
+expected_app = with_rule (with_rule (new_app (codes "expected")) (without_default (codes "registers"))) (required (codes "PCRREAD"))
+
+abbrev pub registers_app : App
+registers_app = with_rule (new_app (codes "registers")) (required (codes "LOG"))
+
+abbrev pub events_app : App
+events_app = with_rule (with_rule (new_app (codes "events")) (flag (codes "data"))) (required (codes "LOG"))
+
 abbrev pub show_app : App
 show_app = with_rule (new_app (codes "show")) (required (codes "LIST"))
+
+abbrev pub replay_app : App
+replay_app = with_rule (new_app (codes "replay")) (required (codes "LIST"))
 
 -- The program, whose first argument is a command's name.
 abbrev pub program_app : App
@@ -80,8 +102,17 @@ program_app = record {
   subs = [];
 }
 
+-- The program with the commands that measure files or have to do with expected registers.
+abbrev pub comparing : Parsers → App
+comparing parsers =
+    with_subcommand (with_subcommand (with_subcommand (with_subcommand program_app (measure_app parsers).top) verify_app.top) locate_app.top)
+    expected_app.top
+
+-- The program with all commands.
 abbrev pub commands : Parsers → App
-commands parsers = with_subcommand (with_subcommand (with_subcommand program_app (measure_app parsers).top) verify_app.top) show_app.top
+commands parsers =
+    with_subcommand (with_subcommand (with_subcommand (with_subcommand (comparing parsers) registers_app.top) events_app.top) show_app.top)
+    replay_app.top
 
 -- ---- how a plan follows from the arguments
 
@@ -94,6 +125,11 @@ print_name prints.Registers = codes "registers"
 abbrev pub null_value : NameEnd → Text
 null_value LineFeed = codes "false"
 null_value Nul = codes "true"
+
+-- The value that clap gives `--data`: `true` if it is present, else `false`.
+abbrev pub data_value : DataShown → Text
+data_value Size = codes "false"
+data_value Bytes = codes "true"
 
 -- The first value of this name is a number in decimal.
 pub record HasNumber (id : Text) (rows : List Row) (number : ℕ) : Type 0 where
@@ -126,7 +162,19 @@ HasValues rows (Verify log list expected) =
     (first_of (codes "LOG") rows ≡ Some (string_bytes log))
     × (first_of (codes "LIST") rows ≡ Some (string_bytes list))
     × (first_of (codes "EXPECTED") rows ≡ Some (string_bytes expected))
+HasValues rows (Locate log list expected) =
+    (first_of (codes "LOG") rows ≡ Some (string_bytes log))
+    × (first_of (codes "LIST") rows ≡ Some (string_bytes list))
+    × (first_of (codes "EXPECTED") rows ≡ Some (string_bytes expected))
+HasValues rows (Expected printed registers) =
+    (first_of (codes "PCRREAD") rows ≡ Some (string_bytes printed))
+    × (first_of (codes "registers") rows ≡ option_map string_bytes registers)
+HasValues rows (RegistersAfter log) = first_of (codes "LOG") rows ≡ Some (string_bytes log)
+HasValues rows (Events log shown) =
+    (first_of (codes "LOG") rows ≡ Some (string_bytes log))
+    × (first_of (codes "data") rows ≡ Some (data_value shown))
 HasValues rows (Show list) = first_of (codes "LIST") rows ≡ Some (string_bytes list)
+HasValues rows (Replay list) = first_of (codes "LIST") rows ≡ Some (string_bytes list)
 HasValues rows (Help text) = ⊥
 
 -- The same of the matches of a command, which was found.

@@ -3,9 +3,10 @@
 
 mod commands;
 mod fault;
+mod fault_tables;
 mod plan;
 mod words;
 
 pub use fault::WordsFault;
-pub use plan::{NameEnd, Plan, Print};
+pub use plan::{DataShown, NameEnd, Plan, Print};
 pub use words::{read_words, words_after_name};

@@ -23,6 +23,15 @@ pub enum NameEnd {
     Nul,
 }
 
+/// What is shown of the data of a log's events.
+#[derive(Clone, Copy, Debug, PartialEq, Eq)]
+pub enum DataShown {
+    /// How many bytes there are.
+    Size,
+    /// How many bytes there are, and the bytes in hexadecimal.
+    Bytes,
+}
+
 /// What the program's arguments request.
 #[derive(Debug, Drop)]
 pub enum Plan {
@@ -75,8 +84,41 @@ pub enum Plan {
         /// The name of the text of expected registers.
         expected: String,
     },
+    /// Find where the expected registers first have their values, in a log and a list.
+    Locate {
+        /// The name of the firmware event log, binary.
+        log: String,
+        /// The name of the measurement list, binary.
+        list: String,
+        /// The name of the text of expected registers.
+        expected: String,
+    },
+    /// Write the text of expected registers from what `tpm2_pcrread` printed.
+    Expected {
+        /// The name of the text that `tpm2_pcrread` printed.
+        printed: String,
+        /// The text of the range of registers to write, as `0-10`; none for all of them. It is any text here.
+        registers: Option<String>,
+    },
+    /// Show the registers after a firmware event log.
+    RegistersAfter {
+        /// The name of the firmware event log, binary.
+        log: String,
+    },
+    /// Show the events of a firmware event log.
+    Events {
+        /// The name of the firmware event log, binary.
+        log: String,
+        /// What to show of their data.
+        data: DataShown,
+    },
     /// Show the entries of a list as text.
     Show {
+        /// The name of the measurement list, binary.
+        list: String,
+    },
+    /// Replay a list alone, and show the registers it gives.
+    Replay {
         /// The name of the measurement list, binary.
         list: String,
     },

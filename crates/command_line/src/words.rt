@@ -1,8 +1,8 @@
 //! Reads the command line.
 
-ghost use Rattle.std.specs.Prelude.{◌≡◌, ◌<◌, ◌≤◌, ◌^◌, ◌⊎◌, [], Ok, Some, codes, drop, map, string_bytes, unwrap_or, vec_len, IfOk};
+ghost use Rattle.std.specs.Prelude.{◌≡◌, ◌<◌, ◌≤◌, ◌^◌, ◌⊎◌, [], Ok, Some, codes, drop, map, option_map, string_bytes, unwrap_or, vec_len, IfOk};
 ghost use Rattle.clap.specs.Words.{all_of, first_of, found_of, rows_of, subcommand_rows_of};
-ghost use Rattle.command_line.specs.Commands.{HasMeasure, HasNumber, HasValues, HasValuesIn, IsMatched, null_value, print_name};
+ghost use Rattle.command_line.specs.Commands.{HasMeasure, HasNumber, HasValues, HasValuesIn, IsMatched, data_value, null_value, print_name};
 ghost use Rattle.std.specs.Vec.Iter.{into_iter_items};
 ghost use Rattle.command_line.specs.Plans.{HasHelpWord, IsAskedBy, IsHelp, IsOfCommand, IsWithinRanges, asks_help};
 ghost use Rattle.std.specs.List.{list_any};
@@ -12,7 +12,7 @@ ghost use Rattle.command_line.specs.declared.plan.Plan.TheVariants.{Registers};
 
 use crate::commands::{MOST_WORKERS, all_commands};
 use crate::fault::WordsFault;
-use crate::plan::{NameEnd, Plan, Print};
+use crate::plan::{DataShown, NameEnd, Plan, Print};
 use clap::error::ErrorKind;
 use clap::{ArgMatches, Error};
 use ima_list::Template;
@@ -69,7 +69,12 @@ fn plan_of(alloc: Global, command: &str, matches: &ArgMatches) -> Result<Plan, W
     match command {
         "measure" => measure_of(alloc, matches),
         "verify" => verify_of(alloc, matches),
+        "locate" => locate_of(alloc, matches),
+        "expected" => expected_of(alloc, matches),
+        "registers" => registers_of(alloc, matches),
+        "events" => events_of(alloc, matches),
         "show" => show_of(alloc, matches),
+        "replay" => replay_of(alloc, matches),
         _ => Err(WordsFault::Usage),
     }
 }
@@ -159,11 +164,63 @@ fn verify_of(alloc: Global, matches: &ArgMatches) -> Result<Plan, WordsFault>
     })
 }
 
+// The plan of `locate`.
+fn locate_of(alloc: Global, matches: &ArgMatches) -> Result<Plan, WordsFault>
+    ensures { IfOk result (λ plan. IsOfCommand (codes "locate") plan × IsWithinRanges plan × HasValues (rows_of (found_of matches.now)) plan) }
+{
+    let log = name_of(alloc, matches, "LOG")?;
+    let list = name_of(alloc, matches, "LIST")?;
+    let expected = name_of(alloc, matches, "EXPECTED")?;
+    Ok(Plan::Locate {
+        log,
+        list,
+        expected,
+    })
+}
+
+// The plan of `expected`.
+fn expected_of(alloc: Global, matches: &ArgMatches) -> Result<Plan, WordsFault>
+    ensures { IfOk result (λ plan. IsOfCommand (codes "expected") plan × IsWithinRanges plan × HasValues (rows_of (found_of matches.now)) plan) }
+{
+    Ok(Plan::Expected {
+        printed: name_of(alloc, matches, "PCRREAD")?,
+        registers: text_if_given(alloc, matches, "registers")?,
+    })
+}
+
+// The plan of `registers`.
+fn registers_of(alloc: Global, matches: &ArgMatches) -> Result<Plan, WordsFault>
+    ensures { IfOk result (λ plan. IsOfCommand (codes "registers") plan × IsWithinRanges plan × HasValues (rows_of (found_of matches.now)) plan) }
+{
+    Ok(Plan::RegistersAfter {
+        log: name_of(alloc, matches, "LOG")?,
+    })
+}
+
+// The plan of `events`.
+fn events_of(alloc: Global, matches: &ArgMatches) -> Result<Plan, WordsFault>
+    ensures { IfOk result (λ plan. IsOfCommand (codes "events") plan × IsWithinRanges plan × HasValues (rows_of (found_of matches.now)) plan) }
+{
+    Ok(Plan::Events {
+        log: name_of(alloc, matches, "LOG")?,
+        data: data_of(matches)?,
+    })
+}
+
 // The plan of `show`.
 fn show_of(alloc: Global, matches: &ArgMatches) -> Result<Plan, WordsFault>
     ensures { IfOk result (λ plan. IsOfCommand (codes "show") plan × IsWithinRanges plan × HasValues (rows_of (found_of matches.now)) plan) }
 {
     Ok(Plan::Show {
+        list: name_of(alloc, matches, "LIST")?,
+    })
+}
+
+// The plan of `replay`.
+fn replay_of(alloc: Global, matches: &ArgMatches) -> Result<Plan, WordsFault>
+    ensures { IfOk result (λ plan. IsOfCommand (codes "replay") plan × IsWithinRanges plan × HasValues (rows_of (found_of matches.now)) plan) }
+{
+    Ok(Plan::Replay {
         list: name_of(alloc, matches, "LIST")?,
     })
 }
@@ -187,6 +244,17 @@ fn ends_of(matches: &ArgMatches) -> Result<NameEnd, WordsFault>
     match text_of(matches, "null")? {
         "true" => Ok(NameEnd::Nul),
         "false" => Ok(NameEnd::LineFeed),
+        _ => Err(WordsFault::Usage),
+    }
+}
+
+// What is shown of the data of events. `clap` gives `--data` the value `true` if it is present, else `false`.
+fn data_of(matches: &ArgMatches) -> Result<DataShown, WordsFault>
+    ensures { IfOk result (λ shown. first_of (codes "data") (rows_of (found_of matches.now)) ≡ Some (data_value shown)) }
+{
+    match text_of(matches, "data")? {
+        "true" => Ok(DataShown::Bytes),
+        "false" => Ok(DataShown::Size),
         _ => Err(WordsFault::Usage),
     }
 }
@@ -230,6 +298,20 @@ fn name_of(alloc: Global, matches: &ArgMatches, id: &str) -> Result<String, Word
     ensures { IfOk result (λ name. first_of id.now (rows_of (found_of matches.now)) ≡ Some (string_bytes name)) }
 {
     Ok(String::from_str(alloc, text_of(matches, id)?)?)
+}
+
+// A copy of the first value of this argument, if it is present.
+fn text_if_given(
+    alloc: Global,
+    matches: &ArgMatches,
+    id: &str,
+) -> Result<Option<String>, AllocError>
+    ensures { IfOk result (λ text. first_of id.now (rows_of (found_of matches.now)) ≡ option_map string_bytes text) }
+{
+    match matches.get_str(id) {
+        Some(text) => Ok(Some(String::from_str(alloc, text)?)),
+        None => Ok(None),
+    }
 }
 
 // A copy of each value.

@@ -4,3 +4,5 @@ pub mod MeasuringLaws
 pub mod FaultLaws
 pub mod VerifyingLaws
 pub mod ShowingLaws
+pub mod ReplayingLaws
+pub mod LocatingLaws

@@ -1,6 +1,7 @@
 -- The lines of a list whose entries are read in place.
-use Rattle.std.proofs.Common.{◌≡◌, ℕ, Bool, true, false, eqb, ◌+◌, ◌<◌, ◌≤◌, List, [], ◌∷◌, ◌++◌, length, Ok, Err, refl, sym, ap, subst, ◌∙◌, arith, inl}
-use Rattle.std.specs.Prelude.{flat_map}
+use Rattle.std.proofs.Common.{◌≡◌, ℕ, Bool, true, false, eqb, ◌+◌, ◌<◌, ◌≤◌, List, [], ◌∷◌, ◌++◌, length, Ok, Err, refl, sym, ap, subst, ◌∙◌, arith, inl, inr, Result}
+use Rattle.std.specs.Prelude.{IfErr, flat_map}
+use Rattle.hex.specs.Hex.{decode_of}
 use Rattle.std.proofs.lemmas.Bool.{eqb-true}
 use Rattle.std.proofs.lemmas.List.{length-append, append-nil}
 use Rattle.std.proofs.lemmas.List.Concat.{flat_map-append, flat_map-cons}
@@ -9,7 +10,9 @@ use Rattle.ima_list.specs.ListEntry.{ListEntry}
 use Rattle.ima_list.specs.Lines.{line_of}
 use Rattle.ima_list.specs.Spelling.{BeginsWith, IsReading}
 use Rattle.ima_agent.specs.Faults.{fault_of_list}
-use Rattle.ima_agent.specs.Showing.{IsNoListFor, ShowsList}
+use Rattle.ima_agent.specs.declared.fault.RunFault.{RunFault}
+use Rattle.ima_agent.specs.Hexadecimal.{without_white_space}
+use Rattle.ima_agent.specs.Showing.{IsNoListFor, IsNoLogFor, IsRefusedFor, ShowsList}
 
 -- The text has the lines of the entries so far, and `rest` is left of the list.
 pub record HasShown (list text rest : List ℕ) (number : ℕ) : Type 0 where
@@ -61,3 +64,12 @@ none_left is_empty (byte ∷ rest) tells empty =
 pub some_left : (is_empty : Bool) (rest : List ℕ) → is_empty ≡ eqb (length rest) 0 → is_empty ≡ false → 0 < length rest
 some_left is_empty [] tells empty = absurd cc
 some_left is_empty (byte ∷ rest) tells empty = omega arith
+
+-- ---- a log in hexadecimal
+
+-- Bytes that are no log are not shown, nor is the text that spells them.
+pub refused_text : {A : Type 0} (text bytes : List ℕ) (result : Result A RunFault) → decode_of (without_white_space text) ≡ Ok bytes
+    → IfErr result (IsNoLogFor bytes) → IfErr result (IsRefusedFor text)
+refused_text text bytes (Ok value) decoded none = tt
+refused_text text bytes (Err fault) decoded (inl no-log) = inr (inl (record { bytes = bytes; decoded = decoded; no_log = no-log }))
+refused_text text bytes (Err fault) decoded (inr memory) = inr (inr memory)

@@ -37,7 +37,7 @@ held_whole (Some all) old new limit list has whole =
     whole_from all new list (subst (λ (o : Option (List ℕ)). Consumes o new (list ++ [])) has whole.came.lost) whole.end
 
 -- An input that begins with these bytes.
-record HeldMore (told : Option (List ℕ)) (list : List ℕ) : Type 0 where
+pub record HeldMore (told : Option (List ℕ)) (list : List ℕ) : Type 0 where
   pub all : List ℕ
   pub more : List ℕ
   pub held : IfSome told (λ bytes. all ≡ bytes)
@@ -49,7 +49,7 @@ more_from bytes (Some rest) list over lost =
     record { all = bytes; more = over ++ rest; held = refl; parts = lost ∙ append_assoc list over rest }
 
 -- The input begins with the list that came.
-held_more : (told old new : Option (List ℕ)) (limit : ℕ) (list over : List ℕ) → HasAll told old → CameFrom old new limit list over
+pub held_more : (told old new : Option (List ℕ)) (limit : ℕ) (list over : List ℕ) → HasAll told old → CameFrom old new limit list over
     → HeldMore told list
 held_more None old new limit list over has came = record { all = list; more = []; held = tt; parts = sym (append-nil list) }
 held_more (Some bytes) old new limit list over has came =
@@ -61,7 +61,7 @@ held_any None = ([], tt)
 held_any (Some bytes) = (bytes, refl)
 
 -- An input from which more bytes came is longer than the list.
-longer : (told old new : Option (List ℕ)) (limit : ℕ) (list over : List ℕ) → HasAll told old → CameFrom old new limit list over
+pub longer : (told old new : Option (List ℕ)) (limit : ℕ) (list over : List ℕ) → HasAll told old → CameFrom old new limit list over
     → 0 < length over → IfSome told (λ all. (rest : List ℕ) × (0 < length rest) × (all ≡ list ++ rest))
 longer None old new limit list over has came some = tt
 longer (Some bytes) old None limit list over has came some = absurd (rw has at came.lost)

@@ -6,6 +6,9 @@ pub mod Faults
 pub mod FaultTexts
 pub mod Showing
 pub mod Verifying
+pub mod Locating
+pub mod Replaying
+pub mod Expecting
 pub mod Measuring
 pub mod Program
 pub mod System

@@ -1,5 +1,5 @@
 -- What the program writes and returns. All of this is this project's choice.
-use Rattle.std.specs.Prelude.{◌≡◌, ℕ, ◌⊎◌, List, map, string_bytes, Option, None, Some, Result, Ok, Err, String}
+use Rattle.std.specs.Prelude.{◌≡◌, ℕ, ◌⊎◌, List, map, string_bytes, Option, option_map, None, Some, Result, Ok, Err, String}
 use Rattle.std.specs.Global.{Global, Vec}
 use Rattle.byte_streams.specs.declared.streams.Failed.{Failed}
 use Rattle.byte_streams.specs.Streams.{SinkState, Sends}
@@ -7,9 +7,12 @@ use Rattle.ima_agent.specs.declared.fault.RunFault.{RunFault}
 use Rattle.ima_agent.specs.declared.fault.RunFault.TheVariants as runs
 use Rattle.command_line.specs.declared.plan.Plan.{Plan}
 use Rattle.command_line.specs.declared.plan.NameEnd.{NameEnd}
-use Rattle.command_line.specs.declared.plan.Plan.TheVariants.{Registers, Measure, MeasureListed, Verify, Show, Help}
+use Rattle.command_line.specs.declared.plan.Plan.TheVariants.{Registers, Measure, MeasureListed, Verify, Locate, Expected, RegistersAfter, Events, Show, Replay, Help}
 use Rattle.ima_agent.specs.Loading.{Inputs, Holds, IsInputFault}
-use Rattle.ima_agent.specs.Showing.{IsNoListFor, IsRefusedFor, ShowsList, ShowsRegisters}
+use Rattle.ima_agent.specs.Expecting.{IsNotPrintedFor, IsRangeFault, ShowsExpected}
+use Rattle.ima_agent.specs.Locating.{ShowsPlaces}
+use Rattle.ima_agent.specs.Replaying.{IsReplayFaultOf, ShowsReplay}
+use Rattle.ima_agent.specs.Showing.{IsNoListFor, IsNoLogFor, IsRefusedFor, ShowsEvents, ShowsList, ShowsRegisters, ShowsRegistersAfter}
 use Rattle.ima_agent.specs.Measuring.{IsMeasuringFault, IsNamesFault, HasLogFault, Manner, ShowsMeasured, all_names, files_in}
 use Rattle.ima_agent.specs.Verifying.{IsReportFault, ShowsReport}
 use Rattle.command_line.specs.Plans.{IsAskedBy, IsWithinRanges}
@@ -37,6 +40,15 @@ IsOutputFor inputs (MeasureListed alg template workers limit print log files nam
     × (status ≡ 0)
 IsOutputFor inputs (Verify log list expected) shown status =
     ShowsReport inputs (string_bytes log) (string_bytes list) (string_bytes expected) shown status
+IsOutputFor inputs (Locate log list expected) shown status =
+    ShowsPlaces inputs (string_bytes log) (string_bytes list) (string_bytes expected) shown status
+IsOutputFor inputs (Expected printed registers) shown status =
+    OfInput inputs (Some (string_bytes printed)) (λ text. ShowsExpected (option_map string_bytes registers) text shown) × (status ≡ 0)
+IsOutputFor inputs (RegistersAfter log) shown status =
+    OfInput inputs (Some (string_bytes log)) (λ bytes. ShowsRegistersAfter bytes shown) × (status ≡ 0)
+IsOutputFor inputs (Events log requested) shown status =
+    OfInput inputs (Some (string_bytes log)) (λ bytes. ShowsEvents bytes requested shown) × (status ≡ 0)
+IsOutputFor inputs (Replay list) shown status = OfInput inputs (Some (string_bytes list)) (λ bytes. ShowsReplay bytes shown) × (status ≡ 0)
 IsOutputFor inputs (Show list) shown status = OfInput inputs (Some (string_bytes list)) (λ bytes. ShowsList bytes shown) × (status ≡ 0)
 IsOutputFor inputs (Help text) shown status = (shown ≡ string_bytes text) × (status ≡ 0)
 
@@ -64,6 +76,18 @@ IsFaultOf inputs (MeasureListed alg template workers limit print log files names
     (map string_bytes files.items) (string_bytes names) ends fault)
 IsFaultOf inputs (Verify log list expected) fault =
     IsReportFault inputs (string_bytes log) (string_bytes list) (string_bytes expected) fault
+IsFaultOf inputs (Locate log list expected) fault =
+    IsReportFault inputs (string_bytes log) (string_bytes list) (string_bytes expected) fault
+IsFaultOf inputs (Expected printed registers) fault =
+    IsRangeFault (option_map string_bytes registers) fault ⊎ IsInputFault inputs (Some (string_bytes printed)) fault
+    ⊎ OfInput inputs (Some (string_bytes printed)) (λ text. IsNotPrintedFor text fault)
+IsFaultOf inputs (RegistersAfter log) fault =
+    IsInputFault inputs (Some (string_bytes log)) fault
+    ⊎ OfInput inputs (Some (string_bytes log)) (λ bytes. IsNoLogFor bytes fault)
+IsFaultOf inputs (Events log requested) fault =
+    IsInputFault inputs (Some (string_bytes log)) fault
+    ⊎ OfInput inputs (Some (string_bytes log)) (λ bytes. IsNoLogFor bytes fault)
+IsFaultOf inputs (Replay list) fault = IsReplayFaultOf inputs (string_bytes list) fault
 IsFaultOf inputs (Show list) fault =
     IsInputFault inputs (Some (string_bytes list)) fault
     ⊎ OfInput inputs (Some (string_bytes list)) (λ bytes. IsNoListFor bytes fault)

@@ -16,7 +16,7 @@ use thiserror::Error;
 /// Why the program failed.
 #[derive(Debug, Drop, Error)]
 pub enum RunFault {
-    /// The arguments are not those of a command, or 2^32 files or more are named.
+    /// The arguments are not those of a command, they name a range of registers that is none, or 2^32 files or more are named.
     #[error("the arguments are not those of a command")]
     Usage,
     /// A text is not hexadecimal.
@@ -31,7 +31,7 @@ pub enum RunFault {
     /// An entry of the list is not genuine.
     #[error("the list is not genuine: {0}")]
     Replay(ReplayFault),
-    /// An input does not state expected registers.
+    /// An input does not state expected registers, or was not printed by tpm2_pcrread.
     #[error("not expected registers: {0}")]
     Expect(ExpectFault),
     /// The book could not be opened.

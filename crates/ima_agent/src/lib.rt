@@ -2,6 +2,7 @@
 //! arguments, and the verdict and its texts from `boot_verdict`.
 #![tactic(auto)]
 
+mod expecting;
 mod fault;
 mod files;
 mod hashing;
@@ -9,12 +10,14 @@ mod hexadecimal;
 mod inputs;
 mod listing;
 mod loading;
+mod locating;
 mod measuring;
 mod named_files;
 mod names;
 mod output;
 mod program;
 mod progress;
+mod replaying;
 mod showing;
 mod system;
 mod texts;
@@ -22,10 +25,12 @@ mod verifying;
 mod words;
 
 pub use boot_verdict::{
-    Aggregate, ExpectFault, Expected, Report, Row, State, VerifyFault, read_expected, verify,
-    verify_from, write_registers, write_report,
+    Aggregate, EventData, ExpectFault, Expected, Located, Place, RegisterRange, Report, Row, State,
+    VerifyFault, all_found, list_start, locate, locate_from, read_expected, read_pcrread,
+    replay_from, verify, verify_from, write_events, write_expected, write_places, write_registers,
+    write_report,
 };
-pub use command_line::{NameEnd, Plan, Print, words_after_name};
+pub use command_line::{DataShown, NameEnd, Plan, Print, words_after_name};
 pub use fault::RunFault;
 pub use files::{Files, SharedFiles};
 pub use hashing::hash_from;

@@ -6,12 +6,15 @@ ghost use Rattle.ima_agent.specs.FaultTexts.{fault_line, fault_status};
 ghost use Rattle.command_line.specs.Plans.{IsWithinRanges};
 ghost use Rattle.ima_agent.specs.Program.{Answers, IsFaultFor, IsFaultOf, IsOutput, IsOutputFor, IsOutputOf, ShowsFor, status_after};
 
+use crate::expecting::expected_from;
 use crate::fault::RunFault;
 use crate::files::Files;
+use crate::locating::located;
 use crate::measuring::measured_for;
 use crate::output::{FAILED, Output};
 use crate::progress::{NoProgress, Progress};
-use crate::showing::{shown_list, shown_registers};
+use crate::replaying::replayed;
+use crate::showing::{registers_after, shown_events, shown_list, shown_registers};
 use crate::texts::{status_of, write_fault};
 use crate::verifying::verified;
 use crate::words::read_words;
@@ -53,12 +56,14 @@ fn exits_with(status: u8) -> ExitCode
 ///
 /// Without arguments: loads standard input, a firmware event log in hexadecimal, and writes the registers that differ from their
 /// reset values. With arguments, as [`crate::read_words`] reads them: `measure` measures files into the registers of a log, and
-/// writes the list or the registers; `verify` writes the report on a log, a list and expected registers; `show` writes the line
-/// of each entry of a list; and `--help` writes the help.
+/// writes the list or the registers; `verify` writes the report on a log, a list and expected registers, and `locate` where in the log
+/// and the list each of these registers first has its value; `expected` writes the lines of expected registers, from what tpm2_pcrread
+/// printed; `registers` writes the registers that differ from their reset values after a log, and `replay` those after a list alone;
+/// `events` writes the lines of a log's events, and `show` those of a list's entries; and `--help` writes the help.
 ///
 /// The whole output is prepared before its first byte is written; a fault is written as one line. The status is 0 on success, 1
-/// if the report does not match, 2 for refused input, and 3 if memory ran out, outcomes do not account for the book, or a device
-/// failed. After the sink fails, nothing more is written.
+/// if the report does not match or a register's value was not reached, 2 for refused input, and 3 if memory ran out, outcomes do
+/// not account for the book, or a device failed. After the sink fails, nothing more is written.
 pub fn run<R: Threads + Wait + Sync, F: Files, S: Sink>(
     rt: &R,
     alloc: Global,
@@ -142,6 +147,20 @@ fn output_for<R: Threads + Wait + Sync, F: Files, P: Progress>(
             list,
             expected,
         } => verified(alloc, files, &log, &list, &expected),
+        Plan::Locate {
+            log,
+            list,
+            expected,
+        } => located(alloc, files, &log, &list, &expected),
+        Plan::Expected { printed, registers } => Ok(Output::done(expected_from(
+            alloc,
+            files,
+            &printed,
+            registers.as_deref(),
+        )?)),
+        Plan::RegistersAfter { log } => Ok(Output::done(registers_after(alloc, files, &log)?)),
+        Plan::Events { log, data } => Ok(Output::done(shown_events(alloc, files, &log, data)?)),
+        Plan::Replay { list } => Ok(Output::done(replayed(alloc, files, &list)?)),
         Plan::Show { list } => Ok(Output::done(shown_list(alloc, files, &list)?)),
         Plan::Help(text) => Ok(Output::done(text.into_bytes())),
     }

@@ -1,18 +1,19 @@
-//! The registers of a log and the entries of a list, as text.
+//! The registers and the events of a log and the entries of a list, as text.
 
 ghost use Rattle.std.specs.Prelude.{◌≡◌, ◌⊎◌, flat_map, None, Some, IfOk, IfErr};
 ghost use Rattle.ima_list.specs.Lines.{line_of};
 ghost use Rattle.ima_agent.specs.Loading.{IsInputFault};
 ghost use Rattle.ima_agent.specs.Program.{OfInput};
-ghost use Rattle.ima_agent.specs.Showing.{IsNoListFor, IsRefusedFor, ShowsList, ShowsRegisters};
+ghost use Rattle.ima_agent.specs.Showing.{IsNoListFor, IsNoLogFor, IsRefusedFor, ShowsEvents, ShowsList, ShowsRegisters, ShowsRegistersAfter, data_of};
 
 use crate::fault::RunFault;
 use crate::files::Files;
 use crate::hexadecimal::{HexFault, decode_hexadecimal};
 use crate::inputs::loaded;
 use boot_log::read_log;
-use boot_verdict::write_registers;
+use boot_verdict::{EventData, write_events, write_registers};
 use byte_streams::{Failed, VecSink};
+use command_line::DataShown;
 use ima_list::laws::entries_to_the_end_are_the_reading;
 use ima_list::{Entry, EntryRef};
 use std::alloc::{AllocError, Global};
@@ -25,6 +26,71 @@ pub(crate) fn shown_registers<F: Files>(alloc: Global, files: &mut F) -> Result<
 {
     let text = loaded(alloc, files, None)?;
     registers_in(alloc, text)
+}
+
+/// The lines of the registers that differ from their reset values after the log in the file of this name.
+pub(crate) fn registers_after<F: Files>(
+    alloc: Global,
+    files: &mut F,
+    log: &str,
+) -> Result<Vec<u8>, RunFault>
+    ensures shown { IfOk result (λ shown. OfInput (F.told files.old) (Some log.now) (λ bytes. ShowsRegistersAfter bytes shown.items)) }
+    ensures fault { IfErr result (λ fault. IsInputFault (F.told files.old) (Some log.now) fault
+        ⊎ OfInput (F.told files.old) (Some log.now) (λ bytes. IsNoLogFor bytes fault)) }
+{
+    let bytes = loaded(alloc, files, Some(log))?;
+    registers_of(alloc, &bytes)
+}
+
+/// The lines of the header and the events of the log in the file of this name.
+pub(crate) fn shown_events<F: Files>(
+    alloc: Global,
+    files: &mut F,
+    log: &str,
+    requested: DataShown,
+) -> Result<Vec<u8>, RunFault>
+    ensures shown { IfOk result (λ shown. OfInput (F.told files.old) (Some log.now) (λ bytes. ShowsEvents bytes requested shown.items)) }
+    ensures fault { IfErr result (λ fault. IsInputFault (F.told files.old) (Some log.now) fault
+        ⊎ OfInput (F.told files.old) (Some log.now) (λ bytes. IsNoLogFor bytes fault)) }
+{
+    let bytes = loaded(alloc, files, Some(log))?;
+    events_of(alloc, &bytes, data_of(requested))
+}
+
+// What an event's line has of its data, as the arguments request it.
+fn data_of(requested: DataShown) -> EventData
+    ensures { result ≡ data_of requested }
+{
+    match requested {
+        DataShown::Size => EventData::Size,
+        DataShown::Bytes => EventData::Bytes,
+    }
+}
+
+// The lines of the header and the events of this log.
+fn events_of(alloc: Global, bytes: &[u8], shown: EventData) -> Result<Vec<u8>, RunFault>
+    ensures shown { IfOk result (λ text. (requested : DataShown) → shown ≡ data_of requested → ShowsEvents bytes.now requested text.items) }
+    ensures fault { IfErr result (IsNoLogFor bytes.now) }
+{
+    let log = read_log(alloc, bytes)?;
+    let mut text = VecSink::new(Vec::new(alloc));
+    match write_events(&log, shown, &mut text) {
+        Ok(()) => Ok(text.into_bytes()),
+        Err(Failed) => Err(RunFault::Memory),
+    }
+}
+
+// The lines of the registers that differ from their reset values after this log.
+fn registers_of(alloc: Global, bytes: &[u8]) -> Result<Vec<u8>, RunFault>
+    ensures shown { IfOk result (λ shown. ShowsRegistersAfter bytes.now shown.items) }
+    ensures fault { IfErr result (IsNoLogFor bytes.now) }
+{
+    let log = read_log(alloc, bytes)?;
+    let mut shown = VecSink::new(Vec::new(alloc));
+    match write_registers(&log.registers(), &log.reset_registers(), &mut shown) {
+        Ok(()) => Ok(shown.into_bytes()),
+        Err(Failed) => Err(RunFault::Memory),
+    }
 }
 
 /// The lines of the entries of the list in the file of this name.
@@ -69,12 +135,7 @@ fn registers_in(alloc: Global, text: Vec<u8>) -> Result<Vec<u8>, RunFault>
         Err(HexFault::NotHex) => return Err(RunFault::NotHex),
         Err(HexFault::Memory) => return Err(RunFault::Memory),
     };
-    let log = read_log(alloc, &bytes)?;
-    let mut shown = VecSink::new(Vec::new(alloc));
-    match write_registers(&log.registers(), &log.reset_registers(), &mut shown) {
-        Ok(()) => Ok(shown.into_bytes()),
-        Err(Failed) => Err(RunFault::Memory),
-    }
+    registers_of(alloc, &bytes)
 }
 
 /// The lines of the entries, one after another.

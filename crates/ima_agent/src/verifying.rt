@@ -54,8 +54,8 @@ fn report_from<R: Source>(
     }
 }
 
-// The program's fault for a verifier's fault, where the list is the input of this name.
-fn verdict_fault(alloc: Global, name: &str, fault: VerifyFault) -> RunFault
+/// The program's fault for a verifier's fault, where the list is the input of this name.
+pub(crate) fn verdict_fault(alloc: Global, name: &str, fault: VerifyFault) -> RunFault
     ensures { IsFaultOfVerdict name.now fault result }
 {
     match fault {

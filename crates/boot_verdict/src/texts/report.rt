@@ -80,8 +80,8 @@ fn write_row<S: Sink>(row: &Row, sink: &mut S) -> Result<(), Failed>
     }
 }
 
-// Writes the line of an expected register, with this word and then these digits.
-fn write_line<S: Sink>(
+/// Writes the line of an expected register, with this word and then these digits.
+pub(super) fn write_line<S: Sink>(
     expected: &Expected,
     word: &str,
     digits: &[u8],

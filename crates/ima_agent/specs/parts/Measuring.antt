@@ -46,7 +46,12 @@ MeasuresFiles plans.Registers = ⊥
 MeasuresFiles (plans.Measure alg template workers limit print log files) = Unit {0}
 MeasuresFiles (plans.MeasureListed alg template workers limit print log files names ends) = Unit {0}
 MeasuresFiles (plans.Verify log list expected) = ⊥
+MeasuresFiles (plans.Locate log list expected) = ⊥
+MeasuresFiles (plans.Expected printed registers) = ⊥
+MeasuresFiles (plans.RegistersAfter log) = ⊥
+MeasuresFiles (plans.Events log requested) = ⊥
 MeasuresFiles (plans.Show list) = ⊥
+MeasuresFiles (plans.Replay list) = ⊥
 MeasuresFiles (plans.Help text) = ⊥
 
 -- These are the parts of a plan that measures files.
@@ -62,5 +67,10 @@ IsAskedOf (plans.Measure alg template workers limit print log files) asked =
 IsAskedOf (plans.MeasureListed alg template workers limit print log files names ends) asked =
     HasParts asked (record { alg = alg; template = template; workers = workers; limit = limit }) print (string_bytes log) files.items
 IsAskedOf (plans.Verify log list expected) asked = ⊥
+IsAskedOf (plans.Locate log list expected) asked = ⊥
+IsAskedOf (plans.Expected printed registers) asked = ⊥
+IsAskedOf (plans.RegistersAfter log) asked = ⊥
+IsAskedOf (plans.Events log requested) asked = ⊥
 IsAskedOf (plans.Show list) asked = ⊥
+IsAskedOf (plans.Replay list) asked = ⊥
 IsAskedOf (plans.Help text) asked = ⊥

@@ -18,7 +18,7 @@ returns c =
     let print = one_argument_more _ _ _ _ _ limit c.choice-3.ensures.1 c.in_ok-arg-5.ensures in
     let files_from = one_argument_more _ _ _ _ _ print c.files_from_option.ensures c.in_ok-arg-6.ensures in
     let null = one_argument_more _ _ _ _ _ files_from c.in_ok-null_flag.ensures c.in_ok-arg-7.ensures in
-    let log = one_argument_more _ _ _ _ _ null c.input.ensures c.in_ok-arg-8.ensures in
+    let log = one_argument_more _ _ _ _ _ null c.log_argument.ensures c.in_ok-arg-8.ensures in
     IfOk-weaker c.arg-9.result _ _ (λ command adds. (
       record {
         algs = c.choice.ensures.0;

@@ -1,0 +1,106 @@
+-- Ranges of registers: where a text that spells one has its hyphen.
+use Rattle.std.proofs.Common.{◌≡◌, ℕ, ◌^◌, ◌<◌, ◌≤◌, List, [], ◌∷◌, ◌++◌, decimal, sym, ap, ◌∙◌, inl, inr, arith}
+use Rattle.std.specs.Str.Parse.{AllDigits}
+use Rattle.std.proofs.lemmas.Fmt.{decimal_is_IsNumeral, decimal_injective}
+use Rattle.std.proofs.lemmas.Str.Parse.{digit_from_value}
+use Rattle.pcr_banks.specs.Registers.{register_count}
+use Rattle.boot_verdict.specs.declared.register_range.RegisterRange.{RegisterRange}
+use Rattle.boot_verdict.specs.RegisterRanges.{IsRangeText}
+use Rattle.boot_verdict.specs.parts.RangeEnds.{AreEnds}
+use Rattle.boot_verdict.proofs.ExpectedLaws.{Lacks, lacks_from, not_lacked, one_cut}
+
+digits_lack_hyphen : (digits : List ℕ) → AllDigits 10 digits → Lacks 45 digits
+digits_lack_hyphen [] all = tt
+digits_lack_hyphen (first ∷ digits) all =
+    let within = digit_from_value first all.0 in
+    (λ e. absurd (omega (arith, within, e)), digits_lack_hyphen digits all.1)
+
+pub decimal_lacks_hyphen : (n : ℕ) → n < 2 ^ 64 → Lacks 45 (decimal n)
+decimal_lacks_hyphen n small = digits_lack_hyphen (decimal n) ((decimal_is_IsNumeral n small).0.1)
+
+-- A text whose ends are these numbers spells the range.
+pub range_spelled : (text first last : List ℕ) (range : RegisterRange) → AreEnds text first last
+    → first ≡ decimal range.first → last ≡ decimal range.last → range.first ≤ range.last → range.last < register_count
+    → IsRangeText text range
+range_spelled text first last range ends first-is last-is ordered exist =
+    elim ends [
+      | inl cut ↦ record {
+        ordered = ordered;
+        exist = exist;
+        spelled = inl (cut.parts ∙ ap (λ (l : List ℕ). l ++ 45 ∷ last) first-is
+            ∙ ap (λ (l : List ℕ). decimal range.first ++ 45 ∷ l) last-is);
+      }
+      | inr whole ↦ record {
+        ordered = ordered;
+        exist = exist;
+        spelled = inr (
+          decimal_injective range.first range.last (omega (arith, ordered, exist)) (omega (arith, exist))
+              (sym first-is ∙ whole.1 ∙ sym whole.2 ∙ last-is),
+          sym whole.1 ∙ first-is,
+        );
+      }
+    ]
+
+-- The ends of a text that spells a range are its numbers.
+pub range_ends : (text first last : List ℕ) (range : RegisterRange) → AreEnds text first last → IsRangeText text range
+    → (first ≡ decimal range.first) × (last ≡ decimal range.last)
+range_ends text first last range ends is =
+    let small = decimal_lacks_hyphen range.first (omega (arith, is.ordered, is.exist)) in
+    elim ends [
+      | inl cut ↦ elim is.spelled [
+        | inl two ↦ one_cut 45 first (decimal range.first) last (decimal range.last) (lacks_from 45 first cut.lacks) small
+            (sym cut.parts ∙ two)
+        | inr one ↦
+            let whole : Lacks 45 (first ++ 45 ∷ last) = rw (sym cut.parts ∙ one.1) small in
+            absurd (not_lacked 45 first last whole)
+      ]
+      | inr whole ↦ elim is.spelled [
+        | inl two ↦
+            let all : Lacks 45 (decimal range.first ++ 45 ∷ decimal range.last) = rw two at (lacks_from 45 text whole.0) in
+            absurd (not_lacked 45 (decimal range.first) (decimal range.last) all)
+        | inr one ↦ (whole.1 ∙ one.1, whole.2 ∙ one.1 ∙ ap decimal one.0)
+      ]
+    ]
+
+-- A text whose second number is below its first spells no range.
+pub not_ordered : (text first last : List ℕ) (range : RegisterRange) (n m : ℕ) → n < register_count → m < register_count
+    → AreEnds text first last → first ≡ decimal n → last ≡ decimal m → m < n → IsRangeText text range → ⊥
+not_ordered text first last range n m n-lt m-lt ends first-is last-is below is =
+    let are = range_ends text first last range ends is in
+    let firsts = decimal_injective n range.first (omega (arith, n-lt)) (omega (arith, is.ordered, is.exist)) (sym first-is ∙ are.0) in
+    let lasts = decimal_injective m range.last (omega (arith, m-lt)) (omega (arith, is.exist)) (sym last-is ∙ are.1) in
+    omega (arith, firsts, lasts, below, is.ordered)
+
+same_range : (first second : RegisterRange) → first.first ≡ second.first → first.last ≡ second.last → first ≡ second
+same_range first second firsts lasts =
+    ap (λ (n : ℕ). let x : RegisterRange = record { first = n; last = first.last } in x) firsts
+    ∙ ap (λ (n : ℕ). let x : RegisterRange = record { first = second.first; last = n } in x) lasts
+
+-- A text spells one range.
+pub range_once : (text : List ℕ) (first second : RegisterRange) → IsRangeText text first → IsRangeText text second → first ≡ second
+range_once text first second is another =
+    let a : first.first < 2 ^ 64 = omega (arith, is.ordered, is.exist) in
+    let b : first.last < 2 ^ 64 = omega (arith, is.exist) in
+    let c : second.first < 2 ^ 64 = omega (arith, another.ordered, another.exist) in
+    let d : second.last < 2 ^ 64 = omega (arith, another.exist) in
+    elim is.spelled [
+      | inl two ↦ elim another.spelled [
+        | inl also ↦
+            let cut = one_cut 45 (decimal first.first) (decimal second.first) (decimal first.last) (decimal second.last)
+            (decimal_lacks_hyphen first.first a) (decimal_lacks_hyphen second.first c) (sym two ∙ also) in
+            same_range first second (decimal_injective first.first second.first a c cut.0) (decimal_injective first.last second.last b d cut.1)
+        | inr one ↦
+            let whole : Lacks 45 (decimal first.first ++ 45 ∷ decimal first.last) =
+            rw (sym two ∙ one.1) (decimal_lacks_hyphen second.first c) in
+            absurd (not_lacked 45 (decimal first.first) (decimal first.last) whole)
+      ]
+      | inr one ↦ elim another.spelled [
+        | inl two ↦
+            let whole : Lacks 45 (decimal second.first ++ 45 ∷ decimal second.last) =
+            rw (sym two ∙ one.1) (decimal_lacks_hyphen first.first a) in
+            absurd (not_lacked 45 (decimal second.first) (decimal second.last) whole)
+        | inr also ↦
+            let firsts = decimal_injective first.first second.first a c (sym one.1 ∙ also.1) in
+            same_range first second firsts (sym one.0 ∙ firsts ∙ also.0)
+      ]
+    ]

@@ -1,0 +1,206 @@
+-- Expected registers that are written: the lines of the text, and what they spell.
+use Rattle.std.proofs.Common.{◌≡◌, ℕ, zero, suc, ◌-◌, ◌/◌, ◌%◌, ◌^◌, ◌<◌, Bool, false, ◌==◌, List, [], ◌∷◌, ◌++◌, length, drop, take, decimal, codes, Option, None, Some, refl, sym, ap, ◌∙◌, subst, inl, inr, arith, append_assoc}
+use Rattle.std.specs.Prelude.{flat_map, map, bytes_eq, option_to_list, if◌then◌else◌}
+use Rattle.std.specs.List.{AllByRecursion, IsDistinct, filter}
+use Rattle.std.specs.Str.Parse.{AllDigits}
+use Rattle.std.proofs.lemmas.Bool.{cases_Bool}
+use Rattle.std.proofs.lemmas.Bool.Decides.{nat_tests}
+use Rattle.std.proofs.lemmas.List.Concat.{flat_map-cons}
+use Rattle.std.proofs.lemmas.Fmt.{decimal_is_IsNumeral}
+use Rattle.std.proofs.lemmas.Str.Parse.{digit_from_value}
+use Rattle.hex.specs.Hex.{IsBytes, encode_lower, encode_with, hex_digit_value}
+use Rattle.hex.proofs.HexLemmas.{IsDigits-lower_digits, decode_of-encode_lower, decode_of-ok}
+use Rattle.pcr_banks.specs.Hashing.{name_of, size_of}
+use Rattle.pcr_banks.specs.Digests.{alg_of, bytes_of}
+use Rattle.pcr_banks.specs.Registers.{register_count}
+use Rattle.boot_verdict.specs.declared.expected.Expected.{Expected}
+use Rattle.boot_verdict.specs.declared.register_range.RegisterRange.{RegisterRange}
+use Rattle.boot_verdict.specs.ExpectedTexts.{AreRegisterLines, IsExpectedText, IsRegisterLine, lines_of, same_register, without_return}
+use Rattle.boot_verdict.specs.PcrReadTexts.{GivesValue, IsPcrReadText, Place, SayAll, Says}
+use Rattle.boot_verdict.specs.RegisterRanges.{is_within}
+use Rattle.boot_verdict.specs.WrittenTexts.{expected_line, expected_text, those_within}
+use Rattle.boot_verdict.specs.parts.WrittenLines.{line_within}
+use Rattle.boot_verdict.proofs.ExpectedLaws.{AllAbove, Lacks, feed_cuts, line_has_space, name_above}
+
+-- ---- one after another
+
+-- The texts of those within the range are those of all, where others have an empty text.
+pub text_within : (range : RegisterRange) (expected : List Expected) → flat_map (line_within range) expected ≡ expected_text range expected
+text_within range [] = refl
+text_within range (e ∷ expected) =
+    let others = text_within range expected in
+    elim (cases_Bool (is_within range e.register)) [
+      | inl within ↦ simp (flat_map-cons, within, others) refl
+      | inr outside ↦ simp (outside, others) refl
+    ]
+
+-- ---- what is left of a list
+
+filter_all : (test : Expected → Bool) (P : Expected → Type 0) (expected : List Expected) → AllByRecursion P expected
+    → AllByRecursion P (filter test expected)
+filter_all test P [] all = tt
+filter_all test P (e ∷ expected) all =
+    let others = filter_all test P expected all.1 in
+    elim (cases_Bool (test e)) [
+      | inl passes ↦ rw passes (all.0, others)
+      | inr fails ↦ rw fails others
+    ]
+
+filter_distinct : (test : Expected → Bool) (expected : List Expected) → IsDistinct same_register expected
+    → IsDistinct same_register (filter test expected)
+unfolding IsDistinct
+filter_distinct test [] distinct = tt
+filter_distinct test (e ∷ expected) distinct =
+    let others = filter_distinct test expected distinct.1 in
+    let apart = filter_all test (λ y. same_register e y ≡ false) expected distinct.0 in
+    elim (cases_Bool (test e)) [
+      | inl passes ↦ rw passes (apart, others)
+      | inr fails ↦ rw fails others
+    ]
+
+-- ---- what is printed
+
+-- A register of a bank, with a value of the bank's algorithm.
+pub record IsProper (e : Expected) : Type 0 where
+  pub exists : e.register < register_count
+  pub alg_is : alg_of e.value ≡ e.alg
+  pub size : length (bytes_of e.value) ≡ size_of e.alg
+  pub fits : IsBytes (bytes_of e.value)
+
+value_proper : (place : Place) (line : List ℕ) (e : Expected) → GivesValue place line e → IsProper e
+value_proper None line e gives = absurd gives
+value_proper (Some bank) line e gives = record {
+  exists = gives.exists;
+  alg_is = gives.alg_is;
+  size = gives.value_size;
+  fits = (decode_of-ok gives.digits (bytes_of e.value) gives.value_is).3;
+}
+
+one_proper : (start next : Place) (line : List ℕ) (first : Option Expected) (others : List Expected)
+    → Says start line next first → AllByRecursion IsProper others → AllByRecursion IsProper (option_to_list first ++ others)
+one_proper start next line None others says all = all
+one_proper start next line (Some e) others says all = (value_proper start line e says.0, all)
+
+all_proper : (lines : List (List ℕ)) (start end : Place) (expected : List Expected) → SayAll start lines end expected
+    → AllByRecursion IsProper expected
+all_proper [] start end expected say = rw say.1 tt
+all_proper (line ∷ lines) start end expected say =
+    rw say.5 (one_proper start say.0 line say.1 say.2 say.3 (all_proper lines say.0 end say.2 say.4))
+
+-- ---- bytes of a line
+
+digit_above : (c d : ℕ) → hex_digit_value c ≡ Some d → 32 < c
+digit_above c d h = grind (arith)
+
+encoded_above : (bytes : List ℕ) → IsBytes bytes → AllAbove (encode_lower bytes)
+unfolding encode_with
+encoded_above [] fits = tt
+encoded_above (byte ∷ bytes) fits =
+    let high = fits 0 in (
+      digit_above _ (byte / 16) (IsDigits-lower_digits (byte / 16) (omega (arith, high))),
+      (digit_above _ (byte % 16) (IsDigits-lower_digits (byte % 16) (omega arith)), encoded_above bytes (λ i. fits (suc i))),
+    )
+
+digits_above : (digits : List ℕ) → AllDigits 10 digits → AllAbove digits
+digits_above [] all = tt
+digits_above (first ∷ digits) all =
+    let within = digit_from_value first all.0 in
+    (omega (arith, within), digits_above digits all.1)
+
+decimal_above : (n : ℕ) → n < 2 ^ 64 → AllAbove (decimal n)
+decimal_above n small = digits_above (decimal n) ((decimal_is_IsNumeral n small).0.1)
+
+-- Bytes above a carriage return.
+abbrev AllShown : List ℕ → Type 0
+AllShown bytes = AllByRecursion (λ byte. 13 < byte) bytes
+
+shown_join : (front rest : List ℕ) → AllAbove front → AllShown rest → AllShown (front ++ rest)
+shown_join [] rest all others = others
+shown_join (first ∷ front) rest all others = (omega (arith, all.0), shown_join front rest all.1 others)
+
+shown : (bytes : List ℕ) → AllAbove bytes → AllShown bytes
+shown [] all = tt
+shown (first ∷ bytes) all = (omega (arith, all.0), shown bytes all.1)
+
+lacks_feed : (bytes : List ℕ) → AllShown bytes → Lacks 10 bytes
+lacks_feed [] all = tt
+lacks_feed (first ∷ bytes) all = (λ e. absurd (omega (arith, e, all.0)), lacks_feed bytes all.1)
+
+shown_drop : (n : ℕ) (bytes : List ℕ) → AllShown bytes → AllShown (drop n bytes)
+shown_drop zero bytes all = all
+shown_drop (suc n) [] all = tt
+shown_drop (suc n) (first ∷ bytes) all = shown_drop n bytes all.1
+
+no_return_in : (bytes : List ℕ) → AllShown bytes → bytes_eq bytes (13 ∷ []) ≡ false
+no_return_in [] all = refl
+no_return_in (first ∷ bytes) all =
+    let other : (first == 13) ≡ false = (let above = all.0 in grind (arith, nat_tests)) in
+    rw other refl
+
+kept_whole : (line : List ℕ) → AllShown line → without_return line ≡ line
+kept_whole line all =
+    ap (λ (b : Bool). if b then take (length line - 1) line else line) (no_return_in (drop (length line - 1) line) (shown_drop (length line - 1) line all))
+
+-- ---- lines
+
+-- The line of a register, without its line feed.
+abbrev body : Expected → List ℕ
+body e = name_of e.alg ++ (codes " " ++ (decimal e.register ++ (codes " " ++ encode_lower (bytes_of e.value))))
+
+body_shown : (e : Expected) → IsProper e → AllShown (body e)
+body_shown e is =
+    shown_join (name_of e.alg) _ (name_above e.alg) (
+      omega arith,
+      shown_join (decimal e.register) _ (decimal_above e.register (omega (arith, is.exists)))
+          (omega arith, shown (encode_lower (bytes_of e.value)) (encoded_above (bytes_of e.value) is.fits)),
+    )
+
+body_spells : (e : Expected) → IsProper e → IsRegisterLine (body e) e
+body_spells e is = record {
+  digits = encode_lower (bytes_of e.value);
+  exists = is.exists;
+  alg_is = is.alg_is;
+  value_is = decode_of-encode_lower (bytes_of e.value) is.fits;
+  value_size = is.size;
+  spelled = refl;
+}
+
+line_is : (e : Expected) (rest : List ℕ) → expected_line e ++ rest ≡ body e ++ 10 ∷ rest
+line_is e rest =
+    let digits = encode_lower (bytes_of e.value) in
+    simp append_assoc refl
+
+lines_are : (expected : List Expected) → AllByRecursion IsProper expected
+    → lines_of (flat_map expected_line expected) ≡ map body expected ++ [] ∷ []
+lines_are [] all = refl
+lines_are (e ∷ expected) all =
+    let line = body_shown e all.0 in
+    let cut = feed_cuts (body e) (flat_map expected_line expected) (lacks_feed (body e) line) in
+    ap lines_of (flat_map-cons expected_line e expected ∙ line_is e (flat_map expected_line expected))
+    ∙ ap (map without_return) cut
+    ∙ ap (λ (l : List ℕ). l ∷ lines_of (flat_map expected_line expected)) (kept_whole (body e) line)
+    ∙ ap (λ (l : List (List ℕ)). body e ∷ l) (lines_are expected all.1)
+
+one_more_line : (line : List ℕ) (lines : List (List ℕ)) (e : Expected) (expected : List Expected) → IsRegisterLine line e
+    → AreRegisterLines lines expected → AreRegisterLines (line ∷ lines) (e ∷ expected)
+one_more_line [] lines e expected is are = absurd (line_has_space [] e (λ k lt. absurd (omega (arith, lt))) is)
+one_more_line (byte ∷ line) lines e expected is are = (is, are)
+
+bodies_spell : (expected : List Expected) → AllByRecursion IsProper expected → AreRegisterLines (map body expected ++ [] ∷ []) expected
+bodies_spell [] all = refl
+bodies_spell (e ∷ expected) all = one_more_line (body e) (map body expected ++ [] ∷ []) e expected (body_spells e all.0) (bodies_spell expected all.1)
+
+written_states : (expected : List Expected) → AllByRecursion IsProper expected → IsDistinct same_register expected
+    → IsExpectedText (flat_map expected_line expected) expected
+written_states expected all distinct = record {
+  lines_are = subst (λ (l : List (List ℕ)). AreRegisterLines l expected) (sym (lines_are expected all)) (bodies_spell expected all);
+  distinct = distinct;
+}
+
+-- What is written of the registers that a text of tpm2_pcrread states, states them.
+pub reads_back : (text : List ℕ) (expected : List Expected) (range : RegisterRange) → IsPcrReadText text expected
+    → IsExpectedText (expected_text range expected) (those_within range expected)
+reads_back text expected range states =
+    let proper = all_proper (lines_of text) None states.end expected states.printed.say in
+    written_states (those_within range expected) (filter_all (λ e. is_within range e.register) IsProper expected proper)
+    (filter_distinct (λ e. is_within range e.register) expected states.printed.distinct)

@@ -1,0 +1,11 @@
+use Rattle.boot_verdict.proofs.PlaceLaws.{all_steps, first_reached, match_found}
+use Rattle.boot_verdict.proofs.laws.place_is_where_the_value_is_first.Goals as goal
+
+pub returns-clause-first : goal.returns-clause-first
+returns-clause-first c = first_reached
+
+pub returns-clause-all : goal.returns-clause-all
+returns-clause-all c = all_steps
+
+pub returns-clause-found : goal.returns-clause-found
+returns-clause-found c = match_found

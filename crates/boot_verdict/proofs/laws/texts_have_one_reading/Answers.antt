@@ -1,0 +1,12 @@
+use Rattle.boot_verdict.proofs.RangeLaws.{range_once}
+use Rattle.boot_verdict.proofs.ReadingLaws.{expected_once, printed_once}
+use Rattle.boot_verdict.proofs.laws.texts_have_one_reading.Goals as goal
+
+pub returns-clause-expected : goal.returns-clause-expected
+returns-clause-expected c = expected_once
+
+pub returns-clause-printed : goal.returns-clause-printed
+returns-clause-printed c = printed_once
+
+pub returns-clause-range : goal.returns-clause-range
+returns-clause-range c = range_once

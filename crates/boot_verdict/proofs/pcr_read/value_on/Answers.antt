@@ -1,0 +1,18 @@
+use Rattle.pcr_banks.specs.Hashing.{name_of}
+use Rattle.boot_verdict.proofs.ExpectedLaws.{if_none}
+use Rattle.boot_verdict.proofs.PcrReadLaws.{after_columns, no_value_in}
+use Rattle.boot_verdict.proofs.pcr_read.value_on.Goals as goal
+
+pub returns-in_err-digits-clause-none : goal.returns-in_err-digits-clause-none
+returns-in_err-digits-clause-none c =
+    if_none c.from_residual-in_err-digits.result _
+    (λ e is. c.in_err-digits.ensures.none is.digits
+    (after_columns (name_of c.args.alg) c.args.line.now c.in_ok-text.text.now c.in_ok-register.rest.now c.in_ok-register.register e
+    c.in_ok-register.ensures.found.0 c.in_ok-text.ensures.found c.in_ok-register.ensures.found.1 is))
+
+pub returns-in_err-value-clause-none : goal.returns-in_err-value-clause-none
+returns-in_err-value-clause-none c =
+    if_none c.from_residual-in_err-value.result _
+    (λ e is. no_value_in c.args.line.now c.in_ok-text.text.now c.in_ok-register.rest.now c.in_ok-digits.digits.now c.in_ok-register.register
+    c.args.alg e c.in_ok-register.ensures.found.0 c.in_ok-text.ensures.found c.in_ok-register.ensures.found.1 c.in_ok-digits.ensures.found
+    (λ both. let bad = c.in_err-value.ensures.found.1 both in absurd cc) is)

@@ -1,0 +1,125 @@
+-- What tpm2_pcrread (tpm2-tools) prints: banks, and below each the values of its registers. Which lines are taken is this project's
+-- choice.
+use Rattle.std.specs.Prelude.{◌≡◌, ◌⊎◌, ℕ, ◌-◌, ◌<◌, ◌||◌, ◌==◌, Bool, IsTrue, List, [], ◌∷◌, ◌++◌, length, codes, decimal, replicate, Option, Some, None, option_to_list, Ok}
+use Rattle.std.specs.Char.{is_ascii_alphanumeric}
+use Rattle.std.specs.List.{IsDistinct, list_all, list_any}
+use Rattle.hex.specs.Hex.{decode_of}
+use Rattle.pcr_banks.specs.declared.alg.Alg.{Alg}
+use Rattle.pcr_banks.specs.Hashing.{name_of, size_of}
+use Rattle.pcr_banks.specs.Digests.{alg_of, bytes_of}
+use Rattle.pcr_banks.specs.Registers.{register_count}
+use Rattle.boot_verdict.specs.declared.expected.Expected.{Expected}
+use Rattle.boot_verdict.specs.declared.expected.ExpectFault.{ExpectFault}
+use Rattle.boot_verdict.specs.declared.expected.ExpectFault.TheVariants.{BadLine, DoubleLine, Memory}
+use Rattle.boot_verdict.specs.ExpectedTexts.{lines_of, same_register}
+
+-- ---- one line
+
+-- A byte that a bank's name may have: a letter, a digit or an underscore.
+abbrev pub is_name_byte : ℕ → Bool
+is_name_byte byte = is_ascii_alphanumeric byte || (byte == 95)
+
+-- The line begins the bank of this name: two spaces, the name, which is not empty, and a colon.
+pub record IsBankLine (line name : List ℕ) : Type 0 where
+  pub some : 0 < length name
+  pub all_name : IsTrue (list_all is_name_byte name)
+  pub spelled : line ≡ codes "  " ++ (name ++ codes ":")
+
+-- A number in decimal, and spaces after it up to two columns.
+abbrev pub two_columns : ℕ → List ℕ
+two_columns number = decimal number ++ replicate (2 - length (decimal number)) 32
+
+-- The line gives a register of the bank of this name its value: four spaces, the register in two columns, `: 0x`, and the value in
+-- hexadecimal digits of either case.
+pub record IsValueLine (bank line : List ℕ) (expected : Expected) : Type 0 where
+  pub digits : List ℕ
+  pub bank_is : name_of expected.alg ≡ bank
+  pub exists : expected.register < register_count
+  pub alg_is : alg_of expected.value ≡ expected.alg
+  pub value_is : decode_of digits ≡ Ok (bytes_of expected.value)
+  pub value_size : length (bytes_of expected.value) ≡ size_of expected.alg
+  pub spelled : line ≡ codes "    " ++ (two_columns expected.register ++ (codes ": 0x" ++ digits))
+
+-- The line is one of a bank of another algorithm, whose name is none of ours: it begins with four spaces.
+pub record IsForeignLine (bank line : List ℕ) : Type 0 where
+  pub rest : List ℕ
+  pub unknown : (alg : Alg) → name_of alg ≡ bank → ⊥
+  pub spelled : line ≡ codes "    " ++ rest
+
+-- ---- lines in banks
+
+-- A place between lines: the name of the bank that it is in, or `None` before the first bank line.
+abbrev pub Place : Type 0
+Place = Option (List ℕ)
+
+-- At this place, the line gives this register its value.
+abbrev pub GivesValue : Place → List ℕ → Expected → Type 0
+GivesValue None line expected = ⊥
+GivesValue (Some bank) line expected = IsValueLine bank line expected
+
+-- At this place, the line is skipped: it is empty, or one of a bank of another algorithm.
+abbrev pub IsSkipped : Place → List ℕ → Type 0
+IsSkipped None line = line ≡ []
+IsSkipped (Some bank) line = (line ≡ []) ⊎ IsForeignLine bank line
+
+-- The line begins the bank that this place is in.
+abbrev pub Begins : List ℕ → Place → Type 0
+Begins line None = ⊥
+Begins line (Some name) = IsBankLine line name
+
+-- A line at the place `before` leads to the place `after`, and states at most one register: it is skipped, or begins a bank, or
+-- gives a register its value.
+abbrev pub Says : Place → List ℕ → Place → Option Expected → Type 0
+Says before line after None = (IsSkipped before line × (after ≡ before)) ⊎ Begins line after
+Says before line after (Some expected) = GivesValue before line expected × (after ≡ before)
+
+-- Lines from the place `before` lead to the place `after`, and state these registers, in order.
+abbrev pub SayAll : Place → List (List ℕ) → Place → List Expected → Type 0
+SayAll before [] after expected = (after ≡ before) × (expected ≡ [])
+SayAll before (line ∷ lines) after expected =
+    (next : Place) × (first : Option Expected) × (others : List Expected)
+    × Says before line next first × SayAll next lines after others × (expected ≡ option_to_list first ++ others)
+
+-- The lines at the front of a text lead to this place and state these registers, and no register of a bank occurs twice.
+pub record ArePrinted (lines : List (List ℕ)) (place : Place) (expected : List Expected) : Type 0 where
+  pub say : SayAll None lines place expected
+  pub distinct : IsDistinct same_register expected
+
+-- ---- a whole text
+
+-- The text states these registers.
+pub record IsPcrReadText (text : List ℕ) (expected : List Expected) : Type 0 where
+  pub end : Place
+  pub printed : ArePrinted (lines_of text) end expected
+
+-- The text begins with lines that state at least one register.
+pub record PrintsRegister (text : List ℕ) : Type 0 where
+  pub lines : List (List ℕ)
+  pub after : List (List ℕ)
+  pub place : Place
+  pub expected : List Expected
+  pub parts : lines_of text ≡ lines ++ after
+  pub printed : ArePrinted lines place expected
+  pub some : 0 < length expected
+
+-- ---- faults
+
+-- The fault of this line, which has this number and stands at this place, after lines that state `earlier`: it is neither skipped
+-- nor a bank line nor a value, or it gives a value to a register that is among them.
+abbrev pub IsPrintedFault : List Expected → Place → List ℕ → ℕ → ExpectFault → Type 0
+IsPrintedFault earlier place line number (BadLine at) =
+    (at ≡ number) × ((next : Place) (stated : Option Expected) → Says place line next stated → ⊥)
+IsPrintedFault earlier place line number (DoubleLine at) =
+    (at ≡ number) × ((e : Expected) × GivesValue place line e × IsTrue (list_any (λ x. same_register x e) earlier))
+IsPrintedFault earlier place line number Memory = ⊥
+
+-- The fault is that of the first wrong line. Lines count from 1.
+pub record HasFirstPrintedFault (text : List ℕ) (fault : ExpectFault) : Type 0 where
+  pub before : List (List ℕ)
+  pub line : List ℕ
+  pub after : List (List ℕ)
+  pub place : Place
+  pub earlier : List Expected
+  pub parts : lines_of text ≡ before ++ line ∷ after
+  pub printed : ArePrinted before place earlier
+  pub fault_is : IsPrintedFault earlier place line (length (before ++ line ∷ [])) fault

@@ -1,0 +1,15 @@
+-- Ranges of registers, and how a text spells them. All of this is this project's choice.
+use Rattle.std.specs.Prelude.{◌≡◌, ◌⊎◌, ℕ, ◌<◌, ◌≤◌, ◌&&◌, nat_le, Bool, List, ◌++◌, codes, decimal}
+use Rattle.pcr_banks.specs.Registers.{register_count}
+use Rattle.boot_verdict.specs.declared.register_range.RegisterRange.{RegisterRange}
+
+-- Whether the register is one of the range: neither below its first nor above its last.
+abbrev pub is_within : RegisterRange → ℕ → Bool
+is_within range register = nat_le range.first register && nat_le register range.last
+
+-- The text spells this range: its first and its last register in decimal, with a hyphen between them, or its only register. All
+-- of its registers exist.
+pub record IsRangeText (text : List ℕ) (range : RegisterRange) : Type 0 where
+  pub ordered : range.first ≤ range.last
+  pub exist : range.last < register_count
+  pub spelled : (text ≡ decimal range.first ++ (codes "-" ++ decimal range.last)) ⊎ ((range.first ≡ range.last) × (text ≡ decimal range.first))

@@ -1,0 +1,51 @@
+//! Laws: consequences of the definitions, each the contract of a function that does nothing.
+
+ghost use Rattle.std.specs.Prelude.{◌≡◌, ℕ, ◌+◌, ◌<◌, List, length, true, false};
+ghost use Rattle.pcr_banks.specs.declared.alg.Alg.{Alg};
+ghost use Rattle.pcr_banks.specs.declared.sets.AlgSet.{AlgSet};
+ghost use Rattle.boot_log.specs.Spelling.{LogEvent};
+ghost use Rattle.ima_list.specs.ListEntry.{ListEntry};
+ghost use Rattle.boot_verdict.specs.declared.expected.Expected.{Expected};
+ghost use Rattle.boot_verdict.specs.declared.report.State.TheVariants.{Match};
+ghost use Rattle.boot_verdict.specs.Places.{is_found, pcr_after, place_after, place_on, reached_after};
+ghost use Rattle.boot_verdict.specs.declared.register_range.RegisterRange.{RegisterRange};
+ghost use Rattle.boot_verdict.specs.ExpectedTexts.{IsExpectedText};
+ghost use Rattle.boot_verdict.specs.PcrReadTexts.{IsPcrReadText};
+ghost use Rattle.boot_verdict.specs.RegisterRanges.{IsRangeText};
+ghost use Rattle.boot_verdict.specs.WrittenTexts.{expected_text, those_within};
+ghost use Rattle.boot_verdict.specs.Verdicts.{pcr_after_log_and_list, row_on};
+
+/// The place of an expected register is where its value is first reached: after the steps of that place the register has the
+/// value, and after no fewer steps (`first`). A register that has its value in the end, which is a `match` of the verdict, has such a
+/// place (`found`). The steps are the log's events and then the list's entries; after all of them the
+/// register is the one that the verdict compares (`all`).
+pub fn place_is_where_the_value_is_first()
+    ensures first { (algs : AlgSet) (events : List LogEvent) (entries : List ListEntry) (expected : Expected) (steps : ℕ)
+        → place_on algs events entries expected ≡ place_after (length events) steps
+        → (reached_after algs events entries expected steps ≡ true)
+        × ((fewer : ℕ) → fewer < steps → reached_after algs events entries expected fewer ≡ false) }
+    ensures found { (algs : AlgSet) (events : List LogEvent) (entries : List ListEntry) (expected : Expected)
+        → (row_on algs events entries expected).state ≡ Match → is_found (place_on algs events entries expected) ≡ true }
+    ensures all { (algs : AlgSet) (events : List LogEvent) (entries : List ListEntry) (alg : Alg) (register : ℕ)
+        → pcr_after algs events entries alg register (length events + length entries)
+        ≡ pcr_after_log_and_list algs events entries alg register }
+{}
+
+/// A text has one reading: it states one list of registers at most, whether it is one that [`crate::read_expected`] reads
+/// (`expected`) or one that tpm2_pcrread printed (`printed`); and it spells one range of registers at most (`range`).
+pub fn texts_have_one_reading()
+    ensures expected { (text : List ℕ) (first second : List Expected)
+        → IsExpectedText text first → IsExpectedText text second → first ≡ second }
+    ensures printed { (text : List ℕ) (first second : List Expected)
+        → IsPcrReadText text first → IsPcrReadText text second → first ≡ second }
+    ensures range { (text : List ℕ) (first second : RegisterRange)
+        → IsRangeText text first → IsRangeText text second → first ≡ second }
+{}
+
+/// What [`crate::read_pcrread`] read and [`crate::write_expected`] wrote, [`crate::read_expected`] reads back: if a text that
+/// tpm2_pcrread printed states some registers, then the text written of those within a range states these, in order, and no
+/// others.
+pub fn expected_lines_read_back()
+    ensures { (text : List ℕ) (expected : List Expected) (range : RegisterRange) → IsPcrReadText text expected
+        → IsExpectedText (expected_text range expected) (those_within range expected) }
+{}

@@ -1,0 +1,161 @@
+//! Where expected values are first reached, in a firmware event log and a measurement list.
+
+ghost use Rattle.std.specs.Prelude.{◌≡◌, ◌⊎◌, ℕ, List, [], ◌∷◌, ◌++◌, Option, map, option_map, is_some, Ok, IfOk, IfErr, IsErrOf};
+ghost use Rattle.pcr_banks.specs.declared.banks.Banks.{Banks};
+ghost use Rattle.pcr_banks.specs.declared.sets.AlgSet.{AlgSet};
+ghost use Rattle.boot_verdict.specs.declared.expected.Expected.{Expected};
+ghost use Rattle.pcr_banks.specs.Digests.{digest_of};
+ghost use Rattle.byte_fields.specs.Reading.{ReadsInMemory};
+ghost use Rattle.byte_streams.specs.Streams.{LosesFront};
+ghost use Rattle.boot_log.specs.declared.header.Row.{Row as TableRow};
+ghost use Rattle.boot_log.specs.Replaying.{IsExtended};
+ghost use Rattle.boot_log.specs.BootLog.{algs_of, events_of};
+ghost use Rattle.boot_log.specs.Spelling.{LogEvent, BeginsWithEvent, IsLog, algs_in, log_event_of};
+ghost use Rattle.ima_list.specs.ListEntry.{ListEntry};
+ghost use Rattle.ima_list.specs.Spelling.{IsReading};
+ghost use Rattle.ima_list.specs.Replaying.{AreGenuine};
+ghost use Rattle.boot_verdict.specs.ListSources.{HoldsGenuineList, failures_after_list};
+ghost use Rattle.boot_verdict.specs.Places.{AreLocated, AreLocatedFrom, located_on};
+ghost use Rattle.boot_verdict.specs.Verdicts.{IsSomeLog, IsVerifyFault, IsVerifyFaultFrom};
+ghost use Rattle.boot_verdict.specs.parts.Watches.{looked_at};
+ghost use Rattle.boot_verdict.specs.parts.LogPlaces.{IsFollowed, StartsAt, place_at_reset, row_at_reset};
+
+use crate::expected::Expected;
+use crate::list_replay::ListReplay;
+use crate::places::{Located, Place, Watch, look_at};
+use crate::verifier::VerifyFault;
+use boot_log::laws::events_in_turn_give_the_registers;
+use boot_log::{BootLog, Event, read_log};
+use byte_streams::Source;
+use ima_list::laws::{list_has_one_reading, no_bytes_have_two_readings};
+use pcr_banks::{Banks, Digest};
+use std::alloc::{AllocError, Global};
+
+/// Finds where each expected register first has its value: before the firmware event log's events, after one of them, or after an
+/// entry of the measurement list, which follows them. The rows are in the order of `expected`. Later changes of the register do not
+/// matter: see [`crate::verify`] for the values at the end.
+///
+/// Fails with the faults of [`crate::verify`]. [`VerifyFault::Memory`] is possible only if the log begins with a header and an event,
+/// or if the log is valid.
+pub fn locate(
+    alloc: Global,
+    log: &[u8],
+    list: &[u8],
+    expected: &[Expected],
+) -> Result<Vec<Located>, VerifyFault>
+    // The rows are the places in the log and the list.
+    ensures located { IfOk result (λ located. AreLocated log.now list.now expected.now located.items) }
+    // If the log and the list are valid and all entries genuine, there are rows, unless memory runs out.
+    ensures only { (table : List TableRow) (events : List LogEvent) (entries : List ListEntry)
+        → IsLog log.now table events → IsReading list.now (Ok entries) → AreGenuine entries
+        → ReadsInMemory VerifyFault.Memory (λ located. located.items) result (Ok (located_on (algs_in table) events entries expected.now)) }
+    // Any other fault is the first cause.
+    ensures fault { IfErr result (IsVerifyFault log.now list.now) }
+    ensures memory { IsErrOf result VerifyFault.Memory → BeginsWithEvent log.now ⊎ IsSomeLog log.now }
+{
+    list_has_one_reading(list);
+    let firmware = read_log(alloc, log)?;
+    let start = follow_log(alloc, &firmware, expected)?;
+    let replay = ListReplay::of_list(start, list)?;
+    Ok(replay.genuine()?.rows)
+}
+
+/// As [`locate`], for a list of at most `limit` bytes that is read from a source, with the faults of [`crate::verify_from`]. Each
+/// entry is replayed as its bytes arrive; none is kept. The rows are allocated once, before anything is read from the source.
+pub fn locate_from<R: Source>(
+    alloc: Global,
+    log: &[u8],
+    list: &mut R,
+    limit: u64,
+    expected: &[Expected],
+) -> Result<Vec<Located>, VerifyFault>
+    // The rows are the places in the log and in the list of all bytes that the source had left.
+    ensures located { IfOk result (λ located. AreLocatedFrom log.now (R.state list.old).remaining (R.state list.new).remaining limit expected.now located.items) }
+    // If the log is valid and the source has left a list of genuine entries within the limit, there are rows, unless the source
+    // fails or memory runs out.
+    ensures only { (table : List TableRow) (events : List LogEvent) (entries : List ListEntry)
+        → IsLog log.now table events → HoldsGenuineList (R.state list.old).remaining limit entries
+        → IsErrOf result VerifyFault.Source
+        ⊎ ReadsInMemory VerifyFault.Memory (λ located. located.items) result (Ok (located_on (algs_in table) events entries expected.now)) }
+    // Any fault is the first cause.
+    ensures fault { IfErr result (IsVerifyFaultFrom log.now (R.state list.old).remaining (R.state list.new).remaining limit) }
+    ensures memory { IsErrOf result VerifyFault.Memory → BeginsWithEvent log.now ⊎ IsSomeLog log.now }
+    // In any case the source loses bytes from its front, and nothing else.
+    ensures front { LosesFront (R.state list.old).remaining (R.state list.new).remaining }
+    ensures telling { is_some (R.state list.new).remaining ≡ is_some (R.state list.old).remaining }
+    ensures counts { (R.state list.new).failures ≡ failures_after_list result (R.state list.old).failures }
+{
+    no_bytes_have_two_readings();
+    let firmware = read_log(alloc, log)?;
+    let start = follow_log(alloc, &firmware, expected)?;
+    let replay = ListReplay::of_source(alloc, start, list, limit)?;
+    Ok(replay.genuine()?.rows)
+}
+
+// The registers after the log's events, and the places of the expected values among them.
+fn follow_log(alloc: Global, log: &BootLog<'_>, expected: &[Expected]) -> Result<Watch, AllocError>
+    ensures { IfOk result (IsFollowed (algs_of log.now) (events_of log.now) expected.now) }
+{
+    let banks = log.reset_registers();
+    let rows = rows_at_reset(alloc, &banks, expected)?;
+    let mut watch = Watch { banks, rows };
+    follow_events(&mut watch, log.events());
+    Ok(watch)
+}
+
+// Replays the events, in order, and looks at the rows after each.
+fn follow_events(watch: &mut Watch, events: &[Event<'_>])
+    ensures { (algs : AlgSet) (expected : List Expected) → StartsAt algs (map log_event_of events.now) expected watch.old
+        → IsFollowed algs (map log_event_of events.now) expected watch.new }
+{
+    events_in_turn_give_the_registers();
+    for index in 0..events.len() {
+        follow_event(watch, &events[index], Place::Event(index + 1));
+    }
+}
+
+// Replays an event, and gives this place to the rows of its register that have none yet and are reached now.
+fn follow_event(watch: &mut Watch, event: &Event<'_>, place: Place)
+    ensures banks { (start : Banks) (events : List LogEvent) → IsExtended start events watch.old.banks
+        → IsExtended start (events ++ log_event_of event.now ∷ []) watch.new.banks }
+    ensures rows { watch.new.rows.items ≡ map (looked_at watch.new.banks event.now.register place) watch.old.rows.items }
+{
+    event.replay_into(&mut watch.banks);
+    look_at(&mut watch.rows, &watch.banks, event.register, place);
+}
+
+// The row of each expected register, before the first event.
+fn rows_at_reset(
+    alloc: Global,
+    start: &Banks,
+    expected: &[Expected],
+) -> Result<Vec<Located>, AllocError>
+    ensures { IfOk result (λ rows. rows.items ≡ map (row_at_reset start.now) expected.now) }
+{
+    expected
+        .iter()
+        .map(|expected| row_at_reset(start, expected))
+        .collect(alloc)
+}
+
+// The row of an expected register, before the first event.
+fn row_at_reset(start: &Banks, expected: &Expected) -> Located
+    ensures { result ≡ row_at_reset start.now expected.now }
+{
+    Located {
+        expected: *expected,
+        place: place_at_reset(expected, start.read(expected.alg, expected.register)),
+    }
+}
+
+// The place of an expected register with this reset value, or of an absent one.
+fn place_at_reset(expected: &Expected, value: Option<Digest>) -> Place
+    ensures { (bytes : Option (List ℕ)) → value ≡ option_map (digest_of expected.now.alg) bytes
+        → result ≡ place_at_reset expected.now bytes }
+{
+    match value {
+        None => Place::Absent,
+        Some(value) if value == expected.value => Place::Reset,
+        Some(_) => Place::Nowhere,
+    }
+}

@@ -1,0 +1,109 @@
+//! The places where expected values are first reached.
+
+ghost use Rattle.std.specs.Prelude.{◌≡◌, Option, List, ℕ, map, option_map};
+ghost use Rattle.pcr_banks.specs.Digests.{digest_of};
+ghost use Rattle.pcr_banks.specs.Registers.{value_at};
+ghost use Rattle.boot_verdict.specs.Places.{all_found, is_found, is_reached};
+ghost use Rattle.boot_verdict.specs.parts.Watches.{looked, looked_at};
+
+use crate::expected::Expected;
+use pcr_banks::{Banks, Digest};
+use std::alloc::Global;
+
+/// Where a register first has its expected value.
+#[derive(Clone, Copy, Debug, PartialEq, Eq)]
+pub enum Place {
+    /// Before the log's events: it is the register's reset value.
+    Reset,
+    /// After this event of the log, counted from 1.
+    Event(usize),
+    /// After this entry of the list, counted from 0.
+    Entry(usize),
+    /// Never.
+    Nowhere,
+    /// The log has no such bank, or there is no such register.
+    Absent,
+}
+
+impl Place {
+    /// Whether the value was reached.
+    pub fn is_found(self) -> bool
+        ensures { result ≡ is_found self }
+    {
+        match self {
+            Place::Reset | Place::Event(_) | Place::Entry(_) => true,
+            Place::Nowhere | Place::Absent => false,
+        }
+    }
+}
+
+/// An expected register, and where it first has its value.
+#[derive(Clone, Copy, Debug, PartialEq, Eq)]
+pub struct Located {
+    /// What is expected.
+    pub expected: Expected,
+    /// Where the register first has this value.
+    pub place: Place,
+}
+
+/// Whether each expected register has its value at some place.
+pub fn all_found(located: &[Located]) -> bool
+    ensures { result ≡ all_found located.now }
+{
+    located.iter().all(|row| row.place.is_found())
+}
+
+/// Registers, and the rows whose values are watched for in them.
+#[derive(Drop)]
+pub(crate) struct Watch {
+    /// The registers.
+    pub banks: Banks,
+    /// The expected registers and their places so far.
+    pub rows: Vec<Located>,
+}
+
+impl Watch {
+    /// These registers, without any row.
+    pub fn of_none(alloc: Global, banks: Banks) -> Self
+        ensures { result.banks ≡ banks }
+    {
+        Watch {
+            banks,
+            rows: Vec::new(alloc),
+        }
+    }
+}
+
+/// Looks at each row of this register that has no place yet: if the register now has its value, the row gets this place.
+pub(crate) fn look_at(rows: &mut [Located], banks: &Banks, register: u32, place: Place)
+    ensures { rows.new ≡ map (looked_at banks.now register place) rows.old }
+{
+    for row in rows.iter_mut() {
+        if row.expected.register == register {
+            look(row, banks, place);
+        }
+    }
+}
+
+// Gives the row this place if it has none yet, and its register now has the value.
+fn look(row: &mut Located, banks: &Banks, place: Place)
+    ensures { row.new ≡ looked banks.now place row.old }
+{
+    if row.place == Place::Nowhere && is_reached(&row.expected, banks) {
+        row.place = place;
+    }
+}
+
+/// Whether the expected register has its value in these banks.
+pub(crate) fn is_reached(expected: &Expected, banks: &Banks) -> bool
+    ensures { result ≡ is_reached expected.now (value_at banks.now expected.now.alg expected.now.register) }
+{
+    is_value(expected, banks.read(expected.alg, expected.register))
+}
+
+// Whether a register with this value, or an absent one, has the expected value.
+fn is_value(expected: &Expected, value: Option<Digest>) -> bool
+    ensures { (bytes : Option (List ℕ)) → value ≡ option_map (digest_of expected.now.alg) bytes → result ≡ is_reached expected.now bytes }
+{
+    value == Some(expected.value)
+}

@@ -1,0 +1,44 @@
+-- Expected registers, as the program writes them from what tpm2_pcrread printed. All of this is this project's choice.
+use Rattle.std.specs.Prelude.{◌≡◌, ℕ, ◌⊎◌, nat_lt, List, Option, Some, None}
+use Rattle.pcr_banks.specs.Registers.{register_count}
+use Rattle.boot_verdict.specs.declared.expected.Expected.{Expected}
+use Rattle.boot_verdict.specs.declared.expected.ExpectFault.{ExpectFault}
+use Rattle.boot_verdict.specs.declared.register_range.RegisterRange.{RegisterRange}
+use Rattle.boot_verdict.specs.PcrReadTexts.{HasFirstPrintedFault, IsPcrReadText}
+use Rattle.boot_verdict.specs.RegisterRanges.{IsRangeText, is_within}
+use Rattle.boot_verdict.specs.WrittenTexts.{expected_text}
+use Rattle.ima_agent.specs.declared.fault.RunFault.{RunFault}
+use Rattle.ima_agent.specs.declared.fault.RunFault.TheVariants as runs
+use Rattle.ima_agent.specs.Faults.{fault_of_expected}
+
+-- The range of registers that is requested: the one that the text spells; all registers without a text.
+abbrev pub IsRequested : Option (List ℕ) → RegisterRange → Type 0
+IsRequested None range = (register : ℕ) → is_within range register ≡ nat_lt register register_count
+IsRequested (Some text) range = IsRangeText text range
+
+-- A text is given, and spells no range.
+abbrev pub SpellsNoRange : Option (List ℕ) → Type 0
+SpellsNoRange None = ⊥
+SpellsNoRange (Some text) = (range : RegisterRange) → IsRangeText text range → ⊥
+
+-- The text was printed by tpm2_pcrread, and what is shown are the lines of the registers that it states within the requested range.
+pub record ShowsExpected (registers : Option (List ℕ)) (text shown : List ℕ) : Type 0 where
+  pub range : RegisterRange
+  pub expected : List Expected
+  pub requested : IsRequested registers range
+  pub printed : IsPcrReadText text expected
+  pub text_is : shown ≡ expected_text range expected
+
+-- The text was not printed by tpm2_pcrread, and the fault is that of its first wrong line.
+pub record IsNotPrinted (text : List ℕ) (fault : RunFault) : Type 0 where
+  pub first : ExpectFault
+  pub first_is : HasFirstPrintedFault text first
+  pub says : fault ≡ fault_of_expected first
+
+-- Why no registers are written from a text: it was not printed by tpm2_pcrread, or memory ran out.
+abbrev pub IsNotPrintedFor : List ℕ → RunFault → Type 0
+IsNotPrintedFor text fault = IsNotPrinted text fault ⊎ (fault ≡ runs.Memory)
+
+-- The range that is requested is none.
+abbrev pub IsRangeFault : Option (List ℕ) → RunFault → Type 0
+IsRangeFault registers fault = (fault ≡ runs.Usage) × SpellsNoRange registers

@@ -1,0 +1,45 @@
+-- The registers that a list alone makes, as the program shows them. All of this is this project's choice.
+use Rattle.std.specs.Prelude.{◌≡◌, ℕ, ◌⊎◌, List, Some, Ok}
+use Rattle.pcr_banks.specs.declared.banks.Banks.{Banks}
+use Rattle.ima_list.specs.declared.replaying.ReplayFault.{ReplayFault}
+use Rattle.ima_list.specs.ListEntry.{ListEntry}
+use Rattle.ima_list.specs.Spelling.{IsReading}
+use Rattle.ima_list.specs.Replaying.{AreGenuine, IsReplayed}
+use Rattle.boot_verdict.specs.RegisterTexts.{registers_text}
+use Rattle.boot_verdict.specs.Replays.{IsListStart}
+use Rattle.boot_verdict.specs.Verdicts.{IsForged}
+use Rattle.ima_agent.specs.declared.fault.RunFault.{RunFault}
+use Rattle.ima_agent.specs.declared.fault.RunFault.TheVariants as runs
+use Rattle.ima_agent.specs.Loading.{Inputs, Holds, IsNotRead, IsTooLong}
+use Rattle.ima_agent.specs.Showing.{IsNoList}
+use Rattle.ima_agent.specs.Verifying.{HoldsSoundBytesAndMore}
+
+-- The bytes are a list of genuine entries, and what is shown are the registers that differ from their reset values after them.
+pub record ShowsReplay (list shown : List ℕ) : Type 0 where
+  pub entries : List ListEntry
+  pub start : Banks
+  pub now : Banks
+  pub list_is : IsReading list (Ok entries)
+  pub genuine : AreGenuine entries
+  pub reset : IsListStart start
+  pub replayed : IsReplayed start entries now
+  pub text_is : shown ≡ registers_text now start
+
+-- An entry of the list is not genuine, and the fault is that of the first.
+pub record IsForgedFor (list : List ℕ) (fault : RunFault) : Type 0 where
+  pub first : ReplayFault
+  pub first_is : IsForged list first
+  pub says : fault ≡ runs.Replay first
+
+-- The list of this name is refused: it is no list, or an entry is not genuine.
+pub record IsListRefused (inputs : Inputs) (name : List ℕ) (fault : RunFault) : Type 0 where
+  pub list : List ℕ
+  pub held : Holds inputs (Some name) list
+  pub cause : IsNoList list fault ⊎ IsForgedFor list fault
+
+-- Why no registers of the list of this name are shown: it is too long, and no entry within the limit is refused; it could not be
+-- opened or read; it is refused; or memory ran out.
+abbrev pub IsReplayFaultOf : Inputs → List ℕ → RunFault → Type 0
+IsReplayFaultOf inputs name fault =
+    (IsTooLong name fault × HoldsSoundBytesAndMore inputs name) ⊎ IsNotRead name fault ⊎ IsListRefused inputs name fault
+    ⊎ (fault ≡ runs.Memory)

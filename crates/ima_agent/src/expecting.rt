@@ -1,0 +1,56 @@
+//! Expected registers, written from what tpm2_pcrread printed.
+
+ghost use Rattle.std.specs.Prelude.{◌⊎◌, List, ℕ, Option, Some, option_map, IfOk, IfErr};
+ghost use Rattle.ima_agent.specs.Expecting.{IsNotPrintedFor, IsRangeFault, IsRequested, ShowsExpected};
+ghost use Rattle.ima_agent.specs.Loading.{IsInputFault};
+ghost use Rattle.ima_agent.specs.Program.{OfInput};
+
+use crate::fault::RunFault;
+use crate::files::Files;
+use crate::inputs::loaded;
+use boot_verdict::{RegisterRange, read_pcrread, write_expected};
+use byte_streams::{Failed, VecSink};
+use std::alloc::Global;
+
+/// The lines of the registers that the text in the file of this name states within the range that `registers` spells, or of all
+/// without one.
+pub(crate) fn expected_from<F: Files>(
+    alloc: Global,
+    files: &mut F,
+    printed: &str,
+    registers: Option<&str>,
+) -> Result<Vec<u8>, RunFault>
+    ensures shown { IfOk result (λ shown. OfInput (F.told files.old) (Some printed.now)
+        (λ text. ShowsExpected (option_map (λ text. text.now) registers.entry) text shown.items)) }
+    ensures fault { IfErr result (λ fault. IsRangeFault (option_map (λ text. text.now) registers.entry) fault
+        ⊎ IsInputFault (F.told files.old) (Some printed.now) fault
+        ⊎ OfInput (F.told files.old) (Some printed.now) (λ text. IsNotPrintedFor text fault)) }
+{
+    let range = range_of(registers)?;
+    let text = loaded(alloc, files, Some(printed))?;
+    expected_in(alloc, &text, range)
+}
+
+// The range that the text spells; all registers without a text.
+fn range_of(text: Option<&str>) -> Result<RegisterRange, RunFault>
+    ensures range { IfOk result (IsRequested (option_map (λ text. text.now) text.entry)) }
+    ensures fault { IfErr result (IsRangeFault (option_map (λ text. text.now) text.entry)) }
+{
+    match text {
+        None => Ok(RegisterRange::all()),
+        Some(text) => RegisterRange::from_text(text.as_bytes()).ok_or(RunFault::Usage),
+    }
+}
+
+// The lines of the registers within the range that this text states.
+fn expected_in(alloc: Global, text: &[u8], range: RegisterRange) -> Result<Vec<u8>, RunFault>
+    ensures shown { IfOk result (λ shown. (registers : Option (List ℕ)) → IsRequested registers range → ShowsExpected registers text.now shown.items) }
+    ensures fault { IfErr result (IsNotPrintedFor text.now) }
+{
+    let expected = read_pcrread(alloc, text)?;
+    let mut lines = VecSink::new(Vec::new(alloc));
+    match write_expected(&expected, range, &mut lines) {
+        Ok(()) => Ok(lines.into_bytes()),
+        Err(Failed) => Err(RunFault::Memory),
+    }
+}
