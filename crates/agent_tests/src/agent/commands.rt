@@ -173,12 +173,17 @@ static COMMANDS: [(&[&str], u8, &[u8]); 29] = [
 ];
 
 /// Each way to ask for help.
-static HELPS: [&[&str]; 7] = [
+static HELPS: [&[&str]; 12] = [
     &["--help"],
     &["-h"],
     &["measure", "--help"],
     &["verify", "--help"],
     &["show", "-h"],
+    &["registers", "--help"],
+    &["events", "--help"],
+    &["replay", "--help"],
+    &["locate", "--help"],
+    &["expected", "--help"],
     &["-hh"],
     &["show", "-hx"],
 ];
@@ -230,7 +235,16 @@ fn command_lines(rt: HostRuntime) -> Result<(), Fail> {
 /// An option that no command has, and after it the word that asks for help: the words are wrong.
 #[test]
 fn help_after_an_unknown_option_is_refused(rt: HostRuntime) -> Result<(), Fail> {
-    for command in ["show", "verify", "measure"] {
+    for command in [
+        "show",
+        "verify",
+        "measure",
+        "registers",
+        "events",
+        "replay",
+        "locate",
+        "expected",
+    ] {
         let (status, output) = answered(&rt, &[command, "--bad", "--help"], &[])?;
         assert_eq!(rt; status, 2);
         assert_eq!(rt; output.as_slice(), b"refused: command line\n".as_slice());

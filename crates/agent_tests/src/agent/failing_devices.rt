@@ -4,8 +4,10 @@ ghost use Rattle.std.specs.Prelude.{None};
 
 use super::commands::SHELL_LINE;
 use super::devices::{NamedFiles, NoFiles, StandardInput, bytes_of, ran_over, text_of, words_of};
+use super::event_lines::{MANY_BANKS, MANY_BANKS_LINES};
 use super::list_sources::{REPORT, fault_of};
 use super::logs::{EVENT, EXTENDED_LINE, HEADER, TWO_BANKS_LINES};
+use super::replayed_lists::MEASUREMENT_REGISTERS;
 use super::verdicts::{EXPECTED, LIST, book_of, log_and_list, registers_of};
 use byte_streams::{Failed, Sink};
 use ima_agent::{
@@ -228,6 +230,35 @@ fn commands_to_failing_sinks(rt: HostRuntime) -> Result<(), Fail> {
     assert_command_sends(&rt, &words, &files, (0, SHELL_LINE))?;
     let words = ["show", "x"];
     assert_command_sends(&rt, &words, &files, (3, b"failed: read x\n"))
+}
+
+#[test]
+fn log_and_list_commands_to_failing_sinks(rt: HostRuntime) -> Result<(), Fail> {
+    let alloc = rt.alloc();
+    let (log, list) = log_and_list(alloc)?;
+    let many = bytes_of(alloc, &[MANY_BANKS])?;
+    let files = [
+        ("log", log.as_slice()),
+        ("many", many.as_slice()),
+        ("list", list.as_slice()),
+        ("expected", EXPECTED.as_bytes()),
+        ("entry", MEASUREMENT),
+        (
+            "printed",
+            b"  sha1:\n    4 : 0x0000000000000000000000000000000000000000\n",
+        ),
+    ];
+    let words = ["registers", "log"];
+    assert_command_sends(&rt, &words, &files, (0, EXTENDED_LINE))?;
+    let words = ["events", "many"];
+    assert_command_sends(&rt, &words, &files, (0, MANY_BANKS_LINES))?;
+    let words = ["replay", "entry"];
+    assert_command_sends(&rt, &words, &files, (0, MEASUREMENT_REGISTERS))?;
+    let places = b"sha256 10 after entry 2\nsha256 0 nowhere\nsha1 10 absent\nnot located\n";
+    let words = ["locate", "log", "list", "expected"];
+    assert_command_sends(&rt, &words, &files, (1, places))?;
+    let line = b"sha1 4 0000000000000000000000000000000000000000\n";
+    assert_command_sends(&rt, &["expected", "printed"], &files, (0, line))
 }
 
 /// Where each source gives so many bytes at a time at most: nine bytes are loaded by so many reads, the last of which says that

@@ -52,7 +52,7 @@ fn log_with_four_banks(alloc: Global, header: &[u8], log: &BootLog) -> Result<Ve
 }
 
 /// The log of these bytes as one of four banks.
-fn four_banks_of(alloc: Global, bytes: &[u8]) -> Result<Vec<u8>, Fail> {
+pub fn four_banks_of(alloc: Global, bytes: &[u8]) -> Result<Vec<u8>, Fail> {
     let header = bytes_of(alloc, &[HEADER])?;
     let log = log_of(alloc, bytes)?;
     match log_with_four_banks(alloc, &header, &log) {
@@ -91,7 +91,7 @@ fn assert_verdicts(
 
 /// All banks that `tpm2_pcrread` prints are compared in one call.
 #[test]
-fn four_banks_of_a_boot(rt: HostRuntime) -> Result<(), Fail> {
+pub fn four_banks_of_a_boot(rt: HostRuntime) -> Result<(), Fail> {
     let alloc = rt.alloc();
     let one = bytes_of(alloc, &[FIRMWARE_LOG])?;
     let four = four_banks_of(alloc, &one)?;
@@ -107,7 +107,7 @@ fn four_banks_of_a_boot(rt: HostRuntime) -> Result<(), Fail> {
 
 /// What `samples/four-banks/tpm2_pcrread.txt` becomes by the line of docs/guide.md. The values are those that
 /// `samples/four-banks/make.py` makes of the real boot's files, by hashes of its own.
-const EXPECTED: &str = "\
+pub const EXPECTED: &str = "\
 sha1 0 DEB0832628C264E35C5F50CA5D4DA0ECA05F73D1
 sha1 1 BE207BC95ADF39E487B10538158CA9D5D1B14F8D
 sha1 2 406B98F89509FB49A4AB7AA1ED0DAAB886DB52F8

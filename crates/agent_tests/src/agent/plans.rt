@@ -1,7 +1,7 @@
 //! What words ask for, compared whole.
 
 use super::devices::words_of;
-use ima_agent::{NameEnd, Plan, Print, RunFault, read_words};
+use ima_agent::{DataShown, NameEnd, Plan, Print, RunFault, read_words};
 use ima_list::Template;
 use pcr_banks::Alg;
 use std::alloc::Global;
@@ -9,7 +9,7 @@ use std::process::Abort;
 use std::test::Fail;
 
 /// What the words ask for; once more where an allocation was refused.
-fn plan_of(alloc: Global, words: &[&str]) -> Result<Plan, Fail> {
+pub fn plan_of(alloc: Global, words: &[&str]) -> Result<Plan, Fail> {
     let words = words_of(alloc, words)?;
     match read_words(alloc, &words) {
         Err(RunFault::Memory) => Ok(read_words(alloc, &words)?),
@@ -360,6 +360,62 @@ fn plans_of_the_other_commands(rt: HostRuntime) -> Result<(), Fail> {
             return Err("no help".into());
         };
         assert!(rt; !text.is_empty());
+    }
+    Ok(())
+}
+
+/// The commands that show or replay a log or a list.
+#[test]
+fn plans_on_logs_and_lists(rt: HostRuntime) -> Result<(), Fail> {
+    let alloc = rt.alloc();
+    let Plan::RegistersAfter { log } = plan_of(alloc, &["registers", "one"])? else {
+        return Err("no registers".into());
+    };
+    assert_eq!(rt; log.as_str(), "one");
+    for (words, shown) in [
+        (["events", "one"].as_slice(), DataShown::Size),
+        (&["events", "--data", "one"], DataShown::Bytes),
+        (&["events", "one", "--data"], DataShown::Bytes),
+    ] {
+        let Plan::Events { log, data } = plan_of(alloc, words)? else {
+            return Err("no events".into());
+        };
+        assert_eq!(rt; log.as_str(), "one");
+        assert_eq!(rt; data, shown);
+    }
+    let Plan::Replay { list } = plan_of(alloc, &["replay", "--", "--data"])? else {
+        return Err("no list".into());
+    };
+    assert_eq!(rt; list.as_str(), "--data");
+    Ok(())
+}
+
+/// The commands that have to do with expected registers. A range is any text in a plan.
+#[test]
+fn plans_on_expected_registers(rt: HostRuntime) -> Result<(), Fail> {
+    let alloc = rt.alloc();
+    let plan = plan_of(alloc, &["locate", "one", "two", "three"])?;
+    let Plan::Locate {
+        log,
+        list,
+        expected,
+    } = plan
+    else {
+        return Err("no places".into());
+    };
+    assert_eq!(rt; log.as_str(), "one");
+    assert_eq!(rt; list.as_str(), "two");
+    assert_eq!(rt; expected.as_str(), "three");
+    for (words, range) in [
+        (["expected", "one"].as_slice(), None),
+        (&["expected", "--registers", "0-10", "one"], Some("0-10")),
+        (&["expected", "one", "--registers=x y"], Some("x y")),
+    ] {
+        let Plan::Expected { printed, registers } = plan_of(alloc, words)? else {
+            return Err("no expected registers".into());
+        };
+        assert_eq!(rt; printed.as_str(), "one");
+        assert_eq!(rt; registers.as_deref(), range);
     }
     Ok(())
 }

@@ -6,7 +6,7 @@ use super::real_boot_list::list_bytes;
 use std::test::Fail;
 
 /// `samples/real-boot/expected.txt`: the registers that the TPM had after the list.
-const EXPECTED: &str = "\
+pub const EXPECTED: &str = "\
 sha256 0 177e29c417b6b61c7cf46ed30b4468931f58642527a268b556254e39b941ec6a
 sha256 1 8e9d1fe23131f12d6a523e9c32eb3223d4dc25e14eb5fd60163e7ba8de0f248c
 sha256 2 3d458cfe55cc03ea1f443f1562beec8df51c75e14a9fcf9a7234a13f198e7969

@@ -162,7 +162,7 @@ fn assert_answered<R: Threads + Wait + Sync + AllocGlobal + Abort, F: Files>(
 }
 
 /// The same over files of these names.
-fn assert_answered_over<R: Threads + Wait + Sync + AllocGlobal + Abort>(
+pub fn assert_answered_over<R: Threads + Wait + Sync + AllocGlobal + Abort>(
     rt: &R,
     words: &[&str],
     files: &[(&str, &[u8])],
