@@ -14,22 +14,22 @@ use thiserror::Error;
 #[derive(Clone, Copy, Debug, PartialEq, Eq, Error)]
 pub enum UseFault {
     /// The firmware event log was not read.
-    #[error("log: {0}")]
+    #[error("not a firmware event log: {0}")]
     Log(LogFault),
     /// The expected registers were not read.
-    #[error("expected registers: {0}")]
+    #[error("not expected registers: {0}")]
     Expected(ExpectFault),
     /// There is no verdict.
-    #[error("no verdict: {0}")]
+    #[error("there is no verdict: {0}")]
     Verdict(VerifyFault),
     /// The book was not opened.
-    #[error("book: {0}")]
+    #[error("the book cannot be opened: {0}")]
     Book(BookFault),
     /// The outcomes do not account for the book's records.
-    #[error("accounts: {0}")]
+    #[error("the outcomes do not account for the book: {0}")]
     Gather(GatherFault),
     /// The workers did not do their jobs.
-    #[error("workers: {0}")]
+    #[error("the workers did not do their jobs: {0}")]
     Workers(AgentFault),
     /// Out of memory.
     #[error("out of memory")]

@@ -1,0 +1,136 @@
+package imaverify
+
+import (
+	"fmt"
+	"math"
+)
+
+const (
+	memoryLine = "failed: memory\n"
+	unset      = math.MaxUint64
+	mostRoom   = 1 << 40
+)
+
+// An answer of the library, and the text that it gave. The methods read the text, and give an *Unexpected unless it has exactly
+// the form that docs/formats.md gives.
+type answer struct {
+	status int32
+	text   []byte
+}
+
+// Calls the library with room for a text of this size, and once more if that is too short.
+func ask(room int, call func(out []byte, needed *uint64) int32) (answer, error) {
+	if found := libraryVersion(); found < headerVersion {
+		return answer{}, fmt.Errorf("libima_verify has version %d of the interface, and %d or later is needed", found, headerVersion)
+	}
+	out, needed := make([]byte, room), uint64(unset)
+	status := call(out, &needed)
+	if status == tooShort && uint64(room) < needed && needed <= mostRoom {
+		out, needed = make([]byte, needed), unset
+		status = call(out, &needed)
+	}
+	if needed > uint64(len(out)) {
+		return answer{}, &Unexpected{status, needed, nil}
+	}
+	given := answer{status, out[:needed]}
+	switch {
+	case status == done || status == differs:
+		return given, nil
+	case status == refused:
+		return answer{}, given.refusal()
+	case status == outOfMemory && string(given.text) == memoryLine:
+		return answer{}, ErrOutOfMemory
+	}
+	return answer{}, given.unexpected()
+}
+
+func (a answer) unexpected() error {
+	return &Unexpected{a.status, uint64(len(a.text)), a.text}
+}
+
+// Whether the status is the one of a text whose values are all as expected, or the other one.
+func (a answer) says(all bool) bool {
+	return a.status == done && all || a.status == differs && !all
+}
+
+func (a answer) verdict() (Verdict, error) {
+	t := textOf(a.text)
+	head := t.line("events", word, "locality", word)
+	v := Verdict{Events: t.number(head[0], math.MaxUint64), Locality: uint8(t.number(head[1], math.MaxUint8)), Text: string(a.text)}
+	v.Entries = t.number(t.line("entries", word)[0], math.MaxUint64)
+	v.BootAggregate = BootAggregate(t.line("boot_aggregate", word)[0])
+	t.require(v.BootAggregate == Good || v.BootAggregate == Wrong || v.BootAggregate == NoBank || v.BootAggregate == Missing)
+	v.Matches = v.BootAggregate == Good
+	for t.left() > 1 {
+		row := t.row()
+		v.Rows, v.Matches = append(v.Rows, row), v.Matches && row.State == Match
+	}
+	t.require(t.line("verdict", word)[0] == map[bool]string{true: "match", false: "differ"}[v.Matches] && a.says(v.Matches))
+	if t.wrong {
+		return Verdict{}, a.unexpected()
+	}
+	return v, nil
+}
+
+func (a answer) places() (Places, error) {
+	t := textOf(a.text)
+	p := Places{Located: true, Text: string(a.text)}
+	for t.left() > 1 {
+		row := t.placeRow()
+		p.Rows, p.Located = append(p.Rows, row), p.Located && row.Place.Kind != Nowhere && row.Place.Kind != NotThere
+	}
+	if p.Located {
+		t.line("located")
+	} else {
+		t.line("not", "located")
+	}
+	t.require(a.says(p.Located))
+	if t.wrong {
+		return Places{}, a.unexpected()
+	}
+	return p, nil
+}
+
+func (a answer) registers() ([]Register, error) {
+	t := textOf(a.text)
+	var registers []Register
+	for t.left() > 0 {
+		words := t.line(word, word, word)
+		algorithm, register := t.register(words)
+		registers = append(registers, Register{algorithm, register, t.value(algorithm, words[2])})
+	}
+	t.require(a.status == done)
+	if t.wrong {
+		return nil, a.unexpected()
+	}
+	return registers, nil
+}
+
+// The text of entries says less than their bytes, so it stays as it is.
+func (a answer) entries() ([]byte, error) {
+	if a.status != done || len(a.text) > 0 && a.text[len(a.text)-1] != '\n' {
+		return nil, a.unexpected()
+	}
+	return append(make([]byte, 0, len(a.text)), a.text...), nil
+}
+
+func (a answer) refusal() error {
+	t := textOf(a.text)
+	words := t.words()
+	r := &Refused{HasPlace: len(words) > 4}
+	t.require(len(words) == 4 || len(words) == 7)
+	if t.wrong || words[0] != "refused:" || words[2] != "fault" {
+		return a.unexpected()
+	}
+	r.Line, r.Kind, r.Number = string(a.text[:len(a.text)-1]), Kind(words[1]), t.number(words[3], math.MaxUint64)
+	point, known := map[Kind]string{Log: "event", List: "entry", Replay: "entry", Expected: "line"}[r.Kind]
+	t.require(known && t.left() == 0 && (r.HasPlace || r.Kind == Log))
+	if r.HasPlace {
+		t.require(words[4] == "at" && words[5] == point)
+		r.Place = t.number(words[6], math.MaxUint64)
+	}
+	if t.wrong {
+		return a.unexpected()
+	}
+	return r
+}

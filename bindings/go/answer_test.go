@@ -1,0 +1,136 @@
+package imaverify
+
+import (
+	"errors"
+	"strings"
+	"testing"
+)
+
+// Texts of the forms that docs/formats.md shows.
+const (
+	report     = "events 1 locality 0\nentries 3\nboot_aggregate good\nsha256 10 match\nverdict match\n"
+	placesText = "sha256 8 at reset\nsha256 4 after event 18\nsha256 10 after entry 98\nlocated\n"
+	notLocated = "sha256 8 at reset\nsha256 23 nowhere\nsha1 10 absent\nnot located\n"
+)
+
+var (
+	differing = "events 1 locality 0\nentries 3\nboot_aggregate good\nsha256 0 differ " +
+		strings.Repeat("0", 64) + "\nverdict differ\n"
+	register = "sha1 4 " + strings.Repeat("a", 40) + "\n"
+)
+
+// What is read from a status and a text.
+func readVerdict(status int32, text string) error {
+	_, err := answer{status, []byte(text)}.verdict()
+	return err
+}
+
+func readPlaces(status int32, text string) error {
+	_, err := answer{status, []byte(text)}.places()
+	return err
+}
+
+func readRegisters(status int32, text string) error {
+	_, err := answer{status, []byte(text)}.registers()
+	return err
+}
+
+func readEntries(status int32, text string) error {
+	_, err := answer{status, []byte(text)}.entries()
+	return err
+}
+
+// What is made of an answer to a call with room for 1000 bytes.
+func answered(status int32, text string, needed uint64) error {
+	_, err := ask(1000, func(out []byte, length *uint64) int32 {
+		copy(out, text)
+		*length = needed
+		return status
+	})
+	return err
+}
+
+func checkUnexpected(t *testing.T, err error, text string) {
+	t.Helper()
+	var found *Unexpected
+	if !errors.As(err, &found) {
+		t.Errorf("found %v for %q", err, text)
+	}
+}
+
+func TestRightAnswersAreRead(t *testing.T) {
+	equal(t, readVerdict(done, report), nil)
+	equal(t, readVerdict(differs, differing), nil)
+	equal(t, readPlaces(done, placesText), nil)
+	equal(t, readPlaces(differs, notLocated), nil)
+	equal(t, readRegisters(done, register), nil)
+}
+
+func TestWrongReportsAreNoVerdicts(t *testing.T) {
+	zeros := strings.Repeat("0", 64)
+	for _, change := range [][2]string{
+		{"", " "}, {"events 1", "events 01"}, {"events 1", "events +1"}, {"events 1", "events 18446744073709551616"},
+		{"locality 0", "locality 256"}, {"entries 3", "entries -3"}, {"entries 3", "entries  3"}, {"entries 3\n", ""},
+		{"good", "fine"}, {"good", "wrong"}, {"good", ""}, {"sha256", "md5"}, {" 10 ", " 24 "}, {" 10 match", " 10 match "},
+		{"sha256 10 match", "sha256 10 differ"}, {"sha256 10 match", "sha256 10 differ " + zeros[2:]}, {"sha256 10 match", "sha256 10"},
+		{"sha256 10 match", "sha256 10 absent"}, {"sha256 10 match", "sha256 10 match " + zeros}, {"sha256 10 match", ""},
+		{"verdict match\n", "verdict match"}, {"verdict match\n", "verdict match\n\n"}, {"verdict match", "verdict differ"},
+		{"verdict match\n", ""}, {report, ""}, {report, "verdict match\n"}, {"\n", "\r\n"}, {"match\n", "match\x00\n"},
+	} {
+		text := strings.Replace(report, change[0], change[1], 1)
+		checkUnexpected(t, readVerdict(done, text), text)
+	}
+	checkUnexpected(t, readVerdict(differs, report), report)
+	checkUnexpected(t, readVerdict(done, differing), differing)
+	upper := strings.Replace(differing, zeros, zeros[1:]+"A", 1)
+	checkUnexpected(t, readVerdict(differs, upper), upper)
+}
+
+func TestWrongTextsAreNoPlaces(t *testing.T) {
+	for _, change := range [][2]string{
+		{"at reset", "at event"}, {"event 18", "event"}, {"event 18", "event 018"}, {"after entry", "after line"},
+		{"sha256 4", "sha256 4 "}, {"sha256 4", "sha257 4"}, {" 4 ", " 44 "}, {"located\n", "located"}, {"at reset", "reset"},
+		{"located\n", ""}, {"located", "not located"}, {"at reset", "nowhere"}, {placesText, ""}, {"at reset", "at nowhere"},
+	} {
+		text := strings.Replace(placesText, change[0], change[1], 1)
+		checkUnexpected(t, readPlaces(done, text), text)
+	}
+	checkUnexpected(t, readPlaces(differs, placesText), placesText)
+	checkUnexpected(t, readPlaces(done, notLocated), notLocated)
+}
+
+func TestWrongTextsAreNoRegistersOrEntries(t *testing.T) {
+	for _, text := range []string{register[:len(register)-1], register + "\n", strings.Replace(register, "a", "g", 2),
+		strings.Replace(register, "aa", "a", 1), strings.Replace(register, "aa", "", 1), "sha1 4 \n", "sha1 4\n"} {
+		checkUnexpected(t, readRegisters(done, text), text)
+	}
+	checkUnexpected(t, readRegisters(differs, register), register)
+	checkUnexpected(t, readEntries(differs, "x\n"), "x")
+	checkUnexpected(t, readEntries(done, "x"), "x")
+}
+
+func TestWrongRefusalsAreNoRefusals(t *testing.T) {
+	for _, text := range []string{"", "refused: log fault 1 at event 0", "refused: log fault 1 at entry 0\n",
+		"refused: list fault 1\n", "refused: replay fault 1 at entry 5\n\n", "refused: expected fault 1 at entry 5\n",
+		"refused: job 1\n", "refused: log fault  1\n", "failed: memory\n",
+		"refused: log fault 01\n", "refused: book fault 1\n", "refused: log fault 1 of event 0\n", "\n\n\n\n"} {
+		checkUnexpected(t, answered(refused, text, uint64(len(text))), text)
+	}
+	var found *Refused
+	equal(t, errors.As(answered(refused, "refused: log fault 2\n", 21), &found), true)
+}
+
+func TestNoMemoryIsItsError(t *testing.T) {
+	equal(t, answered(outOfMemory, memoryLine, uint64(len(memoryLine))), ErrOutOfMemory)
+	checkUnexpected(t, answered(outOfMemory, "failed: other!\n", uint64(len(memoryLine))), "failed: other!\n")
+}
+
+func TestSizesAndStatusesThatCannotBeAreErrors(t *testing.T) {
+	for _, wrong := range []struct {
+		status int32
+		needed uint64
+	}{{done, 1001}, {done, unset}, {refused, unset}, {tooShort, 50}, {tooShort, 1000}, {tooShort, 1001}, {tooShort, unset},
+		{tooShort, 1 << 62}, {5, 10}, {-1, 10}} {
+		checkUnexpected(t, answered(wrong.status, report, wrong.needed), report)
+	}
+}

@@ -1,0 +1,3 @@
+module imaverify
+
+go 1.19

@@ -1,0 +1,277 @@
+package imaverify
+
+import (
+	"bytes"
+	"errors"
+	"fmt"
+	"os"
+	"path/filepath"
+	"reflect"
+	"strings"
+	"sync"
+	"testing"
+)
+
+// The sample, one boot whose registers were read from the TPM after the list; and changes of it.
+var (
+	bootLog  = sample("firmware.log")
+	bootList = sample("ima.list")
+	bootTPM  = sample("expected.txt")
+	ascii    = sample("ima.ascii")
+	changed  = bytes.ReplaceAll(bootList, []byte("/bin/helper"), []byte("/bin/helpex"))
+	longer   = append(bootList[:len(bootList):len(bootList)], bootList[len(bootList)-95:]...)
+)
+
+// What README gives for register 10 after the longer list.
+const afterLonger = "a2bcf779880ae33077f9e7992851299f30cea5f6cffc6512de6cd10aa457a7f3"
+
+func sample(name string) []byte {
+	data, err := os.ReadFile(filepath.Join("..", "..", "samples", "real-boot", name))
+	if err != nil {
+		panic(err)
+	}
+	return data
+}
+
+// The registers of lines as `sha256 10 <value>`.
+func registersIn(t *testing.T, text []byte) []Register {
+	var registers []Register
+	for _, line := range strings.SplitAfter(string(text), "\n") {
+		var r Register
+		if line == "" {
+			continue
+		}
+		if _, err := fmt.Sscanf(line, "%s %d %x\n", &r.Algorithm, &r.Register, &r.Value); err != nil {
+			t.Fatal(err)
+		}
+		registers = append(registers, r)
+	}
+	return registers
+}
+
+func equal(t *testing.T, found, wanted interface{}) {
+	t.Helper()
+	if !reflect.DeepEqual(found, wanted) {
+		t.Errorf("found %+v, wanted %+v", found, wanted)
+	}
+}
+
+func verify(t *testing.T, log, list, expected []byte) Verdict {
+	t.Helper()
+	verdict, err := Verify(log, list, expected)
+	if err != nil {
+		t.Fatal(err)
+	}
+	return verdict
+}
+
+func locate(t *testing.T, log, list, expected []byte) Places {
+	t.Helper()
+	places, err := Locate(log, list, expected)
+	if err != nil {
+		t.Fatal(err)
+	}
+	return places
+}
+
+func TestVerdictOnTheSampleIsAMatch(t *testing.T) {
+	wanted := Verdict{Events: 24, Entries: 99, BootAggregate: Good, Matches: true}
+	wanted.Text = "events 24 locality 0\nentries 99\nboot_aggregate good\n"
+	for k := 0; k < 24; k++ {
+		wanted.Rows = append(wanted.Rows, Row{SHA256, k, Match, nil})
+		wanted.Text += fmt.Sprintf("sha256 %d match\n", k)
+	}
+	wanted.Text += "verdict match\n"
+	equal(t, verify(t, bootLog, bootList, bootTPM), wanted)
+}
+
+func TestRegistersAreThoseOfTheSample(t *testing.T) {
+	found, err := Registers(bootLog)
+	equal(t, err, nil)
+	equal(t, found, registersIn(t, sample("registers.txt")))
+}
+
+func TestEntriesAreTheKernelsText(t *testing.T) {
+	found, err := Show(bootList)
+	equal(t, err, nil)
+	equal(t, string(found), string(ascii))
+}
+
+func TestListThatWentOnDiffersInRegister10(t *testing.T) {
+	verdict := verify(t, bootLog, longer, bootTPM)
+	equal(t, []interface{}{verdict.Matches, verdict.Entries, verdict.BootAggregate, len(verdict.Rows)},
+		[]interface{}{false, uint64(100), Good, 24})
+	for k, row := range verdict.Rows {
+		if k == 10 {
+			equal(t, fmt.Sprintf("%s %d %s %x", row.Algorithm, row.Register, row.State, row.Value), "sha256 10 differ "+afterLonger)
+		} else {
+			equal(t, row, Row{SHA256, k, Match, nil})
+		}
+	}
+}
+
+func TestListThatWentOnIsLocatedBeforeItsEnd(t *testing.T) {
+	places := locate(t, bootLog, longer, bootTPM)
+	equal(t, places.Located, true)
+	equal(t, len(places.Rows), 24)
+	equal(t, places.Rows[10], PlaceRow{SHA256, 10, Place{AfterEntry, 98}})
+	for _, k := range []int{8, 11, 12, 13, 14, 15, 16, 17, 18, 19, 20, 21, 22, 23} {
+		equal(t, places.Rows[k], PlaceRow{SHA256, k, Place{Kind: AtReset}})
+	}
+	for _, register := range registersIn(t, sample("registers.txt")) {
+		equal(t, places.Rows[register.Register].Place.Kind, AfterEvent)
+	}
+}
+
+func TestExpectedRegistersMayBeAbsentOrReachedNowhere(t *testing.T) {
+	text := []byte("sha1 10 " + strings.Repeat("0", 40) + "\nsha256 10 " + strings.Repeat("1", 64))
+	verdict, places := verify(t, bootLog, longer, text), locate(t, bootLog, longer, text)
+	equal(t, verdict.Matches || places.Located, false)
+	equal(t, verdict.Rows[0], Row{SHA1, 10, Absent, nil})
+	equal(t, fmt.Sprintf("%s %x", verdict.Rows[1].State, verdict.Rows[1].Value), "differ "+afterLonger)
+	equal(t, places.Rows, []PlaceRow{{SHA1, 10, Place{Kind: NotThere}}, {SHA256, 10, Place{Kind: Nowhere}}})
+}
+
+func TestVersionIsThatOfTheHeader(t *testing.T) {
+	header, err := os.ReadFile(filepath.Join("..", "..", "include", "ima_verify.h"))
+	equal(t, err, nil)
+	equal(t, strings.Contains(string(header), fmt.Sprintf("#define IMA_VERIFY_VERSION %d\n", headerVersion)), true)
+	equal(t, Version() >= headerVersion, true)
+}
+
+func checkRefused(t *testing.T, err error, wanted Refused) {
+	t.Helper()
+	var found *Refused
+	if !errors.As(err, &found) {
+		t.Fatalf("found %v, wanted %v", err, wanted.Line)
+	}
+	equal(t, *found, wanted)
+	equal(t, err.Error(), wanted.Line)
+}
+
+func TestChangedEntryIsNotGenuine(t *testing.T) {
+	wanted := Refused{"refused: replay fault 1 at entry 5", Replay, 1, 5, true}
+	verdict, err := Verify(bootLog, changed, bootTPM)
+	checkRefused(t, err, wanted)
+	equal(t, verdict, Verdict{})
+	places, err := Locate(bootLog, changed, bootTPM)
+	checkRefused(t, err, wanted)
+	equal(t, places, Places{})
+}
+
+func TestLogThatIsCutIsRefused(t *testing.T) {
+	_, err := Verify(bootLog[:31], bootList, bootTPM)
+	checkRefused(t, err, Refused{"refused: log fault 1 at event 0", Log, 1, 0, true})
+	_, err = Registers(bootLog[:len(bootLog)-1])
+	checkRefused(t, err, Refused{"refused: log fault 1 at event 24", Log, 1, 24, true})
+}
+
+func TestLogOfAnotherFormHasNoPlace(t *testing.T) {
+	_, err := Registers(make([]byte, 32))
+	checkRefused(t, err, Refused{Line: "refused: log fault 2", Kind: Log, Number: 2})
+}
+
+func TestListThatIsCutIsRefused(t *testing.T) {
+	_, err := Show(bootList[:len(bootList)-1])
+	checkRefused(t, err, Refused{"refused: list fault 1 at entry 98", List, 1, 98, true})
+}
+
+func TestExpectedRegistersOfAnotherFormAreRefused(t *testing.T) {
+	text := append(append([]byte(nil), bootTPM...), "sha256 24 "+strings.Repeat("0", 64)...)
+	_, err := Verify(bootLog, bootList, text)
+	checkRefused(t, err, Refused{"refused: expected fault 1 at line 25", Expected, 1, 25, true})
+	text = append(append([]byte(nil), bootTPM...), bootTPM[:75]...)
+	_, err = Locate(bootLog, bootList, text)
+	checkRefused(t, err, Refused{"refused: expected fault 2 at line 25", Expected, 2, 25, true})
+}
+
+func TestInputsWithoutBytes(t *testing.T) {
+	for _, empty := range [][]byte{nil, {}, bootLog[:0]} {
+		_, err := Registers(empty)
+		checkRefused(t, err, Refused{"refused: log fault 1 at event 0", Log, 1, 0, true})
+		_, err = Verify(empty, empty, empty)
+		checkRefused(t, err, Refused{"refused: log fault 1 at event 0", Log, 1, 0, true})
+		shown, err := Show(empty)
+		equal(t, err, nil)
+		equal(t, len(shown), 0)
+		equal(t, verify(t, bootLog, empty, empty), Verdict{24, 0, 0, Missing, nil, false,
+			"events 24 locality 0\nentries 0\nboot_aggregate missing\nverdict differ\n"})
+		equal(t, verify(t, bootLog, bootList, empty), Verdict{24, 0, 99, Good, nil, true,
+			"events 24 locality 0\nentries 99\nboot_aggregate good\nverdict match\n"})
+		equal(t, locate(t, bootLog, bootList, empty), Places{nil, true, "located\n"})
+	}
+}
+
+func TestTextLongerThanTheBufferTakesASecondCall(t *testing.T) {
+	for _, room := range []int{1, 2, len(ascii) / 2, len(ascii) - 1, len(ascii)} {
+		calls := 0
+		answer, err := ask(room, func(out []byte, needed *uint64) int32 {
+			calls++
+			return callShow(bootList, out, needed)
+		})
+		equal(t, err, nil)
+		equal(t, string(answer.text), string(ascii))
+		equal(t, calls, map[bool]int{true: 2, false: 1}[room < len(ascii)])
+	}
+}
+
+func TestLineOfAFaultLongerThanTheBuffer(t *testing.T) {
+	_, err := ask(5, func(out []byte, needed *uint64) int32 { return callRegisters(nil, out, needed) })
+	checkRefused(t, err, Refused{"refused: log fault 1 at event 0", Log, 1, 0, true})
+}
+
+func TestFirstBufferIsLargeEnough(t *testing.T) {
+	// The smallest entry of its template has the longest text for its size.
+	ima := append(append(make([]byte, 4), bytes.Repeat([]byte("x"), 20)...), "\x03\x00\x00\x00ima"+strings.Repeat("\x00", 24)...)
+	nameless := append(append(make([]byte, 4), bytes.Repeat([]byte("x"), 20)...), make([]byte, 8)...)
+	for _, list := range [][]byte{nil, ima[:1], bytes.Repeat(ima, 900), bytes.Repeat(nameless, 900), bootList} {
+		calls := 0
+		ask(roomOfEntries(len(list)), func(out []byte, needed *uint64) int32 {
+			calls++
+			return callShow(list, out, needed)
+		})
+		equal(t, calls, 1)
+	}
+}
+
+func TestCallsAtOnceGiveWhatTheyGiveAlone(t *testing.T) {
+	verdict, differing := verify(t, bootLog, bootList, bootTPM), verify(t, bootLog, longer, bootTPM)
+	places := locate(t, bootLog, longer, bootTPM)
+	registers := registersIn(t, sample("registers.txt"))
+	var group sync.WaitGroup
+	start := make(chan struct{})
+	for thread := 0; thread < 8; thread++ {
+		group.Add(1)
+		go func() {
+			defer group.Done()
+			<-start
+			for round := 0; round < 100; round++ {
+				for _, found := range []struct{ found, wanted interface{} }{
+					{called(Verify(bootLog, bootList, bootTPM)), called(verdict, nil)},
+					{called(Verify(bootLog, longer, bootTPM)), called(differing, nil)},
+					{called(Locate(bootLog, longer, bootTPM)), called(places, nil)},
+					{called(Registers(bootLog)), called(registers, nil)},
+					{called(Show(bootList)), called(ascii, nil)},
+					{called(Verify(bootLog, changed, bootTPM)),
+						called(Verdict{}, &Refused{"refused: replay fault 1 at entry 5", Replay, 1, 5, true})},
+				} {
+					if !reflect.DeepEqual(found.found, found.wanted) {
+						t.Errorf("found %+v, wanted %+v", found.found, found.wanted)
+					}
+				}
+			}
+		}()
+	}
+	close(start)
+	group.Wait()
+}
+
+func called(result interface{}, err error) interface{} {
+	return []interface{}{result, err}
+}
+
+func ExampleVerify() {
+	verdict, err := Verify(bootLog, bootList, bootTPM)
+	fmt.Println(verdict.Matches, verdict.Entries, len(verdict.Rows), err)
+	// Output: true 99 24 <nil>
+}

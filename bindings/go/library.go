@@ -1,0 +1,76 @@
+package imaverify
+
+// How the library is found: `#include <ima_verify.h>` and `-lima_verify` suffice where both are installed for the system's
+// compiler. Else say where they are:
+//
+//	CGO_CFLAGS=-I/path/of/header CGO_LDFLAGS=-L/path/of/library go build
+//	CGO_CFLAGS=$(pkg-config --cflags ima_verify) CGO_LDFLAGS=$(pkg-config --libs ima_verify) go build
+//
+// A program that is linked with libima_verify.so needs it when it runs, where the system's loader finds it or in LD_LIBRARY_PATH.
+
+/*
+#cgo LDFLAGS: -lima_verify
+#include <ima_verify.h>
+*/
+import "C"
+
+import "unsafe"
+
+const (
+	done        = C.IMA_DONE
+	differs     = C.IMA_DIFFERS
+	refused     = C.IMA_REFUSED
+	outOfMemory = C.IMA_OUT_OF_MEMORY
+	tooShort    = C.IMA_TOO_SHORT
+
+	headerVersion = C.IMA_VERIFY_VERSION
+)
+
+// Where an input without bytes points, since no pointer may be null.
+var nothing [1]byte
+
+// The address of the bytes, which the library has only during the call that this is an argument of.
+func start(data []byte) *C.uint8_t {
+	if len(data) == 0 {
+		return (*C.uint8_t)(unsafe.Pointer(&nothing[0]))
+	}
+	return (*C.uint8_t)(unsafe.Pointer(&data[0]))
+}
+
+func size(data []byte) C.size_t {
+	return C.size_t(len(data))
+}
+
+func libraryVersion() uint32 {
+	return uint32(C.ima_verify_version())
+}
+
+func callVerify(log, list, expected, out []byte, needed *uint64) int32 {
+	length := C.size_t(*needed)
+	status := C.ima_verify(start(log), size(log), start(list), size(list), start(expected), size(expected),
+		start(out), size(out), &length)
+	*needed = uint64(length)
+	return int32(status)
+}
+
+func callLocate(log, list, expected, out []byte, needed *uint64) int32 {
+	length := C.size_t(*needed)
+	status := C.ima_locate(start(log), size(log), start(list), size(list), start(expected), size(expected),
+		start(out), size(out), &length)
+	*needed = uint64(length)
+	return int32(status)
+}
+
+func callRegisters(log, out []byte, needed *uint64) int32 {
+	length := C.size_t(*needed)
+	status := C.ima_registers(start(log), size(log), start(out), size(out), &length)
+	*needed = uint64(length)
+	return int32(status)
+}
+
+func callShow(list, out []byte, needed *uint64) int32 {
+	length := C.size_t(*needed)
+	status := C.ima_show(start(list), size(list), start(out), size(out), &length)
+	*needed = uint64(length)
+	return int32(status)
+}

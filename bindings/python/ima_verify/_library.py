@@ -1,0 +1,79 @@
+"""Finds the shared library, and calls it."""
+
+import ctypes
+import os
+from ctypes import c_char, c_int32, c_size_t, c_uint32, c_void_p
+from pathlib import Path
+from typing import Any, Callable, Sequence, Tuple, Union
+
+from ._results import LibraryError
+
+BytesLike = Union[bytes, bytearray, memoryview]
+
+VERSION = 1
+TOO_SHORT = 4
+UNSET = c_size_t(-1).value
+FILE_NAME = "libima_verify.so"
+SYSTEM_NAME = "libima_verify.so.1"
+VARIABLE = "IMA_VERIFY_LIBRARY"
+
+_INPUT = [c_void_p, c_size_t]
+_OUTPUT = [c_void_p, c_size_t, ctypes.POINTER(c_size_t)]
+
+
+def _file() -> str:
+    """The library's file: the one that the environment names, else the one beside this module, else the system's."""
+    named = os.environ.get(VARIABLE)
+    if named:
+        return os.path.abspath(named)
+    beside = Path(__file__).resolve().with_name(FILE_NAME)
+    return str(beside) if beside.exists() else SYSTEM_NAME
+
+
+def load() -> ctypes.CDLL:
+    """The library, with the types of its functions. An ImportError says why it cannot be used."""
+    file = _file()
+    try:
+        library = ctypes.CDLL(file)
+        library.ima_verify_version.argtypes, library.ima_verify_version.restype = [], c_uint32
+        for name, inputs in (("ima_verify", 3), ("ima_locate", 3), ("ima_registers", 1), ("ima_show", 1)):
+            function = getattr(library, name)
+            function.argtypes, function.restype = _INPUT * inputs + _OUTPUT, c_int32
+    except (OSError, AttributeError) as error:
+        raise ImportError(f"{file} is not there, or not the library (name it in {VARIABLE}): {error}") from error
+    found = library.ima_verify_version()
+    if found < VERSION:
+        raise ImportError(f"{file} has version {found} of the interface, and {VERSION} or later is needed")
+    return library
+
+
+def ask(function: Callable[..., int], inputs: Sequence[BytesLike], room: int) -> Tuple[int, bytes]:
+    """A function's status and text for these inputs. If the text has more than `room` bytes, the function is called once more."""
+    words = [word for data in inputs for word in _argument(data)]
+    status, needed, out = _call(function, words, room)
+    if status == TOO_SHORT and room < needed < UNSET:
+        status, needed, out = _call(function, words, needed)
+    if status == TOO_SHORT or needed > len(out):
+        raise LibraryError(f"libima_verify answered status {status} and size {needed} for a buffer of {len(out)} bytes")
+    with memoryview(out) as whole:
+        return status, bytes(whole[:needed])
+
+
+def _call(function: Callable[..., int], words: Sequence[Any], room: int) -> Tuple[int, int, bytearray]:
+    out, needed = bytearray(room), c_size_t(UNSET)
+    status = function(*words, ctypes.byref(c_char.from_buffer(out)), room, ctypes.byref(needed))
+    return status, needed.value, out
+
+
+def _argument(data: BytesLike) -> Tuple[Any, int]:
+    """A pointer to these bytes, which is never null, and their number.
+
+    They are copied only if they are not in one piece, or if ctypes gives no pointer to them: then they are neither writable nor
+    all of a `bytes`."""
+    view = memoryview(data)
+    if view.c_contiguous and view.nbytes:
+        if not view.readonly:
+            return ctypes.byref(c_char.from_buffer(view)), view.nbytes
+        if isinstance(view.obj, bytes) and view.nbytes == bytes.__len__(view.obj):
+            return view.obj, view.nbytes
+    return view.tobytes(), view.nbytes

@@ -1,0 +1,209 @@
+//! What the crate answers about the sample, one boot whose registers were read from the TPM after the list, and about changes
+//! of it.
+
+use ima_verify::{locate, registers, show, verify, version};
+use ima_verify::{Algorithm, BootAggregate, Error, Kind, Place, PlaceRow, Register, Row, State, Verdict};
+use std::sync::Barrier;
+use std::thread;
+
+/// What README gives for register 10 after the list that went on.
+const AFTER_LONGER: &str = "a2bcf779880ae33077f9e7992851299f30cea5f6cffc6512de6cd10aa457a7f3";
+const LAST_ENTRY_SIZE: usize = 95;
+
+fn sample(name: &str) -> Vec<u8> {
+    std::fs::read(format!("{}/../../samples/real-boot/{name}", env!("CARGO_MANIFEST_DIR"))).unwrap()
+}
+
+fn log() -> Vec<u8> {
+    sample("firmware.log")
+}
+
+fn list() -> Vec<u8> {
+    sample("ima.list")
+}
+
+fn expected() -> Vec<u8> {
+    sample("expected.txt")
+}
+
+/// The list, with its last entry once more.
+fn longer() -> Vec<u8> {
+    let list = list();
+    [&list[..], &list[list.len() - LAST_ENTRY_SIZE..]].concat()
+}
+
+/// The list, with a byte of entry 5 changed.
+fn changed() -> Vec<u8> {
+    let mut list = list();
+    let name = b"/bin/helper";
+    let at = list.windows(name.len()).position(|bytes| bytes == name).unwrap();
+    list[at + name.len() - 1] = b'x';
+    list
+}
+
+fn from_hex(digits: &str) -> Vec<u8> {
+    (0..digits.len()).step_by(2).map(|at| u8::from_str_radix(&digits[at..at + 2], 16).unwrap()).collect()
+}
+
+/// The registers of lines as `sha256 10 <value>`; all samples are of this bank.
+fn registers_in(text: &[u8]) -> Vec<Register> {
+    let register_of = |line: &str| {
+        let (register, digits) = line.strip_prefix("sha256 ").unwrap().split_once(' ').unwrap();
+        Register { algorithm: Algorithm::Sha256, register: register.parse().unwrap(), value: from_hex(digits) }
+    };
+    std::str::from_utf8(text).unwrap().lines().map(register_of).collect()
+}
+
+fn matching(register: u8) -> Row {
+    Row { algorithm: Algorithm::Sha256, register, state: State::Match }
+}
+
+fn refused(line: &str, kind: Kind, number: u64, place: Option<u64>) -> Error {
+    Error::Refused { line: line.to_owned(), kind, number, place }
+}
+
+#[test]
+fn verdict_on_the_sample_is_a_match() {
+    let rows: Vec<_> = (0..24).map(matching).collect();
+    let lines: String = (0..24).map(|register| format!("sha256 {register} match\n")).collect();
+    let text = format!("events 24 locality 0\nentries 99\nboot_aggregate good\n{lines}verdict match\n");
+    let wanted = Verdict { events: 24, locality: 0, entries: 99, boot_aggregate: BootAggregate::Good, rows, matches: true, text };
+    assert_eq!(verify(&log(), &list(), &expected()).unwrap(), wanted);
+}
+
+#[test]
+fn registers_are_those_of_the_sample() {
+    assert_eq!(registers(&log()).unwrap(), registers_in(&sample("registers.txt")));
+}
+
+#[test]
+fn entries_are_the_kernels_text() {
+    assert_eq!(show(&list()).unwrap(), sample("ima.ascii"));
+}
+
+#[test]
+fn list_that_went_on_differs_in_register_10() {
+    let verdict = verify(&log(), &longer(), &expected()).unwrap();
+    assert_eq!((verdict.matches, verdict.entries, verdict.boot_aggregate), (false, 100, BootAggregate::Good));
+    let mut wanted: Vec<_> = (0..24).map(matching).collect();
+    wanted[10].state = State::Differ(from_hex(AFTER_LONGER));
+    assert_eq!(verdict.rows, wanted);
+}
+
+#[test]
+fn list_that_went_on_is_located_before_its_end() {
+    let places = locate(&log(), &longer(), &expected()).unwrap();
+    assert!(places.located);
+    assert_eq!(places.rows.len(), 24);
+    assert_eq!(places.rows[10], PlaceRow { algorithm: Algorithm::Sha256, register: 10, place: Place::Entry(98) });
+    let after_log: Vec<_> = registers_in(&sample("registers.txt")).iter().map(|register| register.register).collect();
+    for row in &places.rows {
+        match row.place {
+            Place::Event(event) => assert!((1..=24).contains(&event) && after_log.contains(&row.register)),
+            Place::Entry(_) => assert_eq!(row.register, 10),
+            place => assert!(place == Place::Reset && !after_log.contains(&row.register)),
+        }
+    }
+}
+
+#[test]
+fn expected_registers_may_be_absent_or_reached_nowhere() {
+    let text = format!("sha1 10 {}\nsha256 10 {}", "0".repeat(40), "1".repeat(64));
+    let verdict = verify(&log(), &longer(), text.as_bytes()).unwrap();
+    let places = locate(&log(), &longer(), text.as_bytes()).unwrap();
+    assert!(!verdict.matches && !places.located);
+    let absent = Row { algorithm: Algorithm::Sha1, register: 10, state: State::Absent };
+    let differing = Row { algorithm: Algorithm::Sha256, register: 10, state: State::Differ(from_hex(AFTER_LONGER)) };
+    assert_eq!(verdict.rows, [absent, differing]);
+    let found: Vec<_> = places.rows.iter().map(|row| (row.algorithm, row.register, row.place)).collect();
+    assert_eq!(found, [(Algorithm::Sha1, 10, Place::Absent), (Algorithm::Sha256, 10, Place::Nowhere)]);
+}
+
+#[test]
+fn version_is_that_of_the_header() {
+    let header = std::fs::read_to_string(format!("{}/../../include/ima_verify.h", env!("CARGO_MANIFEST_DIR"))).unwrap();
+    let (_, rest) = header.split_once("#define IMA_VERIFY_VERSION ").unwrap();
+    assert!(version() >= rest.lines().next().unwrap().parse().unwrap());
+}
+
+#[test]
+fn changed_entry_is_not_genuine() {
+    let wanted = refused("refused: replay fault 1 at entry 5", Kind::Replay, 1, Some(5));
+    assert_eq!(verify(&log(), &changed(), &expected()).unwrap_err(), wanted);
+    assert_eq!(locate(&log(), &changed(), &expected()).unwrap_err(), wanted);
+    assert_eq!(wanted.to_string(), "refused: replay fault 1 at entry 5");
+}
+
+#[test]
+fn log_that_is_cut_is_refused() {
+    let log = log();
+    let header = refused("refused: log fault 1 at event 0", Kind::Log, 1, Some(0));
+    assert_eq!(verify(&log[..31], &list(), &expected()).unwrap_err(), header);
+    let last = refused("refused: log fault 1 at event 24", Kind::Log, 1, Some(24));
+    assert_eq!(registers(&log[..log.len() - 1]).unwrap_err(), last);
+}
+
+#[test]
+fn log_of_another_form_has_no_place() {
+    assert_eq!(registers(&[0; 32]).unwrap_err(), refused("refused: log fault 2", Kind::Log, 2, None));
+}
+
+#[test]
+fn list_that_is_cut_is_refused() {
+    let list = list();
+    let wanted = refused("refused: list fault 1 at entry 98", Kind::List, 1, Some(98));
+    assert_eq!(show(&list[..list.len() - 1]).unwrap_err(), wanted);
+}
+
+#[test]
+fn expected_registers_of_another_form_are_refused() {
+    let text = [expected(), format!("sha256 24 {}", "0".repeat(64)).into_bytes()].concat();
+    let wanted = refused("refused: expected fault 1 at line 25", Kind::Expected, 1, Some(25));
+    assert_eq!(verify(&log(), &list(), &text).unwrap_err(), wanted);
+    let twice = [expected(), expected()].concat();
+    let wanted = refused("refused: expected fault 2 at line 25", Kind::Expected, 2, Some(25));
+    assert_eq!(locate(&log(), &list(), &twice).unwrap_err(), wanted);
+}
+
+#[test]
+fn inputs_without_bytes() {
+    let cut = refused("refused: log fault 1 at event 0", Kind::Log, 1, Some(0));
+    assert_eq!(registers(&[]).unwrap_err(), cut);
+    assert_eq!(verify(&[], &[], &[]).unwrap_err(), cut);
+    assert_eq!(show(&[]).unwrap(), b"");
+    let verdict = verify(&log(), &[], &[]).unwrap();
+    assert_eq!((verdict.matches, verdict.entries, verdict.boot_aggregate), (false, 0, BootAggregate::Missing));
+    assert_eq!(verdict.rows, []);
+    let verdict = verify(&log(), &list(), &[]).unwrap();
+    assert_eq!((verdict.matches, verdict.entries, verdict.boot_aggregate), (true, 99, BootAggregate::Good));
+    let places = locate(&log(), &list(), &[]).unwrap();
+    assert_eq!((places.located, places.rows.len(), places.text.as_str()), (true, 0, "located\n"));
+}
+
+#[test]
+fn calls_at_once_give_what_they_give_alone() {
+    const THREADS: usize = 8;
+    let (log, list, longer, changed, expected) = (log(), list(), longer(), changed(), expected());
+    let (verdict, differing) = (verify(&log, &list, &expected), verify(&log, &longer, &expected));
+    let places = locate(&log, &longer, &expected);
+    assert!(verdict.is_ok() && differing.is_ok() && places.is_ok());
+    let (after_log, ascii) = (registers_in(&sample("registers.txt")), sample("ima.ascii"));
+    let start = Barrier::new(THREADS);
+    let run = || {
+        start.wait();
+        for _ in 0..100 {
+            assert_eq!(verify(&log, &list, &expected), verdict);
+            assert_eq!(verify(&log, &longer, &expected), differing);
+            assert_eq!(locate(&log, &longer, &expected), places);
+            assert_eq!(registers(&log).as_ref(), Ok(&after_log));
+            assert_eq!(show(&list).as_ref(), Ok(&ascii));
+            let wanted = refused("refused: replay fault 1 at entry 5", Kind::Replay, 1, Some(5));
+            assert_eq!(verify(&log, &changed, &expected), Err(wanted));
+        }
+    };
+    thread::scope(|scope| {
+        for _ in 0..THREADS {
+            scope.spawn(run);
+        }
+    });
+}

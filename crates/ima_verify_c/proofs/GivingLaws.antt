@@ -1,0 +1,57 @@
+-- What was made, once it is given, is an answer.
+use Rattle.std.proofs.Common.{◌≡◌, ℕ, List, Ok, Err, sym, subst, inl, inr, Result}
+use Rattle.std.specs.Prelude.{ℤ, ◌⊎◌, IfOk, IfErr}
+use Rattle.std.specs.Global.{Vec}
+use Rattle.ima_agent.specs.declared.fault.RunFault.{RunFault}
+use Rattle.ima_agent.specs.declared.fault.RunFault.TheVariants.{Memory}
+use Rattle.ima_verify_c.specs.declared.showing.Output.{Output}
+use Rattle.ima_verify_c.specs.Answers.{Answers, IsRefusal}
+use Rattle.ima_verify_c.specs.parts.Givings.{IsFaultText, IsOf, IsTextOf}
+
+-- What holds of a text and a status holds of equal ones.
+same_answer : (P : List ℕ → ℕ → Type 0) (text shown : List ℕ) (status exit : ℕ) → text ≡ shown → status ≡ exit → P shown exit
+    → P text status
+same_answer P text shown status exit same_text same_status holds =
+    subst (λ (t : List ℕ). P t status) (sym same_text) (subst (λ (s : ℕ). P shown s) (sym same_status) holds)
+
+-- The line of a fault is a refusal, and so is that of `Memory`.
+refusal : (Cause : RunFault → Type 0) (fault : RunFault) (text : List ℕ) (status : ℕ) → Cause Memory → Cause fault
+    → IsFaultText fault text status → IsRefusal Cause text status
+refusal Cause fault text status memory cause (inl is) = record { fault = fault; cause = cause; text_is = is.0; status_is = is.1 }
+refusal Cause fault text status memory cause (inr is) = record { fault = Memory; cause = memory; text_is = is.0; status_is = is.1 }
+
+-- An output, or the line of a fault, was given.
+pub gives_output : (Shows : List ℕ → ℕ → Type 0) (Cause : RunFault → Type 0) (made : Result Output RunFault) (answer : ℤ) (needed : ℕ)
+    (old new : List ℕ) → Cause Memory → IfOk made (λ output. Shows output.text.items output.status) → IfErr made Cause
+    → Answers (IsOf made) answer needed old new → Answers (λ text status. Shows text status ⊎ IsRefusal Cause text status) answer needed old new
+gives_output Shows Cause (Ok output) answer needed old new memory shows none given = record {
+  text = given.text;
+  status = given.status;
+  is_answer =
+      inl (same_answer Shows given.text output.text.items given.status output.status given.is_answer.0 given.is_answer.1 shows);
+  given = given.given;
+}
+gives_output Shows Cause (Err fault) answer needed old new memory shows cause given = record {
+  text = given.text;
+  status = given.status;
+  is_answer = inr (refusal Cause fault given.text given.status memory cause given.is_answer);
+  given = given.given;
+}
+
+-- A text whose status is 0, or the line of a fault, was given.
+pub gives_text : (Shows : List ℕ → Type 0) (Cause : RunFault → Type 0) (made : Result (Vec ℕ) RunFault) (answer : ℤ) (needed : ℕ)
+    (old new : List ℕ) → Cause Memory → IfOk made (λ shown. Shows shown.items) → IfErr made Cause
+    → Answers (IsTextOf made) answer needed old new
+    → Answers (λ text status. (Shows text × (status ≡ 0)) ⊎ IsRefusal Cause text status) answer needed old new
+gives_text Shows Cause (Ok shown) answer needed old new memory shows none given = record {
+  text = given.text;
+  status = given.status;
+  is_answer = inl (subst Shows (sym given.is_answer.0) shows, given.is_answer.1);
+  given = given.given;
+}
+gives_text Shows Cause (Err fault) answer needed old new memory shows cause given = record {
+  text = given.text;
+  status = given.status;
+  is_answer = inr (refusal Cause fault given.text given.status memory cause given.is_answer);
+  given = given.given;
+}

@@ -1,0 +1,60 @@
+-- What a caller in C finds after a call. All of this is this project's choice.
+use Rattle.std.specs.Prelude.{◌≡◌, ℕ, ℤ, pos, ◌<◌, ◌≤◌, ◌⊎◌, List, ◌++◌, length, drop}
+use Rattle.ima_agent.specs.declared.fault.RunFault.{RunFault}
+use Rattle.ima_agent.specs.FaultTexts.{fault_line, fault_status}
+use Rattle.ima_agent.specs.Showing.{IsNoListFor, IsNoLogFor, ShowsList, ShowsRegistersAfter}
+use Rattle.ima_verify_c.specs.Reports.{IsNoReportOn, ShowsPlacesOn, ShowsReportOn}
+
+abbrev pub interface_version : ℕ
+interface_version = 1
+
+-- What a call returns if the buffer is too short.
+abbrev pub too_short : ℤ
+too_short = pos 4
+
+-- ---- what stands in the buffer
+
+-- The text was given: if it fits, it is at the front of the buffer, the rest of which is as it was, and the call returns the status;
+-- if it does not, the buffer is as it was. In both cases the caller is told the size of the text.
+pub record IsGiven (text : List ℕ) (status : ℕ) (answer : ℤ) (needed : ℕ) (old new : List ℕ) : Type 0 where
+  pub size : needed ≡ length text
+  pub answer_if : length text ≤ length old → answer ≡ pos status
+  pub buffer_if : length text ≤ length old → new ≡ text ++ drop (length text) old
+  pub answer_else : length old < length text → answer ≡ too_short
+  pub buffer_else : length old < length text → new ≡ old
+
+-- A text with a status that is an answer to what was asked was given.
+pub record Answers (IsAnswer : List ℕ → ℕ → Type 0) (answer : ℤ) (needed : ℕ) (old new : List ℕ) : Type 0 where
+  pub text : List ℕ
+  pub status : ℕ
+  pub is_answer : IsAnswer text status
+  pub given : IsGiven text status answer needed old new
+
+-- ---- answers
+
+-- The text is the line of a fault that has this cause, and the status is that of the fault: 2 if an input is refused, or 3 if memory
+-- ran out.
+pub record IsRefusal (HasCause : RunFault → Type 0) (text : List ℕ) (status : ℕ) : Type 0 where
+  pub fault : RunFault
+  pub cause : HasCause fault
+  pub text_is : text ≡ fault_line fault
+  pub status_is : status ≡ fault_status fault
+
+-- The report on this log, this list and the registers that the text `expected` states, with the status of its verdict; or why there
+-- is none.
+abbrev pub IsReportAnswer : List ℕ → List ℕ → List ℕ → List ℕ → ℕ → Type 0
+IsReportAnswer log list expected text status =
+    ShowsReportOn log list expected text status ⊎ IsRefusal (IsNoReportOn log list expected) text status
+
+-- The places in this log and this list of the registers that the text `expected` states, with their status; or why there are none.
+abbrev pub IsPlacesAnswer : List ℕ → List ℕ → List ℕ → List ℕ → ℕ → Type 0
+IsPlacesAnswer log list expected text status =
+    ShowsPlacesOn log list expected text status ⊎ IsRefusal (IsNoReportOn log list expected) text status
+
+-- The registers after this log; or why there are none.
+abbrev pub IsRegistersAnswer : List ℕ → List ℕ → ℕ → Type 0
+IsRegistersAnswer log text status = (ShowsRegistersAfter log text × (status ≡ 0)) ⊎ IsRefusal (IsNoLogFor log) text status
+
+-- The lines of this list's entries; or why there are none.
+abbrev pub IsEntriesAnswer : List ℕ → List ℕ → ℕ → Type 0
+IsEntriesAnswer list text status = (ShowsList list text × (status ≡ 0)) ⊎ IsRefusal (IsNoListFor list) text status

@@ -1,0 +1,22 @@
+-- The text and the status of what was computed.
+use Rattle.std.specs.Prelude.{◌≡◌, ℕ, ◌⊎◌, List, Result, Ok, Err}
+use Rattle.std.specs.Global.{Vec}
+use Rattle.ima_agent.specs.declared.fault.RunFault.{RunFault}
+use Rattle.ima_agent.specs.declared.fault.RunFault.TheVariants.{Memory}
+use Rattle.ima_verify_c.specs.declared.showing.Output.{Output}
+use Rattle.ima_agent.specs.FaultTexts.{fault_line, fault_status}
+
+-- The line of this fault and its status; or those of `Memory`.
+abbrev pub IsFaultText : RunFault → List ℕ → ℕ → Type 0
+IsFaultText fault text status =
+    ((text ≡ fault_line fault) × (status ≡ fault_status fault)) ⊎ ((text ≡ fault_line Memory) × (status ≡ fault_status Memory))
+
+-- The text and the status of this output, or of this fault.
+abbrev pub IsOf : Result Output RunFault → List ℕ → ℕ → Type 0
+IsOf (Ok output) text status = (text ≡ output.text.items) × (status ≡ output.status)
+IsOf (Err fault) text status = IsFaultText fault text status
+
+-- The same of a text whose status is 0.
+abbrev pub IsTextOf : Result (Vec ℕ) RunFault → List ℕ → ℕ → Type 0
+IsTextOf (Ok shown) text status = (text ≡ shown.items) × (status ≡ 0)
+IsTextOf (Err fault) text status = IsFaultText fault text status

@@ -1,0 +1,83 @@
+//! Gives an answer to the caller: a text in the caller's buffer, its size, and a number.
+
+ghost use Rattle.std.specs.Prelude.{◌≡◌, IfOk};
+ghost use Rattle.ima_agent.specs.FaultTexts.{fault_line};
+ghost use Rattle.ima_verify_c.specs.Answers.{Answers, IsGiven};
+ghost use Rattle.ima_verify_c.specs.parts.Givings.{IsFaultText, IsOf, IsTextOf};
+
+use crate::showing::Output;
+use byte_streams::{Failed, VecSink};
+use ima_agent::{RunFault, status_of, write_fault};
+use std::alloc::{AllocError, Global};
+
+/// What a call returns if memory ran out.
+const OUT_OF_MEMORY: u8 = 3;
+
+/// What a call returns if the buffer is too short.
+const TOO_SHORT: i32 = 4;
+
+/// The line of a fault, if even that cannot be kept in memory.
+const MEMORY_LINE: &[u8] = b"failed: memory\n";
+
+/// Gives an output, or the line of a fault.
+pub(crate) fn give(
+    alloc: Global,
+    asked: Result<Output, RunFault>,
+    out: &mut [u8],
+    needed: &mut usize,
+) -> i32
+    ensures { Answers (IsOf asked) result needed.new out.old out.new }
+{
+    match asked {
+        Ok(output) => put(&output.text, output.status, out, needed),
+        Err(fault) => give_fault(alloc, &fault, out, needed),
+    }
+}
+
+/// Gives a text, or the line of a fault.
+pub(crate) fn give_text(
+    alloc: Global,
+    asked: Result<Vec<u8>, RunFault>,
+    out: &mut [u8],
+    needed: &mut usize,
+) -> i32
+    ensures { Answers (IsTextOf asked) result needed.new out.old out.new }
+{
+    match asked {
+        Ok(text) => put(&text, 0, out, needed),
+        Err(fault) => give_fault(alloc, &fault, out, needed),
+    }
+}
+
+// Gives the line of a fault; that of `Memory`, if there is no memory for it.
+fn give_fault(alloc: Global, fault: &RunFault, out: &mut [u8], needed: &mut usize) -> i32
+    ensures { Answers (IsFaultText fault.now) result needed.new out.old out.new }
+{
+    match line_of(alloc, fault) {
+        Ok(line) => put(&line, status_of(fault), out, needed),
+        Err(AllocError) => put(MEMORY_LINE, OUT_OF_MEMORY, out, needed),
+    }
+}
+
+// The line of a fault.
+fn line_of(alloc: Global, fault: &RunFault) -> Result<Vec<u8>, AllocError>
+    ensures { IfOk result (λ line. line.items ≡ fault_line fault.now) }
+{
+    let mut line = VecSink::new(Vec::new(alloc));
+    match write_fault(fault, &mut line) {
+        Ok(()) => Ok(line.into_bytes()),
+        Err(Failed) => Err(AllocError),
+    }
+}
+
+// Puts a text at the front of the caller's buffer, if it fits.
+fn put(text: &[u8], status: u8, out: &mut [u8], needed: &mut usize) -> i32
+    ensures { IsGiven text.now status result needed.new out.old out.new }
+{
+    *needed = text.len();
+    if out.len() < text.len() {
+        return TOO_SHORT;
+    }
+    out[..text.len()].copy_from_slice(text);
+    i32::from(status)
+}

@@ -1,0 +1,78 @@
+//! The verifier for callers in C: verdicts, places, registers and entries, from bytes in the caller's memory to a text in the caller's
+//! buffer. `include/ima_verify.h` says it to C.
+//!
+//! Each call returns a number: 0 or 1 as the command of the same name exits, with its output in the buffer; 2 if an input is refused,
+//! or 3 if memory ran out, with the line of the fault in the buffer; or 4 if the buffer is too short, and then it is as it was. In
+//! any case `needed` is the size of the text in bytes.
+#![tactic(auto)]
+
+mod giving;
+mod showing;
+
+ghost use Rattle.std.specs.Prelude.{◌≡◌};
+ghost use Rattle.ima_verify_c.specs.Answers.{Answers, IsPlacesAnswer, IsEntriesAnswer, IsRegistersAnswer, IsReportAnswer, interface_version};
+
+use crate::giving::{give, give_text};
+use crate::showing::{entries_on, places_on, registers_on, report_on};
+use std::alloc::Global;
+
+/// The version of this interface: 1. A later version may have more functions; what these do stays as it is.
+#[unsafe(no_mangle)]
+pub extern "C" fn ima_verify_version() -> u32
+    ensures { result ≡ interface_version }
+{
+    1
+}
+
+/// The verdict on a firmware event log, a measurement list and expected registers, as `verify` writes it: 0 if it is `match`, 1 if it
+/// is `differ`.
+#[unsafe(no_mangle)]
+pub extern "C" fn ima_verify(
+    alloc: Global,
+    log: &[u8],
+    list: &[u8],
+    expected: &[u8],
+    out: &mut [u8],
+    needed: &mut usize,
+) -> i32
+    ensures { Answers (IsReportAnswer log.now list.now expected.now) result needed.new out.old out.new }
+{
+    give(alloc, report_on(alloc, log, list, expected), out, needed)
+}
+
+/// Where expected registers first have their values in a firmware event log and a measurement list, as `locate` writes it: 0 if each
+/// was reached, else 1.
+#[unsafe(no_mangle)]
+pub extern "C" fn ima_locate(
+    alloc: Global,
+    log: &[u8],
+    list: &[u8],
+    expected: &[u8],
+    out: &mut [u8],
+    needed: &mut usize,
+) -> i32
+    ensures { Answers (IsPlacesAnswer log.now list.now expected.now) result needed.new out.old out.new }
+{
+    give(alloc, places_on(alloc, log, list, expected), out, needed)
+}
+
+/// The registers that differ from their reset values after a firmware event log, as `registers` writes them.
+#[unsafe(no_mangle)]
+pub extern "C" fn ima_registers(
+    alloc: Global,
+    log: &[u8],
+    out: &mut [u8],
+    needed: &mut usize,
+) -> i32
+    ensures { Answers (IsRegistersAnswer log.now) result needed.new out.old out.new }
+{
+    give_text(alloc, registers_on(alloc, log), out, needed)
+}
+
+/// The entries of a measurement list, as `show` writes them.
+#[unsafe(no_mangle)]
+pub extern "C" fn ima_show(alloc: Global, list: &[u8], out: &mut [u8], needed: &mut usize) -> i32
+    ensures { Answers (IsEntriesAnswer list.now) result needed.new out.old out.new }
+{
+    give_text(alloc, entries_on(alloc, list), out, needed)
+}

@@ -1,0 +1,236 @@
+/* Calls one function of the verifier's library again and again, with another of its allocations refused each time.
+ *
+ *     library FUNCTION STATUS TEXT ROOM INPUT..
+ *
+ * FUNCTION is verify, locate, registers or show; INPUT are its files, and ROOM is the size of its buffer. STATUS and the file
+ * TEXT are the answer that it has with ample memory. In the Nth turn the Nth allocation is refused, until a turn ends with none
+ * refused. Each turn calls twice: the call whose allocation is refused has the answer, or says that memory ran out; the next one
+ * has the answer.
+ *
+ * Prints how many allocations were refused; or what is wrong, with status 1. faults/library.py builds and runs it. */
+#define _POSIX_C_SOURCE 200809L
+#include "ima_verify.h"
+
+#include <fcntl.h>
+#include <stdarg.h>
+#include <stdio.h>
+#include <stdlib.h>
+#include <string.h>
+#include <sys/mman.h>
+#include <sys/stat.h>
+#include <unistd.h>
+
+enum { MOST_BLOCKS = 1 << 16, MOST_TURNS = 100000, MARGIN = 64, FREED = 0xdd, UNUSED = 0xa7 };
+
+struct bytes {
+    const uint8_t *at;
+    size_t size;
+};
+
+struct answer {
+    int32_t status;
+    struct bytes text;
+};
+
+/* A block that the library was given. Given back, it is filled with FREED, and stays here until the call has ended. */
+struct block {
+    uint8_t *at;
+    size_t size;
+    int is_held;
+};
+
+/* What an allocation function returns: whether there is memory, and where. */
+struct tried {
+    uint8_t is_there;
+    void *at;
+};
+
+static struct block blocks[MOST_BLOCKS];
+static size_t block_count, held_count, held_bytes;
+static long refused, allocations;
+static uint8_t nothing;
+
+static void fail(const char *form, ...) {
+    va_list parts;
+    va_start(parts, form);
+    vprintf(form, parts);
+    va_end(parts);
+    printf(" (allocation %ld of the call is refused)\n", refused);
+    exit(1);
+}
+
+static int is_filled(const uint8_t *at, size_t size, int with) {
+    for (size_t i = 0; i < size; i++)
+        if (at[i] != with)
+            return 0;
+    return 1;
+}
+
+/* The block that begins here and that the library holds. */
+static struct block *held(const void *at) {
+    for (size_t i = block_count; i > 0; i--) {
+        struct block *block = &blocks[i - 1];
+        if (block->at != at)
+            continue;
+        if (!block->is_held)
+            fail("a block of %zu bytes is given back twice", block->size);
+        return block;
+    }
+    fail("what is given back is no block");
+    return NULL;
+}
+
+static void give_back(struct block *block) {
+    if (!is_filled(block->at + block->size, MARGIN, UNUSED))
+        fail("bytes after a block of %zu bytes are written", block->size);
+    memset(block->at, FREED, block->size);
+    block->is_held = 0;
+    held_count--;
+    held_bytes -= block->size;
+}
+
+/* A malloc aligns for every type of C, so to 16 bytes on the machines that the toolchain knows. */
+static struct tried take(size_t size, size_t alignment) {
+    if (alignment > _Alignof(max_align_t))
+        fail("a block is to be aligned to %zu bytes", alignment);
+    if (block_count == MOST_BLOCKS)
+        fail("a call takes more than %d blocks", (int)MOST_BLOCKS);
+    uint8_t *at = malloc(size + MARGIN);
+    if (at == NULL)
+        fail("there is no memory for this test");
+    memset(at, UNUSED, size + MARGIN);
+    blocks[block_count++] = (struct block){at, size, 1};
+    held_count++;
+    held_bytes += size;
+    return (struct tried){1, at};
+}
+
+/* The library's allocation functions, in place of the toolchain's. */
+struct tried rattle_alloc(size_t size, size_t alignment);
+struct tried rattle_realloc(void *old, size_t kept, size_t size, size_t alignment);
+void rattle_dealloc(void *at);
+
+struct tried rattle_alloc(size_t size, size_t alignment) {
+    if (++allocations == refused)
+        return (struct tried){0, &nothing};
+    return take(size, alignment);
+}
+
+/* Moves each time and keeps no more than is asked for, so that neither a block's old place nor its other bytes are ever right. */
+struct tried rattle_realloc(void *old, size_t kept, size_t size, size_t alignment) {
+    struct block *block = held(old);
+    if (kept > block->size || kept > size)
+        fail("%zu bytes are to be kept when a block of %zu bytes gets %zu", kept, block->size, size);
+    if (++allocations == refused)
+        return (struct tried){0, &nothing};
+    struct tried tried = take(size, alignment);
+    memcpy(tried.at, old, kept);
+    give_back(block);
+    return tried;
+}
+
+void rattle_dealloc(void *at) {
+    give_back(held(at));
+}
+
+/* After a call: all is given back, and was left alone since. */
+static void settle(void) {
+    if (held_count != 0 || held_bytes != 0)
+        fail("%zu blocks with %zu bytes are not given back", held_count, held_bytes);
+    for (size_t i = 0; i < block_count; i++) {
+        if (!is_filled(blocks[i].at, blocks[i].size, FREED))
+            fail("a block of %zu bytes is written after it was given back", blocks[i].size);
+        free(blocks[i].at);
+    }
+    block_count = 0;
+}
+
+/* A file's bytes, which nothing can write to. */
+static struct bytes load(const char *name) {
+    struct stat about;
+    int file = open(name, O_RDONLY);
+    if (file < 0 || fstat(file, &about) != 0)
+        fail("%s cannot be read", name);
+    size_t size = (size_t)about.st_size;
+    void *at = mmap(NULL, size, PROT_READ, MAP_PRIVATE, file, 0);
+    if (at == MAP_FAILED)
+        fail("%s cannot be read", name);
+    close(file);
+    return (struct bytes){at, size};
+}
+
+static int32_t call(const char *function, const struct bytes *in, uint8_t *out, size_t room, size_t *needed) {
+    if (strcmp(function, "verify") == 0)
+        return ima_verify(in[0].at, in[0].size, in[1].at, in[1].size, in[2].at, in[2].size, out, room, needed);
+    if (strcmp(function, "locate") == 0)
+        return ima_locate(in[0].at, in[0].size, in[1].at, in[1].size, in[2].at, in[2].size, out, room, needed);
+    if (strcmp(function, "registers") == 0)
+        return ima_registers(in[0].at, in[0].size, out, room, needed);
+    if (strcmp(function, "show") == 0)
+        return ima_show(in[0].at, in[0].size, out, room, needed);
+    fail("there is no function ima_%s", function);
+    return 0;
+}
+
+/* What the byte at a place of the buffer is before a call. */
+static uint8_t before(size_t place) {
+    return (uint8_t)(place * 37 + 129);
+}
+
+/* Whether an answer is given as the header says: its text at the front of the buffer and all other bytes as before; or, if the
+ * buffer is too short for the text, all bytes as before. */
+static int is_given(struct answer answer, int32_t status, size_t needed, const uint8_t *buffer, size_t room) {
+    int fits = answer.text.size <= room;
+    size_t written = fits ? answer.text.size : 0;
+    if (status != (fits ? answer.status : IMA_TOO_SHORT) || needed != answer.text.size)
+        return 0;
+    if (memcmp(buffer + MARGIN, answer.text.at, written) != 0)
+        return 0;
+    for (size_t i = 0; i < room + 2 * MARGIN; i++)
+        if ((i < MARGIN || i >= MARGIN + written) && buffer[i] != before(i))
+            return 0;
+    return 1;
+}
+
+/* Calls once. The answer is the right one or, if an allocation was refused, that memory ran out. Returns whether one was. */
+static int turn(const char *function, const struct bytes *in, size_t room, struct answer right) {
+    static const char line[] = "failed: memory\n";
+    struct answer memory = {IMA_OUT_OF_MEMORY, {(const uint8_t *)line, sizeof line - 1}};
+    uint8_t *buffer = malloc(room + 2 * MARGIN);
+    size_t needed = SIZE_MAX;
+    if (buffer == NULL)
+        fail("there is no memory for this test");
+    for (size_t i = 0; i < room + 2 * MARGIN; i++)
+        buffer[i] = before(i);
+    allocations = 0;
+    int32_t status = call(function, in, buffer + MARGIN, room, &needed);
+    int is_refused = refused > 0 && allocations >= refused;
+    if (!is_given(right, status, needed, buffer, room) && !(is_refused && is_given(memory, status, needed, buffer, room)))
+        fail("status %d, %zu bytes are needed, and the buffer has '%.40s'", status, needed, (char *)buffer + MARGIN);
+    settle();
+    free(buffer);
+    return is_refused;
+}
+
+int main(int count, char **words) {
+    struct bytes in[3];
+    if (count < 6 || count > 8 || count != (strcmp(words[1], "verify") && strcmp(words[1], "locate") ? 6 : 8))
+        fail("library FUNCTION STATUS TEXT ROOM INPUT..");
+    struct answer right = {(int32_t)strtol(words[2], NULL, 10), load(words[3])};
+    size_t room = strtoul(words[4], NULL, 10);
+    for (int i = 5; i < count; i++)
+        in[i - 5] = load(words[i]);
+    if (ima_verify_version() != IMA_VERIFY_VERSION || allocations != 0)
+        fail("the library's version is %u, and it took memory %ld times to say so", ima_verify_version(), allocations);
+    for (long number = 1; number < MOST_TURNS; number++) {
+        refused = number;
+        int is_refused = turn(words[1], in, room, right);
+        refused = 0;
+        turn(words[1], in, room, right);
+        if (!is_refused) {
+            printf("%ld\n", number - 1);
+            return 0;
+        }
+    }
+    fail("there is no end to it");
+}

@@ -1,0 +1,170 @@
+#!/usr/bin/env python3
+"""Refuses each allocation in turn through each function of the verifier's library for C, on the samples and changes of them.
+
+faults/library.py [PROGRAM ARCHIVE]: the program and the static library that the toolchain made; without them, those of this tree,
+which `dist/library` builds first if they are not there or are older than a source.
+
+The answers that are wanted are those of the program to the same files. Each function is called with each input, and with buffers
+that have room to spare, just enough, and too little. In the Nth turn the Nth allocation is refused (faults/library.c, which gives
+the library its memory), until a turn ends with none refused. A call must have the answer, or say that memory ran out; write
+nothing but its text; give back, once, all memory that it took; and have the answer when it is made again. A function that takes
+no memory at all fails, and so does one that takes it elsewhere, a crash, and a run of more than a minute.
+
+Needs cc and nm. The last line is 'N passed, M failed'."""
+
+import os
+import subprocess
+import sys
+import tempfile
+from concurrent.futures import ThreadPoolExecutor
+from dataclasses import dataclass
+from pathlib import Path
+
+ROOT = Path(__file__).resolve().parent.parent
+SECONDS = 60
+MEMORY = b"failed: memory\n"
+REPLACED = {"rattle_alloc", "rattle_realloc", "rattle_dealloc"}
+ELSEWHERE = {"malloc", "calloc", "realloc", "reallocarray", "free", "posix_memalign", "aligned_alloc", "memalign", "valloc"}
+ELSEWHERE |= {"mmap", "munmap", "mremap", "brk", "sbrk", "strdup", "strndup"}
+
+
+@dataclass
+class Case:
+    """A function's name without `ima_`, what it is given, and the files of that."""
+
+    function: str
+    title: str
+    inputs: list
+
+
+@dataclass
+class Run:
+    """A case, the size of the buffer, and the answer with ample memory: its status, and the file of its text."""
+
+    case: Case
+    room: int
+    status: int
+    text: Path
+
+    def title(self):
+        return f"ima_{self.case.function} of {self.case.title}, {self.room} bytes of room for {self.text.stat().st_size}"
+
+
+def made_files(folder):
+    """The sample's files, and files made of them, by name."""
+    boot = ROOT / "samples/real-boot"
+    log, listed, expected = ((boot / name).read_bytes() for name in ("firmware.log", "ima.list", "expected.txt"))
+    made = {
+        "log": log,
+        "one event": bytes.fromhex((ROOT / "samples/one-event.hex").read_text()),
+        "cut log": log[:-1],
+        "list": listed,
+        "longer list": listed + listed[-95:],
+        "changed list": listed.replace(b"/bin/helper", b"/bin/helpex"),
+        "cut list": listed[:-1],
+        "expected": expected,
+        "other bank": b"sha1 10 " + 40 * b"0",
+        "wrong line": expected + b"sha256 24 00\n",
+    }
+    files = {}
+    for number, (name, content) in enumerate(made.items()):
+        files[name] = folder / f"input-{number}"
+        files[name].write_bytes(content)
+    return files
+
+
+def cases(files):
+    """Every function, with inputs that it takes and inputs that it refuses."""
+    for function in ("verify", "locate"):
+        for title, *names in (
+            ("the real boot", "log", "list", "expected"),
+            ("a longer list", "log", "longer list", "expected"),
+            ("a changed list", "log", "changed list", "expected"),
+            ("a bank that the log lacks", "log", "list", "other bank"),
+            ("a log that is cut short", "cut log", "list", "expected"),
+            ("a list that is cut short", "log", "cut list", "expected"),
+            ("expected registers of which one is wrong", "log", "list", "wrong line"),
+        ):
+            yield Case(function, title, [files[name] for name in names])
+    for function, title, name in (
+        ("registers", "the real boot", "log"),
+        ("registers", "one event", "one event"),
+        ("registers", "a log that is cut short", "cut log"),
+        ("show", "the real boot", "list"),
+        ("show", "a changed list", "changed list"),
+        ("show", "a list that is cut short", "cut list"),
+    ):
+        yield Case(function, title, [files[name]])
+
+
+def runs_of(case, program, file):
+    """The runs of a case, one for each size of the buffer. The answer is the program's; its text goes to a file."""
+    answer = subprocess.run([program, case.function, *case.inputs], capture_output=True, timeout=SECONDS)
+    if answer.returncode not in (0, 1, 2):
+        sys.exit(f"{program} {case.function} of {case.title}: status {answer.returncode}, {answer.stderr[-500:]!r}")
+    file.write_bytes(answer.stdout)
+    size = len(answer.stdout)
+    for room in sorted({size + 64, size, size - 1, len(MEMORY), len(MEMORY) - 1, 0}, reverse=True):
+        yield Run(case, room, answer.returncode, file)
+
+
+def swept(run, caller):
+    """How many allocations were refused, and what was wrong, or None."""
+    words = [caller, run.case.function, str(run.status), run.text, str(run.room), *run.case.inputs]
+    try:
+        ended = subprocess.run(words, capture_output=True, timeout=SECONDS)
+    except subprocess.TimeoutExpired:
+        return 0, f"more than {SECONDS} seconds"
+    said = (ended.stdout + ended.stderr).decode(errors="replace").strip()
+    if ended.returncode != 0:
+        return 0, f"status {ended.returncode}, {said[-500:]!r}"
+    return int(said), None if int(said) > 0 else "no allocation was refused"
+
+
+def built_files(folder):
+    """The program and the static library of this tree, after `dist/library` has built what is not up to date."""
+    subprocess.run([ROOT / "dist/library", folder / "made"], check=True)
+    return [ROOT / "crates/ima_agent_program/out/ima_agent_program", ROOT / "crates/ima_verify_c/out/libima_verify_c.a"]
+
+
+def caller_of(archive, folder):
+    """The program of faults/library.c, linked with the library and with no other source of memory."""
+    caller = folder / "library"
+    source = Path(__file__).with_suffix(".c")
+    flags = ["-std=c11", "-O2", "-Wall", "-Wextra", "-Wpedantic", "-Werror", f"-I{ROOT / 'include'}"]
+    subprocess.run(["cc", *flags, "-o", caller, source, archive], check=True)
+    return caller
+
+
+def memory_fault(archive):
+    """What is wrong with where the library takes its memory, or None: all is to come from the functions that are replaced."""
+    listing = subprocess.run(["nm", "-u", archive], capture_output=True, text=True, check=True)
+    names = {line.split()[-1] for line in listing.stdout.splitlines() if line.startswith(" ")}
+    if names & ELSEWHERE:
+        return f"it calls {', '.join(sorted(names & ELSEWHERE))}"
+    return None if REPLACED <= names else f"it does not call {', '.join(sorted(REPLACED - names))}"
+
+
+def main():
+    if len(sys.argv) not in (1, 3):
+        sys.exit("usage: faults/library.py [PROGRAM ARCHIVE]")
+    with tempfile.TemporaryDirectory() as name, ThreadPoolExecutor(os.cpu_count()) as pool:
+        folder = Path(name)
+        program, archive = (Path(name).resolve() for name in sys.argv[1:] or built_files(folder))
+        caller = caller_of(archive, folder)
+        fault = memory_fault(archive)
+        print(f"{fault or 'ok'}: where the library takes its memory", flush=True)
+        runs = []
+        for number, case in enumerate(cases(made_files(folder))):
+            runs += runs_of(case, program, folder / f"answer-{number}")
+        total, failed = 0, int(fault is not None)
+        for run, (refusals, fault) in zip(runs, pool.map(lambda run: swept(run, caller), runs)):
+            total += refusals
+            failed += fault is not None
+            print(f"{refusals:6} refused, {fault or 'ok'}: {run.title()}", flush=True)
+        print(f"{total} allocations were refused\n{len(runs) + 1 - failed} passed, {failed} failed")
+    return 1 if failed else 0
+
+
+if __name__ == "__main__":
+    sys.exit(main())

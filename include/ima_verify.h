@@ -1,0 +1,88 @@
+/* Do a machine's boot log and measurement list account for the registers (PCRs) of its TPM 2.0?
+ *
+ * A firmware event log (TCG, crypto-agile) and a binary measurement list of Linux IMA are replayed, and the
+ * registers that they make are compared with expected ones. The files are, on the machine,
+ * /sys/kernel/security/tpm0/binary_bios_measurements and
+ * /sys/kernel/security/ima/binary_runtime_measurements; the expected registers are text, a line for each, as
+ * `sha256 10 <64 hexadecimal digits>`.
+ *
+ * What a function gives is the text that the program `ima-agent` prints for the command of the same name,
+ * except that inputs may also be longer than 64 MiB. docs/formats.md has the formats, and what each fault
+ * number means.
+ *
+ * Pointers. None may be null, `out` and `needed` included, even where its size is 0: give the address of any
+ * byte then. To ask for the size alone, give `out` such an address, and an `out_size` of 0. Nothing may change
+ * an input during a call. Inputs may overlap each other, and calls may share them; `out` and `needed` may
+ * overlap nothing else that a call is given.
+ *
+ * Output. The text goes to the front of `out`, without a zero byte at its end, and its size in bytes to
+ * `*needed`. If it is longer than `out_size`, the function returns IMA_TOO_SHORT, and `out` stays as it was:
+ * call again with as much room as `*needed` says. Do so in a loop, since the line of a fault may have another
+ * size than what the next call gives.
+ *
+ * Memory. What a call allocates by malloc and realloc it gives back by free before it returns; if you replace
+ * them, replace all three. If a call gets no memory, it returns IMA_OUT_OF_MEMORY with the line
+ * `failed: memory`, or IMA_TOO_SHORT where `out` has no room for these 15 bytes.
+ *
+ * Threads. Nothing is kept between calls, so any number of threads may call at once, each with its own `out`
+ * and `needed`. Do not call from a signal handler, nor in the forked child of a process with threads.
+ *
+ * Link with libima_verify.a or libima_verify.so (`pkg-config --cflags --libs ima_verify`). */
+#ifndef IMA_VERIFY_H
+#define IMA_VERIFY_H
+
+#include <stddef.h>
+#include <stdint.h>
+
+#ifdef __cplusplus
+extern "C" {
+#endif
+
+/* The version of the interface that this header describes. */
+#define IMA_VERIFY_VERSION 1
+
+/* What a function returns. */
+enum ima_status {
+    /* The text is complete. ima_verify: the verdict is `match`. ima_locate: every value was reached. */
+    IMA_DONE = 0,
+    /* The text is complete. ima_verify: the verdict is `differ`. ima_locate: a value was not reached. */
+    IMA_DIFFERS = 1,
+    /* An input is refused; `out` has the line that says why, as `refused: log fault 1 at event 0`. */
+    IMA_REFUSED = 2,
+    /* Memory ran out. */
+    IMA_OUT_OF_MEMORY = 3,
+    /* `out` is too short for the text; `*needed` says how long that is. */
+    IMA_TOO_SHORT = 4
+};
+
+/* The version of the library's interface. A library whose version is that of this header, or later, has all
+ * functions below. */
+uint32_t ima_verify_version(void);
+
+/* The verdict on a firmware event log, a measurement list and the expected registers that a text states.
+ * IMA_DONE if the boot aggregate is good and each expected register has its value, else IMA_DIFFERS; `out` has
+ * the report. The first fault is reported, in this order: the text of expected registers, the log, the list,
+ * whether each entry is genuine. */
+int32_t ima_verify(const uint8_t *log, size_t log_size, const uint8_t *list, size_t list_size,
+                   const uint8_t *expected, size_t expected_size, uint8_t *out, size_t out_size,
+                   size_t *needed);
+
+/* Where each expected register first has its value, as `sha256 10 after entry 98`. IMA_DONE if every value was
+ * reached, else IMA_DIFFERS; `out` has the places. Inputs and refusals are those of ima_verify. */
+int32_t ima_locate(const uint8_t *log, size_t log_size, const uint8_t *list, size_t list_size,
+                   const uint8_t *expected, size_t expected_size, uint8_t *out, size_t out_size,
+                   size_t *needed);
+
+/* The registers that differ from their reset values after a firmware event log, as lines of expected
+ * registers. */
+int32_t ima_registers(const uint8_t *log, size_t log_size, uint8_t *out, size_t out_size, size_t *needed);
+
+/* The entries of a measurement list, each in the kernel's form. Paths stand as they are: they may have line
+ * feeds and control bytes. */
+int32_t ima_show(const uint8_t *list, size_t list_size, uint8_t *out, size_t out_size, size_t *needed);
+
+#ifdef __cplusplus
+}
+#endif
+
+#endif
