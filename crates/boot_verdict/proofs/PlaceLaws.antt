@@ -204,6 +204,21 @@ first_reached algs events entries e steps same =
     let least = subst (IsLeast test high) found (find_least test high) in
     (least.2, λ k lt. least.3 k (omega arith) lt)
 
+none_found : (has : Bool) (events : ℕ) (found : Option ℕ) → cond has (place_of_steps events found) Absent ≡ Nowhere → found ≡ None
+none_found true events None same = refl
+none_found true events (Some s) same = absurd (nowhere_is_no_place events s (sym same))
+none_found false events found same = absurd cc
+
+-- A value whose place is nowhere was not reached.
+pub nowhere_reached : (algs : AlgSet) (events : List LogEvent) (entries : List ListEntry) (e : Expected) (steps : ℕ)
+    → place_on algs events entries e ≡ Nowhere → steps ≤ length events + length entries → reached_after algs events entries e steps ≡ false
+nowhere_reached algs events entries e steps same le =
+    let test = reached_after algs events entries e in
+    let high = length events + length entries + 1 in
+    let found = none_found (has_register algs e.alg e.register) (length events) (earliest algs events entries e) same in
+    let least = subst (IsLeast test high) found (find_least test high) in
+    least steps (omega arith) (omega (arith, le))
+
 -- After all steps the register is that of the log and the list.
 pub all_steps : (algs : AlgSet) (events : List LogEvent) (entries : List ListEntry) (alg : Alg) (register : ℕ)
     → pcr_after algs events entries alg register (length events + length entries) ≡ pcr_after_log_and_list algs events entries alg register

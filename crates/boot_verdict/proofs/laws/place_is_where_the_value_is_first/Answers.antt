@@ -1,8 +1,11 @@
-use Rattle.boot_verdict.proofs.PlaceLaws.{all_steps, first_reached, match_found}
+use Rattle.boot_verdict.proofs.PlaceLaws.{all_steps, first_reached, match_found, nowhere_reached}
 use Rattle.boot_verdict.proofs.laws.place_is_where_the_value_is_first.Goals as goal
 
 pub returns-clause-first : goal.returns-clause-first
 returns-clause-first c = first_reached
+
+pub returns-clause-nowhere : goal.returns-clause-nowhere
+returns-clause-nowhere c = nowhere_reached
 
 pub returns-clause-all : goal.returns-clause-all
 returns-clause-all c = all_steps
