@@ -10,6 +10,7 @@ mod failing_files;
 mod four_banks;
 mod hashing;
 mod help;
+mod in_memory;
 mod inputs;
 mod large_inputs;
 mod list_sources;

@@ -206,7 +206,7 @@ fn events_command<'a>(alloc: Global) -> Result<Command<'a>, AllocError>
 fn show_command<'a>(alloc: Global) -> Result<Command<'a>, AllocError>
     ensures { IfOk result (IsCommand show_app) }
 {
-    let about = "Prints the entries of a measurement list as text, one line each";
+    let about = "Prints the entries of a measurement list as text";
     let end = help_end!("ima-agent show ima.list"; list);
     command(alloc, "show", about, end).arg(list_argument(alloc))
 }

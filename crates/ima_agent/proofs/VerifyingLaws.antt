@@ -3,6 +3,7 @@ use Rattle.std.proofs.Common.{◌≡◌, ℕ, ◌<◌, List, [], ◌++◌, lengt
 use Rattle.std.specs.Prelude.{IfSome, IfOk, IfErr, Result}
 use Rattle.std.specs.Io.KnownBytes.{Consumes, IsAtEnd}
 use Rattle.std.proofs.lemmas.List.{length-append}
+use Rattle.byte_streams.specs.Streams.{SourceState}
 use Rattle.ima_list.specs.declared.fault.ListFault.{ListFault}
 use Rattle.ima_list.specs.declared.fault.ListFault.TheVariants as lists
 use Rattle.boot_verdict.specs.declared.verifier.VerifyFault.{VerifyFault}
@@ -10,12 +11,11 @@ use Rattle.boot_verdict.specs.declared.verifier.VerifyFault.TheVariants as verdi
 use Rattle.boot_verdict.specs.ListSources.{CameFrom, CameWhole, FailsFor}
 use Rattle.boot_verdict.specs.Verdicts.{IsSomeLog, IsVerifyFault}
 use Rattle.boot_verdict.specs.declared.expected.Expected.{Expected}
-use Rattle.boot_verdict.specs.ExpectedTexts.{IsExpectedText}
 use Rattle.ima_agent.specs.declared.fault.RunFault.{RunFault}
 use Rattle.ima_agent.specs.declared.output.Output.{Output}
 use Rattle.ima_agent.specs.Faults.{IsFaultOfVerdict}
 use Rattle.ima_agent.specs.Loading.{Inputs, Holds, input_limit}
-use Rattle.ima_agent.specs.parts.Verifying.{IsNoVerdictFrom, IsReportFrom}
+use Rattle.ima_agent.specs.parts.Verifying.{IsEvidence, IsNoVerdictFrom, IsReportFrom}
 use Rattle.ima_agent.specs.Verifying.{IsReportFault, ShowsReport}
 
 -- The source gives exactly what the input holds.
@@ -125,26 +125,26 @@ module _ (inputs : Inputs) (log_name list_name text_name log : List ℕ) (old ne
 
 -- ---- what the program shows
 
-pub shown_from : (inputs : Inputs) (log_name list_name text_name log text : List ℕ) (expected : List Expected) (old new : Option (List ℕ))
-    (result : Result Output RunFault) → Holds inputs (Some log_name) log → Holds inputs (Some text_name) text → IsExpectedText text expected
-    → HasAll (inputs (Some list_name)) old → IfOk result (λ output. IsReportFrom log old new expected output.text.items output.status)
+pub shown_from : (inputs : Inputs) (log_name list_name text_name log : List ℕ) (expected : List Expected) (source : SourceState)
+    (new : Option (List ℕ)) (result : Result Output RunFault) → IsEvidence inputs log_name list_name text_name log expected source
+    → IfOk result (λ output. IsReportFrom log source.remaining new expected output.text.items output.status)
     → IfOk result (λ output. ShowsReport inputs log_name list_name text_name output.text.items output.status)
-shown_from inputs log_name list_name text_name log text expected old new (Ok output) log-held text-held states has shows = record {
+shown_from inputs log_name list_name text_name log expected source new (Ok output) evidence shows = record {
   log = log;
   list = shows.list;
-  text = text;
+  text = evidence.text;
   expected = expected;
-  log_held = log-held;
-  list_held = held_whole (inputs (Some list_name)) old new input_limit shows.list has shows.came;
-  text_held = text-held;
-  expected_is = states;
+  log_held = evidence.log_held;
+  list_held = held_whole (inputs (Some list_name)) source.remaining new input_limit shows.list evidence.list_given shows.came;
+  text_held = evidence.text_held;
+  expected_is = evidence.expected_is;
   report = shows.report;
 }
-shown_from inputs log_name list_name text_name log text expected old new (Err fault) log-held text-held states has shows = tt
+shown_from inputs log_name list_name text_name log expected source new (Err fault) evidence shows = tt
 
-pub refused_from : (inputs : Inputs) (log_name list_name text_name log : List ℕ) (old new : Option (List ℕ)) (result : Result Output RunFault)
-    → Holds inputs (Some log_name) log → HasAll (inputs (Some list_name)) old → IfErr result (IsNoVerdictFrom list_name log old new)
-    → IfErr result (IsReportFault inputs log_name list_name text_name)
-refused_from inputs log_name list_name text_name log old new (Ok output) held has none = tt
-refused_from inputs log_name list_name text_name log old new (Err fault) held has none =
-    report_fault inputs log_name list_name text_name log old new fault held has none
+pub refused_from : (inputs : Inputs) (log_name list_name text_name log : List ℕ) (expected : List Expected) (source : SourceState)
+    (new : Option (List ℕ)) (result : Result Output RunFault) → IsEvidence inputs log_name list_name text_name log expected source
+    → IfErr result (IsNoVerdictFrom list_name log source.remaining new) → IfErr result (IsReportFault inputs log_name list_name text_name)
+refused_from inputs log_name list_name text_name log expected source new (Ok output) evidence none = tt
+refused_from inputs log_name list_name text_name log expected source new (Err fault) evidence none =
+    report_fault inputs log_name list_name text_name log source.remaining new fault evidence.log_held evidence.list_given none

@@ -29,3 +29,9 @@ pub record ShowsPlaces (inputs : Inputs) (log_name list_name text_name : List �
   pub text_held : Holds inputs (Some text_name) text
   pub expected_is : IsExpectedText text expected
   pub places : ArePlacesOn log list expected shown status
+
+-- What is shown are the places in this log and this list of the registers that the text states, with their status.
+pub record ShowsPlacesOn (log list text : List ℕ) (shown : List ℕ) (status : ℕ) : Type 0 where
+  pub expected : List Expected
+  pub expected_is : IsExpectedText text expected
+  pub places : ArePlacesOn log list expected shown status

@@ -1,7 +1,8 @@
-//! The agent as a library: the program, loading, and the system's files and streams. Re-exports what `command_line` reads from
-//! arguments, and the verdict and its texts from `boot_verdict`.
+//! The agent as a library: the program, what some of its commands show, of bytes in memory, loading, and the system's files and
+//! streams. Re-exports what `command_line` reads from arguments, and the verdict and its texts from `boot_verdict`.
 #![tactic(auto)]
 
+mod evidence;
 mod expecting;
 mod fault;
 mod files;
@@ -35,8 +36,12 @@ pub use fault::RunFault;
 pub use files::{Files, SharedFiles};
 pub use hashing::hash_from;
 pub use loading::{LoadFault, load};
+pub use locating::places_on;
+pub use output::Output;
 pub use program::{exit_code, run, run_with_progress};
 pub use progress::{NoProgress, Progress, SystemProgress};
+pub use showing::{entries_on, registers_on};
 pub use system::{Input, ReadSource, SystemFiles, WriteSink};
 pub use texts::{status_of, write_fault};
+pub use verifying::report_on;
 pub use words::read_words;

@@ -2,22 +2,25 @@
 
 ghost use Rattle.std.specs.Prelude.{◌≡◌, IfOk, IfErr};
 ghost use Rattle.boot_verdict.specs.PlaceTexts.{places_text};
-ghost use Rattle.ima_agent.specs.Locating.{ShowsPlaces, places_status};
-ghost use Rattle.ima_agent.specs.Verifying.{IsReportFault};
+ghost use Rattle.ima_agent.specs.Locating.{ShowsPlaces, ShowsPlacesOn, places_status};
+ghost use Rattle.ima_agent.specs.Verifying.{IsNoReportOn, IsReportFault};
 ghost use Rattle.ima_agent.specs.parts.Locating.{ArePlacesFrom};
 ghost use Rattle.ima_agent.specs.parts.Verifying.{IsNoVerdictFrom};
 
+use crate::evidence::{Evidence, opened};
 use crate::fault::RunFault;
 use crate::files::Files;
-use crate::inputs::{INPUT_LIMIT, loaded, not_read};
+use crate::inputs::INPUT_LIMIT;
 use crate::output::{DIFFERS, DONE, Output};
-use crate::verifying::verdict_fault;
-use boot_verdict::{Expected, Located, all_found, locate_from, read_expected, write_places};
-use byte_streams::{Failed, Source, VecSink};
+use crate::verifying::{first_cause, verdict_fault};
+use boot_verdict::{
+    Expected, Located, all_found, locate, locate_from, read_expected, write_places,
+};
+use byte_streams::{Source, VecSink};
 use std::alloc::{AllocError, Global};
 
-/// The places of the expected registers in the log and the list, in the files of these names. They are read as by
-/// [`crate::verifying::verified`].
+/// The places of the expected registers in the log and the list, in the files of these names. The list is searched as it is read,
+/// without loading it.
 pub(crate) fn located<F: Files>(
     alloc: Global,
     files: &mut F,
@@ -28,12 +31,31 @@ pub(crate) fn located<F: Files>(
     ensures shown { IfOk result (λ output. ShowsPlaces (F.told files.old) log.now list.now expected.now output.text.items output.status) }
     ensures fault { IfErr result (IsReportFault (F.told files.old) log.now list.now expected.now) }
 {
-    let log = loaded(alloc, files, Some(log))?;
-    let text = loaded(alloc, files, Some(expected))?;
-    let expected = read_expected(alloc, &text)?;
-    match files.source(Some(list)) {
-        Ok(mut source) => places_from(alloc, &log, &mut source, list, &expected),
-        Err(Failed) => Err(not_read(alloc, list)),
+    let Evidence {
+        log,
+        expected,
+        list: mut source,
+    } = opened(alloc, files, log, list, expected)?;
+    places_from(alloc, &log, &mut source, list, &expected)
+}
+
+/// The places in this log and this list of the registers that the text `expected` states, with their status: what `locate` shows of
+/// files with these bytes, here of bytes in memory and of any size.
+///
+/// Fails as [`crate::report_on`] does.
+pub fn places_on(
+    alloc: Global,
+    log: &[u8],
+    list: &[u8],
+    expected: &[u8],
+) -> Result<Output, RunFault>
+    ensures shown { IfOk result (λ output. ShowsPlacesOn log.now list.now expected.now output.text.items output.status) }
+    ensures fault { IfErr result (IsNoReportOn log.now list.now expected.now) }
+{
+    let expected = read_expected(alloc, expected)?;
+    match locate(alloc, log, list, &expected) {
+        Ok(places) => Ok(places_output(alloc, &places)?),
+        Err(fault) => Err(first_cause(fault)),
     }
 }
 
@@ -50,13 +72,13 @@ fn places_from<R: Source>(
     ensures fault { IfErr result (IsNoVerdictFrom name.now log.now (R.state list.old).remaining (R.state list.new).remaining) }
 {
     match locate_from(alloc, log, list, INPUT_LIMIT, expected) {
-        Ok(places) => Ok(output_of(alloc, &places)?),
+        Ok(places) => Ok(places_output(alloc, &places)?),
         Err(fault) => Err(verdict_fault(alloc, name, fault)),
     }
 }
 
 // Places as text, and their status.
-fn output_of(alloc: Global, places: &[Located]) -> Result<Output, AllocError>
+fn places_output(alloc: Global, places: &[Located]) -> Result<Output, AllocError>
     ensures text { IfOk result (λ output. output.text.items ≡ places_text places.now) }
     ensures status { IfOk result (λ output. output.status ≡ places_status places.now) }
 {

@@ -4,16 +4,16 @@ ghost use Rattle.std.specs.Prelude.{◌≡◌};
 
 /// A whole output, before its first byte is written.
 #[derive(Debug, Drop)]
-pub(crate) struct Output {
+pub struct Output {
     /// The text, or a binary list.
     pub text: Vec<u8>,
-    /// The exit status once all of it is written.
+    /// The exit status once all of it is written: 0, or 1 for a verdict that does not match or a value that was not reached.
     pub status: u8,
 }
 
 impl Output {
     /// The output of a command that succeeded.
-    pub fn done(text: Vec<u8>) -> Self
+    pub(crate) fn done(text: Vec<u8>) -> Self
         ensures { (result.text ≡ text) × (result.status ≡ 0) }
     {
         Output { text, status: DONE }

@@ -39,7 +39,7 @@ pub(crate) fn registers_after<F: Files>(
         ⊎ OfInput (F.told files.old) (Some log.now) (λ bytes. IsNoLogFor bytes fault)) }
 {
     let bytes = loaded(alloc, files, Some(log))?;
-    registers_of(alloc, &bytes)
+    registers_on(alloc, &bytes)
 }
 
 /// The lines of the header and the events of the log in the file of this name.
@@ -80,12 +80,15 @@ fn events_of(alloc: Global, bytes: &[u8], shown: EventData) -> Result<Vec<u8>, R
     }
 }
 
-// The lines of the registers that differ from their reset values after this log.
-fn registers_of(alloc: Global, bytes: &[u8]) -> Result<Vec<u8>, RunFault>
-    ensures shown { IfOk result (λ shown. ShowsRegistersAfter bytes.now shown.items) }
-    ensures fault { IfErr result (IsNoLogFor bytes.now) }
+/// The lines of the registers that differ from their reset values after this firmware event log: what `registers` shows of a file with
+/// these bytes, here of any size.
+///
+/// Fails with [`RunFault::Log`] if the bytes are no log, and with [`RunFault::Memory`] if memory runs out.
+pub fn registers_on(alloc: Global, log: &[u8]) -> Result<Vec<u8>, RunFault>
+    ensures shown { IfOk result (λ shown. ShowsRegistersAfter log.now shown.items) }
+    ensures fault { IfErr result (IsNoLogFor log.now) }
 {
-    let log = read_log(alloc, bytes)?;
+    let log = read_log(alloc, log)?;
     let mut shown = VecSink::new(Vec::new(alloc));
     match write_registers(&log.registers(), &log.reset_registers(), &mut shown) {
         Ok(()) => Ok(shown.into_bytes()),
@@ -104,11 +107,14 @@ pub(crate) fn shown_list<F: Files>(
         ⊎ OfInput (F.told files.old) (Some list.now) (λ bytes. IsNoListFor bytes fault)) }
 {
     let bytes = loaded(alloc, files, Some(list))?;
-    lines_in(alloc, &bytes)
+    entries_on(alloc, &bytes)
 }
 
-// The lines of the entries of a list, which are read in place.
-fn lines_in(alloc: Global, list: &[u8]) -> Result<Vec<u8>, RunFault>
+/// The lines of the entries of this measurement list, which are read in place: what `show` shows of a file with these bytes, here of any
+/// size.
+///
+/// Fails with [`RunFault::List`] if the bytes are no list, and with [`RunFault::Memory`] if memory runs out.
+pub fn entries_on(alloc: Global, list: &[u8]) -> Result<Vec<u8>, RunFault>
     ensures shown { IfOk result (λ shown. ShowsList list.now shown.items) }
     ensures fault { IfErr result (IsNoListFor list.now) }
 {
@@ -135,7 +141,7 @@ fn registers_in(alloc: Global, text: Vec<u8>) -> Result<Vec<u8>, RunFault>
         Err(HexFault::NotHex) => return Err(RunFault::NotHex),
         Err(HexFault::Memory) => return Err(RunFault::Memory),
     };
-    registers_of(alloc, &bytes)
+    registers_on(alloc, &bytes)
 }
 
 /// The lines of the entries, one after another.

@@ -1,22 +1,25 @@
 //! The report on a log, a list and expected registers, as text.
 
-ghost use Rattle.std.specs.Prelude.{◌≡◌, IfOk, IfErr};
-ghost use Rattle.boot_verdict.specs.Verdicts.{verdict_of};
+ghost use Rattle.std.specs.Prelude.{◌≡◌, ℕ, List, IfOk, IfErr};
+ghost use Rattle.boot_verdict.specs.Verdicts.{IsVerifyFault, verdict_of};
 ghost use Rattle.boot_verdict.specs.ReportTexts.{report_text};
 ghost use Rattle.ima_agent.specs.Faults.{IsFaultOfVerdict};
 ghost use Rattle.ima_agent.specs.parts.Verifying.{IsNoVerdictFrom, IsReportFrom};
-ghost use Rattle.ima_agent.specs.Verifying.{IsReportFault, ShowsReport, verdict_status};
+ghost use Rattle.ima_agent.specs.Verifying.{IsFirstCause, IsNoReportOn, IsReportFault, ShowsReport, ShowsReportOn, verdict_status};
 
+use crate::evidence::{Evidence, opened};
 use crate::fault::RunFault;
 use crate::files::Files;
-use crate::inputs::{INPUT_LIMIT, loaded, not_read, too_long};
+use crate::inputs::{INPUT_LIMIT, not_read, too_long};
 use crate::output::{DIFFERS, DONE, Output};
-use boot_verdict::{Expected, Report, VerifyFault, read_expected, verify_from, write_report};
-use byte_streams::{Failed, Source, VecSink};
+use boot_verdict::{
+    Expected, Report, VerifyFault, read_expected, verify, verify_from, write_report,
+};
+use byte_streams::{Source, VecSink};
 use std::alloc::{AllocError, Global};
 
-/// The report on the log, the list and the expected registers in the files of these names. The log is loaded first, then the
-/// expected registers are loaded and read, and then the list is opened and verified as it is read, without loading it.
+/// The report on the log, the list and the expected registers in the files of these names. The list is verified as it is read, without
+/// loading it.
 pub(crate) fn verified<F: Files>(
     alloc: Global,
     files: &mut F,
@@ -27,12 +30,45 @@ pub(crate) fn verified<F: Files>(
     ensures shown { IfOk result (λ output. ShowsReport (F.told files.old) log.now list.now expected.now output.text.items output.status) }
     ensures fault { IfErr result (IsReportFault (F.told files.old) log.now list.now expected.now) }
 {
-    let log = loaded(alloc, files, Some(log))?;
-    let text = loaded(alloc, files, Some(expected))?;
-    let expected = read_expected(alloc, &text)?;
-    match files.source(Some(list)) {
-        Ok(mut source) => report_from(alloc, &log, &mut source, list, &expected),
-        Err(Failed) => Err(not_read(alloc, list)),
+    let Evidence {
+        log,
+        expected,
+        list: mut source,
+    } = opened(alloc, files, log, list, expected)?;
+    report_from(alloc, &log, &mut source, list, &expected)
+}
+
+/// The report on this log, this list and the registers that the text `expected` states, with the status of its verdict: what
+/// `verify` shows of files with these bytes, here of bytes in memory and of any size. The text `expected` is read first.
+///
+/// Fails with [`RunFault::Expect`] if the text does not state expected registers; else with [`RunFault::Log`] or [`RunFault::List`] if
+/// the log or the list is refused, with [`RunFault::Replay`] if an entry is not genuine, and with [`RunFault::Memory`] if memory runs
+/// out.
+pub fn report_on(
+    alloc: Global,
+    log: &[u8],
+    list: &[u8],
+    expected: &[u8],
+) -> Result<Output, RunFault>
+    ensures shown { IfOk result (λ output. ShowsReportOn log.now list.now expected.now output.text.items output.status) }
+    ensures fault { IfErr result (IsNoReportOn log.now list.now expected.now) }
+{
+    let expected = read_expected(alloc, expected)?;
+    match verify(alloc, log, list, &expected) {
+        Ok(report) => Ok(report_output(alloc, &report)?),
+        Err(fault) => Err(first_cause(fault)),
+    }
+}
+
+/// The program's fault for a verifier's fault of bytes in memory: no source failed, and no list was too long.
+pub(crate) fn first_cause(fault: VerifyFault) -> RunFault
+    ensures { (log : List ℕ) (list : List ℕ) → IsVerifyFault log list fault → IsFirstCause fault result }
+{
+    match fault {
+        VerifyFault::Log(fault) => fault.into(),
+        VerifyFault::List(fault) => fault.into(),
+        VerifyFault::Replay(fault) => RunFault::Replay(fault),
+        VerifyFault::Source | VerifyFault::TooLong | VerifyFault::Memory => RunFault::Memory,
     }
 }
 
@@ -49,7 +85,7 @@ fn report_from<R: Source>(
     ensures fault { IfErr result (IsNoVerdictFrom name.now log.now (R.state list.old).remaining (R.state list.new).remaining) }
 {
     match verify_from(alloc, log, list, INPUT_LIMIT, expected) {
-        Ok(report) => Ok(output_of(alloc, &report)?),
+        Ok(report) => Ok(report_output(alloc, &report)?),
         Err(fault) => Err(verdict_fault(alloc, name, fault)),
     }
 }
@@ -69,7 +105,7 @@ pub(crate) fn verdict_fault(alloc: Global, name: &str, fault: VerifyFault) -> Ru
 }
 
 // A report as text, and the status of its verdict.
-fn output_of(alloc: Global, report: &Report) -> Result<Output, AllocError>
+fn report_output(alloc: Global, report: &Report) -> Result<Output, AllocError>
     ensures text { IfOk result (λ output. output.text.items ≡ report_text (verdict_of report.now)) }
     ensures status { IfOk result (λ output. output.status ≡ verdict_status (verdict_of report.now)) }
 {

@@ -4,7 +4,7 @@ use Rattle.std.specs.Prelude.{ℤ, ◌⊎◌, IfOk, IfErr}
 use Rattle.std.specs.Global.{Vec}
 use Rattle.ima_agent.specs.declared.fault.RunFault.{RunFault}
 use Rattle.ima_agent.specs.declared.fault.RunFault.TheVariants.{Memory}
-use Rattle.ima_verify_c.specs.declared.showing.Output.{Output}
+use Rattle.ima_agent.specs.declared.output.Output.{Output}
 use Rattle.ima_verify_c.specs.Answers.{Answers, IsRefusal}
 use Rattle.ima_verify_c.specs.parts.Givings.{IsFaultText, IsOf, IsTextOf}
 

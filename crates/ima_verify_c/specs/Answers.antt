@@ -3,7 +3,8 @@ use Rattle.std.specs.Prelude.{◌≡◌, ℕ, ℤ, pos, ◌<◌, ◌≤◌, ◌�
 use Rattle.ima_agent.specs.declared.fault.RunFault.{RunFault}
 use Rattle.ima_agent.specs.FaultTexts.{fault_line, fault_status}
 use Rattle.ima_agent.specs.Showing.{IsNoListFor, IsNoLogFor, ShowsList, ShowsRegistersAfter}
-use Rattle.ima_verify_c.specs.Reports.{IsNoReportOn, ShowsPlacesOn, ShowsReportOn}
+use Rattle.ima_agent.specs.Locating.{ShowsPlacesOn}
+use Rattle.ima_agent.specs.Verifying.{IsNoReportOn, ShowsReportOn}
 
 abbrev pub interface_version : ℕ
 interface_version = 1

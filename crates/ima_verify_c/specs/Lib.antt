@@ -1,3 +1,2 @@
-pub mod Reports
 pub mod Answers
 pub mod parts

@@ -5,9 +5,8 @@ ghost use Rattle.ima_agent.specs.FaultTexts.{fault_line};
 ghost use Rattle.ima_verify_c.specs.Answers.{Answers, IsGiven};
 ghost use Rattle.ima_verify_c.specs.parts.Givings.{IsFaultText, IsOf, IsTextOf};
 
-use crate::showing::Output;
 use byte_streams::{Failed, VecSink};
-use ima_agent::{RunFault, status_of, write_fault};
+use ima_agent::{Output, RunFault, status_of, write_fault};
 use std::alloc::{AllocError, Global};
 
 /// What a call returns if memory ran out.

@@ -7,13 +7,12 @@
 #![tactic(auto)]
 
 mod giving;
-mod showing;
 
 ghost use Rattle.std.specs.Prelude.{◌≡◌};
 ghost use Rattle.ima_verify_c.specs.Answers.{Answers, IsPlacesAnswer, IsEntriesAnswer, IsRegistersAnswer, IsReportAnswer, interface_version};
 
 use crate::giving::{give, give_text};
-use crate::showing::{entries_on, places_on, registers_on, report_on};
+use ima_agent::{entries_on, places_on, registers_on, report_on};
 use std::alloc::Global;
 
 /// The version of this interface: 1. A later version may have more functions; what these do stays as it is.

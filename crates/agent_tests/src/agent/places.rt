@@ -18,7 +18,7 @@ use test_kit::lists::{MEASUREMENT, VIOLATION};
 const WORDS: [&str; 4] = ["locate", "log", "list", "expected"];
 
 /// The places of all registers of the real boot.
-const REAL_BOOT_PLACES: &[u8] = b"\
+pub const REAL_BOOT_PLACES: &[u8] = b"\
 sha256 0 after event 14
 sha256 1 after event 15
 sha256 2 after event 16

@@ -16,7 +16,7 @@ fn real_boot_lines(rt: HostRuntime) -> Result<(), Fail> {
 }
 
 /// `samples/real-boot/ima.ascii`.
-const ASCII: &[u8] = b"\
+pub const ASCII: &[u8] = b"\
 10 892e0052c60eb906433dca80106e2dff2fed7684 ima-ng sha256:0abaf87a7919f1649685e47acc51bbd30bff6ec1f9350f9e04b140c8f68b4c18 boot_aggregate
 10 893535fcb7fd01815531c4c84ca03dc6877084bd ima-ng sha256:0c753516423499b5084a28d753065db827dd7634bfac21beae51d8d151aabe89 /init
 10 eed20534b7dbbfea47e31bd8c4ac690cf3928fea ima-ng sha256:3d9f2889d6782537624a4e1a10e68a2ddd53e0ee8bac02676f27308f42ec6bf6 /bin/busybox

@@ -12,7 +12,7 @@ use std::test::Fail;
 use test_kit::once_more;
 
 /// The line of a fault.
-fn line_of(alloc: Global, fault: &RunFault) -> Result<Vec<u8>, Failed> {
+pub fn line_of(alloc: Global, fault: &RunFault) -> Result<Vec<u8>, Failed> {
     once_more(Failed, || {
         let mut sink = VecSink::new(Vec::new(alloc));
         write_fault(fault, &mut sink)?;

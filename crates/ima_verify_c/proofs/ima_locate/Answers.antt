@@ -1,7 +1,8 @@
 use Rattle.std.proofs.Common.{refl, inr, rules, w32}
 use mir.Val.{SFits}
 use Rattle.std.proofs.Math.Facts.{to_z-of_z}
-use Rattle.ima_verify_c.specs.Reports.{IsNoReportOn, ShowsPlacesOn}
+use Rattle.ima_agent.specs.Locating.{ShowsPlacesOn}
+use Rattle.ima_agent.specs.Verifying.{IsNoReportOn}
 use Rattle.ima_verify_c.proofs.GivingLaws.{gives_output}
 use Rattle.ima_verify_c.proofs.ima_locate.Goals as goal
 

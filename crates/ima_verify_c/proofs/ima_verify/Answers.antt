@@ -1,7 +1,7 @@
 use Rattle.std.proofs.Common.{refl, inr, rules, w32}
 use mir.Val.{SFits}
 use Rattle.std.proofs.Math.Facts.{to_z-of_z}
-use Rattle.ima_verify_c.specs.Reports.{IsNoReportOn, ShowsReportOn}
+use Rattle.ima_agent.specs.Verifying.{IsNoReportOn, ShowsReportOn}
 use Rattle.ima_verify_c.proofs.GivingLaws.{gives_output}
 use Rattle.ima_verify_c.proofs.ima_verify.Goals as goal
 

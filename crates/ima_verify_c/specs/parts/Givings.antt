@@ -3,7 +3,7 @@ use Rattle.std.specs.Prelude.{◌≡◌, ℕ, ◌⊎◌, List, Result, Ok, Err}
 use Rattle.std.specs.Global.{Vec}
 use Rattle.ima_agent.specs.declared.fault.RunFault.{RunFault}
 use Rattle.ima_agent.specs.declared.fault.RunFault.TheVariants.{Memory}
-use Rattle.ima_verify_c.specs.declared.showing.Output.{Output}
+use Rattle.ima_agent.specs.declared.output.Output.{Output}
 use Rattle.ima_agent.specs.FaultTexts.{fault_line, fault_status}
 
 -- The line of this fault and its status; or those of `Memory`.

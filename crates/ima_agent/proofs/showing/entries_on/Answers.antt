@@ -1,6 +1,6 @@
 use Rattle.std.proofs.lemmas.Result.{err_from_is_err_and}
 use Rattle.ima_agent.proofs.ShowingLaws.{none_left, shown_more, shows_all, shows_none, some_left}
-use Rattle.ima_verify_c.proofs.showing.entries_on.Goals as goal
+use Rattle.ima_agent.proofs.showing.entries_on.Goals as goal
 
 pub returns-in_err-entry-clause-fault : goal.returns-in_err-entry-clause-fault
 returns-in_err-entry-clause-fault c =

@@ -1,5 +1,5 @@
 use Rattle.std.proofs.Common.{inl, inr}
-use Rattle.ima_verify_c.proofs.showing.places_on.Goals as goal
+use Rattle.ima_agent.proofs.locating.places_on.Goals as goal
 
 pub returns-clause-fault : goal.returns-clause-fault
 returns-clause-fault c = inr (inl (record {
