@@ -152,7 +152,7 @@ static struct bytes load(const char *name) {
     if (file < 0 || fstat(file, &about) != 0)
         fail("%s cannot be read", name);
     size_t size = (size_t)about.st_size;
-    void *at = mmap(NULL, size, PROT_READ, MAP_PRIVATE, file, 0);
+    void *at = size == 0 ? &nothing : mmap(NULL, size, PROT_READ, MAP_PRIVATE, file, 0);
     if (at == MAP_FAILED)
         fail("%s cannot be read", name);
     close(file);

@@ -65,6 +65,7 @@ def made_files(folder):
         "expected": expected,
         "other bank": b"sha1 10 " + 40 * b"0",
         "wrong line": expected + b"sha256 24 00\n",
+        "empty": b"",
     }
     files = {}
     for number, (name, content) in enumerate(made.items()):
@@ -81,6 +82,9 @@ def cases(files):
             ("a longer list", "log", "longer list", "expected"),
             ("a changed list", "log", "changed list", "expected"),
             ("a bank that the log lacks", "log", "list", "other bank"),
+            ("an empty list", "log", "empty", "expected"),
+            ("no expected registers", "log", "list", "empty"),
+            ("an empty log", "empty", "list", "expected"),
             ("a log that is cut short", "cut log", "list", "expected"),
             ("a list that is cut short", "log", "cut list", "expected"),
             ("expected registers of which one is wrong", "log", "list", "wrong line"),
@@ -90,6 +94,7 @@ def cases(files):
         ("registers", "the real boot", "log"),
         ("registers", "one event", "one event"),
         ("registers", "a log that is cut short", "cut log"),
+        ("registers", "an empty log", "empty"),
         ("show", "the real boot", "list"),
         ("show", "a changed list", "changed list"),
         ("show", "a list that is cut short", "cut list"),

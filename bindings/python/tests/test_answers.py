@@ -203,7 +203,7 @@ class Loading(unittest.TestCase):
 
     def test_library_without_the_functions(self):
         maps = Path("/proc/self/maps").read_text().splitlines()
-        ended = self.importing(next(line.split()[-1] for line in maps if ".so" in line))
+        ended = self.importing(next(line.split()[-1] for line in maps if ".so" in line and "libima_verify" not in line))
         self.assertNotEqual(ended.returncode, 0)
         self.assertIn(b"is not there, or not the library", ended.stderr)
 
