@@ -52,22 +52,26 @@ class Section:
 
     def data(self, files):
         """The bytes of the file, where those that it names are these files or samples."""
+        return b"".join(data * count for data, count in self.parts(files))
+
+    def parts(self, files):
+        """The bytes of each part, and how often they come."""
         if not self.is_hex:
-            return self.body.encode()
-        return b"".join(self._bytes_of(part, files) for part in PART.finditer(self.body))
+            return [(self.body.encode(), 1)]
+        return [self._part(part, files) for part in PART.finditer(self.body)]
 
     def names(self):
         """The names of the files that this one is made of."""
         return {part["name"] for part in PART.finditer(self.body) if part["name"]} if self.is_hex else set()
 
-    def _bytes_of(self, part, files):
+    def _part(self, part, files):
         line = self.line + 1 + self.body.count("\n", 0, part.start())
         if part["bad"]:
             raise Malformed(line, f"no part of a file of bytes: {part['bad']}")
         data = (part["text"] or "").encode() + bytes.fromhex(part["digits"] or "")
         if part["name"]:
             data = slice_of(named(part["name"], files, line), part["start"], part["end"], line)
-        return data * int(part["count"] or 1)
+        return data, int(part["count"] or 1)
 
 
 @dataclass(frozen=True)
@@ -82,6 +86,16 @@ class Case:
     @property
     def is_by_reference(self):
         return REFERENCE in self.prose
+
+    def has_at_most(self, size, shared):
+        """Whether the files have no more bytes than this, all together."""
+        files = dict(shared)
+        for section in self.sections:
+            size -= sum(len(data) * count for data, count in section.parts(files))
+            if size < 0:
+                return False
+            files[section.name] = section.data(files)
+        return True
 
     def lay(self, folder, shared):
         """Writes the files into an empty folder, where `samples` then are the samples, and returns their size."""

@@ -69,6 +69,7 @@ class BookFault(IntEnum):
 
 USAGE = Fault("refused: command line")
 NOT_HEXADECIMAL = Fault("refused: not hexadecimal")
+NO_ARGUMENTS = Fault("failed: memory", status=3)
 
 
 def too_long(name):

@@ -3,9 +3,9 @@
 import os
 
 from .command_line import HelpAsked, read_words
-from .faults import BookFault, Fault, ListFault, not_read, not_utf8, too_long
+from .faults import NO_ARGUMENTS, BookFault, Fault, ListFault, not_read, not_utf8, too_long
 from .log import read_log
-from .measurement_list import BOOT_AGGREGATE, IMA, LONGEST_IMA_PATH, entry_of, read_list, replay
+from .measurement_list import BOOT_AGGREGATE, IMA, LONGEST_IMA_PATH, entry_of, list_spelling, list_text, read_list, replay
 from .registers import ALGORITHMS, BY_NAME, SHA1, Registers
 from .texts import read_expected, read_hexadecimal, read_names, read_pcrread
 from .verdict import locate, verdict
@@ -85,7 +85,7 @@ def events_command(inputs, values, log):
 
 
 def show_command(inputs, values, listed):
-    return b"".join(entry.line() for entry in read_list(inputs.load(listed))), 0
+    return list_text(read_list(inputs.load(listed))), 0
 
 
 def replay_command(inputs, values, listed):
@@ -116,15 +116,13 @@ def judge(decide):
 def measure_command(inputs, values, log, *names):
     log = read_log(inputs.load(log))
     names = [*names, *further_names(inputs, values)]
-    if len(names) > 1 and values["--workers"] > 1:
-        raise Unanswered("the order of several workers may show")
     algorithm, template = BY_NAME[values["--alg"]], values["--template"].encode()
-    digests = [algorithm.hash(inputs.load(name)) for name in names]
-    entries = measured(log, algorithm, template, values["--limit"], zip(names, digests))
+    files = [(name, algorithm.hash(inputs.load(name))) for name in names]
+    entries = measured(log, algorithm, template, values["--limit"], files, values["--workers"])
     if values["--print"] == "ascii":
-        return b"".join(entry.line() for entry in entries), 0
+        return list_text(entries), 0
     if values["--print"] == "binary":
-        return b"".join(entry.spelling() for entry in entries), 0
+        return list_spelling(entries), 0
     registers = log.registers()
     replay(registers, entries)
     return registers.text(), 0
@@ -140,16 +138,18 @@ def further_names(inputs, values):
         raise not_utf8(name) from None
 
 
-def measured(log, algorithm, template, limit, files):
+def measured(log, algorithm, template, limit, files, workers):
     """The entries of the boot aggregate and of files, each a name and a digest, and each entry once ('A measurement')."""
     registers = log.registers()
     if template == IMA and algorithm is not SHA1:
         raise BookFault.WRONG_HASH.at_opening()
     if algorithm not in registers.banks:
         raise BookFault.NO_BANK.at_opening()
+    if workers > 1 and len(files) > 1 and (len(set(files)) > 1 or len(files) >= limit):
+        raise Unanswered("the order of several workers may show")
     entries = {entry_of(template, algorithm, registers.boot_aggregate(algorithm), BOOT_AGGREGATE): None}
     for job, (name, digest) in enumerate(files):
-        path = name.encode(errors="surrogateescape")
+        path = name.encode()
         if len(path) > (LONGEST_IMA_PATH if template == IMA else LONGEST_PATH):
             raise BookFault.PATH_TOO_LONG.of_file(job)
         if job + 1 >= limit:
@@ -174,6 +174,8 @@ def answer(words, folder=".", standard_input=b""):
     """The program's status and output for arguments, where names are those of files below the folder; or `Unanswered`."""
     inputs = Inputs(folder, standard_input)
     try:
+        if any("\udc80" <= letter <= "\udcff" for letter in "".join(words)):
+            raise NO_ARGUMENTS
         if words:
             asked = read_words(words)
             text, status = COMMANDS[asked.command](inputs, asked.values, *asked.names)
@@ -185,4 +187,4 @@ def answer(words, folder=".", standard_input=b""):
         raise Unanswered("help") from None
     finally:
         inputs.close()
-    return status, text if isinstance(text, bytes) else text.encode(errors="surrogateescape")
+    return status, text if isinstance(text, bytes) else text.encode()

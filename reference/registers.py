@@ -59,14 +59,14 @@ class Registers:
         """The boot aggregate of a bank that is there."""
         return algorithm.hash(b"".join(self.banks[algorithm][: 8 if algorithm is SHA1 else 10]))
 
+    def rows(self):
+        """Each register, as its algorithm, its number and its value."""
+        return [(algorithm, register, value) for algorithm, values in self.banks.items() for register, value in enumerate(values)]
+
     def text(self):
         """A line for each register that does not have its reset value."""
-        return "".join(
-            register_line(algorithm, register, value)
-            for algorithm, values in self.banks.items()
-            for register, value in enumerate(values)
-            if value != reset_value(algorithm, register, self.locality)
-        )
+        rows = (row for row in self.rows() if row[2] != reset_value(row[0], row[1], self.locality))
+        return "".join(register_line(*row) for row in rows)
 
 
 def register_line(algorithm, register, value):

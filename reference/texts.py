@@ -77,6 +77,15 @@ def read_pcrread(text):
     return states.rows
 
 
+def pcrread_text(registers):
+    """What tpm2_pcrread prints of these registers."""
+    lines = []
+    for algorithm, values in registers.banks.items():
+        lines.append(f"  {algorithm.name}:")
+        lines += [f"    {register:<2}: 0x{value.hex().upper()}" for register, value in enumerate(values)]
+    return "".join(f"{line}\n" for line in lines)
+
+
 def read_range(text):
     """The registers of a range, or None if the text is none."""
     match = RANGE.fullmatch(text)
