@@ -14,6 +14,9 @@ import time
 from pathlib import Path
 
 import inputs
+from reference.measurement_list import list_spelling, list_text
+from reference.registers import SHA256
+from reference.verdict import locate, verdict
 
 MOST_BYTES = 64 * 1024 * 1024
 MOST_SECONDS = 300
@@ -124,41 +127,28 @@ def print_ratio(what, seconds, others):
 
 
 def small_log():
-    """A log of SHA-256 alone, and its registers, for a list to extend."""
-    log, registers, _ = inputs.make_log(["sha256"], 24)
-    return log, registers
-
-
-def report_of_match(entries):
-    return (
-        f"events 24 locality 3\nentries {entries}\nboot_aggregate good\n"
-        + "".join(f"sha256 {register} match\n" for register in range(24))
-        + "verdict match\n"
-    ).encode()
-
-
-def places_text(registers):
-    """What `locate` prints of registers that have their present values as expected ones."""
-    rows = "".join(f"sha256 {register} {place}\n" for register, place in enumerate(registers.places))
-    return (rows + "located\n").encode()
+    """A log of SHA-256 alone, for a list to follow."""
+    return inputs.made_log([SHA256], 24)
 
 
 def lists():
     """`verify`, `locate` and `show` of made lists: time and peak memory."""
     sizes = (40_000, 440_000)
     verified, located, shown, memory = [], [], [], {"verify": [], "locate": [], "show": []}
-    log, _ = small_log()
-    store("made.log", log)
+    log = small_log()
+    store("made.log", log.spelling())
     store("none.txt", b"")
-    for entries in sizes:
-        _, registers = small_log()
-        spelling, text = inputs.make_list(registers, inputs.made_measurements(entries - 1))
-        names = "made.log", store("made.list", spelling), store("expected.txt", registers.lines())
-        verified.append(median_time(["verify", *names], report_of_match(entries)))
-        located.append(median_time(["locate", *names], places_text(registers)))
+    for count in sizes:
+        entries = inputs.made_entries(log, inputs.made_measurements(count - 1))
+        expected = inputs.expected_after(log, entries)
+        report, places = (decide(log, entries, expected)[0].encode() for decide in (verdict, locate))
+        text = list_text(entries)
+        names = "made.log", store("made.list", list_spelling(entries)), store("expected.txt", inputs.expected_text(expected))
+        verified.append(median_time(["verify", *names], report))
+        located.append(median_time(["locate", *names], places))
         shown.append(median_time(["show", "made.list"], text))
-        memory["locate"].append(peak_memory(["locate", *names], places_text(registers)))
-        memory["verify"].append(peak_memory(["verify", *names], report_of_match(entries)))
+        memory["locate"].append(peak_memory(["locate", *names], places))
+        memory["verify"].append(peak_memory(["verify", *names], report))
         memory["show"].append(peak_memory(["show", "made.list"], text))
     print_growth("verify", "entries", sizes, verified)
     print_growth("locate", "entries", sizes, located)
@@ -185,14 +175,12 @@ def lists():
 def logs():
     """The events of made logs, and their registers in hexadecimal on standard input."""
     sizes = (32_000, 320_000)
-    algs = ["sha256"]
-    reset = inputs.Registers(algs, locality=3)
     times, shown = [], []
     for events in sizes:
-        log, registers, text = inputs.make_log(algs, events)
-        shown.append(median_time(["events", store("log.bin", log)], text))
-        store("log.hex", inputs.hexadecimal(log))
-        times.append(median_time([], registers.lines(reset), stdin="log.hex"))
+        log = inputs.made_log([SHA256], events)
+        shown.append(median_time(["events", store("log.bin", log.spelling())], log.text().encode()))
+        store("log.hex", inputs.hexadecimal(log.spelling()))
+        times.append(median_time([], log.registers().text().encode(), stdin="log.hex"))
     print_growth("events of a log", "events", sizes, shown)
     print_growth("registers of a log", "events", sizes, times)
     hashed = median_of_tools(["sha256sum", "log.hex"])
@@ -205,9 +193,9 @@ def logs():
 
 def measure_call(workers, contents):
     """The arguments of `measure` of the files of `contents`, a hash for each name, by this number of workers; and the answer."""
-    log, registers = small_log()
-    store("made.log", log)
-    _, text = inputs.make_list(registers, [(name.encode(), digest) for name, digest in contents.items()])
+    log = small_log()
+    store("made.log", log.spelling())
+    text = list_text(inputs.made_entries(log, [(name.encode(), digest) for name, digest in contents.items()]))
     return ["measure", "--workers", str(workers), "made.log", *contents], text
 
 

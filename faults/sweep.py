@@ -1,20 +1,23 @@
 #!/usr/bin/env python3
 """Refuses each allocation in turn, in the tests made for it and in the program; and measures large files in little memory.
 
-faults/sweep.py [ROOT]: the tree with the test binaries and the program that `rt ci` made; by default the one this file is in.
+faults/sweep.py [ROOT]: the tree with the test binaries and the program that `rt ci` made; by default the one that this file is in.
 
-Each test whose name contains `each_allocation_refused`, and each command below, runs again and again. In the Nth run its Nth
-allocation is refused (faults/refuse.c), until a run ends with none refused. A test must pass each time; a command must answer as
-it does with ample memory, or with `failed: memory` and status 3. A test or command without a refused allocation fails, and so
-does a run that crashes or takes longer than a minute.
+Each test whose name contains `each_allocation_refused`, and a command of each kind that the cases have, runs again and again. In the
+Nth run its Nth allocation is refused (faults/refuse.c), until a run ends with none refused. A test must pass each time; a command must
+answer as its case wants, or with `failed: memory` and status 3. A test or command without a refused allocation fails, and so does a
+run that crashes or takes longer than a minute.
+
+Commands are of one kind if they have the same word, options and status, the same fault where they are refused, and both or neither
+name a sample. Of each kind the first runs, in the order of the cases, that names no file of the system, in a case whose files have at
+most 64 KiB.
 
 Before that, the program measures 50 files of 40 MiB within 64 MiB of address space. The last line, 'N passed, M failed', counts
 both."""
 
-import hashlib
 import os
+import re
 import resource
-import struct
 import subprocess
 import sys
 import tempfile
@@ -22,103 +25,103 @@ from concurrent.futures import ThreadPoolExecutor
 from dataclasses import dataclass
 from pathlib import Path
 
+HERE = Path(__file__).resolve().parent
+sys.path[:0] = [str(HERE.parent), str(HERE.parent / "cases")]
+
+import form  # noqa: E402
+from answers import answer_of, fault_of  # noqa: E402
+from reference.command_line import COMMANDS, HelpAsked, read_arguments  # noqa: E402
+from reference.faults import Fault  # noqa: E402
+from reference.log import read_log  # noqa: E402
+from reference.measurement_list import BOOT_AGGREGATE, IMA_NG, entry_of, list_text  # noqa: E402
+from reference.registers import SHA256  # noqa: E402
+
 SECONDS = 60
 MOST_REFUSALS = 100_000
+MOST_BYTES = 64 * 1024
 TESTS = "each_allocation_refused"
-OUT_OF_MEMORY = (3, b"failed: memory\n")
+OUT_OF_MEMORY = (3, b"failed: memory\n", b"")
+FAULT = re.compile(r"(?:refused|failed): (?:job \d+ )?(?:(.* fault \d+)|(read|too long|not UTF-8|[a-z ]+))")
 MEBIBYTE = 1 << 20
-ONE_EVENT = f"algorithms sha256:32\n1 4 EV_SEPARATOR sha256:{64 * '0'} 4 00000000\n".encode()
 LARGE_FILES = 50
 LARGE_FILE_BYTES = 40 * MEBIBYTE
 ADDRESS_SPACE = 64 * MEBIBYTE
 LARGE_SECONDS = 600
 
 
-@dataclass
-class Run:
-    """What to run, its standard input, and the answers that it may give: status and output (None for any)."""
+@dataclass(frozen=True)
+class TestRun:
+    """A test that is made for refused allocations."""
 
-    title: str
-    words: list
-    input: bytes
-    answers: list
+    binary: Path
+    name: str
 
+    def title(self):
+        return f"{self.binary.name}: {self.name}"
 
-def with_length(data):
-    return struct.pack("<I", len(data)) + data
-
-
-def list_lines(expected, files):
-    """The lines of a list of the boot aggregate of these expected registers, then of these files, each a name and a SHA-256."""
-    values = [bytes.fromhex(line.split()[2]) for line in expected.splitlines()[:10]]
-    for name, digest in ((b"boot_aggregate", hashlib.sha256(b"".join(values)).digest()), *files):
-        payload = with_length(b"sha256:\0" + digest) + with_length(name + b"\0")
-        yield f"10 {hashlib.sha1(payload).hexdigest()} ima-ng sha256:{digest.hex()} {name.decode()}\n"
+    def fault(self, settings, met):
+        """What is wrong with a run under these settings, or None."""
+        try:
+            ran = subprocess.run([self.binary, self.name], stdin=subprocess.DEVNULL, capture_output=True, timeout=SECONDS,
+                                 env={**os.environ, **settings})
+        except subprocess.TimeoutExpired:
+            return f"more than {SECONDS} seconds"
+        return None if ran.returncode == 0 else f"status {ran.returncode}, {(ran.stdout + ran.stderr)[-500:]!r}"
 
 
-def replayed_lines(measurements):
-    """The lines of register 10 in each bank, after this list alone, whose entries are all of it."""
-    values = {name: bytes(hashlib.new(name).digest_size) for name in ("sha1", "sha256", "sha384", "sha512")}
-    rest = measurements
-    while rest:
-        digest, (size,) = rest[4:24], struct.unpack_from("<I", rest, 24)
-        (data_size,) = struct.unpack_from("<I", rest, 28 + size)
-        data, rest = rest[32 + size : 32 + size + data_size], rest[32 + size + data_size :]
-        for name, value in values.items():
-            own = b"\xff" * len(value) if not any(digest) else hashlib.new(name, data).digest()
-            values[name] = hashlib.new(name, value + own).digest()
-    return "".join(f"{name} 10 {value.hex()}\n" for name, value in values.items())
+@dataclass(frozen=True)
+class CommandRun:
+    """A command of a case, whose files are in a folder."""
+
+    program: Path
+    case: form.Case
+    command: form.Command
+    folder: Path
+
+    def title(self):
+        return f"{self.case.name}:{self.command.line}: {self.command.text}"
+
+    def fault(self, settings, met):
+        """What is wrong with a run under these settings, in which an allocation was refused if the file `met` is there, or None."""
+        with tempfile.TemporaryDirectory() as name:
+            answer = answer_of(self.program, self.command, self.folder, Path(name, "output"), settings)
+            if met.exists() and (answer.status, answer.output.read_bytes(), answer.errors) == OUT_OF_MEMORY:
+                return None
+            return fault_of(self.command, answer, self.folder)
 
 
-def program_of(root):
-    return root / "crates/ima_agent_program/out/ima_agent_program"
+def kind_of(command):
+    """What a command has in common with those of its kind."""
+    word = command.words[0] if command.words else ""
+    names_sample = any(it and it.startswith(form.SAMPLES) for it in (*command.words, command.input))
+    try:
+        given = read_arguments(COMMANDS[word], command.words[1:])[1] if word in COMMANDS else {}
+        options = tuple((name, value) if isinstance(value, str) and name != "--files-from" else name for name, value in given.items())
+    except (Fault, HelpAsked) as cause:
+        options = type(cause)
+    fault = FAULT.match(command.wanted[0]) if command.status > 1 and command.wanted else None
+    return word if word in COMMANDS else "", options, command.status, fault and fault.groups(), names_sample
 
 
-def samples_of(root):
-    return root / "samples/real-boot"
-
-
-def command_runs(root, folder):
-    """The program's commands, on the samples."""
-    program, boot = program_of(root), samples_of(root)
-    log, listed, expected = (boot / name for name in ("firmware.log", "ima.list", "expected.txt"))
-    file = folder / "abc"
-    file.write_bytes(b"abc")
-    # (a file named twice has one entry, so the order of the workers does not show)
-    names = folder / "names"
-    names.write_text(f"{file}\n\n{file}")
-    lines = expected.read_text()
-    report = "events 24 locality 0\nentries 99\nboot_aggregate good\n"
-    report += "".join(" ".join(line.split()[:2]) + " match\n" for line in lines.splitlines()) + "verdict match\n"
-    other = folder / "other"
-    other.write_text("sha1 10 " + 40 * "0")
-    absent = "events 24 locality 0\nentries 99\nboot_aggregate good\nsha1 10 absent\nverdict differ\n"
-    tenth = folder / "tenth"
-    tenth.write_text(lines.splitlines()[10] + "\n")
-    one_event = folder / "one-event"
-    one_event.write_bytes(bytes.fromhex((root / "samples/one-event.hex").read_text()))
-    entries = "".join(list_lines(lines, [(str(file).encode(), hashlib.sha256(b"abc").digest())]))
-    for title, words, given, status, output in (
-        ("registers", [], log.read_bytes().hex().encode(), 0, (boot / "registers.txt").read_bytes()),
-        ("no text of a log", [], b"Z", 2, b"refused: not hexadecimal\n"),
-        ("a verdict", ["verify", log, listed, expected], b"", 0, report.encode()),
-        ("a verdict that differs", ["verify", log, listed, other], b"", 1, absent.encode()),
-        ("places", ["locate", log, listed, tenth], b"", 0, b"sha256 10 after entry 98\nlocated\n"),
-        ("places of which one is none", ["locate", log, listed, other], b"", 1, b"sha1 10 absent\nnot located\n"),
-        ("expected registers", ["expected", boot / "tpm2_pcrread.txt"], b"", 0, expected.read_bytes()),
-        ("expected registers of a range", ["expected", "--registers=10", boot / "tpm2_pcrread.txt"], b"", 0, tenth.read_bytes()),
-        ("registers after a log", ["registers", log], b"", 0, (boot / "registers.txt").read_bytes()),
-        ("events", ["events", "--data", one_event], b"", 0, ONE_EVENT),
-        ("a list replayed", ["replay", listed], b"", 0, replayed_lines(listed.read_bytes()).encode()),
-        ("a list shown", ["show", listed], b"", 0, (boot / "ima.ascii").read_bytes()),
-        ("a file measured", ["measure", log, file], b"", 0, entries.encode()),
-        ("a file measured by one worker", ["measure", "--workers=1", log, file], b"", 0, entries.encode()),
-        ("files of a list of names", ["measure", "--workers", "2", "--files-from", names, log], b"", 0, entries.encode()),
-        ("a file that is not there", ["show", folder / "none"], b"", 3, f"failed: read {folder}/none\n".encode()),
-        ("words that are wrong", ["verify", log], b"", 2, b"refused: command line\n"),
-        ("help", ["--help"], b"", 0, None),
-    ):
-        yield Run(f"ima-agent: {title}", [program, *words], given, [(status, output), OUT_OF_MEMORY])
+def command_runs(program, folder):
+    """A run of a command of each kind; and what is wrong with cases."""
+    shared, runs, faults = form.read_shared(), {}, []
+    for number, path in enumerate(sorted(form.FOLDER.rglob("*.case"))):
+        try:
+            case = form.read_case(path)
+            if case.has_at_most(MOST_BYTES, shared):
+                home = folder / f"case-{number}"
+                home.mkdir()
+                case.lay(home, shared)
+                for command in case.commands:
+                    run = CommandRun(program, case, command, home)
+                    if command.output and not (home / command.output).exists():
+                        run.fault({}, home / "none")  # (it makes a file for those after it)
+                    if not any(word.startswith("/") for word in command.words):
+                        runs.setdefault(kind_of(command), run)
+        except form.Malformed as fault:
+            faults.append(f"{path}:{fault}")
+    return list(runs.values()), faults
 
 
 def test_runs(root):
@@ -128,83 +131,67 @@ def test_runs(root):
         for line in listing.stdout.decode().splitlines():
             name = line.removesuffix(": test").strip()
             if TESTS in name:
-                yield Run(f"{binary.name}: {name}", [binary, name], b"", [(0, None)])
-
-
-def refused(run, number, library, folder):
-    """Runs once with allocation `number` refused. Returns what is wrong, or None, and whether an allocation was refused."""
-    met = folder / f"met-{os.urandom(8).hex()}"
-    given = {"LD_PRELOAD": str(library), "REFUSED_ALLOCATION": str(number), "REFUSAL_MET": str(met)}
-    try:
-        ended = subprocess.run(
-            run.words, input=run.input, capture_output=True, timeout=SECONDS, env={**os.environ, **given}
-        )
-    except subprocess.TimeoutExpired:
-        return f"more than {SECONDS} seconds", met.exists()
-    is_refused = met.exists()
-    met.unlink(missing_ok=True)
-    answers = run.answers if is_refused else run.answers[:1]
-    if any(ended.returncode == status and output in (None, ended.stdout) for status, output in answers):
-        return None, is_refused
-    return f"status {ended.returncode}, {(ended.stdout + ended.stderr)[-500:]!r}", is_refused
+                yield TestRun(binary, name)
 
 
 def sweep(run, library, folder):
     """How many allocations were refused, and what was wrong with the first wrong run, or None."""
     for number in range(1, MOST_REFUSALS):
-        fault, is_refused = refused(run, number, library, folder)
+        met = folder / f"met-{os.urandom(8).hex()}"
+        settings = {"LD_PRELOAD": str(library), "REFUSED_ALLOCATION": str(number), "REFUSAL_MET": str(met)}
+        fault = run.fault(settings, met)
         if fault is not None:
             return number, f"allocation {number}: {fault}"
-        if not is_refused:
+        if not met.exists():
             return number - 1, None if number > 1 else "no allocation was refused"
+        met.unlink()
     return MOST_REFUSALS, "there is no end to it"
 
 
-def large_files_fault(root, folder):
+def large_files_fault(root, program, folder):
     """What is wrong with a measurement of large files in less memory than two of them take, or None."""
-    boot = samples_of(root)
-    first = folder / "large-00"
-    with open(first, "wb") as file:
+    log = root / "samples/real-boot/firmware.log"
+    names = [f"large-{number:02}" for number in range(LARGE_FILES)]
+    with open(folder / names[0], "wb") as file:
         file.truncate(LARGE_FILE_BYTES)
-    files = [first] + [folder / f"large-{number:02}" for number in range(1, LARGE_FILES)]
-    for file in files[1:]:
-        os.link(first, file)
-    digest = hashlib.sha256(bytes(LARGE_FILE_BYTES)).digest()
-    wanted = "".join(list_lines((boot / "expected.txt").read_text(), [(str(file).encode(), digest) for file in files]))
+    for name in names[1:]:
+        os.link(folder / names[0], folder / name)
+    digest = SHA256.hash(bytes(LARGE_FILE_BYTES))
+    aggregate = read_log(log.read_bytes()).registers().boot_aggregate(SHA256)
+    files = [(BOOT_AGGREGATE, aggregate), *((name.encode(), digest) for name in names)]
+    wanted = list_text(entry_of(IMA_NG, SHA256, digest, name) for name, digest in files)
     try:
         ended = subprocess.run(
-            [program_of(root), "measure", "--workers", "2", boot / "firmware.log", *files],
-            stdin=subprocess.DEVNULL, capture_output=True, timeout=LARGE_SECONDS,
+            [program, "measure", "--workers", "2", log, *names],
+            cwd=folder, stdin=subprocess.DEVNULL, capture_output=True, timeout=LARGE_SECONDS,
             preexec_fn=lambda: resource.setrlimit(resource.RLIMIT_AS, (ADDRESS_SPACE, ADDRESS_SPACE)),
         )
     except subprocess.TimeoutExpired:
         return f"more than {LARGE_SECONDS} seconds"
-    if ended.returncode == 0 and sorted(ended.stdout.splitlines()) == sorted(wanted.encode().splitlines()):
+    if ended.returncode == 0 and sorted(ended.stdout.splitlines()) == sorted(wanted.splitlines()):
         return None
     return f"status {ended.returncode}, {(ended.stdout + ended.stderr)[-500:]!r}"
 
 
 def main():
-    root = Path(sys.argv[1] if len(sys.argv) > 1 else Path(__file__).parent.parent).resolve()
+    root = Path(sys.argv[1] if len(sys.argv) > 1 else HERE.parent).resolve()
+    program = root / "crates/ima_agent_program/out/ima_agent_program"
     with tempfile.TemporaryDirectory() as name, ThreadPoolExecutor(os.cpu_count()) as pool:
         folder = Path(name)
-        large_fault = large_files_fault(root, folder)
+        large_fault = large_files_fault(root, program, folder)
         print(f"{large_fault or 'ok'}: {LARGE_FILES} files of 40 MiB measured within 64 MiB of address space", flush=True)
         library = folder / "refuse.so"
-        source = Path(__file__).parent / "refuse.c"
-        subprocess.run(["cc", "-O2", "-shared", "-fPIC", "-o", library, source, "-ldl"], check=True)
-        tests, commands = list(test_runs(root)), list(command_runs(root, folder))
-        runs = tests + commands
-        failed = (not tests) + (large_fault is not None)
-        total = 0
-        for run, (refusals, fault) in zip(runs, pool.map(lambda run: sweep(run, library, folder), runs)):
+        subprocess.run(["cc", "-O2", "-shared", "-fPIC", "-o", library, HERE / "refuse.c", "-ldl"], check=True)
+        tests, (commands, faults) = list(test_runs(root)), command_runs(program, folder)
+        faults += [f"no {what} is made to have an allocation refused" for what, runs in (("test", tests), ("case", commands)) if not runs]
+        failed = len(faults) + (large_fault is not None)
+        total, passed = 0, large_fault is None
+        for run, (refusals, fault) in zip([*tests, *commands], pool.map(lambda run: sweep(run, library, folder), [*tests, *commands])):
             total += refusals
             failed += fault is not None
-            print(f"{refusals:6} refused, {fault or 'ok'}: {run.title}", flush=True)
-        if not tests:
-            print("no test is made to have an allocation refused")
-        passed = len(runs) + (not tests) + 1 - failed
-        print(f"{total} allocations were refused\n{passed} passed, {failed} failed")
+            passed += fault is None
+            print(f"{refusals:6} refused, {fault or 'ok'}: {run.title()}", flush=True)
+        print(*faults, f"{total} allocations were refused", f"{passed} passed, {failed} failed", sep="\n")
     return 1 if failed else 0
 
 

@@ -21,6 +21,8 @@ from cluster import ROOT, Processes, environment_of, python_with_dask, until
 
 sys.path.append(str(ROOT / "bench"))
 import inputs  # noqa: E402
+from reference.measurement_list import list_spelling  # noqa: E402
+from reference.registers import SHA256  # noqa: E402
 
 FILES = ("firmware.log", "ima.list", "expected.txt")
 WORKERS = (1, 2, 4)
@@ -44,9 +46,9 @@ def sample_files():
 
 def large_files():
     """A log, a list of many entries, and the registers that they make."""
-    log, registers, _ = inputs.make_log(["sha256"], 24)
-    measurements, _ = inputs.make_list(registers, inputs.made_measurements(ENTRIES - 1))
-    return [log, measurements, registers.lines()]
+    log = inputs.made_log([SHA256], 24)
+    entries = inputs.made_entries(log, inputs.made_measurements(ENTRIES - 1))
+    return [log.spelling(), list_spelling(entries), inputs.expected_text(inputs.expected_after(log, entries))]
 
 
 def make_table(folder, count, contents, is_linked):

@@ -1,4 +1,4 @@
-"""What the package answers about the sample, about changes of it, and about inputs that bench/inputs.py makes and replays.
+"""What the package answers about the sample, about changes of it, and about inputs that bench/inputs.py makes.
 
 From bindings/python: IMA_VERIFY_LIBRARY=/path/to/libima_verify.so python3 -m unittest discover tests"""
 
@@ -17,6 +17,9 @@ sys.path[:0] = [str(ROOT / "bindings/python"), str(ROOT / "bench")]
 import ima_verify
 import inputs
 from ima_verify import Algorithm, BootAggregate, Kind, Place, PlaceRow, Register, Row, State
+from reference.measurement_list import list_spelling, list_text
+from reference.registers import SHA1, SHA256
+from reference.verdict import locate
 
 SAMPLE = ROOT / "samples/real-boot"
 LOG, LIST, EXPECTED, ASCII, REGISTERS = (
@@ -215,32 +218,32 @@ class BytesLike(unittest.TestCase):
 
 
 class MadeInputs(unittest.TestCase):
-    """A log of two banks and a list that another program makes, and replays by itself."""
+    """A log and a list that the reference makes, and replays by itself."""
 
     def setUp(self):
-        # (the kernel's boot aggregate is by SHA-256, and the list's entries extend both banks)
-        self.log, registers, _ = inputs.make_log(["sha256"], 40)
-        self.list, self.text = inputs.make_list(registers, inputs.made_measurements(2000))
-        self.registers = registers
+        self.log = inputs.made_log([SHA256], 40)
+        self.entries = inputs.made_entries(self.log, inputs.made_measurements(2000))
+        self.expected = inputs.expected_after(self.log, self.entries)
+        self.given = self.log.spelling(), list_spelling(self.entries), inputs.expected_text(self.expected)
 
     def test_each_register_is_located(self):
-        places = ima_verify.locate(self.log, self.list, self.registers.lines())
+        places = ima_verify.locate(*self.given)
         found = [(row.place.value, row.number) for row in places.rows]
-        words = [place.split() for place in self.registers.places]
+        *lines, last = locate(self.log, self.entries, self.expected)[0].splitlines()
+        words = [line.split()[2:] for line in lines]
         self.assertEqual(found, [(word, int(number[0]) if number else None) for _, word, *number in words])
-        self.assertTrue(places.located)
+        self.assertEqual((places.located, last), (True, "located"))
 
     def test_each_register_matches(self):
-        verdict = ima_verify.verify(self.log, self.list, self.registers.lines())
+        verdict = ima_verify.verify(*self.given)
         self.assertEqual((verdict.events, verdict.locality, verdict.entries, verdict.matches), (40, 3, 2001, True))
 
     def test_entries_are_shown(self):
-        self.assertEqual(ima_verify.show(self.list), self.text)
+        self.assertEqual(ima_verify.show(self.given[1]), list_text(self.entries))
 
     def test_registers_of_two_banks(self):
-        log, registers, _ = inputs.make_log(["sha1", "sha256"], 40)
-        reset = inputs.Registers(["sha1", "sha256"], locality=3)
-        self.assertEqual(ima_verify.registers(log), registers_in(registers.lines(reset)))
+        log = inputs.made_log([SHA1, SHA256], 40)
+        self.assertEqual(ima_verify.registers(log.spelling()), registers_in(log.registers().text().encode()))
 
 
 class Threads(unittest.TestCase):
@@ -281,8 +284,8 @@ class Threads(unittest.TestCase):
         self.assertEqual((wrong, rounds), ([], self.THREADS * [self.ROUNDS]))
 
     def test_another_thread_runs_during_a_call(self):
-        log, registers, _ = inputs.make_log(["sha256"], 24)
-        list, _ = inputs.make_list(registers, inputs.made_measurements(20_000))
+        log = inputs.made_log([SHA256], 24)
+        log, list = log.spelling(), list_spelling(inputs.made_entries(log, inputs.made_measurements(20_000)))
         began, ended = threading.Event(), threading.Event()
 
         def run():

@@ -1,0 +1,71 @@
+"""Runs the commands of cases, and tells whether what they answer is what the cases want."""
+
+import filecmp
+import os
+import re
+import subprocess
+from dataclasses import dataclass
+from pathlib import Path
+
+import form
+
+SECONDS = 60
+MOST_LINES = 40
+
+
+@dataclass(frozen=True)
+class Answer:
+    """What a command answers: its status, or why there is none, the file of its output, and what it says on standard error."""
+
+    status: int | None
+    output: Path
+    errors: bytes
+
+
+def answer_of(program, command, folder, output, settings=None):
+    """The answer of a command, run in its case's folder with nothing but these settings in its environment."""
+    try:
+        with open(folder / command.input if command.input else os.devnull, "rb") as given, open(output, "wb") as sink:
+            ran = subprocess.run([program, *command.words], stdin=given, stdout=sink, stderr=subprocess.PIPE,
+                                 cwd=folder, env=settings or {}, timeout=SECONDS)
+    except subprocess.TimeoutExpired:
+        return Answer(None, output, f"(more than {SECONDS} seconds)\n".encode())
+    except OSError as error:
+        return Answer(None, output, f"({error})\n".encode())
+    return Answer(ran.returncode, output, ran.stderr)
+
+
+def fault_of(command, answer, folder):
+    """What an answer shows, if it is not what the command shall answer, or None. Output that makes a file is then there."""
+    left = output_left(answer.output, command.output, folder) if command.output else answer.output.read_bytes()
+    lines = lines_of(left + answer.errors)
+    if answer.status == command.status and agrees(command.wanted, lines):
+        return None
+    more = [f"({len(lines) - MOST_LINES} lines more)"] if len(lines) > MOST_LINES else []
+    status = [f"[{answer.status}]"] if answer.status else []
+    return "\n    ".join([*lines[:MOST_LINES], *more, *status]) or "(nothing)"
+
+
+def output_left(output, name, folder):
+    """The output that a command's `> name` leaves to show: none, if it is the bytes of that file, or if it now makes the file."""
+    file = folder / name
+    if not file.exists() and not name.startswith(form.SAMPLES):
+        output.rename(file)
+        return b""
+    if file.is_file() and filecmp.cmp(output, file, shallow=False):
+        return b""
+    return output.read_bytes() + f"(not the bytes of {name})\n".encode()
+
+
+def lines_of(text):
+    """The lines of what is written."""
+    lines = text.decode(errors="backslashreplace").replace("\0", "\\0").split("\n")
+    return lines[:-1] if lines[-1] == "" else [*lines[:-1], f"{lines[-1]}(no line end)"]
+
+
+def agrees(wanted, lines):
+    """Whether the lines are those wanted, where `...` stands for any number of lines, and a `...` within a line for any text."""
+    if not any("..." in line for line in wanted):
+        return wanted == lines
+    rows = (r"(?:[^\n]*\n)*" if line == "..." else re.escape(line).replace(r"\.\.\.", r"[^\n]*") + r"\n" for line in wanted)
+    return re.fullmatch("".join(rows), "".join(f"{line}\n" for line in lines)) is not None

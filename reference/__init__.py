@@ -1,0 +1,8 @@
+"""What the program is to answer, by a second implementation, written from docs/formats.md with hashlib alone.
+
+It reads whole inputs and keeps all that it reads, so that each part can be held against its section of the page. `answer` answers as the
+program does: `python3 -m reference WORDS`, in the folder above. Inputs to test and to measure with are made by its parts."""
+
+from .program import Unanswered, answer
+
+__all__ = ["Unanswered", "answer"]

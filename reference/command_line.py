@@ -1,0 +1,124 @@
+"""The arguments of the program ('The command line')."""
+
+import re
+from typing import Callable, NamedTuple, Optional
+
+from .faults import USAGE
+from .registers import BY_NAME
+from .texts import read_range
+
+FLAG = None
+
+
+class HelpAsked(Exception):
+    """The arguments ask for help."""
+
+
+class Option(NamedTuple):
+    """An option: what its value is read as, where None is a wrong value, and the value without it."""
+
+    read: Optional[Callable]
+    default: object
+
+
+class Command(NamedTuple):
+    fewest_names: int
+    most_names: Optional[int]
+    options: dict
+
+
+class Words(NamedTuple):
+    """Arguments that are taken: the command, the names, and a value for each option of the command."""
+
+    command: str
+    names: list
+    values: dict
+
+
+def one_of(*values):
+    return lambda text: text if text in values else None
+
+
+def number_within(least, most):
+    def read(text):
+        is_within = re.fullmatch(r"\+?[0-9]+", text) and least <= int(text) <= most
+        return int(text) if is_within else None
+
+    return read
+
+
+COMMANDS = {
+    "measure": Command(1, None, {
+        "--alg": Option(one_of(*BY_NAME), "sha256"),
+        "--template": Option(one_of("ima", "ima-ng", "ima-sig"), "ima-ng"),
+        "--workers": Option(number_within(1, 8), 2),
+        "--limit": Option(number_within(1, 4294967295), 100000),
+        "--print": Option(one_of("ascii", "binary", "registers"), "ascii"),
+        "--files-from": Option(str, None),
+        "--null": Option(FLAG, False),
+    }),
+    "verify": Command(3, 3, {}),
+    "locate": Command(3, 3, {}),
+    "expected": Command(1, 1, {"--registers": Option(read_range, range(24))}),
+    "registers": Command(1, 1, {}),
+    "events": Command(1, 1, {"--data": Option(FLAG, False)}),
+    "show": Command(1, 1, {}),
+    "replay": Command(1, 1, {}),
+}
+
+
+def asks_for_help(word):
+    return word == "--help" or word.startswith("-h")
+
+
+def read_words(words):
+    """What arguments ask for, of which there is at least one; or the fault, or `HelpAsked`."""
+    name, *rest = words
+    if asks_for_help(name):
+        raise HelpAsked
+    if name not in COMMANDS:
+        raise USAGE
+    command = COMMANDS[name]
+    names, values = read_arguments(command, rest)
+    if len(names) < command.fewest_names or (values.get("--null") and "--files-from" not in values):
+        raise USAGE
+    defaults = {option: it.default for option, it in command.options.items()}
+    return Words(name, names, {**defaults, **values})
+
+
+def read_arguments(command, words):
+    """The names and the values of options, from left to right."""
+    names, values = [], {}
+    has_options_left, words = True, list(words)
+    while words:
+        word = words.pop(0)
+        if not has_options_left or not word.startswith("-") or word == "-":
+            names.append(word)
+            if command.most_names is not None and len(names) > command.most_names:
+                raise USAGE
+        elif word == "--":
+            has_options_left = False
+        elif asks_for_help(word):
+            raise HelpAsked
+        else:
+            read_option(command, word, words, values)
+    return names, values
+
+
+def read_option(command, word, words, values):
+    """Adds the value of an option, which may be the first of the words after it."""
+    name, has_value, text = word.partition("=")
+    option = command.options.get(name)
+    if option is None or name in values or (option.read is FLAG and has_value):
+        raise USAGE
+    if option.read is FLAG:
+        values[name] = True
+        return
+    if not has_value:
+        if not words or (words[0].startswith("-") and words[0] != "-"):
+            raise USAGE
+        text = words.pop(0)
+    value = option.read(text)
+    if value is None:
+        raise USAGE
+    values[name] = value

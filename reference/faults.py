@@ -1,0 +1,84 @@
+"""The faults of docs/formats.md with their numbers, and the lines that tell them ('Fault lines')."""
+
+from enum import IntEnum
+
+
+class Fault(Exception):
+    """Why there is no answer: the line in its place, the exit status, and the number that the fault has, if any."""
+
+    def __init__(self, line, status=2, number=None):
+        super().__init__(line)
+        self.line, self.status, self.number = line, status, number
+
+
+class LogFault(IntEnum):
+    TRUNCATED = 1
+    NOT_CRYPTO_AGILE = 2
+    BAD_HEADER = 3
+    DIGEST_SIZE = 4
+    NO_BANK = 5
+    UNKNOWN_ALG = 6
+    DOUBLE_DIGEST = 7
+    MISSING_DIGEST = 8
+    BAD_REGISTER = 9
+
+    def at(self, event):
+        names_no_event = LogFault.NOT_CRYPTO_AGILE <= self <= LogFault.NO_BANK
+        place = "" if names_no_event else f" at event {event}"
+        return Fault(f"refused: log fault {self.value}{place}", number=self.value)
+
+
+class ListFault(IntEnum):
+    TRUNCATED = 1
+    BAD_REGISTER = 2
+    NAME_TOO_LONG = 3
+
+    def at(self, entry):
+        return Fault(f"refused: list fault {self.value} at entry {entry}", number=self.value)
+
+
+class ReplayFault(IntEnum):
+    BAD_TEMPLATE_DIGEST = 1
+
+    def at(self, entry):
+        return Fault(f"refused: replay fault {self.value} at entry {entry}", number=self.value)
+
+
+class ExpectedFault(IntEnum):
+    BAD_LINE = 1
+    DOUBLE_LINE = 2
+
+    def at(self, line):
+        return Fault(f"refused: expected fault {self.value} at line {line}", number=self.value)
+
+
+class BookFault(IntEnum):
+    """Those that a measurement of files can have."""
+
+    WRONG_HASH = 1
+    NO_BANK = 2
+    PATH_TOO_LONG = 5
+    FULL = 7
+
+    def at_opening(self):
+        return Fault(f"refused: book fault {self.value}", number=self.value)
+
+    def of_file(self, job):
+        return Fault(f"refused: job {job} book fault {self.value}", number=self.value)
+
+
+USAGE = Fault("refused: command line")
+NOT_HEXADECIMAL = Fault("refused: not hexadecimal")
+NO_ARGUMENTS = Fault("failed: memory", status=3)
+
+
+def too_long(name):
+    return Fault(f"refused: too long {name}")
+
+
+def not_utf8(name):
+    return Fault(f"refused: not UTF-8 {name}")
+
+
+def not_read(name):
+    return Fault(f"failed: read {name}", status=3)

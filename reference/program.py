@@ -1,0 +1,190 @@
+"""What the program answers ('The command line', "The program's input", "The program's output")."""
+
+import os
+
+from .command_line import HelpAsked, read_words
+from .faults import NO_ARGUMENTS, BookFault, Fault, ListFault, not_read, not_utf8, too_long
+from .log import read_log
+from .measurement_list import BOOT_AGGREGATE, IMA, LONGEST_IMA_PATH, entry_of, list_spelling, list_text, read_list, replay
+from .registers import ALGORITHMS, BY_NAME, SHA1, Registers
+from .texts import read_expected, read_hexadecimal, read_names, read_pcrread
+from .verdict import locate, verdict
+
+MOST_BYTES = 64 << 20
+LONGEST_PATH = 4095
+
+
+class Unanswered(Exception):
+    """What the reference leaves to the program: help, and workers whose order may show."""
+
+
+class Inputs:
+    """Files by name, below a folder, and standard input."""
+
+    def __init__(self, folder, standard_input):
+        self.folder = os.open(folder, os.O_RDONLY | os.O_DIRECTORY)
+        self.standard_input = standard_input
+
+    def close(self):
+        os.close(self.folder)
+
+    def opened(self, name):
+        """A call that reads the input, or the fault of one that cannot be opened."""
+        if name == "/dev/stdin":
+            return lambda: self.limited(name, self.standard_input)
+        try:
+            file = open(name, "rb", opener=lambda path, flags: os.open(path, flags, dir_fd=self.folder))
+        except IsADirectoryError:
+            # (the system opens it, and then does not read it)
+            return lambda: (b"", not_read(name))
+        except (OSError, ValueError):
+            raise not_read(name) from None
+        return lambda: self.limited(name, self.read(file))
+
+    def read(self, file):
+        with file:
+            return file.read(MOST_BYTES + 1)
+
+    def limited(self, name, data):
+        """The bytes that are taken of an input, and the fault that ends them, or None."""
+        return data[:MOST_BYTES], too_long(name) if len(data) > MOST_BYTES else None
+
+    def load(self, name):
+        """The bytes of an input that is loaded whole."""
+        return whole(*self.opened(name)())
+
+    def load_standard_input(self):
+        return whole(*self.limited("-", self.standard_input))
+
+
+def whole(data, fault):
+    if fault:
+        raise fault
+    return data
+
+
+def list_of(data, fault):
+    """The entries of a list that is read as its bytes come. Only a cut entry is told after the fault that ended them."""
+    try:
+        entries = read_list(data)
+    except Fault as found:
+        raise fault if fault and found.number == ListFault.TRUNCATED else found
+    return whole(entries, fault)
+
+
+def registers_of_hexadecimal(inputs):
+    return read_log(read_hexadecimal(inputs.load_standard_input())).registers().text(), 0
+
+
+def registers_command(inputs, values, log):
+    return read_log(inputs.load(log)).registers().text(), 0
+
+
+def events_command(inputs, values, log):
+    return read_log(inputs.load(log)).text(values["--data"]), 0
+
+
+def show_command(inputs, values, listed):
+    return list_text(read_list(inputs.load(listed))), 0
+
+
+def replay_command(inputs, values, listed):
+    registers = Registers(ALGORITHMS)
+    replay(registers, list_of(*inputs.opened(listed)()))
+    return registers.text(), 0
+
+
+def expected_command(inputs, values, text):
+    rows = read_pcrread(inputs.load(text))
+    return "".join(row.line() for row in rows if row.register in values["--registers"]), 0
+
+
+def judge(decide):
+    """The command that decides on a log, a list and expected registers."""
+
+    def command(inputs, values, log, listed, expected):
+        log = inputs.load(log)
+        expected = read_expected(inputs.load(expected))
+        read = inputs.opened(listed)
+        log = read_log(log)
+        text, is_well = decide(log, list_of(*read()), expected)
+        return text, 0 if is_well else 1
+
+    return command
+
+
+def measure_command(inputs, values, log, *names):
+    log = read_log(inputs.load(log))
+    names = [*names, *further_names(inputs, values)]
+    algorithm, template = BY_NAME[values["--alg"]], values["--template"].encode()
+    files = [(name, algorithm.hash(inputs.load(name))) for name in names]
+    entries = measured(log, algorithm, template, values["--limit"], files, values["--workers"])
+    if values["--print"] == "ascii":
+        return list_text(entries), 0
+    if values["--print"] == "binary":
+        return list_spelling(entries), 0
+    registers = log.registers()
+    replay(registers, entries)
+    return registers.text(), 0
+
+
+def further_names(inputs, values):
+    name = values["--files-from"]
+    if name is None:
+        return []
+    try:
+        return read_names(inputs.load(name), values["--null"])
+    except UnicodeDecodeError:
+        raise not_utf8(name) from None
+
+
+def measured(log, algorithm, template, limit, files, workers):
+    """The entries of the boot aggregate and of files, each a name and a digest, and each entry once ('A measurement')."""
+    registers = log.registers()
+    if template == IMA and algorithm is not SHA1:
+        raise BookFault.WRONG_HASH.at_opening()
+    if algorithm not in registers.banks:
+        raise BookFault.NO_BANK.at_opening()
+    if workers > 1 and len(files) > 1 and (len(set(files)) > 1 or len(files) >= limit):
+        raise Unanswered("the order of several workers may show")
+    entries = {entry_of(template, algorithm, registers.boot_aggregate(algorithm), BOOT_AGGREGATE): None}
+    for job, (name, digest) in enumerate(files):
+        path = name.encode()
+        if len(path) > (LONGEST_IMA_PATH if template == IMA else LONGEST_PATH):
+            raise BookFault.PATH_TOO_LONG.of_file(job)
+        if job + 1 >= limit:
+            raise BookFault.FULL.of_file(job)
+        entries[entry_of(template, algorithm, digest, path)] = None
+    return list(entries)
+
+
+COMMANDS = {
+    "measure": measure_command,
+    "verify": judge(verdict),
+    "locate": judge(locate),
+    "expected": expected_command,
+    "registers": registers_command,
+    "events": events_command,
+    "show": show_command,
+    "replay": replay_command,
+}
+
+
+def answer(words, folder=".", standard_input=b""):
+    """The program's status and output for arguments, where names are those of files below the folder; or `Unanswered`."""
+    inputs = Inputs(folder, standard_input)
+    try:
+        if any("\udc80" <= letter <= "\udcff" for letter in "".join(words)):
+            raise NO_ARGUMENTS
+        if words:
+            asked = read_words(words)
+            text, status = COMMANDS[asked.command](inputs, asked.values, *asked.names)
+        else:
+            text, status = registers_of_hexadecimal(inputs)
+    except Fault as fault:
+        text, status = f"{fault.line}\n", fault.status
+    except HelpAsked:
+        raise Unanswered("help") from None
+    finally:
+        inputs.close()
+    return status, text if isinstance(text, bytes) else text.encode()

@@ -1,0 +1,73 @@
+"""Algorithms, and banks of registers ('Algorithms', 'Registers', 'The boot aggregate', 'Register lines')."""
+
+import hashlib
+from typing import Callable, NamedTuple
+
+REGISTERS = 24
+RESET_TO_ONES = range(17, 23)
+
+
+class Algorithm(NamedTuple):
+    identifier: int
+    size: int
+    name: str
+    hasher: Callable
+
+    def hash(self, data):
+        return self.hasher(data).digest()
+
+
+SHA1 = Algorithm(0x0004, 20, "sha1", hashlib.sha1)
+SHA256 = Algorithm(0x000B, 32, "sha256", hashlib.sha256)
+SHA384 = Algorithm(0x000C, 48, "sha384", hashlib.sha384)
+SHA512 = Algorithm(0x000D, 64, "sha512", hashlib.sha512)
+
+# In the order of algorithms.
+ALGORITHMS = (SHA1, SHA256, SHA384, SHA512)
+BY_IDENTIFIER = {algorithm.identifier: algorithm for algorithm in ALGORITHMS}
+BY_NAME = {algorithm.name: algorithm for algorithm in ALGORITHMS}
+
+
+def reset_value(algorithm, register, locality):
+    """A register's value after a start from a locality."""
+    if register == 0:
+        return bytes(algorithm.size - 1) + bytes([locality])
+    return (b"\xff" if register in RESET_TO_ONES else b"\0") * algorithm.size
+
+
+class Registers:
+    """The registers of some banks, by algorithm, which begin at their reset values."""
+
+    def __init__(self, algorithms, locality=0):
+        self.locality = locality
+        self.banks = {
+            algorithm: [reset_value(algorithm, register, locality) for register in range(REGISTERS)]
+            for algorithm in ALGORITHMS
+            if algorithm in algorithms
+        }
+
+    def extend(self, register, digest_of):
+        """Extends a register in each bank by the digest that `digest_of` gives for its algorithm."""
+        for algorithm, values in self.banks.items():
+            values[register] = algorithm.hash(values[register] + digest_of(algorithm))
+
+    def value(self, algorithm, register):
+        """A register's value, or None without its bank."""
+        return self.banks[algorithm][register] if algorithm in self.banks else None
+
+    def boot_aggregate(self, algorithm):
+        """The boot aggregate of a bank that is there."""
+        return algorithm.hash(b"".join(self.banks[algorithm][: 8 if algorithm is SHA1 else 10]))
+
+    def rows(self):
+        """Each register, as its algorithm, its number and its value."""
+        return [(algorithm, register, value) for algorithm, values in self.banks.items() for register, value in enumerate(values)]
+
+    def text(self):
+        """A line for each register that does not have its reset value."""
+        rows = (row for row in self.rows() if row[2] != reset_value(row[0], row[1], self.locality))
+        return "".join(register_line(*row) for row in rows)
+
+
+def register_line(algorithm, register, value):
+    return f"{algorithm.name} {register} {value.hex()}\n"

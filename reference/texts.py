@@ -1,0 +1,108 @@
+"""The texts that the program reads: expected registers, what tpm2_pcrread prints, names of files, a log in hexadecimal."""
+
+import re
+from typing import NamedTuple
+
+from .faults import NOT_HEXADECIMAL, ExpectedFault
+from .registers import BY_NAME, Algorithm, register_line
+
+REGISTER = rb"(0|[1-9]|1[0-9]|2[0-3])"
+EXPECTED = re.compile(rb"(\w+) " + REGISTER + rb" ([0-9a-fA-F]+)")
+BANK = re.compile(rb"  ([A-Za-z0-9_]+):")
+VALUE = re.compile(rb"    (?:" + REGISTER + rb")( ?): 0x([0-9a-fA-F]+)")
+RANGE = re.compile(REGISTER.decode() + "(?:-" + REGISTER.decode() + ")?")
+WHITE_SPACE = b" \t\r\n"
+HEXADECIMAL = b"0123456789abcdefABCDEF"
+
+
+class Expected(NamedTuple):
+    """A register, and the value that it shall have."""
+
+    algorithm: Algorithm
+    register: int
+    value: bytes
+
+    def line(self):
+        return register_line(*self)
+
+
+class States:
+    """The registers that a text states, in its order."""
+
+    def __init__(self):
+        self.rows = []
+
+    def add(self, algorithm, register, digits, line):
+        """Takes what a line states, if it has the form that it should have."""
+        if algorithm is None or len(digits) != 2 * algorithm.size:
+            raise ExpectedFault.BAD_LINE.at(line)
+        if any((row.algorithm, row.register) == (algorithm, int(register)) for row in self.rows):
+            raise ExpectedFault.DOUBLE_LINE.at(line)
+        self.rows.append(Expected(algorithm, int(register), bytes.fromhex(digits.decode())))
+
+
+def lines_of(text):
+    """The lines that are not empty, with their numbers, which count from 1."""
+    for number, line in enumerate(text.split(b"\n"), 1):
+        line = line[:-1] if line.endswith(b"\r") else line
+        if line:
+            yield number, line
+
+
+def read_expected(text):
+    """The expected registers of a text ('Expected registers')."""
+    states = States()
+    for number, line in lines_of(text):
+        match = EXPECTED.fullmatch(line)
+        if not match:
+            raise ExpectedFault.BAD_LINE.at(number)
+        name, register, digits = match.groups()
+        states.add(BY_NAME.get(name.decode()), register, digits, number)
+    return states.rows
+
+
+def read_pcrread(text):
+    """The registers that a text of tpm2_pcrread states ('What tpm2_pcrread prints')."""
+    states, bank = States(), None
+    for number, line in lines_of(text):
+        of_bank, of_value = BANK.fullmatch(line), VALUE.fullmatch(line)
+        if of_bank:
+            bank = of_bank[1].decode()
+        elif bank is not None and bank not in BY_NAME and line.startswith(b"    "):
+            continue
+        elif bank in BY_NAME and of_value and len(of_value[1] + of_value[2]) == 2:
+            states.add(BY_NAME[bank], of_value[1], of_value[3], number)
+        else:
+            raise ExpectedFault.BAD_LINE.at(number)
+    return states.rows
+
+
+def pcrread_text(registers):
+    """What tpm2_pcrread prints of these registers."""
+    lines = []
+    for algorithm, values in registers.banks.items():
+        lines.append(f"  {algorithm.name}:")
+        lines += [f"    {register:<2}: 0x{value.hex().upper()}" for register, value in enumerate(values)]
+    return "".join(f"{line}\n" for line in lines)
+
+
+def read_range(text):
+    """The registers of a range, or None if the text is none."""
+    match = RANGE.fullmatch(text)
+    if not match:
+        return None
+    first, last = int(match[1]), int(match[2] or match[1])
+    return range(first, last + 1) if first <= last else None
+
+
+def read_names(text, has_nul_ends):
+    """The names in a text of UTF-8."""
+    return [name for name in text.decode().split("\0" if has_nul_ends else "\n") if name]
+
+
+def read_hexadecimal(text):
+    """The bytes that a text spells."""
+    digits = text.translate(None, WHITE_SPACE)
+    if len(digits) % 2 or digits.translate(None, HEXADECIMAL):
+        raise NOT_HEXADECIMAL
+    return bytes.fromhex(digits.decode())
