@@ -4,6 +4,7 @@ ghost use Rattle.std.specs.Prelude.{◌≡◌, ◌≢◌, ℕ, ◌↔◌, ◌<�
 ghost use Rattle.measure_book.specs.declared.fault.BookFault.{BookFault};
 ghost use Rattle.measure_book.specs.declared.gathers.GatherFault.{GatherFault};
 ghost use Rattle.measure_book.specs.Operations.{book_outcome_of};
+ghost use Rattle.measure_book.specs.Groups.{AccountsForAll, IsFirstFault, groups_of};
 ghost use Rattle.measure_book.specs.Histories.{open_refusal_of};
 ghost use Rattle.hash_workers.specs.Jobs.{operations_of};
 ghost use Rattle.hash_workers.specs.declared.fault.JobFault.{JobFault};
@@ -150,7 +151,7 @@ fn settle<J: Jobs>(
     if let Some(lack) = all.lack {
         return Err(unmade(lack));
     }
-    gather(alloc, &book, origin, &all.groups)?;
+    check_accounts(alloc, &book, origin, &all.groups)?;
     let AllWork {
         takings,
         groups,
@@ -160,6 +161,20 @@ fn settle<J: Jobs>(
     } = all;
     scatter(&mut outcomes, &mut by, &takings, groups);
     Ok(Batch { book, outcomes, by })
+}
+
+// Fails unless the workers' outcomes account for the book's records. Nothing else shows that the same book was behind the lock
+// each time.
+fn check_accounts(
+    alloc: Global,
+    book: &Book,
+    origin: &Origin,
+    groups: &[Vec<Outcome>],
+) -> Result<(), GatherFault>
+    ensures accounts { IfOk result (λ _. AccountsForAll book.now origin.now (groups_of groups.now)) }
+    ensures fault { IfErr result (IsFirstFault book.now origin.now (groups_of groups.now)) }
+{
+    gather(alloc, book, origin, groups)
 }
 
 // The fault where this is the first job whose operation could not be made.

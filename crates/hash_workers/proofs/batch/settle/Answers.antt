@@ -31,7 +31,7 @@ returns-clause-batch g c =
       rises = c.requires.all.rise;
       pairs = c.requires.all.pairs;
       scattered = subst To (ap (map items_of) c.deref-2.ensures.value) c.scatter.ensures.scattered;
-      accounts = subst Of c.deref.ensures.value c.in_ok-gather.ensures.accounts;
+      accounts = subst Of c.deref.ensures.value c.in_ok-check_accounts.ensures.accounts;
       outcomes_len = omega arith;
       by_len = omega arith;
     })
