@@ -96,7 +96,7 @@ def kind_of(command):
     names_sample = any(it and it.startswith(form.SAMPLES) for it in (*command.words, command.input))
     try:
         given = read_arguments(COMMANDS[word], command.words[1:])[1] if word in COMMANDS else {}
-        options = tuple((name, value) if isinstance(value, str) and name != "--files-from" else name for name, value in given.items())
+        options = frozenset((name, value) if isinstance(value, str) and name != "--files-from" else name for name, value in given.items())
     except (Fault, HelpAsked) as cause:
         options = type(cause)
     fault = FAULT.match(command.wanted[0]) if command.status > 1 and command.wanted else None
