@@ -4,6 +4,7 @@ import re
 import shlex
 from dataclasses import dataclass
 from pathlib import Path
+from typing import Optional
 
 ROOT = Path(__file__).resolve().parent.parent
 FOLDER = ROOT / "cases"
@@ -35,8 +36,8 @@ class Command:
     line: int
     text: str
     words: list
-    input: str | None
-    output: str | None
+    input: Optional[str]
+    output: Optional[str]
     wanted: list
     status: int
 
@@ -200,8 +201,16 @@ def files_named(case):
     return words
 
 
+def case_files():
+    """The files that are to be cases: those that are called so, and all that stand in folders."""
+    files = (path for path in FOLDER.rglob("*") if path.is_file() and "__pycache__" not in path.parts)
+    return sorted(path for path in files if path.suffix == ".case" or path.parent != FOLDER)
+
+
 def read_case(path):
     """The case of a file, or `Malformed`."""
+    if path.suffix != ".case":
+        raise Malformed(1, "a file here is a case, and its name ends in .case")
     lines = path.read_text().split("\n")
     if lines[-1] != "":
         raise Malformed(len(lines), "the last line has no end")

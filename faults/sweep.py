@@ -106,7 +106,7 @@ def kind_of(command):
 def command_runs(program, folder):
     """A run of a command of each kind; and what is wrong with cases."""
     shared, runs, faults = form.read_shared(), {}, []
-    for number, path in enumerate(sorted(form.FOLDER.rglob("*.case"))):
+    for number, path in enumerate(form.case_files()):
         try:
             case = form.read_case(path)
             if case.has_at_most(MOST_BYTES, shared):
