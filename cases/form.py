@@ -62,8 +62,10 @@ class Section:
         return [self._part(part, files) for part in PART.finditer(self.body)]
 
     def names(self):
-        """The names of the files that this one is made of."""
-        return {part["name"] for part in PART.finditer(self.body) if part["name"]} if self.is_hex else set()
+        """What may name other files: what this one is made of, and each line of its text."""
+        if not self.is_hex:
+            return set(self.body.split("\n"))
+        return {name for part in PART.finditer(self.body) for name in (part["name"], *(part["text"] or "").split("\n"))}
 
     def _part(self, part, files):
         line = self.line + 1 + self.body.count("\n", 0, part.start())
@@ -193,12 +195,10 @@ def commands_of(lines):
 
 
 def files_named(case):
-    """The files that the commands name, that other files are made of, or that a text names in a line of its own."""
+    """The files that the commands name, that other files are made of, or that a text names."""
     words = {word for command in case.commands for word in (*command.words, command.input, command.output) if word}
     words |= {word.split("=", 1)[1] for word in words if "=" in word}
-    for section in case.sections:
-        words |= section.names() | set(re.split(r"[\n\0]", section.body) if not section.is_hex else ())
-    return words
+    return words.union(*(section.names() for section in case.sections))
 
 
 def case_files():
