@@ -6,6 +6,7 @@ import re
 import subprocess
 from dataclasses import dataclass
 from pathlib import Path
+from typing import Optional
 
 import form
 
@@ -17,7 +18,7 @@ MOST_LINES = 40
 class Answer:
     """What a command answers: its status, or why there is none, the file of its output, and what it says on standard error."""
 
-    status: int | None
+    status: Optional[int]
     output: Path
     errors: bytes
 

@@ -4,6 +4,7 @@ import re
 import shlex
 from dataclasses import dataclass
 from pathlib import Path
+from typing import Optional
 
 ROOT = Path(__file__).resolve().parent.parent
 FOLDER = ROOT / "cases"
@@ -35,8 +36,8 @@ class Command:
     line: int
     text: str
     words: list
-    input: str | None
-    output: str | None
+    input: Optional[str]
+    output: Optional[str]
     wanted: list
     status: int
 
@@ -61,8 +62,10 @@ class Section:
         return [self._part(part, files) for part in PART.finditer(self.body)]
 
     def names(self):
-        """The names of the files that this one is made of."""
-        return {part["name"] for part in PART.finditer(self.body) if part["name"]} if self.is_hex else set()
+        """What may name other files: what this one is made of, and each line of its text."""
+        if not self.is_hex:
+            return set(self.body.split("\n"))
+        return {name for part in PART.finditer(self.body) for name in (part["name"], *(part["text"] or "").split("\n"))}
 
     def _part(self, part, files):
         line = self.line + 1 + self.body.count("\n", 0, part.start())
@@ -192,16 +195,22 @@ def commands_of(lines):
 
 
 def files_named(case):
-    """The files that the commands name, that other files are made of, or that a text names in a line of its own."""
+    """The files that the commands name, that other files are made of, or that a text names."""
     words = {word for command in case.commands for word in (*command.words, command.input, command.output) if word}
     words |= {word.split("=", 1)[1] for word in words if "=" in word}
-    for section in case.sections:
-        words |= section.names() | set(re.split(r"[\n\0]", section.body) if not section.is_hex else ())
-    return words
+    return words.union(*(section.names() for section in case.sections))
+
+
+def case_files():
+    """The files that are to be cases: those that are called so, and all that stand in folders."""
+    files = (path for path in FOLDER.rglob("*") if path.is_file() and "__pycache__" not in path.parts)
+    return sorted(path for path in files if path.suffix == ".case" or path.parent != FOLDER)
 
 
 def read_case(path):
     """The case of a file, or `Malformed`."""
+    if path.suffix != ".case":
+        raise Malformed(1, "a file here is a case, and its name ends in .case")
     lines = path.read_text().split("\n")
     if lines[-1] != "":
         raise Malformed(len(lines), "the last line has no end")

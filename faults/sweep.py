@@ -96,7 +96,7 @@ def kind_of(command):
     names_sample = any(it and it.startswith(form.SAMPLES) for it in (*command.words, command.input))
     try:
         given = read_arguments(COMMANDS[word], command.words[1:])[1] if word in COMMANDS else {}
-        options = tuple((name, value) if isinstance(value, str) and name != "--files-from" else name for name, value in given.items())
+        options = frozenset((name, value) if isinstance(value, str) and name != "--files-from" else name for name, value in given.items())
     except (Fault, HelpAsked) as cause:
         options = type(cause)
     fault = FAULT.match(command.wanted[0]) if command.status > 1 and command.wanted else None
@@ -106,7 +106,7 @@ def kind_of(command):
 def command_runs(program, folder):
     """A run of a command of each kind; and what is wrong with cases."""
     shared, runs, faults = form.read_shared(), {}, []
-    for number, path in enumerate(sorted(form.FOLDER.rglob("*.case"))):
+    for number, path in enumerate(form.case_files()):
         try:
             case = form.read_case(path)
             if case.has_at_most(MOST_BYTES, shared):

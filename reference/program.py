@@ -31,7 +31,7 @@ class Inputs:
     def opened(self, name):
         """A call that reads the input, or the fault of one that cannot be opened."""
         if name == "/dev/stdin":
-            return lambda: self.limited(name, self.standard_input)
+            return lambda: limited(name, self.standard_input)
         try:
             file = open(name, "rb", opener=lambda path, flags: os.open(path, flags, dir_fd=self.folder))
         except IsADirectoryError:
@@ -39,22 +39,27 @@ class Inputs:
             return lambda: (b"", not_read(name))
         except (OSError, ValueError):
             raise not_read(name) from None
-        return lambda: self.limited(name, self.read(file))
-
-    def read(self, file):
-        with file:
-            return file.read(MOST_BYTES + 1)
-
-    def limited(self, name, data):
-        """The bytes that are taken of an input, and the fault that ends them, or None."""
-        return data[:MOST_BYTES], too_long(name) if len(data) > MOST_BYTES else None
+        return lambda: read(name, file)
 
     def load(self, name):
         """The bytes of an input that is loaded whole."""
         return whole(*self.opened(name)())
 
     def load_standard_input(self):
-        return whole(*self.limited("-", self.standard_input))
+        return whole(*limited("-", self.standard_input))
+
+
+def read(name, file):
+    """The bytes that are taken of a file, and the fault that ends them, or None."""
+    with file:
+        try:
+            return limited(name, file.read(MOST_BYTES + 1))
+        except OSError:
+            return b"", not_read(name)
+
+
+def limited(name, data):
+    return data[:MOST_BYTES], too_long(name) if len(data) > MOST_BYTES else None
 
 
 def whole(data, fault):
