@@ -11,7 +11,7 @@ import sys
 import time
 from pathlib import Path
 
-SECONDS_BETWEEN_LOOKS = 1
+SECONDS_BETWEEN_LOOKS = 3
 
 
 def children():
