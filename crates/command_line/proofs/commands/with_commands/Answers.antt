@@ -1,0 +1,8 @@
+use Rattle.command_line.specs.Commands.{program_app}
+use Rattle.command_line.proofs.CommandLemmas.{one_row_more}
+use Rattle.command_line.proofs.commands.with_commands.Goals as goal
+
+pub loop-row-preserved : goal.loop-row-preserved
+loop-row-preserved c =
+    let more = one_row_more c.args.known program_app c.args.rows.now c.loop-row.row-index in
+    more _ _ _ _ c.loop-row-test.true c.loop-row.invariant c.in_ok-command.ensures c.in_ok-program.ensures
