@@ -2,7 +2,8 @@
 
 ghost use Rattle.std.specs.Prelude.{◌≡◌, ◌<◌, ◌≤◌, ◌^◌, ◌⊎◌, [], Ok, Some, codes, drop, map, option_map, string_bytes, unwrap_or, vec_len, IfOk};
 ghost use Rattle.clap.specs.Words.{all_of, first_of, found_of, rows_of, subcommand_rows_of};
-ghost use Rattle.command_line.specs.Commands.{HasMeasure, HasNumber, HasValues, HasValuesIn, IsMatched, data_value, null_value, print_name};
+ghost use Rattle.command_line.specs.parts.Commands.{IsCommand};
+ghost use Rattle.command_line.specs.Commands.{HasMeasure, HasNumber, HasValues, HasValuesIn, IsMatched, Parsers, commands, data_value, null_value, print_name};
 ghost use Rattle.std.specs.Vec.Iter.{into_iter_items};
 ghost use Rattle.command_line.specs.Plans.{HasHelpWord, IsAskedBy, IsHelp, IsOfCommand, IsWithinRanges, asks_help};
 ghost use Rattle.std.specs.List.{list_any};
@@ -15,7 +16,7 @@ use crate::commands::{KnownNames, all_commands};
 use crate::fault::WordsFault;
 use crate::plan::{DataShown, NameEnd, Plan, Print};
 use clap::error::ErrorKind;
-use clap::{ArgMatches, Error};
+use clap::{ArgMatches, Command, Error};
 use ima_list::Template;
 use pcr_banks::Alg;
 use std::alloc::{AllocError, Global};
@@ -49,16 +50,26 @@ pub fn words_after_name(alloc: Global, words: Args) -> Result<Vec<String>, Alloc
 fn plan_in(alloc: Global, words: &[String], command: &str) -> Result<Plan, WordsFault>
     ensures { IfOk result (λ plan. ((IsOfCommand command.now plan × IsMatched (map string_bytes words.now) plan) ⊎ (HasHelpWord words.now × IsHelp plan)) × IsWithinRanges plan) }
 {
-    let algs: Vec<&str> = Alg::ALL.iter().map(|alg| alg.name()).collect(alloc)?;
-    let templates: Vec<&str> = Template::ALL
-        .iter()
-        .map(|template| template.name())
-        .collect(alloc)?;
+    let algs = Alg::ALL.map(Alg::name);
+    let templates = Template::ALL.map(Template::name);
     let known = KnownNames {
         algs: &algs,
         templates: &templates,
     };
-    match all_commands(alloc, known)?.try_get_matches_from(words) {
+    plan_by(alloc, words, command, all_commands(alloc, known)?)
+}
+
+// The same, by this definition of all commands.
+fn plan_by<'a>(
+    alloc: Global,
+    words: &'a [String],
+    command: &str,
+    program: Command<'a>,
+) -> Result<Plan, WordsFault>
+    requires { (parsers : Parsers) × IsCommand (commands parsers) program }
+    ensures { IfOk result (λ plan. ((IsOfCommand command.now plan × IsMatched (map string_bytes words.now) plan) ⊎ (HasHelpWord words.now × IsHelp plan)) × IsWithinRanges plan) }
+{
+    match program.try_get_matches_from(words) {
         Ok(matches) => plan_of(alloc, command, &matches),
         Err(error) => help_of(alloc, words, &error),
     }
@@ -357,11 +368,18 @@ fn names_of(alloc: Global, words: &[&str]) -> Result<Vec<String>, AllocError>
     Ok(names)
 }
 
-// Whether some argument requests help: `--help`, or short options that begin with `-h`.
+// Whether some argument requests help.
 fn has_help_word(words: &[String]) -> bool
     ensures { result ≡ list_any (λ word. asks_help (string_bytes word)) words.now }
 {
-    words.iter().any(|word| word.as_str() == "--help" || word.as_bytes().starts_with(b"-h"))
+    words.iter().any(asks_help)
+}
+
+// Whether this argument requests help: it is `--help`, or short options that begin with `-h`.
+fn asks_help(word: &String) -> bool
+    ensures { result ≡ asks_help (string_bytes word.now) }
+{
+    word.as_str() == "--help" || word.as_bytes().starts_with(b"-h")
 }
 
 // The help, if it was requested; else `Usage`, or `Memory` if memory ran out.
