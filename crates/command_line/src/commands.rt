@@ -2,8 +2,8 @@
 
 ghost use Rattle.std.specs.Prelude.{◌≡◌, IfOk};
 ghost use Rattle.std.specs.List.{fold};
-ghost use Rattle.clap.specs.Words.{new_app};
-ghost use Rattle.command_line.specs.parts.Commands.{IsArgument, IsCommand, app_of_row, parser_of_values, rule_of_row, with_row};
+ghost use Rattle.clap.specs.Words.{app_of, new_app};
+ghost use Rattle.command_line.specs.parts.Commands.{IsArgument, IsCommand, app_of_row, parser_of_values, rule_of_row, with_argument_row, with_row};
 ghost use Rattle.command_line.specs.Commands.{Parsers, commands, flag, flag_beside, optional, program_app, repeated, required, without_default};
 
 use crate::command_table::{
@@ -44,9 +44,22 @@ fn with_commands<'a>(
 {
     let mut program = program;
     for row in rows {
-        program = program.subcommand(command(alloc, row, known)?)?;
+        program = with_row(alloc, program, row, known)?;
     }
     Ok(program)
+}
+
+// The program with the command of this row too. It is a function of its own, since a loop in which commands are dropped is dear to
+// prove.
+fn with_row<'a>(
+    alloc: Global,
+    program: Command<'a>,
+    row: &'a CommandRow<'a>,
+    known: KnownNames<'a>,
+) -> Result<Command<'a>, AllocError>
+    ensures { IfOk result (λ more. app_of more ≡ with_row known.entry (app_of program.entry) row.now) }
+{
+    program.subcommand(command(alloc, row, known)?)
 }
 
 // The program, without its commands.
@@ -70,9 +83,21 @@ fn command<'a>(
 {
     let mut command = described(alloc, row.name, row.about, help_end_of(row.end));
     for argument_row in row.arguments {
-        command = command.arg(argument(alloc, argument_row, known)?)?;
+        command = with_argument_row(alloc, command, argument_row, known)?;
     }
     Ok(command)
+}
+
+// The command with the argument of this row too.
+fn with_argument_row<'a>(
+    alloc: Global,
+    command: Command<'a>,
+    row: &ArgumentRow<'a>,
+    known: KnownNames<'a>,
+) -> Result<Command<'a>, AllocError>
+    ensures { IfOk result (λ more. app_of more ≡ with_argument_row known.entry (app_of command.entry) row.now) }
+{
+    command.arg(argument(alloc, row, known)?)
 }
 
 // A command of this name, without arguments. `end` is the end of its help.
