@@ -4,6 +4,7 @@ ghost use Rattle.std.specs.Prelude.{◌≡◌, IfOk};
 ghost use Rattle.std.specs.List.{fold};
 ghost use Rattle.clap.specs.Words.{app_of, new_app};
 ghost use Rattle.command_line.specs.parts.Commands.{IsArgument, IsCommand, app_of_row, parser_of_values, rule_of_row, with_argument_row, with_row};
+ghost use Rattle.command_line.specs.declared.commands.KnownNames.{KnownNames};
 ghost use Rattle.command_line.specs.Commands.{Parsers, commands, flag, flag_beside, optional, program_app, repeated, required, without_default};
 
 use crate::command_table::{
@@ -29,7 +30,14 @@ pub(crate) fn all_commands<'a>(
 ) -> Result<Command<'a>, AllocError>
     ensures { IfOk result (λ program. (parsers : Parsers) × IsCommand (commands parsers) program) }
 {
-    with_commands(alloc, program(alloc)?, &COMMANDS, known)
+    with_commands(alloc, program(alloc)?, rows(), known)
+}
+
+// The rows of all commands. It is a function of its own, since a static that is lent makes a proof dear.
+fn rows<'a>() -> &'a [CommandRow<'a>]
+    ensures { (known : KnownNames) → (parsers : Parsers) × (fold (with_row known) program_app result.now ≡ commands parsers) }
+{
+    &COMMANDS
 }
 
 // The program with the commands of these rows.
