@@ -15,25 +15,17 @@ pub(crate) struct CommandRow<'a> {
     pub(crate) arguments: &'a [ArgumentRow<'a>],
 }
 
-/// Which end the help of a command has. The texts are in `help_end_of`, and not in the rows: a static that is lent stands in the
-/// borrow checker's part of a proof with all its texts, and these are long.
+/// Which command's end the help has. The texts are in `help_end_of`, and not in the rows: a static that is lent stands in the borrow
+/// checker's part of a proof with all its texts, and these are long.
 #[derive(Clone, Copy)]
 pub(crate) enum HelpEnd {
-    /// The end of the help of `measure`.
     Measure,
-    /// The end of the help of `verify`.
     Verify,
-    /// The end of the help of `locate`.
     Locate,
-    /// The end of the help of `expected`.
     Expected,
-    /// The end of the help of `registers`.
     Registers,
-    /// The end of the help of `events`.
     Events,
-    /// The end of the help of `show`.
     Show,
-    /// The end of the help of `replay`.
     Replay,
 }
 
