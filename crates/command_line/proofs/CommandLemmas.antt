@@ -1,18 +1,34 @@
--- Commands that get one more argument, or one more command.
-use Rattle.std.proofs.Common.{◌≡◌, ◌∙◌, true, ap, ap₂}
-use Rattle.clap.specs.Words.{AddsArg, AddsSubcommand, App, Rule, with_rule, with_subcommand}
+-- Commands that get one more argument, or one more command, as a row of a table says.
+use Rattle.std.proofs.Common.{◌≡◌, ◌∙◌, ◌+◌, ◌<◌, ℕ, List, [], ◌∷◌, ap, length, refl, slice_index_or, sym, take}
+use Rattle.std.specs.List.{fold}
+use Rattle.std.proofs.lemmas.List.Sums.{fold_more}
+use Rattle.clap.specs.Words.{AddsArg, AddsSubcommand, App, app_of, new_app, with_rule, with_subcommand}
 use Rattle.clap.specs.declared.builder.Arg.{Arg}
 use Rattle.clap.specs.declared.builder.Command.{Command}
 use Rattle.clap.proofs.SimpleLemmas.{plain_fields}
-use Rattle.command_line.specs.parts.Commands.{IsArgument, IsCommand}
+use Rattle.command_line.specs.parts.Commands.{IsArgument, IsCommand, app_of_row, rule_of_row, with_argument_row, with_row}
+use Rattle.command_line.specs.declared.command_table.ArgumentRow.{ArgumentRow}
+use Rattle.command_line.specs.declared.command_table.CommandRow.{CommandRow}
+use Rattle.command_line.specs.declared.commands.KnownNames.{KnownNames}
 
-pub one_argument_more : (old new : Command) (arg : Arg) (app : App) (rule : Rule) → IsCommand app old → IsArgument rule arg → AddsArg old arg new
-    → IsCommand (with_rule app rule) new
-one_argument_more old new arg app rule command argument adds =
-    record { app_is = adds.shape argument.local ∙ ap₂ with_rule command.app_is argument.rule_is }
+pub one_argument_more : (known : KnownNames) (row : ArgumentRow) (old new : Command) (arg : Arg) → IsArgument (rule_of_row known row) arg
+    → AddsArg old arg new → app_of new ≡ with_argument_row known (app_of old) row
+one_argument_more known row old new arg argument adds = adds.shape argument.local ∙ ap (with_rule (app_of old)) argument.rule_is
 
-pub one_command_more : (old sub new : Command) (app below : App) → IsCommand app old → IsCommand below sub → below.top.is_plain ≡ true
-    → AddsSubcommand old sub new → IsCommand (with_subcommand app below.top) new
-one_command_more old sub new app below command under plain adds =
-    let fields = plain_fields sub (ap (λ (a : App). a.top.is_plain) under.app_is ∙ plain) in
-    record { app_is = adds.shape fields.globals ∙ ap₂ with_subcommand command.app_is (ap (λ (a : App). a.top) under.app_is) }
+-- Arguments leave a command plain.
+stays_plain : (known : KnownNames) (app : App) (rows : List ArgumentRow) → (fold (with_argument_row known) app rows).top.is_plain ≡ app.top.is_plain
+stays_plain known app [] = refl
+stays_plain known app (row ∷ rows) = stays_plain known (with_argument_row known app row) rows
+
+pub one_command_more : (known : KnownNames) (row : CommandRow) (old sub new : Command) → IsCommand (app_of_row known row) sub → AddsSubcommand old sub new
+    → app_of new ≡ with_row known (app_of old) row
+one_command_more known row old sub new under adds =
+    let plain = stays_plain known (new_app row.name.now) row.arguments.now in
+    let fields = plain_fields sub (ap (λ (app : App). app.top.is_plain) under.app_is ∙ plain) in
+    adds.shape fields.globals ∙ ap (λ (app : App). with_subcommand (app_of old) app.top) under.app_is
+
+-- What the first i rows make, and row i adds to.
+pub one_row_more : {Row : Type 0} (add : App → Row → App) (app : App) (rows : List Row) (i : ℕ) (d : Row) (old new : Command) → i < length rows
+    → IsCommand (fold add app (take i rows)) old → app_of new ≡ add (app_of old) (slice_index_or rows i d) → IsCommand (fold add app (take (i + 1) rows)) new
+one_row_more add app rows i d old new lt command adds =
+    record { app_is = adds ∙ ap (λ a. add a (slice_index_or rows i d)) command.app_is ∙ sym (fold_more add app rows i d lt) }

@@ -1,6 +1,7 @@
 -- The commands as they are defined for clap, and how a plan follows from clap's matches. What arguments match is clap's own
 -- definition (`subcommand_of`). All of this is this project's choice.
 use Rattle.std.specs.Prelude.{◌≡◌, ℕ, false, true, List, [], ◌∷◌, codes, map, option_map, unwrap_or, Option, None, Some, string_bytes}
+use Rattle.std.specs.List.{fold}
 use Rattle.std.specs.Str.Parse.{digits_value, without_leading_plus}
 use Rattle.clap.specs.Words.{App, Row, Rule, Text, all_of, first_of, new_app, new_rule, one_of, subcommand_of, with_rule, with_subcommand}
 use Rattle.clap.specs.Lexer.{usize_max}
@@ -59,41 +60,33 @@ repeated id = record (new_rule id) {
   range = Some (record { start_inclusive = 0; end_inclusive = usize_max });
 }
 
-abbrev pub measure_app : Parsers → App
-measure_app parsers =
-    with_rule (with_rule (with_rule (with_rule (with_rule (with_rule (with_rule (with_rule (with_rule (new_app (codes "measure"))
-    (optional (codes "alg") (codes "sha256") parsers.algs))
-    (optional (codes "template") (codes "ima-ng") parsers.templates))
-    (optional (codes "workers") (codes "2") parsers.workers))
-    (optional (codes "limit") (codes "100000") parsers.limit))
-    (optional (codes "print") (codes "ascii") parsers.prints))
-    (without_default (codes "files-from")))
-    (flag_beside (codes "null")))
-    (required (codes "LOG")))
-    (repeated (codes "FILE"))
+-- The commands: their names and arguments.
+abbrev pub table : Parsers → List (Text × List Rule)
+table parsers = (
+  codes "measure",
+  optional (codes "alg") (codes "sha256") parsers.algs
+      ∷ optional (codes "template") (codes "ima-ng") parsers.templates
+      ∷ optional (codes "workers") (codes "2") parsers.workers
+      ∷ optional (codes "limit") (codes "100000") parsers.limit
+      ∷ optional (codes "print") (codes "ascii") parsers.prints
+      ∷ without_default (codes "files-from")
+      ∷ flag_beside (codes "null")
+      ∷ required (codes "LOG")
+      ∷ repeated (codes "FILE")
+      ∷ [],
+)
+    ∷ (codes "verify", required (codes "LOG") ∷ required (codes "LIST") ∷ required (codes "EXPECTED") ∷ [])
+    ∷ (codes "locate", required (codes "LOG") ∷ required (codes "LIST") ∷ required (codes "EXPECTED") ∷ [])
+    ∷ (codes "expected", without_default (codes "registers") ∷ required (codes "PCRREAD") ∷ [])
+    ∷ (codes "registers", required (codes "LOG") ∷ [])
+    ∷ (codes "events", flag (codes "data") ∷ required (codes "LOG") ∷ [])
+    ∷ (codes "show", required (codes "LIST") ∷ [])
+    ∷ (codes "replay", required (codes "LIST") ∷ [])
+    ∷ []
 
-abbrev pub verify_app : App
-verify_app =
-    with_rule (with_rule (with_rule (new_app (codes "verify")) (required (codes "LOG"))) (required (codes "LIST"))) (required (codes "EXPECTED"))
-
-abbrev pub locate_app : App
-locate_app =
-    with_rule (with_rule (with_rule (new_app (codes "locate")) (required (codes "LOG"))) (required (codes "LIST"))) (required (codes "EXPECTED"))
-
-abbrev pub expected_app : App
-expected_app = with_rule (with_rule (new_app (codes "expected")) (without_default (codes "registers"))) (required (codes "PCRREAD"))
-
-abbrev pub registers_app : App
-registers_app = with_rule (new_app (codes "registers")) (required (codes "LOG"))
-
-abbrev pub events_app : App
-events_app = with_rule (with_rule (new_app (codes "events")) (flag (codes "data"))) (required (codes "LOG"))
-
-abbrev pub show_app : App
-show_app = with_rule (new_app (codes "show")) (required (codes "LIST"))
-
-abbrev pub replay_app : App
-replay_app = with_rule (new_app (codes "replay")) (required (codes "LIST"))
+-- One command more, of this name and with these arguments.
+abbrev pub with_command : App → Text × List Rule → App
+with_command app row = with_subcommand app (fold with_rule (new_app row.0) row.1).top
 
 -- The program, whose first argument is a command's name.
 abbrev pub program_app : App
@@ -102,17 +95,9 @@ program_app = record {
   subs = [];
 }
 
--- The program with the commands that measure files or have to do with expected registers.
-abbrev pub comparing : Parsers → App
-comparing parsers =
-    with_subcommand (with_subcommand (with_subcommand (with_subcommand program_app (measure_app parsers).top) verify_app.top) locate_app.top)
-    expected_app.top
-
 -- The program with all commands.
 abbrev pub commands : Parsers → App
-commands parsers =
-    with_subcommand (with_subcommand (with_subcommand (with_subcommand (comparing parsers) registers_app.top) events_app.top) show_app.top)
-    replay_app.top
+commands parsers = fold with_command program_app (table parsers)
 
 -- ---- how a plan follows from the arguments
 

@@ -1,6 +1,7 @@
 //! The command line: what its arguments request.
 #![tactic(auto)]
 
+mod command_table;
 mod commands;
 mod fault;
 mod fault_tables;

@@ -33,7 +33,7 @@ pub enum DataShown {
 }
 
 /// What the program's arguments request.
-#[derive(Debug, Drop)]
+#[derive(Drop)]
 pub enum Plan {
     /// Show the registers after a firmware event log, which is read in hexadecimal from standard input.
     Registers,

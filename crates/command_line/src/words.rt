@@ -2,7 +2,8 @@
 
 ghost use Rattle.std.specs.Prelude.{◌≡◌, ◌<◌, ◌≤◌, ◌^◌, ◌⊎◌, [], Ok, Some, codes, drop, map, option_map, string_bytes, unwrap_or, vec_len, IfOk};
 ghost use Rattle.clap.specs.Words.{all_of, first_of, found_of, rows_of, subcommand_rows_of};
-ghost use Rattle.command_line.specs.Commands.{HasMeasure, HasNumber, HasValues, HasValuesIn, IsMatched, data_value, null_value, print_name};
+ghost use Rattle.command_line.specs.parts.Commands.{IsCommand};
+ghost use Rattle.command_line.specs.Commands.{HasMeasure, HasNumber, HasValues, HasValuesIn, IsMatched, Parsers, commands, data_value, null_value, print_name};
 ghost use Rattle.std.specs.Vec.Iter.{into_iter_items};
 ghost use Rattle.command_line.specs.Plans.{HasHelpWord, IsAskedBy, IsHelp, IsOfCommand, IsWithinRanges, asks_help};
 ghost use Rattle.std.specs.List.{list_any};
@@ -10,11 +11,12 @@ ghost use Rattle.pcr_banks.specs.Hashing.{name_of};
 ghost use Rattle.ima_list.specs.Templates.{template_name};
 ghost use Rattle.command_line.specs.declared.plan.Plan.TheVariants.{Registers};
 
-use crate::commands::{MOST_WORKERS, all_commands};
+use crate::command_table::MOST_WORKERS;
+use crate::commands::{KnownNames, all_commands};
 use crate::fault::WordsFault;
 use crate::plan::{DataShown, NameEnd, Plan, Print};
 use clap::error::ErrorKind;
-use clap::{ArgMatches, Error};
+use clap::{ArgMatches, Command, Error};
 use ima_list::Template;
 use pcr_banks::Alg;
 use std::alloc::{AllocError, Global};
@@ -48,12 +50,26 @@ pub fn words_after_name(alloc: Global, words: Args) -> Result<Vec<String>, Alloc
 fn plan_in(alloc: Global, words: &[String], command: &str) -> Result<Plan, WordsFault>
     ensures { IfOk result (λ plan. ((IsOfCommand command.now plan × IsMatched (map string_bytes words.now) plan) ⊎ (HasHelpWord words.now × IsHelp plan)) × IsWithinRanges plan) }
 {
-    let algs: Vec<&str> = Alg::ALL.iter().map(|alg| alg.name()).collect(alloc)?;
-    let templates: Vec<&str> = Template::ALL
-        .iter()
-        .map(|template| template.name())
-        .collect(alloc)?;
-    match all_commands(alloc, &algs, &templates)?.try_get_matches_from(words) {
+    let algs = Alg::ALL.map(Alg::name);
+    let templates = Template::ALL.map(Template::name);
+    let known = KnownNames {
+        algs: &algs,
+        templates: &templates,
+    };
+    plan_by(alloc, words, command, all_commands(alloc, known)?)
+}
+
+// The same, by this definition of all commands.
+fn plan_by<'a>(
+    alloc: Global,
+    words: &'a [String],
+    command: &str,
+    program: Command<'a>,
+) -> Result<Plan, WordsFault>
+    requires { (parsers : Parsers) × IsCommand (commands parsers) program }
+    ensures { IfOk result (λ plan. ((IsOfCommand command.now plan × IsMatched (map string_bytes words.now) plan) ⊎ (HasHelpWord words.now × IsHelp plan)) × IsWithinRanges plan) }
+{
+    match program.try_get_matches_from(words) {
         Ok(matches) => plan_of(alloc, command, &matches),
         Err(error) => help_of(alloc, words, &error),
     }
@@ -130,18 +146,13 @@ fn measurement_of(alloc: Global, matches: &ArgMatches) -> Result<Measurement, Wo
     ensures values { IfOk result (λ asked. HasMeasure (rows_of (found_of matches.now)) (name_of asked.alg) (template_name asked.template) (print_name asked.print) (string_bytes asked.log) asked.workers asked.limit (map string_bytes asked.files.items)) }
     ensures within { IfOk result (λ asked. (1 ≤ asked.workers) × (asked.workers ≤ 8) × (1 ≤ asked.limit) × (vec_len asked.files < 2 ^ 32)) }
 {
-    let alg = Alg::from_name(text_of(matches, "alg")?.as_bytes()).ok_or(WordsFault::Usage)?;
-    let template = Template::from_name(text_of(matches, "template")?.as_bytes()).ok_or(
-        WordsFault::Usage,
-    )?;
+    let alg = alg_of(matches)?;
+    let template = template_of(matches)?;
     let workers = workers_of(matches)?;
     let limit = limit_of(matches)?;
-    let print = print_named(text_of(matches, "print")?)?;
+    let print = print_of(matches)?;
     let log = name_of(alloc, matches, "LOG")?;
-    let files = files_of(alloc, matches)?;
-    if files.len() > u32::MAX as usize {
-        return Err(WordsFault::Usage);
-    }
+    let files = files_within(alloc, matches)?;
     Ok(Measurement {
         alg,
         template,
@@ -259,6 +270,27 @@ fn data_of(matches: &ArgMatches) -> Result<DataShown, WordsFault>
     }
 }
 
+// The algorithm of the files' digests.
+fn alg_of(matches: &ArgMatches) -> Result<Alg, WordsFault>
+    ensures { IfOk result (λ alg. first_of (codes "alg") (rows_of (found_of matches.now)) ≡ Some (name_of alg)) }
+{
+    Alg::from_name(text_of(matches, "alg")?.as_bytes()).ok_or(WordsFault::Usage)
+}
+
+// The template of the entries.
+fn template_of(matches: &ArgMatches) -> Result<Template, WordsFault>
+    ensures { IfOk result (λ template. first_of (codes "template") (rows_of (found_of matches.now)) ≡ Some (template_name template)) }
+{
+    Template::from_name(text_of(matches, "template")?.as_bytes()).ok_or(WordsFault::Usage)
+}
+
+// What is printed.
+fn print_of(matches: &ArgMatches) -> Result<Print, WordsFault>
+    ensures { IfOk result (λ print. first_of (codes "print") (rows_of (found_of matches.now)) ≡ Some (print_name print)) }
+{
+    print_named(text_of(matches, "print")?)
+}
+
 // The number of workers, 1 to 8.
 fn workers_of(matches: &ArgMatches) -> Result<usize, WordsFault>
     ensures { IfOk result (λ workers. HasNumber (codes "workers") (rows_of (found_of matches.now)) workers × (1 ≤ workers) × (workers ≤ 8)) }
@@ -284,6 +316,17 @@ fn files_of(alloc: Global, matches: &ArgMatches) -> Result<Vec<String>, AllocErr
     ensures { IfOk result (λ names. unwrap_or (all_of (codes "FILE") (rows_of (found_of matches.now))) [] ≡ map string_bytes names.items) }
 {
     names_of(alloc, matches.get_strs("FILE").unwrap_or(&[]))
+}
+
+// The names of the files, fewer than 2^32.
+fn files_within(alloc: Global, matches: &ArgMatches) -> Result<Vec<String>, WordsFault>
+    ensures { IfOk result (λ names. (unwrap_or (all_of (codes "FILE") (rows_of (found_of matches.now))) [] ≡ map string_bytes names.items) × (vec_len names < 2 ^ 32)) }
+{
+    let files = files_of(alloc, matches)?;
+    if files.len() > u32::MAX as usize {
+        return Err(WordsFault::Usage);
+    }
+    Ok(files)
 }
 
 // The first value of this argument.
@@ -325,11 +368,18 @@ fn names_of(alloc: Global, words: &[&str]) -> Result<Vec<String>, AllocError>
     Ok(names)
 }
 
-// Whether some argument requests help: `--help`, or short options that begin with `-h`.
+// Whether some argument requests help.
 fn has_help_word(words: &[String]) -> bool
     ensures { result ≡ list_any (λ word. asks_help (string_bytes word)) words.now }
 {
-    words.iter().any(|word| word.as_str() == "--help" || word.as_bytes().starts_with(b"-h"))
+    words.iter().any(asks_help)
+}
+
+// Whether this argument requests help: it is `--help`, or short options that begin with `-h`.
+fn asks_help(word: &String) -> bool
+    ensures { result ≡ asks_help (string_bytes word.now) }
+{
+    word.as_str() == "--help" || word.as_bytes().starts_with(b"-h")
 }
 
 // The help, if it was requested; else `Usage`, or `Memory` if memory ran out.

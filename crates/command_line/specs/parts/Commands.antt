@@ -1,8 +1,19 @@
--- What `clap` is given of one argument, and of one command.
+-- What `clap` is given of one argument, and of one command; and what it is given of a row of the table in the code.
 use Rattle.std.specs.Prelude.{◌≡◌, false}
-use Rattle.clap.specs.Words.{App, Rule, app_of, rule_of}
+use Rattle.std.specs.List.{fold}
+use Rattle.clap.specs.Words.{App, Rule, Text, app_of, new_app, rule_of, with_rule, with_subcommand}
 use Rattle.clap.specs.declared.builder.Arg.{Arg}
 use Rattle.clap.specs.declared.builder.Command.{Command}
+use Rattle.clap.specs.declared.builder.ValueParser.{ValueParser}
+use Rattle.clap.specs.declared.builder.ValueParser.TheVariants.{Names}
+use Rattle.command_line.specs.Commands.{flag, flag_beside, optional, repeated, required, without_default}
+use Rattle.command_line.specs.declared.command_table.ArgumentRow.{ArgumentRow}
+use Rattle.command_line.specs.declared.command_table.CommandRow.{CommandRow}
+use Rattle.command_line.specs.declared.command_table.Form.{Form}
+use Rattle.command_line.specs.declared.command_table.Form.TheVariants.{Required, Repeated, Flag, FlagBeside, Optional, Defaulted}
+use Rattle.command_line.specs.declared.command_table.Values.{Values}
+use Rattle.command_line.specs.declared.command_table.Values.TheVariants.{Algs, Templates, Parsed}
+use Rattle.command_line.specs.declared.commands.KnownNames.{KnownNames}
 
 -- The argument has this rule, and belongs to its command alone.
 pub record IsArgument (rule : Rule) (arg : Arg) : Type 0 where
@@ -12,3 +23,34 @@ pub record IsArgument (rule : Rule) (arg : Arg) : Type 0 where
 -- The command has this definition.
 pub record IsCommand (app : App) (command : Command) : Type 0 where
   pub app_is : app_of command ≡ app
+
+-- clap's parser of these values.
+abbrev pub parser_of_values : KnownNames → Values → ValueParser
+parser_of_values known Algs = Names known.algs
+parser_of_values known Templates = Names known.templates
+parser_of_values known (Parsed parser) = parser
+
+-- The rule of an argument with this name, given in this form.
+abbrev pub rule_of_form : KnownNames → Text → Form → Rule
+rule_of_form known id Required = required id
+rule_of_form known id Repeated = repeated id
+rule_of_form known id Flag = flag id
+rule_of_form known id (FlagBeside option) = flag_beside id
+rule_of_form known id (Optional value) = without_default id
+rule_of_form known id (Defaulted value default values) = optional id default.now (parser_of_values known values)
+
+-- The rule of a row's argument.
+abbrev pub rule_of_row : KnownNames → ArgumentRow → Rule
+rule_of_row known row = rule_of_form known row.id.now row.form
+
+-- A command with the argument of this row too.
+abbrev pub with_argument_row : KnownNames → App → ArgumentRow → App
+with_argument_row known app row = with_rule app (rule_of_row known row)
+
+-- The definition of a row's command.
+abbrev pub app_of_row : KnownNames → CommandRow → App
+app_of_row known row = fold (with_argument_row known) (new_app row.name.now) row.arguments.now
+
+-- A program with the command of this row too.
+abbrev pub with_row : KnownNames → App → CommandRow → App
+with_row known app row = with_subcommand app (app_of_row known row).top

@@ -3,12 +3,12 @@ use Rattle.std.proofs.lemmas.Result.{IfOk-weaker}
 use Rattle.clap.specs.Words.{is_simple, subcommand_of}
 use Rattle.command_line.specs.Commands.{HasValuesIn}
 use Rattle.command_line.proofs.ReadLemmas.{commands_are_simple}
-use Rattle.command_line.proofs.words.plan_in.Goals as goal
+use Rattle.command_line.proofs.words.plan_by.Goals as goal
 
 pub returns-in-Ok : goal.returns-in-Ok
 returns-in-Ok c =
-    let parsers = c.in_ok-all_commands.ensures.0 in
-    let program = c.in_ok-all_commands.ensures.1 in
+    let parsers = c.requires.0 in
+    let program = c.requires.1 in
     let found = (c.in-Ok.ensures.matches (ap is_simple program.app_is ∙ commands_are_simple parsers)).1 in
     IfOk-weaker c.plan_of.result _ _
     (λ plan is. (

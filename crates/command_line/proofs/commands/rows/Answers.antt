@@ -1,0 +1,17 @@
+use Rattle.std.proofs.Common.{refl}
+use Rattle.clap.specs.declared.builder.ValueParser.TheVariants.{Names, Unsigned}
+use Rattle.command_line.proofs.commands.rows.Goals as goal
+
+-- The rows in the code are the rows of the definition, with these parsers. That of `--print` has no name here, since it refers to
+-- texts in a static.
+pub returns : goal.returns
+returns c = λ known. (
+  record {
+    algs = Names known.algs;
+    templates = Names known.templates;
+    workers = Unsigned 1 8;
+    limit = Unsigned 1 4294967295;
+    prints = _;
+  },
+  refl,
+)

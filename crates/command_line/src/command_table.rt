@@ -1,0 +1,316 @@
+//! The commands and their arguments, as rows of a table, with the texts of the help.
+
+use crate::fault_tables::with_fault_tables;
+use clap::builder::ValueParser;
+
+/// A command.
+pub(crate) struct CommandRow<'a> {
+    /// Its name, which is the first argument of the command line.
+    pub(crate) name: &'a str,
+    /// What it does.
+    pub(crate) about: &'a str,
+    /// Which end its help has.
+    pub(crate) end: HelpEnd,
+    /// Its arguments, in the order of the help.
+    pub(crate) arguments: &'a [ArgumentRow<'a>],
+}
+
+/// Which command's end the help has. The texts are in `help_end_of`, and not in the rows: a static that is lent stands in the borrow
+/// checker's part of a proof with all its texts, and these are long.
+#[derive(Clone, Copy)]
+pub(crate) enum HelpEnd {
+    Measure,
+    Verify,
+    Locate,
+    Expected,
+    Registers,
+    Events,
+    Show,
+    Replay,
+}
+
+/// An argument of a command.
+pub(crate) struct ArgumentRow<'a> {
+    /// Its name: that of an option after the two hyphens, or what the help calls an argument that is no option.
+    pub(crate) id: &'a str,
+    /// What it means.
+    pub(crate) help: &'a str,
+    /// How it is given.
+    pub(crate) form: Form<'a>,
+}
+
+/// How an argument is given. `value` is what the help calls the value of an option.
+pub(crate) enum Form<'a> {
+    /// By one value, which has to be there.
+    Required,
+    /// By any number of values.
+    Repeated,
+    /// As a flag.
+    Flag,
+    /// As a flag, and only beside this option.
+    FlagBeside {
+        /// The option that it requires.
+        option: &'a str,
+    },
+    /// As an option with a value, or not at all.
+    Optional {
+        /// What the help calls the value.
+        value: &'a str,
+    },
+    /// As an option with a value; without it, the value is the default.
+    Defaulted {
+        /// What the help calls the value.
+        value: &'a str,
+        /// The value without the option.
+        default: &'a str,
+        /// The values that it takes.
+        values: Values<'a>,
+    },
+}
+
+/// The values that an option takes.
+#[derive(Clone, Copy)]
+pub(crate) enum Values<'a> {
+    /// The names of the algorithms.
+    Algs,
+    /// The names of the templates.
+    Templates,
+    /// Those that this parser of `clap` takes.
+    Parsed(ValueParser<'a>),
+}
+
+/// The end of the help: an example, if there is one, the tables of the faults that may be answered, and the exit statuses.
+macro_rules! help_end {
+    ($($example:literal;)? $($table:ident)+) => {
+        with_fault_tables!(
+            $("Example:\n  " $example "\n\n")?;
+            $($table)+;
+            "\
+Exit status:
+  0  done; for verify: the expected registers and the boot aggregate match
+  1  for verify: an expected register or the boot aggregate does not match;
+     for locate: a register's value was not reached
+  2  the arguments or an input were refused
+  3  out of memory, or a device failed"
+        )
+    };
+}
+
+/// The help of EXPECTED, and what else is to be said of it.
+macro_rules! expected_help {
+    ($($more:literal)?) => {
+        concat!(
+            "\
+Expected registers, at most 64 MiB, one per line, for example `sha256 4 3d45..`:
+algorithm, register in decimal and value in hexadecimal, separated by single
+spaces. `ima-agent expected` writes such lines"
+            $(, ". ", $more)?
+        )
+    };
+}
+
+/// What the program does.
+pub(crate) const PROGRAM_ABOUT: &str = "\
+Replays firmware event logs and IMA measurement lists, measures files, and compares registers.
+
+Without a command: reads a firmware event log in hexadecimal from standard input, at most 64 MiB,
+and prints the registers that differ from their reset values.
+
+`--help` after a command shows its arguments and an example.";
+
+/// The end of the program's help.
+pub(crate) const PROGRAM_END: &str = help_end!(log);
+
+/// The greatest number of workers.
+pub(crate) const MOST_WORKERS: usize = 8;
+
+/// A firmware event log.
+const LOG: ArgumentRow<'static> = ArgumentRow {
+    id: "LOG",
+    help: "Firmware event log, binary, at most 64 MiB",
+    form: Form::Required,
+};
+
+/// A measurement list.
+const LIST: ArgumentRow<'static> = ArgumentRow {
+    id: "LIST",
+    help: "Measurement list, binary, at most 64 MiB",
+    form: Form::Required,
+};
+
+/// The commands, in the order of the help. `table` of specs/Commands.antt has the same.
+pub(crate) static COMMANDS: [CommandRow; 8] = [
+    CommandRow {
+        name: "measure",
+        about: "Measures files into the registers left by a firmware event log, and prints the result",
+        end: HelpEnd::Measure,
+        arguments: &[
+            ArgumentRow {
+                id: "alg",
+                help: "Hash algorithm for the files' digests\n",
+                form: Form::Defaulted {
+                    value: "A",
+                    default: "sha256",
+                    values: Values::Algs,
+                },
+            },
+            ArgumentRow {
+                id: "template",
+                help: "Template of the list's entries\n",
+                form: Form::Defaulted {
+                    value: "T",
+                    default: "ima-ng",
+                    values: Values::Templates,
+                },
+            },
+            ArgumentRow {
+                id: "workers",
+                help: "\
+How many workers hash files at once, 1 to 8. Only with 1 are files
+measured in the given order, so that every run gives the same list
+and registers\n",
+                form: Form::Defaulted {
+                    value: "N",
+                    default: "2",
+                    values: Values::Parsed(ValueParser::Unsigned(1, MOST_WORKERS as u64)),
+                },
+            },
+            ArgumentRow {
+                id: "limit",
+                help: "Maximum number of records, including the opening record, 1 to 4294967295\n",
+                form: Form::Defaulted {
+                    value: "N",
+                    default: "100000",
+                    values: Values::Parsed(ValueParser::Unsigned(1, u32::MAX as u64)),
+                },
+            },
+            ArgumentRow {
+                id: "print",
+                help: "\
+What to print: the list as text, the binary list, or the registers that
+differ from their reset values\n",
+                form: Form::Defaulted {
+                    value: "P",
+                    default: "ascii",
+                    values: Values::Parsed(ValueParser::Names(&["ascii", "binary", "registers"])),
+                },
+            },
+            ArgumentRow {
+                id: "files-from",
+                help: "File that names more files to measure, one per line, at most 64 MiB",
+                form: Form::Optional { value: "NAME" },
+            },
+            ArgumentRow {
+                id: "null",
+                help: "Names in that file end with NUL, as written by `find -print0`",
+                form: Form::FlagBeside {
+                    option: "files-from",
+                },
+            },
+            LOG,
+            ArgumentRow {
+                id: "FILE",
+                help: "Files to measure, each at most 64 MiB, recorded under the names given here",
+                form: Form::Repeated,
+            },
+        ],
+    },
+    CommandRow {
+        name: "verify",
+        about: "Replays a firmware event log and a measurement list, and compares the registers",
+        end: HelpEnd::Verify,
+        arguments: &[
+            LOG,
+            LIST,
+            ArgumentRow {
+                id: "EXPECTED",
+                help: expected_help!(
+                    "\
+An empty file compares no
+register: the verdict then depends on the list's boot aggregate alone"
+                ),
+                form: Form::Required,
+            },
+        ],
+    },
+    CommandRow {
+        name: "locate",
+        about: "Prints which event or entry first gives each expected register its value",
+        end: HelpEnd::Locate,
+        arguments: &[
+            LOG,
+            LIST,
+            ArgumentRow {
+                id: "EXPECTED",
+                help: expected_help!(),
+                form: Form::Required,
+            },
+        ],
+    },
+    CommandRow {
+        name: "expected",
+        about: "Prints expected registers, for EXPECTED, from what tpm2_pcrread printed",
+        end: HelpEnd::Expected,
+        arguments: &[
+            ArgumentRow {
+                id: "registers",
+                help: "Only registers A to B, 0 to 23, for example 0-10; or only A, for example 4",
+                form: Form::Optional { value: "A-B" },
+            },
+            ArgumentRow {
+                id: "PCRREAD",
+                help: "Text that tpm2_pcrread printed, at most 64 MiB",
+                form: Form::Required,
+            },
+        ],
+    },
+    CommandRow {
+        name: "registers",
+        about: "Prints the registers after a firmware event log that differ from their reset values",
+        end: HelpEnd::Registers,
+        arguments: &[LOG],
+    },
+    CommandRow {
+        name: "events",
+        about: "Prints the events of a firmware event log as text",
+        end: HelpEnd::Events,
+        arguments: &[
+            ArgumentRow {
+                id: "data",
+                help: "Print the data of each event in hexadecimal, not only how many bytes there are",
+                form: Form::Flag,
+            },
+            LOG,
+        ],
+    },
+    CommandRow {
+        name: "show",
+        about: "Prints the entries of a measurement list as text",
+        end: HelpEnd::Show,
+        arguments: &[LIST],
+    },
+    CommandRow {
+        name: "replay",
+        about: "Replays a measurement list alone, and prints the registers it gives",
+        end: HelpEnd::Replay,
+        arguments: &[LIST],
+    },
+];
+
+/// The text of the end of a command's help.
+pub(crate) fn help_end_of<'a>(end: HelpEnd) -> &'a str {
+    match end {
+        HelpEnd::Measure =>
+            help_end!("ima-agent measure --print registers firmware.log /bin/sh /bin/ls"; log book gather),
+        HelpEnd::Verify =>
+            help_end!("ima-agent verify firmware.log ima.list expected.txt"; log list replay expected),
+        HelpEnd::Locate =>
+            help_end!("ima-agent locate firmware.log ima.list expected.txt"; log list replay expected),
+        HelpEnd::Expected =>
+            help_end!("ima-agent expected --registers 0-10 pcrread.txt > expected.txt"; expected),
+        HelpEnd::Registers => help_end!("ima-agent registers firmware.log"; log),
+        HelpEnd::Events => help_end!("ima-agent events --data firmware.log"; log),
+        HelpEnd::Show => help_end!("ima-agent show ima.list"; list),
+        HelpEnd::Replay => help_end!("ima-agent replay ima.list"; list replay),
+    }
+}
