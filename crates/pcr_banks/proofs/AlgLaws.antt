@@ -1,5 +1,5 @@
 -- All algorithms: what holds of each in the list holds of every one.
-use Rattle.std.proofs.Common.{rules, ◌≡◌, ℕ, zero, suc, ◌<◌, length, take, get_or, arith, ◌==◌, ◌&&◌, Bool, true, false, List, [], ◌∷◌, Option, Some, refl, sym, ap, ◌∙◌, inl, inr}
+use Rattle.std.proofs.Common.{rules, ◌≡◌, ℕ, zero, suc, ◌+◌, ◌<◌, add-one, subst, length, take, get_or, arith, ◌==◌, ◌&&◌, Bool, true, false, List, [], ◌∷◌, Option, Some, refl, sym, ap, ◌∙◌, inl, inr}
 use Rattle.std.specs.Prelude.{bytes_eq, find}
 use Rattle.std.specs.List.{list_all, list_any, AllByRecursion}
 use Rattle.std.proofs.lemmas.Bool.{and_parts, and_from, or_cases, or_left, or_right, eqb-true, eq-eqb, both_ways, false_from_ne_true, cases_Bool}
@@ -116,9 +116,13 @@ one_of_all test a =
 
 -- ---- one algorithm after another
 
-pub one_more : (P : Alg → Type 0) (algs : List Alg) (index : ℕ) (alg : Alg) → index < length algs → AllByRecursion P (take index algs)
-    → get_or algs index alg ≡ alg → P alg → AllByRecursion P (take (suc index) algs)
-one_more P [] index alg lt before is holds = absurd (omega (arith, lt))
-one_more P (first ∷ algs) zero alg lt before is holds = (rw is holds, tt)
-one_more P (first ∷ algs) (suc index) alg lt before is holds =
-    (before.0, one_more P algs index alg (omega (arith, lt)) before.1 is holds)
+item_more : (P : Alg → Type 0) (algs : List Alg) (index : ℕ) (d : Alg) → index < length algs → AllByRecursion P (take index algs)
+    → P (get_or algs index d) → AllByRecursion P (take (suc index) algs)
+item_more P [] index d lt before holds = absurd (omega (arith, lt))
+item_more P (first ∷ algs) zero d lt before holds = (holds, tt)
+item_more P (first ∷ algs) (suc index) d lt before holds = (before.0, item_more P algs index d (omega (arith, lt)) before.1 holds)
+
+pub one_more : (P : Alg → Type 0) (algs : List Alg) (index : ℕ) (d : Alg) → index < length algs → AllByRecursion P (take index algs)
+    → P (get_or algs index d) → AllByRecursion P (take (index + 1) algs)
+one_more P algs index d lt before holds =
+    subst (λ (n : ℕ). AllByRecursion P (take n algs)) (sym (add-one index)) (item_more P algs index d lt before holds)

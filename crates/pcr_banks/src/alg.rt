@@ -61,7 +61,12 @@ impl Alg {
         ensures found { IfSome result (λ alg. tpm_id_of alg ≡ id) }
         ensures unknown { IfNone result ((alg : Alg) → tpm_id_of alg ≢ id) }
     {
-        Alg::first(|alg| alg.tpm_id() == id)
+        for alg in Alg::ALL {
+            if alg.tpm_id() == id {
+                return Some(alg);
+            }
+        }
+        None
     }
 
     /// The algorithm with this lowercase name, or `None` if no known algorithm has it.
@@ -69,18 +74,8 @@ impl Alg {
         ensures found { IfSome result (λ alg. name_of alg ≡ name.now) }
         ensures unknown { IfNone result ((alg : Alg) → name_of alg ≢ name.now) }
     {
-        Alg::first(|alg| alg.has_name(name))
-    }
-
-    // The first algorithm that passes the test.
-    #[tactic(auto, using(crate::proofs::AlgLaws::one_more, crate::proofs::AlgLaws::every_alg))]
-    fn first<F: Fn(Alg) -> bool + Drop>(test: F) -> Option<Self>
-        requires { F.IsAlwaysCallable test }
-        ensures found { IfSome result (λ alg. F.post test alg true) }
-        ensures none { IfNone result ((alg : Alg) → F.post test alg false) }
-    {
         for alg in Alg::ALL {
-            if test(alg) {
+            if alg.has_name(name) {
                 return Some(alg);
             }
         }

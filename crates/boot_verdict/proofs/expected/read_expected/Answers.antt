@@ -6,6 +6,10 @@ use Rattle.boot_verdict.specs.declared.expected.ExpectFault.TheVariants.{Memory}
 use Rattle.boot_verdict.proofs.ExpectedLaws.{begins_with_register, reads_none, reads_more, no_fault}
 use Rattle.boot_verdict.proofs.expected.read_expected.Goals as goal
 
+pub returns-in_err-take_line-clause-found : goal.returns-in_err-take_line-clause-found
+returns-in_err-take_line-clause-found c =
+    let p = err_from_is_err_and c.from_residual.result c.from_residual.ensures.1 in rw p.1 tt
+
 pub loop-rest-init : goal.loop-rest-init
 loop-rest-init c = rw c.new-expected.ensures.items (reads_none c.args.text)
 

@@ -1,6 +1,24 @@
 use Rattle.boot_verdict.proofs.ExpectedLaws.{if_none, line_has_space, no_number, no_alg, no_register, no_value}
 use Rattle.boot_verdict.proofs.expected.register_on.Goals as goal
 
+pub returns-in_err-name-clause-found : goal.returns-in_err-name-clause-found
+returns-in_err-name-clause-found c = rw c.from_residual.ensures tt
+
+pub returns-in_err-number-clause-found : goal.returns-in_err-number-clause-found
+returns-in_err-number-clause-found c = rw c.from_residual-in_err-number.ensures tt
+
+pub returns-in_err-alg-clause-found : goal.returns-in_err-alg-clause-found
+returns-in_err-alg-clause-found c = rw c.from_residual-in_err-alg.ensures tt
+
+pub returns-in_err-register-clause-found : goal.returns-in_err-register-clause-found
+returns-in_err-register-clause-found c = rw c.from_residual-in_err-register.ensures tt
+
+pub returns-in_err-value-clause-found : goal.returns-in_err-value-clause-found
+returns-in_err-value-clause-found c = rw c.from_residual-in_err-value.ensures tt
+
+pub returns-clause-none : goal.returns-clause-none
+returns-clause-none c = tt
+
 pub returns-in_err-name-clause-none : goal.returns-in_err-name-clause-none
 returns-in_err-name-clause-none c =
     if_none c.from_residual.result _ (λ e is. line_has_space c.args.line.now e c.in_err-name.ensures.none is)

@@ -9,6 +9,22 @@ use Rattle.boot_verdict.proofs.ReplayLaws.{not_forged}
 use Rattle.boot_verdict.proofs.VerdictLaws.{ok_same}
 use Rattle.boot_verdict.proofs.locating.locate.Goals as goal
 
+pub returns-in_err-firmware-clause-located : goal.returns-in_err-firmware-clause-located
+returns-in_err-firmware-clause-located c =
+    let p = err_from_is_err_and c.from_residual.result c.from_residual.ensures.1 in rw p.1 tt
+
+pub returns-in_err-start-clause-located : goal.returns-in_err-start-clause-located
+returns-in_err-start-clause-located c =
+    let p = err_from_is_err_and c.from_residual-in_err-start.result c.from_residual-in_err-start.ensures.1 in rw p.1 tt
+
+pub returns-in_err-replay-clause-located : goal.returns-in_err-replay-clause-located
+returns-in_err-replay-clause-located c =
+    let p = err_from_is_err_and c.from_residual-in_err-replay.result c.from_residual-in_err-replay.ensures.1 in rw p.1 tt
+
+pub returns-in_err-genuine-clause-located : goal.returns-in_err-genuine-clause-located
+returns-in_err-genuine-clause-located c =
+    let p = err_from_is_err_and c.from_residual-in_err-genuine.result c.from_residual-in_err-genuine.ensures.1 in rw p.1 tt
+
 pub returns-in_err-firmware-clause-only : goal.returns-in_err-firmware-clause-only
 returns-in_err-firmware-clause-only c =
     let p = err_from_is_err_and c.from_residual.result c.from_residual.ensures.1 in

@@ -3,6 +3,15 @@ use Rattle.boot_verdict.proofs.ExpectedLaws.{if_none}
 use Rattle.boot_verdict.proofs.PcrReadLaws.{columns_front, columns_stripped}
 use Rattle.boot_verdict.proofs.pcr_read.columns_at.Goals as goal
 
+pub returns-in_err-number-clause-found : goal.returns-in_err-number-clause-found
+returns-in_err-number-clause-found c = rw c.from_residual.ensures tt
+
+pub returns-in_err-register-clause-found : goal.returns-in_err-register-clause-found
+returns-in_err-register-clause-found c = rw c.from_residual-in_err-register.ensures tt
+
+pub returns-clause-none : goal.returns-clause-none
+returns-clause-none c = tt
+
 pub returns-in_err-register-clause-none : goal.returns-in_err-register-clause-none
 returns-in_err-register-clause-none c =
     if_none c.from_residual-in_err-register.result _

@@ -7,6 +7,10 @@ use Rattle.boot_verdict.specs.parts.PcrReadLines.{place_of}
 use Rattle.boot_verdict.proofs.PcrReadLaws.{begins_with_value, no_printed_fault, prints_more, prints_none}
 use Rattle.boot_verdict.proofs.pcr_read.read_pcrread.Goals as goal
 
+pub returns-in_err-bank-clause-found : goal.returns-in_err-bank-clause-found
+returns-in_err-bank-clause-found c =
+    let p = err_from_is_err_and c.from_residual.result c.from_residual.ensures.1 in rw p.1 tt
+
 pub loop-rest-init : goal.loop-rest-init
 loop-rest-init c = rw c.new-expected.ensures.items (prints_none c.args.text)
 

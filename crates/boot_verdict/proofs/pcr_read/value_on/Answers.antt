@@ -3,6 +3,21 @@ use Rattle.boot_verdict.proofs.ExpectedLaws.{if_none}
 use Rattle.boot_verdict.proofs.PcrReadLaws.{after_columns, no_value_in}
 use Rattle.boot_verdict.proofs.pcr_read.value_on.Goals as goal
 
+pub returns-in_err-text-clause-found : goal.returns-in_err-text-clause-found
+returns-in_err-text-clause-found c = rw c.from_residual.ensures tt
+
+pub returns-in_err-register-clause-found : goal.returns-in_err-register-clause-found
+returns-in_err-register-clause-found c = rw c.from_residual-in_err-register.ensures tt
+
+pub returns-in_err-digits-clause-found : goal.returns-in_err-digits-clause-found
+returns-in_err-digits-clause-found c = rw c.from_residual-in_err-digits.ensures tt
+
+pub returns-in_err-value-clause-found : goal.returns-in_err-value-clause-found
+returns-in_err-value-clause-found c = rw c.from_residual-in_err-value.ensures tt
+
+pub returns-clause-none : goal.returns-clause-none
+returns-clause-none c = tt
+
 pub returns-in_err-digits-clause-none : goal.returns-in_err-digits-clause-none
 returns-in_err-digits-clause-none c =
     if_none c.from_residual-in_err-digits.result _

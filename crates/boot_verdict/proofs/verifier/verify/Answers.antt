@@ -8,6 +8,14 @@ use Rattle.boot_verdict.proofs.ReplayLaws.{report_fault, report_memory, report_o
 use Rattle.boot_verdict.proofs.VerdictLaws.{ok_same, verdict_on_same}
 use Rattle.boot_verdict.proofs.verifier.verify.Goals as goal
 
+pub returns-in_err-log-clause-report : goal.returns-in_err-log-clause-report
+returns-in_err-log-clause-report c =
+    let p = err_from_is_err_and c.from_residual.result c.from_residual.ensures.1 in rw p.1 tt
+
+pub returns-in_err-replay-clause-report : goal.returns-in_err-replay-clause-report
+returns-in_err-replay-clause-report c =
+    let p = err_from_is_err_and c.from_residual-in_err-replay.result c.from_residual-in_err-replay.ensures.1 in rw p.1 tt
+
 pub returns-in_err-log-clause-only : goal.returns-in_err-log-clause-only
 returns-in_err-log-clause-only c =
     let p = err_from_is_err_and c.from_residual.result c.from_residual.ensures.1 in

@@ -8,6 +8,14 @@ use Rattle.boot_verdict.proofs.ReplayLaws.{list_not_read, report_counts, report_
 use Rattle.boot_verdict.proofs.VerdictLaws.{ok_same, verdict_on_same}
 use Rattle.boot_verdict.proofs.verifier.verify_from.Goals as goal
 
+pub returns-in_err-firmware-clause-report : goal.returns-in_err-firmware-clause-report
+returns-in_err-firmware-clause-report g c =
+    let p = err_from_is_err_and c.from_residual.result c.from_residual.ensures.1 in rw p.1 tt
+
+pub returns-in_err-replay-clause-report : goal.returns-in_err-replay-clause-report
+returns-in_err-replay-clause-report g c =
+    let p = err_from_is_err_and c.from_residual-in_err-replay.result c.from_residual-in_err-replay.ensures.1 in rw p.1 tt
+
 pub returns-clause-report : goal.returns-clause-report
 returns-clause-report g c =
     let log = c.in_ok-firmware.firmware in
