@@ -24,7 +24,7 @@ use crate::jobs::{Jobs, Listed};
 use crate::scatter::scatter;
 use crate::work::{AllWork, Lack};
 use measure_book::{Book, BookFault, GatherFault, Origin, Outcome, gather};
-use std::alloc::Global;
+use std::alloc::{AllocError, Global};
 use std::sync::Wait;
 use std::thread::Threads;
 
@@ -32,7 +32,7 @@ use std::thread::Threads;
 const MOST_WORKERS: usize = 8;
 
 /// The result of jobs that were recorded.
-#[derive(Debug, Drop)]
+#[derive(Drop)]
 pub struct Batch {
     /// The book in which the jobs were recorded.
     pub book: Book,
@@ -121,11 +121,29 @@ pub fn record_jobs<R: Threads + Wait + Sync, J: Jobs + Sync, G: Gate + Sync>(
         return Err(JobsFault::Agent(AgentFault::Workers));
     }
     let book = Book::open(alloc, origin)?;
+    let (book, all) = all_taken(rt, alloc, book, &origin, jobs, workers, gate)?;
+    settle(alloc, book, &origin, jobs, workers, all)
+}
+
+// Has the workers take all jobs and record them in the book. Returns the book, and what all of them did.
+fn all_taken<R: Threads + Wait + Sync, J: Jobs + Sync, G: Gate + Sync>(
+    rt: &R,
+    alloc: Global,
+    book: Book,
+    origin: &Origin,
+    jobs: &J,
+    workers: usize,
+    gate: &G,
+) -> Result<(Book, AllWork), AllocError>
+    requires few { J.total jobs.now < 2 ^ 32 }
+    requires number { IsNumberOfWorkers workers }
+    ensures { IfOk result (λ done. IsAllWork origin.now (J.total jobs.now) (J.makes jobs.now origin.now.alg) (J.lacks jobs.now) workers done.1) }
+{
     let count = jobs.count();
     let (claims, first) = Claims::new(alloc, count as u32, workers as u32)?;
-    let (book, works) = fan_out(rt, alloc, &claims, first, book, &origin, jobs, gate)?;
+    let (book, works) = fan_out(rt, alloc, &claims, first, book, origin, jobs, gate)?;
     let all = AllWork::of(alloc, claims, works, count)?;
-    settle(alloc, book, &origin, jobs, workers, all)
+    Ok((book, all))
 }
 
 // Checks what all workers did against the book, and puts their outcomes in the order of the jobs. The lists for that are passed

@@ -10,7 +10,7 @@ use pcr_banks::{Alg, hash};
 use std::alloc::{AllocError, Global};
 
 /// A job: what is to be recorded.
-#[derive(Debug, Drop)]
+#[derive(Drop)]
 pub enum Job {
     /// Measure the file with this path, content and signature.
     File {

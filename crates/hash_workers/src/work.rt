@@ -65,7 +65,7 @@ enum Turn {
 }
 
 /// A job whose operation could not be made, and why.
-#[derive(Clone, Copy, Debug, PartialEq, Eq)]
+#[derive(Clone, Copy)]
 pub(crate) struct Lack {
     pub(crate) job: u32,
     pub(crate) fault: JobFault,

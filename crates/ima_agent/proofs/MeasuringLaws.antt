@@ -6,7 +6,10 @@ use Rattle.std.specs.Global.{Global, Vec}
 use Rattle.std.proofs.lemmas.List.{length-map}
 use Rattle.std.proofs.lemmas.Bool.{cases_lt}
 use Rattle.std.proofs.lemmas.Option.{same_Some, slice_get_read, slice_get_within}
+use Rattle.boot_log.specs.declared.fault.LogFault.{LogFault}
+use Rattle.boot_log.specs.declared.fault.LogFault.TheVariants as logs
 use Rattle.boot_log.specs.declared.header.Row.{Row}
+use Rattle.boot_log.specs.Reading.{log_fault}
 use Rattle.boot_log.specs.Spelling.{LogEvent}
 use Rattle.command_line.specs.declared.plan.NameEnd.{NameEnd}
 use Rattle.command_line.specs.declared.plan.Print.{Print}
@@ -16,7 +19,7 @@ use Rattle.measure_book.specs.Books.{BookState}
 use Rattle.measure_book.specs.declared.op.Outcome.TheVariants as outcomes
 use Rattle.measure_book.specs.declared.op.Receipt.{Receipt}
 use Rattle.measure_book.specs.declared.fault.BookFault.{BookFault}
-use Rattle.measure_book.specs.Operations.{BookOp, done, measure, refused, book_outcome_of, book_receipt_of}
+use Rattle.measure_book.specs.Operations.{BookOp, BookOutcome, done, measure, refused, book_outcome_of, book_receipt_of}
 use Rattle.pcr_banks.specs.declared.alg.Alg.{Alg}
 use Rattle.pcr_banks.specs.declared.digest.Digest.{Digest}
 use Rattle.pcr_banks.specs.Digests.{digest_of}
@@ -24,13 +27,15 @@ use Rattle.pcr_banks.specs.Hashing.{hash_of}
 use Rattle.ima_list.specs.FieldKinds.{FileFields, measured}
 use Rattle.hash_workers.specs.declared.fault.JobFault.{JobFault}
 use Rattle.hash_workers.specs.declared.fault.JobFault.TheVariants as lacks
+use Rattle.hash_workers.specs.Batches.{IsBatchOf}
 use Rattle.hash_workers.proofs.ListLaws.{at_map, map_at, within_at}
 use Rattle.ima_agent.specs.declared.fault.RunFault.{RunFault}
 use Rattle.ima_agent.specs.declared.loading.LoadFault.{LoadFault}
 use Rattle.ima_agent.specs.declared.loading.LoadFault.TheVariants as loads
+use Rattle.ima_agent.specs.Faults.{fault_of_log}
 use Rattle.ima_agent.specs.Hashing.{IsHashOfAll}
 use Rattle.ima_agent.specs.Loading.{Holds, Inputs, IsInputFault, IsTooLong, input_limit}
-use Rattle.ima_agent.specs.Measuring.{AreAllDone, Contents, HasFile, HasMeasured, IsFileFault, IsFileMeasure, IsMeasuringFault, IsNamesFault, IsRecordingFault, IsSetOut, Manner, ShowsMeasured, all_names, files_in}
+use Rattle.ima_agent.specs.Measuring.{AreAllDone, Contents, HasFile, HasMeasured, IsFileFault, IsFileMeasure, IsFirstRefusal, IsMeasuringFault, IsNamesFault, IsRecordingFault, IsSetOut, Manner, ShowsMeasured, all_names, files_in}
 use Rattle.ima_agent.specs.parts.Measuring.{IsFileFaultOf, IsFileLack}
 use Rattle.ima_agent.specs.Program.{IsListedFault, OfInput}
 use Rattle.ima_agent.specs.parts.NamedFiles.{job_fault_of}
@@ -175,6 +180,21 @@ recording_as_named : (origin : Origin) (files : List (String Global)) (Makes : �
 recording_as_named origin files Makes workers fault known =
     let At : ℕ → Type 0 = λ n. IsRecordingFault origin n Makes workers fault in subst At (sym (length-map files string_bytes)) known
 
+-- A batch whose jobs are all done, or the first of them that was refused.
+module _ (origin : Origin) (count : ℕ) (Makes : ℕ → BookOp → Type 0) (workers : ℕ) (book : BookState) (outcomes : List BookOutcome)
+    (by : List ℕ) (batch : IsBatchOf origin count Makes workers book outcomes by) where
+  pub measured_all : (result : Result BookState RunFault) → IfOk result (λ found. (found ≡ book) × AreAllDone outcomes)
+      → IfOk result (HasMeasured origin count Makes workers)
+  measured_all (Ok found) each =
+      let At : BookState → Type 0 = λ b. IsBatchOf origin count Makes workers b outcomes by in
+      record { outcomes = outcomes; by = by; batch = subst At (sym each.0) batch; done = each.1 }
+  measured_all (Err fault) each = tt
+
+  pub refused_one : (P : RunFault → Type 0) (result : Result BookState RunFault) → IfErr result (IsFirstRefusal outcomes)
+      → IfErr result (λ fault. P fault ⊎ IsRecordingFault origin count Makes workers fault)
+  refused_one P (Ok found) first = tt
+  refused_one P (Err fault) first = inr (inr (record { book = book; outcomes = outcomes; by = by; batch = batch; first = first }))
+
 -- Why nothing is shown if the files are not all recorded.
 pub not_recorded : (held : Contents) (log : List ℕ) (manner : Manner) (files : List (String Global)) (table : List Row)
     (events : List LogEvent) (origin : Origin) (fault : RunFault) → IsSetOut log manner table events origin
@@ -227,6 +247,12 @@ pub listed_err : (inputs : Inputs) (log : List ℕ) (manner : Manner) (first : L
     → IfErr result (IsListedFault inputs log manner first input ends)
 listed_err inputs log manner first input text ends (Ok shown) held known = tt
 listed_err inputs log manner first input text ends (Err fault) held known = inr (inr (inl (text, held, known)))
+
+pub listed_log : (inputs : Inputs) (log : List ℕ) (manner : Manner) (names : List (List ℕ)) (input : List ℕ) (ends : NameEnd)
+    (first : LogFault) → ((first ≡ logs.Memory) ⊎ (log_fault log ≡ Some first))
+    → IsListedFault inputs log manner names input ends (fault_of_log first)
+listed_log inputs log manner names input ends first (inl memory) = inr (inr (inr (ap fault_of_log memory)))
+listed_log inputs log manner names input ends first (inr is) = inl (record { first = first; first_is = is; says = refl })
 
 pub err_inr : (P Q : RunFault → Type 0) (result : Result (Vec ℕ) RunFault) → IfErr result Q → IfErr result (λ fault. P fault ⊎ Q fault)
 err_inr P Q (Ok shown) known = tt

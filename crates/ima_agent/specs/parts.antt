@@ -5,3 +5,4 @@ pub mod NamedFiles
 pub mod Verifying
 pub mod Locating
 pub mod Replaying
+pub mod Program

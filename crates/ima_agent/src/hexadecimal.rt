@@ -4,16 +4,13 @@ ghost use Rattle.ima_agent.specs.Hexadecimal.{is_white_space, without_white_spac
 
 use hex::FromHexError;
 use std::alloc::Global;
-use thiserror::Error;
 
 /// Why a text was not decoded.
-#[derive(Clone, Copy, Debug, PartialEq, Eq, Error)]
+#[derive(Clone, Copy)]
 pub(crate) enum HexFault {
     /// A byte is not a hexadecimal digit, or the number of digits is odd.
-    #[error("not hexadecimal")]
     NotHex,
     /// Out of memory.
-    #[error("out of memory")]
     Memory,
 }
 

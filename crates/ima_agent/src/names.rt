@@ -7,16 +7,13 @@ ghost use Rattle.ima_agent.specs.Names.{byte_of, names_of};
 
 use command_line::NameEnd;
 use std::alloc::{AllocError, AllocFailed, Global};
-use thiserror::Error;
 
 /// Why the names were not read.
-#[derive(Clone, Copy, Debug, PartialEq, Eq, Error)]
+#[derive(Clone, Copy)]
 pub(crate) enum NamesFault {
     /// The text is not UTF-8.
-    #[error("the text is not UTF-8")]
     NotUtf8,
     /// Out of memory.
-    #[error("out of memory")]
     Memory,
 }
 

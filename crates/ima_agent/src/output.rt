@@ -3,7 +3,7 @@
 ghost use Rattle.std.specs.Prelude.{◌≡◌};
 
 /// A whole output, before its first byte is written.
-#[derive(Debug, Drop)]
+#[derive(Drop)]
 pub struct Output {
     /// The text, or a binary list.
     pub text: Vec<u8>,

@@ -1,10 +1,12 @@
 //! Runs the program.
 
-ghost use Rattle.std.specs.Prelude.{◌≡◌, IfOk, IfErr};
+ghost use Rattle.std.specs.Prelude.{◌≡◌, IfOk, IfErr, MatchResult};
 ghost use Rattle.std.specs.Process.{exit_status};
 ghost use Rattle.ima_agent.specs.FaultTexts.{fault_line, fault_status};
+ghost use Rattle.command_line.specs.declared.plan.Plan.TheVariants.{Help};
 ghost use Rattle.command_line.specs.Plans.{IsWithinRanges};
 ghost use Rattle.ima_agent.specs.Program.{Answers, IsFaultFor, IsFaultOf, IsOutput, IsOutputFor, IsOutputOf, ShowsFor, status_after};
+ghost use Rattle.ima_agent.specs.parts.Program.{ShowsInputs, ShowsText};
 
 use crate::expecting::expected_from;
 use crate::fault::RunFault;
@@ -137,31 +139,75 @@ fn output_for<R: Threads + Wait + Sync, F: Files, P: Progress>(
     ensures shown { IfOk result (λ output. IsOutputFor (F.told files.old) plan output.text.items output.status) }
     ensures fault { IfErr result (IsFaultOf (F.told files.old) plan) }
 {
+    match help_of(plan) {
+        Ok(text) => Ok(Output::done(text.into_bytes())),
+        Err(plan) => shown_for(rt, alloc, &plan, files, progress),
+    }
+}
+
+// The text of the help, or the plan, which is then not to show that.
+fn help_of(plan: Plan) -> Result<String, Plan>
+    ensures { MatchResult result (λ text. plan ≡ Help text) (λ rest. (rest ≡ plan) × ShowsInputs plan) }
+{
     match plan {
-        Plan::Registers => Ok(Output::done(shown_registers(alloc, files)?)),
-        plan @ (Plan::Measure { .. } | Plan::MeasureListed { .. }) => {
-            Ok(Output::done(measured_for(rt, alloc, files, &plan, progress)?))
-        }
+        Plan::Help(text) => Ok(text),
+        rest => Err(rest),
+    }
+}
+
+// The whole output for this plan, which is not to show the help.
+fn shown_for<R: Threads + Wait + Sync, F: Files, P: Progress>(
+    rt: &R,
+    alloc: Global,
+    plan: &Plan,
+    files: &mut F,
+    progress: &P,
+) -> Result<Output, RunFault>
+    requires inputs { ShowsInputs plan.now }
+    requires within { IsWithinRanges plan.now }
+    ensures shown { IfOk result (λ output. IsOutputFor (F.told files.old) plan.now output.text.items output.status) }
+    ensures fault { IfErr result (IsFaultOf (F.told files.old) plan.now) }
+{
+    match plan {
         Plan::Verify {
             log,
             list,
             expected,
-        } => verified(alloc, files, &log, &list, &expected),
+        } => verified(alloc, files, log, list, expected),
         Plan::Locate {
             log,
             list,
             expected,
-        } => located(alloc, files, &log, &list, &expected),
-        Plan::Expected { printed, registers } => Ok(Output::done(expected_from(
-            alloc,
-            files,
-            &printed,
-            registers.as_deref(),
-        )?)),
-        Plan::RegistersAfter { log } => Ok(Output::done(registers_after(alloc, files, &log)?)),
-        Plan::Events { log, data } => Ok(Output::done(shown_events(alloc, files, &log, data)?)),
-        Plan::Replay { list } => Ok(Output::done(replayed(alloc, files, &list)?)),
-        Plan::Show { list } => Ok(Output::done(shown_list(alloc, files, &list)?)),
-        Plan::Help(text) => Ok(Output::done(text.into_bytes())),
+        } => located(alloc, files, log, list, expected),
+        _ => Ok(Output::done(text_for(rt, alloc, plan, files, progress)?)),
+    }
+}
+
+// The text that this plan shows, with status 0.
+fn text_for<R: Threads + Wait + Sync, F: Files, P: Progress>(
+    rt: &R,
+    alloc: Global,
+    plan: &Plan,
+    files: &mut F,
+    progress: &P,
+) -> Result<Vec<u8>, RunFault>
+    requires text { ShowsText plan.now }
+    requires within { IsWithinRanges plan.now }
+    ensures shown { IfOk result (λ shown. IsOutputFor (F.told files.old) plan.now shown.items 0) }
+    ensures fault { IfErr result (IsFaultOf (F.told files.old) plan.now) }
+{
+    match plan {
+        Plan::Registers => shown_registers(alloc, files),
+        Plan::Measure { .. } | Plan::MeasureListed { .. } => {
+            measured_for(rt, alloc, files, plan, progress)
+        }
+        Plan::Expected { printed, registers } => {
+            expected_from(alloc, files, printed, registers.as_deref())
+        }
+        Plan::RegistersAfter { log } => registers_after(alloc, files, log),
+        Plan::Events { log, data } => shown_events(alloc, files, log, *data),
+        Plan::Replay { list } => replayed(alloc, files, list),
+        Plan::Show { list } => shown_list(alloc, files, list),
+        _ => unreachable!(),
     }
 }

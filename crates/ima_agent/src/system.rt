@@ -20,7 +20,7 @@ use std::rt::Files as FileSystem;
 /// A source over a `std` reader.
 ///
 /// Its bytes are not told. Each error of the reader, an interrupted call included, counts as a failure.
-#[derive(Debug, Drop)]
+#[derive(Drop)]
 pub struct ReadSource<R> {
     reader: R,
     failures: u64,
@@ -62,7 +62,7 @@ impl<R: Read> Source for ReadSource<R> {
 ///
 /// Its bytes are not told. Each error of the writer, an interrupted call included, counts as a failure, and so does a write that
 /// takes none of the bytes offered.
-#[derive(Debug, Drop)]
+#[derive(Drop)]
 pub struct WriteSink<W> {
     writer: W,
     failures: u64,
@@ -102,7 +102,7 @@ impl<W: Write> Sink for WriteSink<W> {
 }
 
 /// Where the bytes of an input come from.
-#[derive(Debug, Drop)]
+#[derive(Drop)]
 pub enum Input<F, I> {
     /// A file.
     File(F),
@@ -124,7 +124,7 @@ impl<F: Read, I: Read> Read for Input<F, I> {
 /// The files and the standard input of a runtime.
 ///
 /// A name is a path, relative to the working directory. The name `-` is that of a file.
-#[derive(Debug, Drop)]
+#[derive(Drop)]
 pub struct SystemFiles<'a, R> {
     runtime: &'a R,
 }

@@ -1,8 +1,7 @@
 use Rattle.std.proofs.Common.{arith}
 use Rattle.hash_workers.specs.Faults.{IsNumberOfWorkers}
 use Rattle.hash_workers.proofs.FaultLaws.{opening_fault}
-use Rattle.hash_workers.proofs.SeatLaws.{hand_back}
-use Rattle.hash_workers.proofs.SettlingLaws.{all_work, settled_cause, settled_fault, settled_job, settled_number}
+use Rattle.hash_workers.proofs.SettlingLaws.{settled_cause, settled_fault, settled_job, settled_number}
 use Rattle.hash_workers.proofs.batch.record_jobs.Goals as goal
 
 pub returns-in_err-book-clause-fault : goal.returns-in_err-book-clause-fault
@@ -11,47 +10,27 @@ returns-in_err-book-clause-fault g c =
     opening_fault c.args.workers c.args.origin c.in_err-book.field-0.0 c.from_residual.result number c.in_err-book.ensures.refused
     c.from_residual.ensures.1
 
-pub of-requires-clause-works : goal.of-requires-clause-works
-of-requires-clause-works g c =
-    hand_back c.args.origin (g.J.Jobs.makes c.args.jobs.now c.args.origin.alg) (g.J.Jobs.lacks c.args.jobs.now) c.in_ok-claims.claims
-    c.in_ok-book-2.works.items c.in_ok-book-2.ensures
-
-pub settle-requires-clause-all : goal.settle-requires-clause-all
-settle-requires-clause-all g c =
-    all_work c.args.origin (g.J.Jobs.makes c.args.jobs.now c.args.origin.alg) (g.J.Jobs.lacks c.args.jobs.now) c.args.workers
-    (g.J.Jobs.total c.args.jobs.now) c.in_ok-claims.claims c.in_ok-book-2.works.items c.in_ok-all.all (c.in_ok-claims.ensures.claims.1)
-    (omega (arith, c.in_ok-claims.ensures.claims.0, c.count-count.ensures)) c.in_ok-book-2.ensures
-    (rw c.count-count.ensures at c.in_ok-all.ensures.made) c.in_ok-all.ensures.each c.in_ok-all.ensures.before
-
 pub returns-clause-fault : goal.returns-clause-fault
 returns-clause-fault g c =
     let number : IsNumberOfWorkers c.args.workers = (omega arith, omega arith) in
-    settled_fault c.args.workers c.args.origin c.in_ok-all.all c.in_ok-book-2.book c.settle.result (number, c.in_ok-book.ensures.opened.may_open)
+    settled_fault c.args.workers c.args.origin c.in_ok-book-2.all c.in_ok-book-2.book c.settle.result (number, c.in_ok-book.ensures.opened.may_open)
     c.settle.ensures.fault
 
 pub returns-clause-workers : goal.returns-clause-workers
 returns-clause-workers g c =
     let number : IsNumberOfWorkers c.args.workers = (omega arith, omega arith) in (
-      λ is _. settled_number c.args.origin c.in_ok-all.all c.in_ok-book-2.book c.settle.result c.settle.ensures.fault is,
+      λ is _. settled_number c.args.origin c.in_ok-book-2.all c.in_ok-book-2.book c.settle.result c.settle.ensures.fault is,
       λ wrong. absurd (wrong number),
     )
 
 pub returns-clause-job : goal.returns-clause-job
 returns-clause-job g c = λ job fault is.
     settled_job c.args.workers c.args.origin (g.J.Jobs.total c.args.jobs.now) (g.J.Jobs.makes c.args.jobs.now c.args.origin.alg)
-    (g.J.Jobs.lacks c.args.jobs.now) c.in_ok-all.all c.in_ok-book-2.book job fault c.settle.result
-    (all_work c.args.origin (g.J.Jobs.makes c.args.jobs.now c.args.origin.alg) (g.J.Jobs.lacks c.args.jobs.now) c.args.workers
-    (g.J.Jobs.total c.args.jobs.now) c.in_ok-claims.claims c.in_ok-book-2.works.items c.in_ok-all.all (c.in_ok-claims.ensures.claims.1)
-    (omega (arith, c.in_ok-claims.ensures.claims.0, c.count-count.ensures)) c.in_ok-book-2.ensures
-    (rw c.count-count.ensures at c.in_ok-all.ensures.made) c.in_ok-all.ensures.each c.in_ok-all.ensures.before)
+    (g.J.Jobs.lacks c.args.jobs.now) c.in_ok-book-2.all c.in_ok-book-2.book job fault c.settle.result c.in_ok-book-2.ensures
     c.settle.ensures.fault is
 
 pub returns-clause-gather : goal.returns-clause-gather
 returns-clause-gather g c = λ cause is.
     settled_cause c.args.workers c.args.origin (g.J.Jobs.total c.args.jobs.now) (g.J.Jobs.makes c.args.jobs.now c.args.origin.alg)
-    (g.J.Jobs.lacks c.args.jobs.now) c.in_ok-all.all c.in_ok-book-2.book cause c.settle.result
-    (all_work c.args.origin (g.J.Jobs.makes c.args.jobs.now c.args.origin.alg) (g.J.Jobs.lacks c.args.jobs.now) c.args.workers
-    (g.J.Jobs.total c.args.jobs.now) c.in_ok-claims.claims c.in_ok-book-2.works.items c.in_ok-all.all (c.in_ok-claims.ensures.claims.1)
-    (omega (arith, c.in_ok-claims.ensures.claims.0, c.count-count.ensures)) c.in_ok-book-2.ensures
-    (rw c.count-count.ensures at c.in_ok-all.ensures.made) c.in_ok-all.ensures.each c.in_ok-all.ensures.before)
+    (g.J.Jobs.lacks c.args.jobs.now) c.in_ok-book-2.all c.in_ok-book-2.book cause c.settle.result c.in_ok-book-2.ensures
     c.settle.ensures.fault is

@@ -4,8 +4,48 @@ use Rattle.std.proofs.lemmas.Result.{err_from_is_err_and}
 use Rattle.ima_agent.specs.Measuring.{IsMeasuringFault, IsNamesFault, ShowsMeasured, all_names, files_in}
 use Rattle.ima_agent.specs.parts.Measuring.{manner_of}
 use Rattle.ima_agent.specs.Program.{IsListedFault, OfInput}
-use Rattle.ima_agent.proofs.MeasuringLaws.{err_inr, err_of, fault_of, listed_err, named_so, ok_of, shown_of}
+use Rattle.ima_agent.proofs.MeasuringLaws.{err_inr, err_of, fault_of, listed_err, listed_log, named_so, ok_of, shown_of}
 use Rattle.ima_agent.proofs.measuring.measured_listed.Goals as goal
+
+pub returns-in_err-bytes-clause-shown : goal.returns-in_err-bytes-clause-shown
+returns-in_err-bytes-clause-shown g c =
+    let p = err_from_is_err_and c.from_residual.result c.from_residual.ensures.1 in rw p.1 tt
+
+pub returns-in_err-bytes-clause-fault : goal.returns-in_err-bytes-clause-fault
+returns-in_err-bytes-clause-fault g c =
+    let p = err_from_is_err_and c.from_residual.result c.from_residual.ensures.1 in rw (p.1, p.2) (inl c.in_err-bytes.ensures.fault)
+
+pub returns-in_err-log-clause-shown : goal.returns-in_err-log-clause-shown
+returns-in_err-log-clause-shown g c =
+    let p = err_from_is_err_and c.from_residual-in_err-log.result c.from_residual-in_err-log.ensures.1 in rw p.1 tt
+
+pub returns-in_err-log-clause-fault : goal.returns-in_err-log-clause-fault
+returns-in_err-log-clause-fault g c =
+    let p = err_from_is_err_and c.from_residual-in_err-log.result c.from_residual-in_err-log.ensures.1 in
+    rw (p.1, p.2) (inr (
+      c.in_ok-bytes.bytes.items,
+      c.in_ok-bytes.ensures.all,
+      listed_log (g.F.Files.told c.args.files.now) c.in_ok-bytes.bytes.items (manner_of c.args.asked)
+          (map string_bytes c.args.asked.files.now) c.args.names.now c.args.ends c.in_err-log.field-0.0
+          (rw c.deref.ensures.value at c.in_err-log.ensures.fault),
+    ))
+
+pub returns-in_err-text-clause-shown : goal.returns-in_err-text-clause-shown
+returns-in_err-text-clause-shown g c =
+    let p = err_from_is_err_and c.from_residual-in_err-text.result c.from_residual-in_err-text.ensures.1 in rw p.1 tt
+
+pub returns-in_err-text-clause-fault : goal.returns-in_err-text-clause-fault
+returns-in_err-text-clause-fault g c =
+    let p = err_from_is_err_and c.from_residual-in_err-text.result c.from_residual-in_err-text.ensures.1 in
+    rw (p.1, p.2) (inr (
+      c.in_ok-bytes.bytes.items,
+      c.in_ok-bytes.ensures.all,
+      inr (inl (rw c.in_ok-bytes.ensures.told at c.in_err-text.ensures.fault)),
+    ))
+
+pub returns-in_err-all-clause-shown : goal.returns-in_err-all-clause-shown
+returns-in_err-all-clause-shown g c =
+    let p = err_from_is_err_and c.from_residual-in_err-all.result c.from_residual-in_err-all.ensures.1 in rw p.1 tt
 
 pub returns-in_err-all-clause-fault : goal.returns-in_err-all-clause-fault
 returns-in_err-all-clause-fault g c =

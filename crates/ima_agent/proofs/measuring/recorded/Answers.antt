@@ -1,6 +1,8 @@
-use Rattle.std.proofs.Common.{rules, inl, map, string_bytes, arith}
+use Rattle.std.proofs.Common.{rules, inl, length, map, string_bytes, arith}
 use Rattle.std.proofs.lemmas.List.{length-map}
-use Rattle.ima_agent.proofs.MeasuringLaws.{file_fault}
+use Rattle.measure_book.specs.Operations.{book_outcome_of}
+use Rattle.ima_agent.specs.Measuring.{IsFileFault, IsFileMeasure}
+use Rattle.ima_agent.proofs.MeasuringLaws.{file_fault, measured_all, refused_one}
 use Rattle.ima_agent.proofs.measuring.recorded.Goals as goal
 
 pub fault_of-requires : goal.fault_of-requires
@@ -14,3 +16,19 @@ returns-in-Err-Job-clause-fault g c =
     inl (file_fault (g.S.SharedFiles.held c.args.jobs.now.files.now) (g.S.SharedFiles.fails c.args.jobs.now.files.now) (map string_bytes names) c.in-Err-Job.job c.in-Err-Job.fault
     c.fault_of.result (omega (arith, first.within, length-map names string_bytes)) first.cause c.fault_of.ensures
     (λ earlier below. (first.before earlier below).1.file))
+
+pub returns-in-Ok-clause-book : goal.returns-in-Ok-clause-book
+returns-in-Ok-clause-book g c =
+    let names = c.args.jobs.now.names.now in
+    measured_all c.args.origin (length names)
+    (IsFileMeasure (g.S.SharedFiles.held c.args.jobs.now.files.now) (map string_bytes names) c.args.origin.alg) c.args.workers
+    c.in-Ok.batch.book (map book_outcome_of c.in-Ok.batch.outcomes.items) c.in-Ok.batch.by.items c.in-Ok.ensures.batch
+    c.all_done.result c.all_done.ensures.done
+
+pub returns-in-Ok-clause-fault : goal.returns-in-Ok-clause-fault
+returns-in-Ok-clause-fault g c =
+    let held = g.S.SharedFiles.held c.args.jobs.now.files.now in
+    let names = c.args.jobs.now.names.now in
+    refused_one c.args.origin (length names) (IsFileMeasure held (map string_bytes names) c.args.origin.alg) c.args.workers
+    c.in-Ok.batch.book (map book_outcome_of c.in-Ok.batch.outcomes.items) c.in-Ok.batch.by.items c.in-Ok.ensures.batch
+    (IsFileFault held (map string_bytes names)) c.all_done.result c.all_done.ensures.refused
