@@ -1,0 +1,218 @@
+//! Entries that are made, by templates and with signatures, and what is written and hashed of them.
+
+use ima_list::{Entry, EntryFault, Sig, Template};
+use pcr_banks::{Alg, hash};
+use std::alloc::{AllocError, Global};
+use std::test::Fail;
+use test_kit::books::copied_sig;
+use test_kit::lists::{
+    MEASUREMENT, SIGNED, THREE_BYTES, VIOLATION, append_entry, list_of, sig_of, spelling_of,
+};
+use test_kit::{joined, once_more};
+
+/// The entry of `/bin/sh`, measured with the SHA-1 of `abc` in the template `ima`.
+const OF_IMA: &[u8] = b"\x0a\x00\x00\x00\
+    \x30\xe3\xa8\x53\xf1\x2b\xf2\x47\xa7\x9b\x73\xe6\x1d\x54\xfd\x3b\x0d\x84\x14\x22\
+    \x03\x00\x00\x00ima\
+    \xa9\x99\x3e\x36\x47\x06\x81\x6a\xba\x3e\x25\x71\x78\x50\xc2\x6c\x9c\xd0\xd8\x9d\
+    \x07\x00\x00\x00/bin/sh";
+
+/// The entry of `/bin/sh`, measured with the SHA-256 of `abc` in the template `ima-sig`, without a signature.
+const UNSIGNED: &[u8] = b"\x0a\x00\x00\x00\
+    \xff\xb8\xdc\x2f\x2f\x8c\x5a\xc2\xcd\x36\x7f\x14\xf9\x48\x81\xc5\xf5\xf9\x79\x7c\
+    \x07\x00\x00\x00ima-sig\
+    \x3c\x00\x00\x00\
+    \x28\x00\x00\x00sha256:\x00\
+    \xba\x78\x16\xbf\x8f\x01\xcf\xea\x41\x41\x40\xde\x5d\xae\x22\x23\
+    \xb0\x03\x61\xa3\x96\x17\x7a\x9c\xb4\x10\xff\x61\xf2\x00\x15\xad\
+    \x08\x00\x00\x00/bin/sh\x00\
+    \x00\x00\x00\x00";
+
+/// A violation of `/etc/x` in the template `ima`.
+const VIOLATION_OF_IMA: &[u8] = b"\x0a\x00\x00\x00\
+    \x00\x00\x00\x00\x00\x00\x00\x00\x00\x00\x00\x00\x00\x00\x00\x00\x00\x00\x00\x00\
+    \x03\x00\x00\x00ima\
+    \x00\x00\x00\x00\x00\x00\x00\x00\x00\x00\x00\x00\x00\x00\x00\x00\x00\x00\x00\x00\
+    \x06\x00\x00\x00/etc/x";
+
+/// The same in the template `ima-sig` with SHA-256.
+const VIOLATION_OF_IMA_SIG: &[u8] = b"\x0a\x00\x00\x00\
+    \x00\x00\x00\x00\x00\x00\x00\x00\x00\x00\x00\x00\x00\x00\x00\x00\x00\x00\x00\x00\
+    \x07\x00\x00\x00ima-sig\
+    \x3b\x00\x00\x00\
+    \x28\x00\x00\x00sha256:\x00\
+    \x00\x00\x00\x00\x00\x00\x00\x00\x00\x00\x00\x00\x00\x00\x00\x00\
+    \x00\x00\x00\x00\x00\x00\x00\x00\x00\x00\x00\x00\x00\x00\x00\x00\
+    \x07\x00\x00\x00/etc/x\x00\
+    \x00\x00\x00\x00";
+
+/// An entry with no name and no payload: register 10, twenty zero bytes, and two lengths of nothing.
+const EMPTY: &[u8] = b"\x0a\x00\x00\x00\
+    \x00\x00\x00\x00\x00\x00\x00\x00\x00\x00\x00\x00\x00\x00\x00\x00\x00\x00\x00\x00\
+    \x00\x00\x00\x00\x00\x00\x00\x00";
+
+/// What stands in a vector before something is appended to it.
+const FRONT: &[u8] = b"front";
+
+/// The entry of a file that was measured into PCR 10.
+fn measured(
+    alloc: Global,
+    template: Template,
+    alg: Alg,
+    path: &[u8],
+    sig: &Sig,
+) -> Result<Entry, Fail> {
+    template.check(alg, path)?;
+    let file = hash(alg, b"abc");
+    Ok(once_more(AllocError, || {
+        Entry::measurement(alloc, 10, template, &file, path, sig)
+    })?)
+}
+
+/// The entry of a violation in PCR 10.
+fn violated(alloc: Global, template: Template, alg: Alg, path: &[u8]) -> Result<Entry, Fail> {
+    template.check(alg, path)?;
+    Ok(once_more(AllocError, || {
+        Entry::violation(alloc, 10, template, alg, path)
+    })?)
+}
+
+/// The one entry of a list.
+fn entry_of(alloc: Global, bytes: &[u8]) -> Result<Entry, Fail> {
+    Ok(list_of(alloc, bytes)?.pop().ok_or("no entry")?)
+}
+
+/// Why a template has no entry. A wrong algorithm counts before a NUL, and a NUL before a path that is too long.
+#[test]
+fn templates_and_paths(rt: HostRuntime) {
+    let long = [b'a'; 4_096];
+    let mut long_with_nul = long;
+    long_with_nul[4_095] = 0;
+    let wrong_hash = Err(EntryFault::WrongHash);
+    let nul_in_path = Err(EntryFault::NulInPath);
+    let too_long = Err(EntryFault::PathTooLong);
+    for (template, alg, path, answer) in [
+        (Template::Ima, Alg::Sha256, b"/".as_slice(), wrong_hash),
+        (Template::Ima, Alg::Sha512, b"\0", wrong_hash),
+        (Template::Ima, Alg::Sha384, &long_with_nul, wrong_hash),
+        (Template::Ima, Alg::Sha1, b"a\0", nul_in_path),
+        (Template::Ima, Alg::Sha1, &long_with_nul, nul_in_path),
+        (Template::Ima, Alg::Sha1, b"", Ok(())),
+        (Template::Ima, Alg::Sha1, &long[..255], Ok(())),
+        (Template::Ima, Alg::Sha1, &long[..256], too_long),
+        (Template::ImaNg, Alg::Sha256, b"\0/", nul_in_path),
+        (Template::ImaNg, Alg::Sha256, &long_with_nul, nul_in_path),
+        (Template::ImaNg, Alg::Sha1, b"", Ok(())),
+        (Template::ImaNg, Alg::Sha384, &long[..4_095], Ok(())),
+        (Template::ImaNg, Alg::Sha1, &long, too_long),
+        (Template::ImaSig, Alg::Sha512, b"/\0", nul_in_path),
+        (Template::ImaSig, Alg::Sha1, &long_with_nul, nul_in_path),
+        (Template::ImaSig, Alg::Sha1, b"", Ok(())),
+        (Template::ImaSig, Alg::Sha512, &long[..4_095], Ok(())),
+        (Template::ImaSig, Alg::Sha256, &long, too_long),
+    ] {
+        assert_eq!(rt; template.check(alg, path), answer);
+    }
+}
+
+/// A signature, which templates without one ignore.
+#[test]
+fn each_allocation_refused_in_measurement(rt: HostRuntime) -> Result<(), Fail> {
+    let alloc = rt.alloc();
+    for (template, alg, sig, spelling) in [
+        (Template::Ima, Alg::Sha1, THREE_BYTES, OF_IMA),
+        (Template::ImaNg, Alg::Sha256, THREE_BYTES, MEASUREMENT),
+        (Template::ImaSig, Alg::Sha256, b"".as_slice(), UNSIGNED),
+        (Template::ImaSig, Alg::Sha256, THREE_BYTES, SIGNED),
+    ] {
+        let sig = sig_of(alloc, sig)?;
+        let entry = measured(alloc, template, alg, b"/bin/sh", &sig)?;
+        assert_eq!(rt; spelling_of(alloc, &entry)?.as_slice(), spelling);
+    }
+    Ok(())
+}
+
+#[test]
+fn each_allocation_refused_in_violation(rt: HostRuntime) -> Result<(), Fail> {
+    let alloc = rt.alloc();
+    for (template, alg, spelling) in [
+        (Template::Ima, Alg::Sha1, VIOLATION_OF_IMA),
+        (Template::ImaNg, Alg::Sha256, VIOLATION),
+        (Template::ImaSig, Alg::Sha256, VIOLATION_OF_IMA_SIG),
+    ] {
+        let entry = violated(alloc, template, alg, b"/etc/x")?;
+        assert_eq!(rt; spelling_of(alloc, &entry)?.as_slice(), spelling);
+    }
+    Ok(())
+}
+
+#[test]
+fn each_allocation_refused_in_write_entry(rt: HostRuntime) -> Result<(), Fail> {
+    let alloc = rt.alloc();
+    for spelling in [OF_IMA, MEASUREMENT, SIGNED, VIOLATION, EMPTY] {
+        let entry = entry_of(alloc, spelling)?;
+        let mut out = joined(alloc, &[FRONT])?;
+        append_entry(&entry, &mut out)?;
+        let wanted = joined(alloc, &[FRONT, spelling])?;
+        assert_eq!(rt; out.as_slice(), wanted.as_slice());
+    }
+    Ok(())
+}
+
+/// The payload, of which `ima` has the path filled to 256 bytes and no length.
+#[test]
+fn each_allocation_refused_in_hashed_bytes(rt: HostRuntime) -> Result<(), Fail> {
+    let alloc = rt.alloc();
+    let ima = joined(alloc, &[&OF_IMA[31..51], b"/bin/sh", &[0; 249]])?;
+    for (spelling, hashed) in [
+        (OF_IMA, ima.as_slice()),
+        (MEASUREMENT, &MEASUREMENT[38..]),
+        (VIOLATION, &VIOLATION[38..]),
+    ] {
+        let entry = entry_of(alloc, spelling)?;
+        let mut out = joined(alloc, &[FRONT])?;
+        once_more(AllocError, || entry.hashed_bytes(&mut out))?;
+        let wanted = joined(alloc, &[FRONT, hashed])?;
+        assert_eq!(rt; out.as_slice(), wanted.as_slice());
+    }
+    Ok(())
+}
+
+#[test]
+fn each_allocation_refused_in_copy_of_a_signature(rt: HostRuntime) -> Result<(), Fail> {
+    let alloc = rt.alloc();
+    for bytes in [THREE_BYTES, SIGNED] {
+        let sig = sig_of(alloc, bytes)?;
+        assert_eq!(rt; copied_sig(&sig)?.bytes(), bytes);
+    }
+    Ok(())
+}
+
+/// The longest path and the longest signature, of 65,536 bytes: copied, and in one entry, which is written and read.
+#[test]
+fn longest_path_and_signature(rt: HostRuntime) -> Result<(), Fail> {
+    let alloc = rt.alloc();
+    let bytes = once_more(AllocError, || b"\xab".repeat(alloc, 65_536))?;
+    let sig = copied_sig(&sig_of(alloc, &bytes)?)?;
+    assert!(rt; sig.bytes() == bytes.as_slice());
+    let path = [b'a'; 4_095];
+    let entry = measured(alloc, Template::ImaSig, Alg::Sha512, &path, &sig)?;
+    assert_eq!(rt; entry.payload().len(), 69_716);
+    let spelling = spelling_of(alloc, &entry)?;
+    assert_eq!(rt; spelling.len(), 69_755);
+    assert!(rt; entry_of(alloc, &spelling)? == entry);
+    let violation = violated(alloc, Template::ImaNg, Alg::Sha512, &path)?;
+    assert_eq!(rt; violation.payload().len(), 4_176);
+    Ok(())
+}
+
+/// A vector of a byte more is no signature, and is handed back as it is.
+#[test]
+fn signature_that_is_too_long(rt: HostRuntime) -> Result<(), Fail> {
+    let alloc = rt.alloc();
+    let long = once_more(AllocError, || b"\x07".repeat(alloc, 65_537))?;
+    let given = joined(alloc, &[&long])?;
+    let back = Sig::new(given).err().ok_or("a long signature is taken")?;
+    assert!(rt; back.as_slice() == long.as_slice());
+    Ok(())
+}
