@@ -1,14 +1,15 @@
 //! Entries that are made, by templates and with signatures, and what is written and hashed of them.
 
+use crate::pieces::repeated;
 use ima_list::{Entry, EntryFault, Sig, Template};
 use pcr_banks::{Alg, hash};
 use std::alloc::{AllocError, Global};
 use std::test::Fail;
 use test_kit::books::copied_sig;
 use test_kit::lists::{
-    MEASUREMENT, SIGNED, THREE_BYTES, VIOLATION, append_entry, list_of, sig_of, spelling_of,
+    MEASUREMENT, SIGNED, THREE_BYTES, VIOLATION, list_of, sig_of, spelling_of, spellings,
 };
-use test_kit::{joined, once_more};
+use test_kit::once_more;
 
 /// The entry of `/bin/sh`, measured with the SHA-1 of `abc` in the template `ima`.
 const OF_IMA: &[u8] = b"\x0a\x00\x00\x00\
@@ -16,6 +17,16 @@ const OF_IMA: &[u8] = b"\x0a\x00\x00\x00\
     \x03\x00\x00\x00ima\
     \xa9\x99\x3e\x36\x47\x06\x81\x6a\xba\x3e\x25\x71\x78\x50\xc2\x6c\x9c\xd0\xd8\x9d\
     \x07\x00\x00\x00/bin/sh";
+
+/// What its template digest is taken of: the file's digest, the path, and 249 zero bytes.
+const HASHED_OF_IMA: &[u8] =
+    b"\xa9\x99\x3e\x36\x47\x06\x81\x6a\xba\x3e\x25\x71\x78\x50\xc2\x6c\x9c\xd0\xd8\x9d\
+    /bin/sh\
+    \0\0\0\0\0\0\0\0\0\0\0\0\0\0\0\0\0\0\0\0\0\0\0\0\0\0\0\0\0\0\0\0\0\0\0\0\0\0\0\0\0\0\0\0\0\0\0\0\0\0\
+    \0\0\0\0\0\0\0\0\0\0\0\0\0\0\0\0\0\0\0\0\0\0\0\0\0\0\0\0\0\0\0\0\0\0\0\0\0\0\0\0\0\0\0\0\0\0\0\0\0\0\
+    \0\0\0\0\0\0\0\0\0\0\0\0\0\0\0\0\0\0\0\0\0\0\0\0\0\0\0\0\0\0\0\0\0\0\0\0\0\0\0\0\0\0\0\0\0\0\0\0\0\0\
+    \0\0\0\0\0\0\0\0\0\0\0\0\0\0\0\0\0\0\0\0\0\0\0\0\0\0\0\0\0\0\0\0\0\0\0\0\0\0\0\0\0\0\0\0\0\0\0\0\0\0\
+    \0\0\0\0\0\0\0\0\0\0\0\0\0\0\0\0\0\0\0\0\0\0\0\0\0\0\0\0\0\0\0\0\0\0\0\0\0\0\0\0\0\0\0\0\0\0\0\0\0";
 
 /// The entry of `/bin/sh`, measured with the SHA-256 of `abc` in the template `ima-sig`, without a signature.
 const UNSIGNED: &[u8] = b"\x0a\x00\x00\x00\
@@ -51,9 +62,6 @@ const EMPTY: &[u8] = b"\x0a\x00\x00\x00\
     \x00\x00\x00\x00\x00\x00\x00\x00\x00\x00\x00\x00\x00\x00\x00\x00\x00\x00\x00\x00\
     \x00\x00\x00\x00\x00\x00\x00\x00";
 
-/// What stands in a vector before something is appended to it.
-const FRONT: &[u8] = b"front";
-
 /// The entry of a file that was measured into PCR 10.
 fn measured(
     alloc: Global,
@@ -82,36 +90,108 @@ fn entry_of(alloc: Global, bytes: &[u8]) -> Result<Entry, Fail> {
     Ok(list_of(alloc, bytes)?.pop().ok_or("no entry")?)
 }
 
-/// Why a template has no entry. A wrong algorithm counts before a NUL, and a NUL before a path that is too long.
+/// Why a template has no entry for a path of so many bytes, of which the first may be a NUL. A wrong algorithm counts before a NUL, and
+/// a NUL before a path that is too long.
+const ANSWERS: [(Template, Alg, usize, bool, Result<(), EntryFault>); 18] = [
+    (
+        Template::Ima,
+        Alg::Sha256,
+        1,
+        false,
+        Err(EntryFault::WrongHash),
+    ),
+    (
+        Template::Ima,
+        Alg::Sha512,
+        1,
+        true,
+        Err(EntryFault::WrongHash),
+    ),
+    (
+        Template::Ima,
+        Alg::Sha384,
+        4_096,
+        true,
+        Err(EntryFault::WrongHash),
+    ),
+    (
+        Template::Ima,
+        Alg::Sha1,
+        1,
+        true,
+        Err(EntryFault::NulInPath),
+    ),
+    (
+        Template::Ima,
+        Alg::Sha1,
+        4_096,
+        true,
+        Err(EntryFault::NulInPath),
+    ),
+    (Template::Ima, Alg::Sha1, 0, false, Ok(())),
+    (Template::Ima, Alg::Sha1, 255, false, Ok(())),
+    (
+        Template::Ima,
+        Alg::Sha1,
+        256,
+        false,
+        Err(EntryFault::PathTooLong),
+    ),
+    (
+        Template::ImaNg,
+        Alg::Sha256,
+        2,
+        true,
+        Err(EntryFault::NulInPath),
+    ),
+    (
+        Template::ImaNg,
+        Alg::Sha256,
+        4_096,
+        true,
+        Err(EntryFault::NulInPath),
+    ),
+    (Template::ImaNg, Alg::Sha1, 0, false, Ok(())),
+    (Template::ImaNg, Alg::Sha384, 4_095, false, Ok(())),
+    (
+        Template::ImaNg,
+        Alg::Sha1,
+        4_096,
+        false,
+        Err(EntryFault::PathTooLong),
+    ),
+    (
+        Template::ImaSig,
+        Alg::Sha512,
+        2,
+        true,
+        Err(EntryFault::NulInPath),
+    ),
+    (
+        Template::ImaSig,
+        Alg::Sha1,
+        4_096,
+        true,
+        Err(EntryFault::NulInPath),
+    ),
+    (Template::ImaSig, Alg::Sha1, 0, false, Ok(())),
+    (Template::ImaSig, Alg::Sha512, 4_095, false, Ok(())),
+    (
+        Template::ImaSig,
+        Alg::Sha256,
+        4_096,
+        false,
+        Err(EntryFault::PathTooLong),
+    ),
+];
+
 #[test]
 fn templates_and_paths(rt: HostRuntime) {
-    let long = [b'a'; 4_096];
-    let mut long_with_nul = long;
-    long_with_nul[4_095] = 0;
-    let wrong_hash = Err(EntryFault::WrongHash);
-    let nul_in_path = Err(EntryFault::NulInPath);
-    let too_long = Err(EntryFault::PathTooLong);
-    for (template, alg, path, answer) in [
-        (Template::Ima, Alg::Sha256, b"/".as_slice(), wrong_hash),
-        (Template::Ima, Alg::Sha512, b"\0", wrong_hash),
-        (Template::Ima, Alg::Sha384, &long_with_nul, wrong_hash),
-        (Template::Ima, Alg::Sha1, b"a\0", nul_in_path),
-        (Template::Ima, Alg::Sha1, &long_with_nul, nul_in_path),
-        (Template::Ima, Alg::Sha1, b"", Ok(())),
-        (Template::Ima, Alg::Sha1, &long[..255], Ok(())),
-        (Template::Ima, Alg::Sha1, &long[..256], too_long),
-        (Template::ImaNg, Alg::Sha256, b"\0/", nul_in_path),
-        (Template::ImaNg, Alg::Sha256, &long_with_nul, nul_in_path),
-        (Template::ImaNg, Alg::Sha1, b"", Ok(())),
-        (Template::ImaNg, Alg::Sha384, &long[..4_095], Ok(())),
-        (Template::ImaNg, Alg::Sha1, &long, too_long),
-        (Template::ImaSig, Alg::Sha512, b"/\0", nul_in_path),
-        (Template::ImaSig, Alg::Sha1, &long_with_nul, nul_in_path),
-        (Template::ImaSig, Alg::Sha1, b"", Ok(())),
-        (Template::ImaSig, Alg::Sha512, &long[..4_095], Ok(())),
-        (Template::ImaSig, Alg::Sha256, &long, too_long),
-    ] {
-        assert_eq!(rt; template.check(alg, path), answer);
+    for (template, alg, length, has_nul, answer) in ANSWERS {
+        let mut path = [b'a'; 4_096];
+        path[0] = if has_nul { 0 } else { b'a' };
+        let path = path.get(..length).unwrap_or(b"");
+        assert_eq!(rt; template.check(alg, path), answer, "{length} bytes");
     }
 }
 
@@ -146,34 +226,35 @@ fn each_allocation_refused_in_violation(rt: HostRuntime) -> Result<(), Fail> {
     Ok(())
 }
 
+/// Lists of one entry, which are read and written back.
 #[test]
-fn each_allocation_refused_in_write_entry(rt: HostRuntime) -> Result<(), Fail> {
+fn each_allocation_refused_in_read_list_and_write_entry(rt: HostRuntime) -> Result<(), Fail> {
     let alloc = rt.alloc();
-    for spelling in [OF_IMA, MEASUREMENT, SIGNED, VIOLATION, EMPTY] {
-        let entry = entry_of(alloc, spelling)?;
-        let mut out = joined(alloc, &[FRONT])?;
-        append_entry(&entry, &mut out)?;
-        let wanted = joined(alloc, &[FRONT, spelling])?;
-        assert_eq!(rt; out.as_slice(), wanted.as_slice());
+    for bytes in [OF_IMA, MEASUREMENT, SIGNED, VIOLATION, EMPTY] {
+        let entries = list_of(alloc, bytes)?;
+        assert_eq!(rt; spellings(alloc, &entries)?.as_slice(), bytes);
     }
     Ok(())
+}
+
+/// An entry's hashed bytes.
+fn hashed_of(alloc: Global, entry: &Entry) -> Result<Vec<u8>, AllocError> {
+    let mut bytes = Vec::new(alloc);
+    once_more(AllocError, || entry.hashed_bytes(&mut bytes))?;
+    Ok(bytes)
 }
 
 /// The payload, of which `ima` has the path filled to 256 bytes and no length.
 #[test]
 fn each_allocation_refused_in_hashed_bytes(rt: HostRuntime) -> Result<(), Fail> {
     let alloc = rt.alloc();
-    let ima = joined(alloc, &[&OF_IMA[31..51], b"/bin/sh", &[0; 249]])?;
     for (spelling, hashed) in [
-        (OF_IMA, ima.as_slice()),
+        (OF_IMA, HASHED_OF_IMA),
         (MEASUREMENT, &MEASUREMENT[38..]),
         (VIOLATION, &VIOLATION[38..]),
     ] {
         let entry = entry_of(alloc, spelling)?;
-        let mut out = joined(alloc, &[FRONT])?;
-        once_more(AllocError, || entry.hashed_bytes(&mut out))?;
-        let wanted = joined(alloc, &[FRONT, hashed])?;
-        assert_eq!(rt; out.as_slice(), wanted.as_slice());
+        assert_eq!(rt; hashed_of(alloc, &entry)?.as_slice(), hashed);
     }
     Ok(())
 }
@@ -188,31 +269,36 @@ fn each_allocation_refused_in_copy_of_a_signature(rt: HostRuntime) -> Result<(),
     Ok(())
 }
 
-/// The longest path and the longest signature, of 65,536 bytes: copied, and in one entry, which is written and read.
+/// The longest signature, of 65,536 bytes, copied.
+fn longest_sig(alloc: Global) -> Result<Sig, Fail> {
+    let sig = sig_of(alloc, &repeated(alloc, b"\xab", 65_536)?)?;
+    Ok(copied_sig(&sig)?)
+}
+
+/// The longest path of `ima-ng` and of `ima-sig`.
+const LONGEST_PATH: &[u8] = &[b'a'; 4_095];
+
 #[test]
 fn longest_path_and_signature(rt: HostRuntime) -> Result<(), Fail> {
     let alloc = rt.alloc();
-    let bytes = once_more(AllocError, || b"\xab".repeat(alloc, 65_536))?;
-    let sig = copied_sig(&sig_of(alloc, &bytes)?)?;
-    assert!(rt; sig.bytes() == bytes.as_slice());
-    let path = [b'a'; 4_095];
-    let entry = measured(alloc, Template::ImaSig, Alg::Sha512, &path, &sig)?;
-    assert_eq!(rt; entry.payload().len(), 69_716);
-    let spelling = spelling_of(alloc, &entry)?;
-    assert_eq!(rt; spelling.len(), 69_755);
-    assert!(rt; entry_of(alloc, &spelling)? == entry);
-    let violation = violated(alloc, Template::ImaNg, Alg::Sha512, &path)?;
-    assert_eq!(rt; violation.payload().len(), 4_176);
+    let sig = longest_sig(alloc)?;
+    let entry = measured(alloc, Template::ImaSig, Alg::Sha512, LONGEST_PATH, &sig)?;
+    assert_eq!(rt; spelling_of(alloc, &entry)?.len(), 69_755);
     Ok(())
 }
 
-/// A vector of a byte more is no signature, and is handed back as it is.
+#[test]
+fn violation_with_the_longest_path(rt: HostRuntime) -> Result<(), Fail> {
+    let entry = violated(rt.alloc(), Template::ImaNg, Alg::Sha512, LONGEST_PATH)?;
+    assert_eq!(rt; entry.payload().len(), 4_176);
+    Ok(())
+}
+
+/// A vector of a byte more is no signature, and is handed back.
 #[test]
 fn signature_that_is_too_long(rt: HostRuntime) -> Result<(), Fail> {
-    let alloc = rt.alloc();
-    let long = once_more(AllocError, || b"\x07".repeat(alloc, 65_537))?;
-    let given = joined(alloc, &[&long])?;
-    let back = Sig::new(given).err().ok_or("a long signature is taken")?;
-    assert!(rt; back.as_slice() == long.as_slice());
+    let bytes = repeated(rt.alloc(), b"\x07", 65_537)?;
+    let back = Sig::new(bytes).err().ok_or("a long signature is taken")?;
+    assert_eq!(rt; back.len(), 65_537);
     Ok(())
 }

@@ -29,6 +29,11 @@ fn feed(reader: &mut ListReader, piece: &[u8]) -> Result<(), ListFault> {
     once_more(ListFault::Memory, || reader.feed(piece))
 }
 
+/// The bytes, so many times.
+pub fn repeated(alloc: Global, bytes: &[u8], count: usize) -> Result<Vec<u8>, AllocError> {
+    once_more(AllocError, || bytes.repeat(alloc, count))
+}
+
 /// A reader that took the bytes in pieces of this size.
 pub fn fed(alloc: Global, bytes: &[u8], size: usize) -> Result<ListReader, ListFault>
     requires { 0 < size }
@@ -98,16 +103,6 @@ fn each_allocation_refused_in_feed(rt: HostRuntime) -> Result<(), Fail> {
     assert_read(&rt, alloc, &bytes, 50)
 }
 
-/// A list that is read as a whole.
-#[test]
-fn each_allocation_refused_in_read_list(rt: HostRuntime) -> Result<(), Fail> {
-    let alloc = rt.alloc();
-    let bytes = joined(alloc, &[MEASUREMENT, VIOLATION])?;
-    let entries = list_of(alloc, &bytes)?;
-    assert_eq!(rt; spellings(alloc, &entries)?.as_slice(), bytes.as_slice());
-    Ok(())
-}
-
 /// After an entry, all of these bytes but the last: the fault comes with that, also where a whole entry follows it, and leaves the
 /// reader as it was.
 fn assert_fault_at_the_end(
@@ -135,21 +130,39 @@ fn faults_within_a_torn_entry(rt: HostRuntime) -> Result<(), Fail> {
     assert_fault_at_the_end(&rt, rt.alloc(), LONG_PATH, fault)
 }
 
-/// Twelve thousand entries in pieces of several sizes, and as a whole.
+/// Twelve thousand entries in pieces of this size.
+fn assert_many_read(rt: &impl Abort, alloc: Global, size: usize) -> Result<(), Fail>
+    requires { 0 < size }
+{
+    let bytes = repeated(alloc, MEASUREMENT, 12_000)?;
+    assert_read(rt, alloc, &bytes, size)
+}
+
 #[test]
-fn many_entries_in_pieces(rt: HostRuntime) -> Result<(), Fail> {
-    let alloc = rt.alloc();
-    let bytes = once_more(AllocError, || MEASUREMENT.repeat(alloc, 12_000))?;
-    assert_read(&rt, alloc, &bytes, 1)?;
-    assert_read(&rt, alloc, &bytes, 7)?;
-    assert_read(&rt, alloc, &bytes, 4_096)?;
-    assert_eq!(rt; list_of(alloc, &bytes)?.len(), 12_000);
+fn many_entries_byte_by_byte(rt: HostRuntime) -> Result<(), Fail> {
+    assert_many_read(&rt, rt.alloc(), 1)
+}
+
+#[test]
+fn many_entries_in_pieces_of_seven_bytes(rt: HostRuntime) -> Result<(), Fail> {
+    assert_many_read(&rt, rt.alloc(), 7)
+}
+
+#[test]
+fn many_entries_in_pieces_of_four_kibibytes(rt: HostRuntime) -> Result<(), Fail> {
+    assert_many_read(&rt, rt.alloc(), 4_096)
+}
+
+#[test]
+fn many_entries_as_a_whole(rt: HostRuntime) -> Result<(), Fail> {
+    let bytes = repeated(rt.alloc(), MEASUREMENT, 12_000)?;
+    assert_eq!(rt; list_of(rt.alloc(), &bytes)?.len(), 12_000);
     Ok(())
 }
 
 /// An entry with a payload of a mebibyte, and one after it.
 fn large_and_small(alloc: Global) -> Result<Vec<u8>, AllocError> {
-    let payload = once_more(AllocError, || [0xAB].repeat(alloc, 1024 * 1024))?;
+    let payload = repeated(alloc, b"\xab", 1024 * 1024)?;
     joined(alloc, &[OTHER_HEAD, b"\0\0\x10\0", &payload, MEASUREMENT])
 }
 
@@ -174,7 +187,7 @@ fn assert_read_in_two(
 }
 
 #[test]
-fn large_payload_in_pieces(rt: HostRuntime) -> Result<(), Fail> {
+fn large_payload_cut_anywhere(rt: HostRuntime) -> Result<(), Fail> {
     let alloc = rt.alloc();
     let bytes = large_and_small(alloc)?;
     for cut in [1, 4, 37, 38, 39, 102, 500_000, LARGE_END - 1] {
@@ -183,5 +196,11 @@ fn large_payload_in_pieces(rt: HostRuntime) -> Result<(), Fail> {
     for cut in [LARGE_END, LARGE_END + 1, LARGE_END + 93] {
         assert_read_in_two(&rt, alloc, &bytes, cut, 1)?;
     }
-    assert_read(&rt, alloc, &bytes, 1)
+    Ok(())
+}
+
+#[test]
+fn large_payload_byte_by_byte(rt: HostRuntime) -> Result<(), Fail> {
+    let bytes = large_and_small(rt.alloc())?;
+    assert_read(&rt, rt.alloc(), &bytes, 1)
 }

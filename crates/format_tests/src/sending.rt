@@ -1,10 +1,12 @@
-//! What is sent to a sink that fails: a prefix, and nothing after the failure.
+//! What is sent to a sink: where it fails a prefix, and nothing after the failure.
 
-use byte_streams::{send, send_pieces};
-use ima_list::{Failed, send_entry};
+use crate::pieces::repeated;
+use byte_streams::{Failed, Sink, VecSink, send, send_pieces};
+use ima_list::send_entry;
 use std::test::Fail;
 use test_kit::devices::ShortSink;
 use test_kit::lists::{MEASUREMENT, list_of};
+use test_kit::once_more;
 
 /// How many bytes a sink has room for, and how often it fails.
 const ROOMS: [(usize, u64); 4] = [(0, 1), (2, 1), (5, 1), (6, 0)];
@@ -28,6 +30,15 @@ fn pieces_sent_to_a_sink_that_fails(rt: HostRuntime) {
         assert_eq!(rt; Some(sink.bytes()), b"abcdef".get(..room));
         assert_eq!(rt; sink.failures(), failures);
     }
+}
+
+/// Two million bytes, offered at once.
+#[test]
+fn many_bytes_taken_at_once(rt: HostRuntime) -> Result<(), Fail> {
+    let bytes = repeated(rt.alloc(), b"\x07", 2_000_000)?;
+    let mut sink = VecSink::new(Vec::new(rt.alloc()));
+    assert_eq!(rt; once_more(Failed, || sink.write(&bytes))?, 2_000_000);
+    Ok(())
 }
 
 /// Sending takes no memory: the sink has none to refuse.
