@@ -35,6 +35,16 @@ fn fed_byte_by_byte(alloc: Global, bytes: &[u8]) -> (usize, Option<ListFault>) {
     }
 }
 
+/// How many entries these bytes are.
+fn entries_in(alloc: Global, bytes: &[u8]) -> Result<usize, ListFault> {
+    Ok(list_of(alloc, bytes)?.len())
+}
+
+/// How many events these bytes have after their header.
+fn events_in(alloc: Global, bytes: &[u8]) -> Result<usize, LogFault> {
+    Ok(log_of(alloc, bytes)?.events().len())
+}
+
 /// The first bytes of two entries, byte by byte and as a whole.
 fn assert_list_fronts(rt: &impl Abort, alloc: Global) -> Result<(), Fail> {
     let bytes = joined(alloc, &[MEASUREMENT, VIOLATION])?;
@@ -52,8 +62,8 @@ fn assert_list_fronts(rt: &impl Abort, alloc: Global) -> Result<(), Fail> {
             (count, fault),
             "{length} bytes"
         );
-        let list = list_of(alloc, front).map(|list| list.len());
-        assert_eq!(rt; list, fault.map_or(Ok(count), Err), "{length} bytes");
+        let answer = entries_in(alloc, front);
+        assert_eq!(rt; answer, fault.map_or(Ok(count), Err), "{length} bytes");
     }
     Ok(())
 }
@@ -72,8 +82,7 @@ fn assert_log_fronts(rt: &impl Abort, alloc: Global) -> Result<(), Fail> {
             66..119 => Err(LogFault::Truncated { event: 1 }),
             _ => Err(LogFault::Truncated { event: 2 }),
         };
-        let count = log_of(alloc, front).map(|log| log.events().len());
-        assert_eq!(rt; count, answer, "{length} bytes");
+        assert_eq!(rt; events_in(alloc, front), answer, "{length} bytes");
     }
     Ok(())
 }

@@ -86,7 +86,7 @@ fn violated(alloc: Global, template: Template, alg: Alg, path: &[u8]) -> Result<
 }
 
 /// The one entry of a list.
-fn entry_of(alloc: Global, bytes: &[u8]) -> Result<Entry, Fail> {
+pub fn entry_of(alloc: Global, bytes: &[u8]) -> Result<Entry, Fail> {
     Ok(list_of(alloc, bytes)?.pop().ok_or("no entry")?)
 }
 

@@ -6,7 +6,7 @@ use ima_list::{ListFault, ListReader};
 use std::alloc::{AllocError, Global};
 use std::process::Abort;
 use std::test::Fail;
-use test_kit::lists::{MEASUREMENT, VIOLATION, list_of, spellings};
+use test_kit::lists::{MEASUREMENT, list_of, spellings};
 use test_kit::{joined, once_more};
 
 /// An entry of register 10 with the digest of a violation and the name `ima-xx`, up to the length of its payload.
@@ -14,12 +14,12 @@ const OTHER_HEAD: &[u8] = b"\x0a\x00\x00\x00\
     \x00\x00\x00\x00\x00\x00\x00\x00\x00\x00\x00\x00\x00\x00\x00\x00\x00\x00\x00\x00\
     \x06\x00\x00\x00ima-xx";
 
-/// An entry of register 10 of the template `ima`, up to a path that is said to have 256 bytes.
-const LONG_PATH: &[u8] = b"\x0a\x00\x00\x00\
+/// An entry of register 10 of the template `ima`, up to the last byte of its path's length, 256.
+const LONG_PATH_FRONT: &[u8] = b"\x0a\x00\x00\x00\
     \x00\x00\x00\x00\x00\x00\x00\x00\x00\x00\x00\x00\x00\x00\x00\x00\x00\x00\x00\x00\
     \x03\x00\x00\x00ima\
     \x01\x01\x01\x01\x01\x01\x01\x01\x01\x01\x01\x01\x01\x01\x01\x01\x01\x01\x01\x01\
-    \x00\x01\x00\x00";
+    \x00\x01\x00";
 
 /// A register that there is not.
 const REGISTER_24: &[u8] = b"\x18\0\0\0";
@@ -56,16 +56,13 @@ fn assert_read(rt: &impl Abort, alloc: Global, bytes: &[u8], size: usize) -> Res
 
 /// No entry before its last byte; then the entry of `/bin/sh`.
 #[test]
-fn entry_fed_byte_by_byte(rt: HostRuntime) -> Result<(), Fail> {
-    let alloc = rt.alloc();
-    let mut reader = ListReader::new(alloc);
+fn entry_fed_byte_by_byte(rt: HostRuntime) -> Result<(), ListFault> {
+    let mut reader = ListReader::new(rt.alloc());
     for byte in MEASUREMENT {
         assert_eq!(rt; reader.entries().len(), 0);
         feed(&mut reader, &[*byte])?;
     }
-    assert!(rt; reader.entries() == list_of(alloc, MEASUREMENT)?.as_slice());
-    let torn = fed(alloc, &MEASUREMENT[..93], 1)?.finish();
-    assert_eq!(rt; torn.err(), Some(ListFault::Truncated { entry: 0 }));
+    assert!(rt; reader.entries() == list_of(rt.alloc(), MEASUREMENT)?.as_slice());
     Ok(())
 }
 
@@ -95,27 +92,33 @@ fn each_allocation_refused_in_feed_of_a_fault(rt: HostRuntime) -> Result<(), Fai
     assert_nothing_taken(&rt, rt.alloc())
 }
 
+/// Two entries with no name and no payload.
+const TWO_ENTRIES: &[u8] = b"\x0a\x00\x00\x00\
+    \x00\x00\x00\x00\x00\x00\x00\x00\x00\x00\x00\x00\x00\x00\x00\x00\x00\x00\x00\x00\
+    \x00\x00\x00\x00\x00\x00\x00\x00\
+    \x0a\x00\x00\x00\
+    \x00\x00\x00\x00\x00\x00\x00\x00\x00\x00\x00\x00\x00\x00\x00\x00\x00\x00\x00\x00\
+    \x00\x00\x00\x00\x00\x00\x00\x00";
+
 #[test]
 fn each_allocation_refused_in_feed(rt: HostRuntime) -> Result<(), Fail> {
-    let alloc = rt.alloc();
-    let bytes = joined(alloc, &[MEASUREMENT, VIOLATION])?;
-    assert_read(&rt, alloc, &bytes, 1)?;
-    assert_read(&rt, alloc, &bytes, 50)
+    assert_read(&rt, rt.alloc(), MEASUREMENT, 1)?;
+    assert_read(&rt, rt.alloc(), TWO_ENTRIES, 50)
 }
 
-/// After an entry, all of these bytes but the last: the fault comes with that, also where a whole entry follows it, and leaves the
-/// reader as it was.
+/// After an entry and these bytes, byte by byte, `last` has the fault, whatever follows its first byte, and leaves the reader as it was.
 fn assert_fault_at_the_end(
     rt: &impl Abort,
     alloc: Global,
-    bytes: &[u8],
+    front: &[u8],
+    last: &[u8],
     fault: ListFault,
-) -> Result<(), Fail> {
-    let (last, front) = bytes.split_last().ok_or("no bytes")?;
-    let mut reader = fed(alloc, &joined(alloc, &[MEASUREMENT, front])?, 7)?;
-    let piece = joined(alloc, &[&[*last], MEASUREMENT])?;
-    assert_eq!(rt; feed(&mut reader, &piece), Err(fault));
-    assert_eq!(rt; feed(&mut reader, &[*last]), Err(fault));
+) -> Result<(), ListFault> {
+    let mut reader = fed(alloc, MEASUREMENT, 7)?;
+    for byte in front {
+        feed(&mut reader, &[*byte])?;
+    }
+    assert_eq!(rt; feed(&mut reader, last), Err(fault));
     assert_eq!(rt; reader.entries().len(), 1);
     let torn = ListFault::Truncated { entry: 1 };
     assert_eq!(rt; reader.finish().err(), Some(torn));
@@ -123,11 +126,13 @@ fn assert_fault_at_the_end(
 }
 
 #[test]
-fn faults_within_a_torn_entry(rt: HostRuntime) -> Result<(), Fail> {
+fn faults_within_a_torn_entry(rt: HostRuntime) -> Result<(), ListFault> {
     let fault = ListFault::BadRegister { entry: 1 };
-    assert_fault_at_the_end(&rt, rt.alloc(), REGISTER_24, fault)?;
+    assert_fault_at_the_end(&rt, rt.alloc(), b"\x18\0\0", b"\0", fault)?;
+    assert_fault_at_the_end(&rt, rt.alloc(), b"\x18\0\0", b"\0and more", fault)?;
     let fault = ListFault::NameTooLong { entry: 1 };
-    assert_fault_at_the_end(&rt, rt.alloc(), LONG_PATH, fault)
+    assert_fault_at_the_end(&rt, rt.alloc(), LONG_PATH_FRONT, b"\0", fault)?;
+    assert_fault_at_the_end(&rt, rt.alloc(), LONG_PATH_FRONT, b"\0and more", fault)
 }
 
 /// Twelve thousand entries in pieces of this size.

@@ -1,11 +1,12 @@
 //! What is sent to a sink: where it fails a prefix, and nothing after the failure.
 
+use crate::made::entry_of;
 use crate::pieces::repeated;
 use byte_streams::{Failed, Sink, VecSink, send, send_pieces};
 use ima_list::send_entry;
 use std::test::Fail;
 use test_kit::devices::ShortSink;
-use test_kit::lists::{MEASUREMENT, list_of};
+use test_kit::lists::MEASUREMENT;
 use test_kit::once_more;
 
 /// How many bytes a sink has room for, and how often it fails.
@@ -44,12 +45,11 @@ fn many_bytes_taken_at_once(rt: HostRuntime) -> Result<(), Fail> {
 /// Sending takes no memory: the sink has none to refuse.
 #[test]
 fn entry_sent_to_a_sink_that_fails(rt: HostRuntime) -> Result<(), Fail> {
-    let entries = list_of(rt.alloc(), MEASUREMENT)?;
-    let entry = entries.first().ok_or("no entry")?;
+    let entry = entry_of(rt.alloc(), MEASUREMENT)?;
     for room in [0, 3, 4, 24, 34, 38, 93, 94] {
         let mut sink = ShortSink::new(room);
         let answer = if room < 94 { Err(Failed) } else { Ok(()) };
-        assert_eq!(rt; send_entry(entry, &mut sink), answer);
+        assert_eq!(rt; send_entry(&entry, &mut sink), answer);
         assert_eq!(rt; Some(sink.bytes()), MEASUREMENT.get(..room), "room {room}");
     }
     Ok(())
