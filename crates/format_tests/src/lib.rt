@@ -1,14 +1,17 @@
-//! Tests of fields, streams, banks, logs and lists through what their crates hand out: worked examples, large and hostile
-//! inputs.
+//! Tests of what only a caller of the libraries reaches: lists in pieces, entries that are made and written, sinks that fail, and single
+//! calls with a refused allocation. How logs and lists are read and shown is in `cases/`. Each test holds with any one allocation
+//! refused too.
 #![tactic(auto)]
 
 #[cfg(test)]
-mod banks;
+mod cuts;
 #[cfg(test)]
-mod fields;
+mod laws;
 #[cfg(test)]
-mod lists;
+mod made;
 #[cfg(test)]
-mod logs;
+mod pieces;
 #[cfg(test)]
-mod streams;
+mod sending;
+#[cfg(test)]
+mod words;
