@@ -10,8 +10,6 @@ ghost use Rattle.hash_workers.specs.parts.Ending.{AreHad, IsEnd, IsLack, IsLackA
 ghost use Rattle.hash_workers.specs.parts.Seats.{IsNewSeat, IsSinglePlace};
 
 mod all;
-#[cfg(test)]
-mod tests;
 
 use crate::claims::{ClaimSeat, Claims};
 use crate::fault::JobFault;

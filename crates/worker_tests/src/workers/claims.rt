@@ -2,10 +2,11 @@
 
 ghost use Rattle.std.specs.Prelude.{◌≡◌, ◌≤◌, IfOk};
 
-use super::file;
+use super::tasks::{Task, job_of};
 use hash_workers::{Batch, ClaimSeat, Claims, Gate, Job, measure_files};
 use measure_book::Op;
 use std::alloc::{AllocError, Global};
+use std::process::Abort;
 use std::sync::Wait;
 use std::sync::atomic::{AtomicBool, Ordering};
 use std::test::Fail;
@@ -16,7 +17,7 @@ use test_kit::books::origin;
 const TURNS: u32 = 100_000_000;
 
 /// How many numbers the two threads draw.
-pub(super) const NUMBERS: u32 = 1_000;
+const NUMBERS: u32 = 1_000;
 
 /// Claims and their first seat; once more where an allocation was refused.
 pub(super) fn claims_of(
@@ -43,7 +44,7 @@ fn claims_of_three(rt: HostRuntime) -> Result<(), Fail> {
     };
     let one = claims.draw(&mut second);
     let two = claims.draw(&mut first);
-    assert_eq!(rt; [zero, one, two], [Some(0), Some(1), Some(2)]);
+    assert!(rt; [zero, one, two] == [Some(0), Some(1), Some(2)]);
     assert!(rt; !first.ended() && !second.ended());
     let nothing = [
         claims.draw(&mut first),
@@ -51,43 +52,37 @@ fn claims_of_three(rt: HostRuntime) -> Result<(), Fail> {
         claims.draw(&mut first),
         claims.draw(&mut second),
     ];
-    assert_eq!(rt; nothing, [None, None, None, None]);
+    assert!(rt; nothing == [None, None, None, None]);
     assert!(rt; first.ended() && second.ended());
     let second = match claims.split(second) {
         Ok(_) => return Err("a seat of one place is split".into()),
         Err(seat) => seat,
     };
     let all = claims.join(first, second);
-    assert_eq!(rt; (all.places(), all.ended()), (2, true));
+    assert!(rt; all.places() == 2 && all.ended());
     claims.close(all);
-
-    let (none, mut seat) = claims_of(alloc, 0, 1)?;
-    assert!(rt; none.draw(&mut seat).is_none() && seat.ended());
-    none.close(seat);
+    assert!(rt; has_no_number(alloc)?);
     Ok(())
 }
 
-#[test]
-fn each_allocation_refused_in_claims(rt: HostRuntime) -> Result<(), Fail> {
-    let alloc = rt.alloc();
-    let (claims, mut seat) = match Claims::new(alloc, 3, 2) {
-        Ok(made) => made,
-        Err(AllocError) => Claims::new(alloc, 3, 2)?,
-    };
-    assert_eq!(rt; (seat.places(), seat.ended()), (2, false));
-    assert_eq!(rt; claims.draw(&mut seat), Some(0));
-    Ok(())
+/// Whether nothing is drawn of claims on no numbers.
+fn has_no_number(alloc: Global) -> Result<bool, AllocError> {
+    let (none, mut seat) = claims_of(alloc, 0, 1)?;
+    let drawn = none.draw(&mut seat);
+    let ended = seat.ended();
+    none.close(seat);
+    Ok(drawn.is_none() && ended)
 }
 
 /// What one thread drew, until none was left; whether there was memory to keep all of it.
 #[derive(Drop)]
-pub(super) struct Drawn {
-    pub(super) seat: ClaimSeat,
-    pub(super) numbers: Vec<u32>,
-    pub(super) kept: bool,
+struct Drawn {
+    seat: ClaimSeat,
+    numbers: Vec<u32>,
+    kept: bool,
 }
 
-pub(super) fn draw_all(alloc: Global, claims: &Claims, mut seat: ClaimSeat) -> Drawn
+fn draw_all(alloc: Global, claims: &Claims, mut seat: ClaimSeat) -> Drawn
     requires { seat.claims ≡ claims.now }
     ensures { (result.seat.claims ≡ claims.now) × (result.seat.places ≡ seat.places) }
 {
@@ -157,7 +152,16 @@ fn all_once(alloc: Global, one: &[u32], other: &[u32]) -> Result<bool, AllocErro
         Err(_) => vec![in alloc; 0u32; NUMBERS as usize]?,
     };
     let counted = count(&mut times, one) && count(&mut times, other);
-    Ok(counted && times.iter().all(|times| *times == 1))
+    Ok(counted && are_ones(&times))
+}
+
+fn are_ones(times: &[u32]) -> bool {
+    for time in times {
+        if *time != 1 {
+            return false;
+        }
+    }
+    true
 }
 
 /// Holds job 0 until job 2 is recorded.
@@ -192,6 +196,12 @@ impl Gate for FirstLast {
     }
 }
 
+const FILES: [Task; 3] = [
+    Task::File(b"/bin/sh", b"abc"),
+    Task::File(b"/bin/ls", b""),
+    Task::File(b"/bin/cp", b"one"),
+];
+
 /// Three files by two workers, the first of which is held up; or what is wrong.
 fn held_batch<R: Threads + Wait + Sync>(
     rt: &R,
@@ -211,6 +221,36 @@ fn held_batch<R: Threads + Wait + Sync>(
     Ok(batch)
 }
 
+/// A worker that is held up at one job holds up no other job.
+fn assert_held<R: Threads + Wait + Sync + Abort>(rt: &R, alloc: Global) -> Result<(), Fail> {
+    let [one, two, three] = &FILES;
+    let jobs = [
+        job_of(alloc, one)?,
+        job_of(alloc, two)?,
+        job_of(alloc, three)?,
+    ];
+    let batch = match held_batch(rt, alloc, &jobs) {
+        Ok(batch) => batch,
+        Err(_) => held_batch(rt, alloc, &jobs)?,
+    };
+    assert!(rt; batch.by.len() == 3 && batch.by.get(1) == batch.by.get(2));
+    assert!(rt; batch.by.first() != batch.by.get(1));
+    Ok(())
+}
+
+/// None is drawn of no numbers, also by a seat that is split from one that found none; of the most the first is drawn.
+fn assert_none_and_most(rt: &impl Abort, alloc: Global) -> Result<(), Fail> {
+    let (none, mut first) = claims_of(alloc, 0, 2)?;
+    assert!(rt; none.draw(&mut first).is_none());
+    let Ok((_first, mut second)) = none.split(first) else {
+        return Err("a seat of two places is not split".into());
+    };
+    assert!(rt; second.ended() && none.draw(&mut second).is_none());
+    let (most, mut seat) = claims_of(alloc, u32::MAX, 1)?;
+    assert!(rt; most.draw(&mut seat) == Some(0));
+    Ok(())
+}
+
 #[test]
 fn claims_of_two_threads(rt: HostRuntime) -> Result<(), Fail> {
     let alloc = rt.alloc();
@@ -218,32 +258,8 @@ fn claims_of_two_threads(rt: HostRuntime) -> Result<(), Fail> {
         Ok(drawn) => drawn,
         Err(_) => drawn_by_two(&rt, alloc)?,
     };
-    assert_eq!(rt; (places, ended), (8, true));
-    assert_eq!(rt; one.len() + other.len(), NUMBERS as usize);
+    assert!(rt; places == 8 && ended && one.len() + other.len() == NUMBERS as usize);
     assert!(rt; all_once(alloc, &one, &other)?);
-
-    let (none, mut first) = claims_of(alloc, 0, 2)?;
-    assert!(rt; none.draw(&mut first).is_none());
-    let Ok((_first, mut second)) = none.split(first) else {
-        return Err("a seat of two places is not split".into());
-    };
-    assert!(rt; second.ended() && none.draw(&mut second).is_none());
-
-    let (most, mut seat) = claims_of(alloc, u32::MAX, 1)?;
-    assert_eq!(rt; most.draw(&mut seat), Some(0));
-
-    // A worker that is held up at one job holds up no other job.
-    let jobs = [
-        file(alloc, b"/bin/sh", b"abc")?,
-        file(alloc, b"/bin/ls", b"")?,
-        file(alloc, b"/bin/cp", b"one")?,
-    ];
-    let batch = match held_batch(&rt, alloc, &jobs) {
-        Ok(batch) => batch,
-        Err(_) => held_batch(&rt, alloc, &jobs)?,
-    };
-    assert_eq!(rt; batch.outcomes.len(), 3);
-    assert_eq!(rt; batch.by.get(1), batch.by.get(2));
-    assert_ne!(rt; batch.by.first(), batch.by.get(1));
-    Ok(())
+    assert_none_and_most(&rt, alloc)?;
+    assert_held(&rt, alloc)
 }

@@ -1,136 +1,259 @@
 //! Jobs whose operations cannot be had: the first one is told, and the workers stop.
 
-ghost use Rattle.std.specs.Prelude.{◌<◌};
-
 use super::numbered::{Failing, Trial, answer_of};
 use hash_workers::{AgentFault, JobFault, JobsFault};
-use std::test::Fail;
+use measure_book::BookFault;
+use std::alloc::Global;
+use std::process::Abort;
+use std::sync::Wait;
+use std::thread::Threads;
 
-/// How often each of the trials is made.
-const TIMES: u32 = 3;
+/// So many jobs of which some fail, and what is told.
+type Row = (u32, &'static [Failing], JobsFault);
 
-fn failing(job: u32, fault: JobFault) -> Failing {
-    Failing { job, fault }
-}
+const NO_MEMORY: JobsFault = JobsFault::Agent(AgentFault::Memory);
 
-/// Eight jobs from this one on, each of which fails, the first for this cause and the others since they are too long.
-fn neighbours(first: u32, fault: JobFault) -> [Failing; 8]
-    requires { first < 1000 }
-{
-    [
-        failing(first, fault),
-        failing(first + 1, JobFault::TooLong),
-        failing(first + 2, JobFault::TooLong),
-        failing(first + 3, JobFault::TooLong),
-        failing(first + 4, JobFault::TooLong),
-        failing(first + 5, JobFault::TooLong),
-        failing(first + 6, JobFault::TooLong),
-        failing(first + 7, JobFault::TooLong),
-    ]
-}
+/// The first job in the order of the jobs is told, or that memory ran out for an operation before it.
+const FIRST_IS_TOLD: [Row; 6] = [
+    (
+        1_000,
+        &[
+            Failing {
+                job: 700,
+                fault: JobFault::TooLong,
+            },
+            Failing {
+                job: 500,
+                fault: JobFault::Source,
+            },
+        ],
+        JobsFault::Job {
+            job: 500,
+            fault: JobFault::Source,
+        },
+    ),
+    (
+        100,
+        &[Failing {
+            job: 0,
+            fault: JobFault::TooLong,
+        }],
+        JobsFault::Job {
+            job: 0,
+            fault: JobFault::TooLong,
+        },
+    ),
+    (
+        100,
+        &[Failing {
+            job: 99,
+            fault: JobFault::Source,
+        }],
+        JobsFault::Job {
+            job: 99,
+            fault: JobFault::Source,
+        },
+    ),
+    (
+        100,
+        &EIGHT,
+        JobsFault::Job {
+            job: 0,
+            fault: JobFault::Source,
+        },
+    ),
+    (
+        100,
+        &[
+            Failing {
+                job: 50,
+                fault: JobFault::Source,
+            },
+            Failing {
+                job: 49,
+                fault: JobFault::Memory,
+            },
+        ],
+        NO_MEMORY,
+    ),
+    (
+        100,
+        &[
+            Failing {
+                job: 50,
+                fault: JobFault::Source,
+            },
+            Failing {
+                job: 51,
+                fault: JobFault::Memory,
+            },
+        ],
+        JobsFault::Job {
+            job: 50,
+            fault: JobFault::Source,
+        },
+    ),
+];
 
-/// That the operation of this job cannot be had, for this cause.
-fn told(job: u32, fault: JobFault) -> Option<JobsFault> {
-    Some(JobsFault::Job { job, fault })
-}
+/// The first eight jobs fail, the first for another cause than the others.
+const EIGHT: [Failing; 8] = [
+    Failing {
+        job: 0,
+        fault: JobFault::Source,
+    },
+    Failing {
+        job: 1,
+        fault: JobFault::TooLong,
+    },
+    Failing {
+        job: 2,
+        fault: JobFault::TooLong,
+    },
+    Failing {
+        job: 3,
+        fault: JobFault::TooLong,
+    },
+    Failing {
+        job: 4,
+        fault: JobFault::TooLong,
+    },
+    Failing {
+        job: 5,
+        fault: JobFault::TooLong,
+    },
+    Failing {
+        job: 6,
+        fault: JobFault::TooLong,
+    },
+    Failing {
+        job: 7,
+        fault: JobFault::TooLong,
+    },
+];
 
-/// That memory ran out.
-const NO_MEMORY: Option<JobsFault> = Some(JobsFault::Agent(AgentFault::Memory));
-
-/// Some jobs fail. The answer tells the first of them, or that memory ran out for an operation before it.
 #[test]
-fn first_fault_whatever_the_schedule(rt: HostRuntime) -> Result<(), Fail> {
-    let alloc = rt.alloc();
-    let two = [
-        failing(700, JobFault::TooLong),
-        failing(500, JobFault::Source),
-    ];
-    let first = [failing(0, JobFault::TooLong)];
-    let last = [failing(99, JobFault::Source)];
-    let eight = neighbours(50, JobFault::Source);
-    let memory_first = [failing(50, JobFault::Source), failing(49, JobFault::Memory)];
-    let memory_later = [failing(50, JobFault::Source), failing(51, JobFault::Memory)];
-    for (count, failing, wanted) in [
-        (1_000, two.as_slice(), told(500, JobFault::Source)),
-        (100, &first, told(0, JobFault::TooLong)),
-        (100, &last, told(99, JobFault::Source)),
-        (100, &eight, told(50, JobFault::Source)),
-        (100, &memory_first, NO_MEMORY),
-        (100, &memory_later, told(50, JobFault::Source)),
-    ] {
+fn first_fault_whatever_the_schedule(rt: HostRuntime) {
+    for (count, failing, fault) in FIRST_IS_TOLD {
         for workers in [1, 4, 8] {
-            for _time in 0..TIMES {
-                let answer = answer_of(&rt, alloc, &Trial::of(count, failing, workers));
-                assert_eq!(rt; answer.batch.err(), wanted, "{workers} workers");
-            }
+            let (told, _) = told_and_calls(&rt, rt.alloc(), &Trial::of(count, failing, workers));
+            assert!(rt; told == Some(fault), "{workers} workers");
         }
     }
-    Ok(())
+}
+
+/// What is told of a trial, and how often an operation was asked for. Where jobs were held, they were released in time.
+fn told_and_calls<R: Threads + Wait + Sync + Abort>(
+    rt: &R,
+    alloc: Global,
+    trial: &Trial,
+) -> (Option<JobsFault>, u32) {
+    let answer = answer_of(rt, alloc, trial);
+    assert!(rt; !answer.ran_out, "the turns ran out");
+    (answer.batch.err(), answer.calls)
 }
 
 /// Each worker has a job, and all of them fail. All but the last one of these jobs are held until that one has failed, and
 /// so no worker takes another job. The answer tells job 0.
 #[test]
-fn earlier_fault_that_comes_later_is_told(rt: HostRuntime) -> Result<(), Fail> {
-    let alloc = rt.alloc();
-    let eight = neighbours(0, JobFault::Source);
+fn earlier_fault_that_comes_later_is_told(rt: HostRuntime) {
+    let told = JobsFault::Job {
+        job: 0,
+        fault: JobFault::Source,
+    };
     for workers in [2, 4, 8] {
-        let trial = Trial {
-            held: workers - 1,
-            ..Trial::of(1_000, &eight, workers as usize)
-        };
-        let answer = answer_of(&rt, alloc, &trial);
-        assert!(rt; !answer.ran_out, "the turns ran out");
+        let mut trial = Trial::of(1_000, &EIGHT, workers as usize);
+        trial.held = workers - 1;
         assert_eq!(rt;
-            answer.batch.err(),
-            told(0, JobFault::Source),
-            "{workers} workers"
+            told_and_calls(&rt, rt.alloc(), &trial),
+            (Some(told), workers)
         );
-        assert_eq!(rt; answer.calls, workers, "{workers} workers");
     }
-    // Where memory runs out for one of two jobs, job 0 is held until the other one has failed.
-    for (one, other, wanted) in [
-        (
-            JobFault::Source,
-            JobFault::Memory,
-            told(0, JobFault::Source),
-        ),
-        (JobFault::Memory, JobFault::Source, NO_MEMORY),
-    ] {
-        let both = [failing(0, one), failing(1, other)];
-        let trial = Trial {
-            held: 1,
-            ..Trial::of(1_000, &both, 2)
-        };
-        let answer = answer_of(&rt, alloc, &trial);
-        assert!(rt; !answer.ran_out, "the turns ran out");
-        assert_eq!(rt; answer.batch.err(), wanted, "{one:?} and {other:?}");
-    }
-    Ok(())
 }
+
+/// Job 0 is held until the other one has failed, and memory runs out for one of the two.
+const MEMORY_OF_TWO: [(&[Failing], JobsFault); 2] = [
+    (
+        &[
+            Failing {
+                job: 0,
+                fault: JobFault::Source,
+            },
+            Failing {
+                job: 1,
+                fault: JobFault::Memory,
+            },
+        ],
+        JobsFault::Job {
+            job: 0,
+            fault: JobFault::Source,
+        },
+    ),
+    (
+        &[
+            Failing {
+                job: 0,
+                fault: JobFault::Memory,
+            },
+            Failing {
+                job: 1,
+                fault: JobFault::Source,
+            },
+        ],
+        NO_MEMORY,
+    ),
+];
+
+#[test]
+fn earlier_want_of_memory_is_told(rt: HostRuntime) {
+    for (failing, fault) in MEMORY_OF_TWO {
+        let mut trial = Trial::of(1_000, failing, 2);
+        trial.held = 1;
+        let (told, _) = told_and_calls(&rt, rt.alloc(), &trial);
+        assert!(rt; told == Some(fault));
+    }
+}
+
+const THIRD: [Failing; 1] = [Failing {
+    job: 3,
+    fault: JobFault::Source,
+}];
 
 /// One worker takes no job after the one that fails. Of four, three are held at the first three jobs until the fourth has
 /// failed; they may take more before the fourth worker draws the rest, but never all of them.
 #[test]
-fn workers_stop_after_a_fault(rt: HostRuntime) -> Result<(), Fail> {
-    let alloc = rt.alloc();
-    let tenth = [failing(10, JobFault::Source)];
-    let answer = answer_of(&rt, alloc, &Trial::of(100_000, &tenth, 1));
-    assert_eq!(rt; answer.batch.err(), told(10, JobFault::Source));
-    assert_eq!(rt; answer.calls, 11);
-
-    let third = [failing(3, JobFault::Source)];
-    let trial = Trial {
-        held: 3,
-        ..Trial::of(100_000, &third, 4)
+fn workers_stop_after_a_fault(rt: HostRuntime) {
+    let told = JobsFault::Job {
+        job: 3,
+        fault: JobFault::Source,
     };
-    let answer = answer_of(&rt, alloc, &trial);
-    assert!(rt; !answer.ran_out, "the turns ran out");
-    assert_eq!(rt; answer.batch.err(), told(3, JobFault::Source));
-    assert!(rt;
-        answer.calls >= 4 && answer.calls < 100_000,
-        "{} calls",
-        answer.calls
-    );
-    Ok(())
+    for (workers, held, most) in [(1, 0, 4), (4, 3, 99_999)] {
+        let mut trial = Trial::of(100_000, &THIRD, workers);
+        trial.held = held;
+        let (found, calls) = told_and_calls(&rt, rt.alloc(), &trial);
+        assert!(rt;
+            found == Some(told) && calls >= 4 && calls <= most,
+            "{calls} calls"
+        );
+    }
+}
+
+/// The limit of the book, the number of workers, and what is told.
+const NONE_BEGINS: [(u32, usize, AgentFault); 6] = [
+    (100, 0, AgentFault::Workers),
+    (100, 9, AgentFault::Workers),
+    (0, 0, AgentFault::Workers),
+    (0, 9, AgentFault::Workers),
+    (0, 1, AgentFault::Book(BookFault::Full)),
+    (0, 8, AgentFault::Book(BookFault::Full)),
+];
+
+/// No operation is asked for where the number of workers is wrong, which is told first, or no book is opened.
+#[test]
+fn no_operation_where_no_worker_begins(rt: HostRuntime) {
+    for (limit, workers, fault) in NONE_BEGINS {
+        let mut trial = Trial::of(5, &THIRD, workers);
+        trial.limit = limit;
+        let told = Some(JobsFault::Agent(fault));
+        assert!(rt; told_and_calls(&rt, rt.alloc(), &trial) == (told, 0));
+    }
 }

@@ -3,11 +3,10 @@
 ghost use Rattle.std.specs.Prelude.{◌≡◌, ◌⊎◌, IfOk, IfSome, Contains};
 ghost use Rattle.measure_book.specs.Operations.{book_op_of};
 ghost use Rattle.hash_workers.specs.declared.fault.JobFault.TheVariants.{Memory};
-ghost use Rattle.worker_tests.specs.Numbered.{operation_of_number};
+ghost use Rattle.worker_tests.specs.Numbered.{operation_of_number, path_of_number};
 
-use super::many::path_of;
 use super::overlap::comes;
-use super::ran_out;
+use super::tasks::lacks_memory;
 use hash_workers::{AgentFault, Batch, Gate, JobFault, Jobs, JobsFault, record_jobs};
 use ima_list::Sig;
 use measure_book::Op;
@@ -87,7 +86,7 @@ impl<'a> Numbered<'a> {
 }
 
 /// Why this job fails, where it does.
-fn fault_of(failing: &[Failing], job: u32) -> Option<JobFault>
+pub(super) fn fault_of(failing: &[Failing], job: u32) -> Option<JobFault>
     ensures { IfSome result (λ fault. Contains failing.now (record { job = job; fault = fault })) }
 {
     for one in failing {
@@ -96,6 +95,18 @@ fn fault_of(failing: &[Failing], job: u32) -> Option<JobFault>
         }
     }
     None
+}
+
+/// The path `/0123` of a number.
+fn path_of(number: u32) -> [u8; 5]
+    ensures { result ≡ path_of_number number }
+{
+    let mut path = *b"/0000";
+    path[1] += (number / 1000 % 10) as u8;
+    path[2] += (number / 100 % 10) as u8;
+    path[3] += (number / 10 % 10) as u8;
+    path[4] += (number % 10) as u8;
+    path
 }
 
 /// The operation of a job that does not fail.
@@ -168,7 +179,7 @@ pub(super) fn tried<R: Threads + Wait + Sync>(rt: &R, alloc: Global, trial: &Tri
 pub(super) fn answer_of<R: Threads + Wait + Sync>(rt: &R, alloc: Global, trial: &Trial) -> Answer {
     let answer = tried(rt, alloc, trial);
     let once_more = match &answer.batch {
-        Ok(batch) => ran_out(batch),
+        Ok(batch) => lacks_memory(batch),
         Err(fault) => *fault == JobsFault::Agent(AgentFault::Memory),
     };
     if once_more || answer.ran_out {

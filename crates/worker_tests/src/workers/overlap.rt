@@ -1,9 +1,11 @@
 //! Two workers at once.
 
-use super::{batch_of, file, receipt_of};
+use super::each_allocation_refused::{ONE_FILE_TWICE, assert_two};
+use super::tasks::{Task, has_ends, job_of};
 use hash_workers::{Batch, Gate, Job, measure_files};
 use measure_book::{Answer, Op};
 use std::alloc::{AllocError, Global};
+use std::process::Abort;
 use std::sync::Wait;
 use std::sync::atomic::{AtomicBool, Ordering};
 use std::test::Fail;
@@ -88,7 +90,7 @@ pub(super) fn comes(stage: &AtomicBool, turns: u32) -> bool {
 impl Gate for OtherFirst {
     fn hashed(&self, job: u32, op: Option<&Op>) {
         let (this, other) = self.both(job);
-        if op.is_none_or(|op| *op != this.op) {
+        if op != Some(&this.op) {
             self.other_op.store(true, Ordering::SeqCst);
         }
         this.hashed.store(true, Ordering::SeqCst);
@@ -131,37 +133,39 @@ fn held_batch<R: Threads + Wait + Sync>(
     Ok(batch)
 }
 
+const FILES: [Task; 2] = [Task::File(b"/bin/sh", b"abc"), Task::File(b"/bin/ls", b"")];
+
+/// One job is held until the other one is recorded, which so comes first; each by another worker.
+fn assert_held<R: Threads + Wait + Sync + Abort>(
+    rt: &R,
+    alloc: Global,
+    jobs: &[Job; 2],
+    held: u32,
+) -> Result<(), &'static str> {
+    let batch = match held_batch(rt, alloc, jobs, held) {
+        Ok(batch) => batch,
+        Err(_) => held_batch(rt, alloc, jobs, held)?,
+    };
+    let first = Ok((1, Answer::Added(1)));
+    let second = Ok((2, Answer::Added(2)));
+    let ends = if held == 0 {
+        [second, first]
+    } else {
+        [first, second]
+    };
+    assert!(rt; has_ends(&batch, &ends));
+    assert!(rt; batch.by.first() != batch.by.last());
+    Ok(())
+}
+
 #[test]
 fn jobs_overlap(rt: HostRuntime) -> Result<(), Fail> {
     let alloc = rt.alloc();
-    let jobs = [
-        file(alloc, b"/bin/sh", b"abc")?,
-        file(alloc, b"/bin/ls", b"")?,
-    ];
-    for (held, other) in [(0, 1), (1, 0)] {
-        let batch = match held_batch(&rt, alloc, &jobs, held) {
-            Ok(batch) => batch,
-            Err(_) => held_batch(&rt, alloc, &jobs, held)?,
-        };
-        assert_eq!(rt; batch.outcomes.len(), 2);
-        assert_eq!(rt;
-            receipt_of(&batch, held as usize).ok_or("refused")?.place,
-            2
-        );
-        assert_eq!(rt; receipt_of(&batch, other).ok_or("refused")?.place, 1);
-        assert_ne!(rt; batch.by.first(), batch.by.last());
+    let [one, other] = &FILES;
+    let jobs = [job_of(alloc, one)?, job_of(alloc, other)?];
+    for held in [0, 1] {
+        assert_held(&rt, alloc, &jobs, held)?;
     }
-
-    let twice = [
-        file(alloc, b"/bin/sh", b"abc")?,
-        file(alloc, b"/bin/sh", b"abc")?,
-    ];
-    let batch = batch_of(&rt, alloc, origin(100), &twice, 2)?;
-    let first = receipt_of(&batch, 0).ok_or("refused")?.answer;
-    let second = receipt_of(&batch, 1).ok_or("refused")?.answer;
-    assert!(rt;
-        (first == Answer::Added(1) && second == Answer::Known(1))
-            || (first == Answer::Known(1) && second == Answer::Added(1))
-    );
+    assert_two(&rt, alloc, &ONE_FILE_TWICE, Answer::Known(1))?;
     Ok(())
 }

@@ -1,9 +1,9 @@
-//! What a gate is told of a job whose operation cannot be had.
+//! What a gate is told of each job.
 
 use super::numbered::{Failing, Numbered, Trial};
 use hash_workers::{AgentFault, Gate, JobFault, JobsFault, record_jobs};
 use measure_book::Op;
-use std::alloc::Global;
+use std::alloc::{AllocError, Global};
 use std::sync::Wait;
 use std::sync::atomic::{AtomicU32, Ordering};
 use std::test::Fail;
@@ -24,42 +24,35 @@ const DONE_WITHOUT: u32 = 4;
 
 const ELSE: u32 = 5;
 
-/// What a gate is told of five jobs, and of any other.
+/// What a gate is told of each job, and of any other.
 #[derive(Drop)]
 struct Told {
-    jobs: [AtomicU32; 5],
+    jobs: Vec<AtomicU32>,
     other: AtomicU32,
 }
 
 impl Told {
-    fn new() -> Self {
-        Told {
-            jobs: [
-                AtomicU32::new(NOTHING),
-                AtomicU32::new(NOTHING),
-                AtomicU32::new(NOTHING),
-                AtomicU32::new(NOTHING),
-                AtomicU32::new(NOTHING),
-            ],
-            other: AtomicU32::new(NOTHING),
+    fn new(alloc: Global, count: u32) -> Result<Self, AllocError> {
+        let mut jobs = Vec::new(alloc);
+        for _job in 0..count {
+            jobs.push(AtomicU32::new(NOTHING))?;
         }
+        let other = AtomicU32::new(NOTHING);
+        Ok(Told { jobs, other })
     }
 
     fn of(&self, job: u32) -> &AtomicU32 {
         self.jobs.get(job as usize).unwrap_or(&self.other)
     }
 
-    /// What it was told of each job, the other ones last.
-    fn all(&self) -> [u32; 6] {
-        let [zero, one, two, three, four] = &self.jobs;
-        [
-            zero.load(Ordering::SeqCst),
-            one.load(Ordering::SeqCst),
-            two.load(Ordering::SeqCst),
-            three.load(Ordering::SeqCst),
-            four.load(Ordering::SeqCst),
-            self.other.load(Ordering::SeqCst),
-        ]
+    /// Whether it was told this of each job, and nothing of others.
+    fn is(&self, told: &[u32]) -> bool {
+        for (job, state) in self.jobs.iter().zip(told) {
+            if job.load(Ordering::SeqCst) != *state {
+                return false;
+            }
+        }
+        self.jobs.len() == told.len() && self.other.load(Ordering::SeqCst) == NOTHING
     }
 }
 
@@ -85,79 +78,83 @@ impl Gate for Told {
     }
 }
 
-/// What a gate is told of five jobs that one worker takes, of which these fail, and what is answered.
-fn told_of<R: Threads + Wait + Sync>(
-    rt: &R,
-    alloc: Global,
-    failing: &[Failing],
-) -> ([u32; 6], Option<JobsFault>) {
-    let jobs = Numbered::of(&Trial::of(5, failing, 1));
-    let told = Told::new();
-    let batch = record_jobs(rt, alloc, origin(100), &jobs, 1, &told);
-    (told.all(), batch.err())
+/// So many jobs, of which some fail and that so many workers take, what the gate is told of each, and what is answered.
+struct Row {
+    count: u32,
+    workers: usize,
+    failing: &'static [Failing],
+    told: &'static [u32],
+    fault: Option<JobsFault>,
 }
+
+const MEMORY: Failing = Failing {
+    job: 1,
+    fault: JobFault::Memory,
+};
+
+const SOURCE: Failing = Failing {
+    job: 3,
+    fault: JobFault::Source,
+};
 
 /// The gate is told of a job whose operation cannot be had as of any other, but without an operation. After one that fails
 /// for another cause than want of memory it is told of none.
+const ROWS: [Row; 5] = [
+    Row {
+        count: 60,
+        workers: 1,
+        failing: &[],
+        told: &[DONE_WITH; 60],
+        fault: None,
+    },
+    Row {
+        count: 60,
+        workers: 5,
+        failing: &[],
+        told: &[DONE_WITH; 60],
+        fault: None,
+    },
+    Row {
+        count: 5,
+        workers: 1,
+        failing: &[SOURCE],
+        told: &[DONE_WITH, DONE_WITH, DONE_WITH, DONE_WITHOUT, NOTHING],
+        fault: Some(JobsFault::Job {
+            job: 3,
+            fault: JobFault::Source,
+        }),
+    },
+    Row {
+        count: 5,
+        workers: 1,
+        failing: &[MEMORY],
+        told: &[DONE_WITH, DONE_WITHOUT, DONE_WITH, DONE_WITH, DONE_WITH],
+        fault: None,
+    },
+    Row {
+        count: 5,
+        workers: 1,
+        failing: &[MEMORY, SOURCE],
+        told: &[DONE_WITH, DONE_WITHOUT, DONE_WITH, DONE_WITHOUT, NOTHING],
+        fault: Some(JobsFault::Agent(AgentFault::Memory)),
+    },
+];
+
+/// Whether what the gate is told and what is answered is that of the row.
+fn is_told<R: Threads + Wait + Sync>(rt: &R, alloc: Global, row: &Row) -> Result<bool, AllocError> {
+    let jobs = Numbered::of(&Trial::of(row.count, row.failing, row.workers));
+    let told = Told::new(alloc, row.count)?;
+    let batch = record_jobs(rt, alloc, origin(100), &jobs, row.workers, &told);
+    Ok(batch.err() == row.fault && told.is(row.told))
+}
+
 #[test]
-fn gate_is_told_of_jobs_without_operations(rt: HostRuntime) -> Result<(), Fail> {
+fn gate_is_told_of_each_job(rt: HostRuntime) -> Result<(), Fail> {
     let alloc = rt.alloc();
-    let memory = Failing {
-        job: 1,
-        fault: JobFault::Memory,
-    };
-    let source = Failing {
-        job: 3,
-        fault: JobFault::Source,
-    };
-    let fault = JobsFault::Job {
-        job: 3,
-        fault: JobFault::Source,
-    };
-    for (failing, told, answer) in [
-        (
-            [source].as_slice(),
-            [
-                DONE_WITH,
-                DONE_WITH,
-                DONE_WITH,
-                DONE_WITHOUT,
-                NOTHING,
-                NOTHING,
-            ],
-            Some(fault),
-        ),
-        (
-            &[memory],
-            [
-                DONE_WITH,
-                DONE_WITHOUT,
-                DONE_WITH,
-                DONE_WITH,
-                DONE_WITH,
-                NOTHING,
-            ],
-            None,
-        ),
-        (
-            &[memory, source],
-            [
-                DONE_WITH,
-                DONE_WITHOUT,
-                DONE_WITH,
-                DONE_WITHOUT,
-                NOTHING,
-                NOTHING,
-            ],
-            Some(JobsFault::Agent(AgentFault::Memory)),
-        ),
-    ] {
-        let mut found = told_of(&rt, alloc, failing);
-        if found != (told, answer) {
-            // An allocation may have been refused.
-            found = told_of(&rt, alloc, failing);
-        }
-        assert_eq!(rt; found, (told, answer));
+    for (number, row) in ROWS.iter().enumerate() {
+        // An allocation may have been refused.
+        let is_so = is_told(&rt, alloc, row) == Ok(true) || is_told(&rt, alloc, row)?;
+        assert!(rt; is_so, "row {number}");
     }
     Ok(())
 }
