@@ -1,46 +1,7 @@
-//! Worked examples, and devices to run them on.
+//! Devices to run the agent on, and the tests that need them.
 
 mod commands;
 mod devices;
-mod event_lines;
-mod events;
-mod expected;
 mod failing_devices;
-mod failing_files;
-mod four_banks;
-mod hashing;
-mod help;
-mod in_memory;
-mod inputs;
-mod large_inputs;
-mod list_sources;
-mod listed_files;
-mod loading;
-mod logs;
-mod long_inputs;
-mod many_files;
-mod order;
-mod own_names;
-mod pcrread;
-mod places;
-mod plans;
-mod program;
 mod progress;
-mod real_boot;
-mod real_boot_book;
-mod real_boot_lines;
-mod real_boot_list;
-mod real_boot_turned;
-mod real_boot_verdict;
 mod refusals;
-mod refused_commands;
-mod refused_memory;
-mod registers_after;
-mod replayed_lists;
-mod replaying;
-mod seventy_files;
-mod show;
-mod signatures;
-mod system;
-mod texts;
-mod verdicts;

@@ -1,4 +1,4 @@
-//! Tests of the verifier and the command line through what they hand out: worked examples, hostile inputs, and a real boot.
+//! Tests of the agent through what its crate hands out: devices that fail, refused allocations, progress, and exit codes.
 #![tactic(auto)]
 
 #[cfg(test)]

@@ -8,5 +8,7 @@ pub mod devices;
 pub mod lists;
 pub mod logs;
 pub mod registers;
+pub mod samples;
+pub mod sinks;
 
 pub use again::{copied, joined, once_more, words_of};

@@ -1,14 +1,13 @@
 //! Who is told how far a measurement is.
 
-use super::devices::{NamedFiles, bytes_of, words_of};
-use super::logs::HEADER;
+use super::commands::FILES;
+use super::devices::{PieceFiles, words_of};
 use byte_streams::VecSink;
 use ima_agent::{Progress, run_with_progress};
 use std::sync::Wait;
 use std::sync::atomic::{AtomicU32, Ordering};
 use std::test::Fail;
 use std::thread::Threads;
-use test_kit::lists::MEASUREMENT;
 
 /// Notes what it is told of five files.
 #[derive(Drop)]
@@ -38,23 +37,15 @@ fn told(
     rt: &(impl Threads + Wait + Sync + AllocGlobal),
     words: &[&str],
 ) -> Result<(u32, u32, u32), Fail> {
-    let alloc = rt.alloc();
-    let log = bytes_of(alloc, &[HEADER])?;
-    let words = words_of(alloc, words)?;
-    let mut files = NamedFiles(&[
-        ("L", log.as_slice()),
-        ("f", b"abc"),
-        ("g", b""),
-        ("names", b"g\nlist\nnames\n"),
-        ("list", MEASUREMENT),
-    ]);
+    let words = words_of(rt.alloc(), words)?;
     let notes = Notes {
         calls: AtomicU32::new(0),
         numbers: AtomicU32::new(0),
         ends: AtomicU32::new(0),
     };
-    let mut sink = VecSink::new(Vec::new(alloc));
-    match run_with_progress(rt, alloc, &words, &mut files, &mut sink, &notes) {
+    let mut sink = VecSink::new(Vec::new(rt.alloc()));
+    let mut files = PieceFiles::whole(&FILES);
+    match run_with_progress(rt, rt.alloc(), &words, &mut files, &mut sink, &notes) {
         0 => Ok((
             notes.calls.load(Ordering::SeqCst),
             notes.numbers.load(Ordering::SeqCst),
@@ -69,29 +60,29 @@ fn told(
 #[test]
 fn progress_is_told_of_each_file(rt: HostRuntime) -> Result<(), Fail> {
     for workers in ["1", "2", "8"] {
-        let words = [
+        let named = [
             "measure",
             "--workers",
             workers,
-            "L",
-            "f",
-            "g",
+            "log",
+            "log",
             "list",
-            "names",
-            "f",
+            "entry",
+            "printed",
+            "log",
         ];
-        assert_eq!(rt; told(&rt, &words)?, (5, 0b111110, 1), "{workers} workers");
-        let words = [
+        assert_eq!(rt; told(&rt, &named)?, (5, 0b111110, 1), "{workers} workers");
+        let listed = [
             "measure",
             "--workers",
             workers,
-            "L",
-            "f",
-            "L",
+            "log",
+            "log",
+            "list",
             "--files-from",
             "names",
         ];
-        assert_eq!(rt; told(&rt, &words)?, (5, 0b111110, 1), "{workers} workers");
+        assert_eq!(rt; told(&rt, &listed)?, (5, 0b111110, 1), "{workers} workers");
     }
     assert_eq!(rt; told(&rt, &["show", "list"])?, (0, 0, 0));
     Ok(())

@@ -1,0 +1,4 @@
+//! Sources and devices of the tests' own.
+
+mod sources;
+mod system;

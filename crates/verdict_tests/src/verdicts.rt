@@ -1,0 +1,8 @@
+//! Verdicts on lists from sources, texts, and the book of a real boot.
+
+mod pieces;
+mod real_boot;
+mod real_boot_book;
+mod refusals;
+mod sinks;
+mod texts;
