@@ -9,8 +9,8 @@ use std::thread::Threads;
 use test_kit::devices::PieceSource;
 use test_kit::once_more;
 
-/// Files with these names and these bytes; the name of standard input is `-`. A read gives so many bytes at most, and one file
-/// fails after some reads.
+/// Files with these names and these bytes; the name of standard input is `-`. One of them gives so many bytes a read at most, and
+/// fails after some reads; a read of any other gives all.
 #[derive(Drop)]
 pub struct PieceFiles<'a> {
     pub files: &'a [(&'a str, &'a [u8])],
@@ -22,7 +22,7 @@ pub struct PieceFiles<'a> {
 }
 
 impl<'a> PieceFiles<'a> {
-    /// Each read gives all bytes, and none fails.
+    /// None fails.
     pub fn whole(files: &'a [(&'a str, &'a [u8])]) -> Self {
         PieceFiles {
             files,
@@ -35,9 +35,10 @@ impl<'a> PieceFiles<'a> {
 
     fn open(&self, name: &str) -> Option<PieceSource<'a>> {
         let file = self.files.iter().find(|file| file.0 == name)?;
-        let is_failing = name == self.failing;
-        let reads = if is_failing { self.reads } else { usize::MAX };
-        Some(PieceSource::failing(file.1, self.most, reads))
+        if name == self.failing {
+            return Some(PieceSource::failing(file.1, self.most, self.reads));
+        }
+        Some(PieceSource::new(file.1, usize::MAX))
     }
 }
 

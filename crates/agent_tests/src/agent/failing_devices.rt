@@ -15,7 +15,7 @@ fn reads_file(command: &Command, name: &str) -> bool {
     command.words.contains(&name) || (command.words.is_empty() && name == "-")
 }
 
-/// The files give one byte at a time, and this one fails after so many reads.
+/// The files, of which this one gives one byte at a time and fails after so many reads.
 fn failing(name: &str, reads: usize) -> PieceFiles<'_> {
     PieceFiles {
         files: &FILES,
