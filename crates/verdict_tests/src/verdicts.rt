@@ -4,5 +4,6 @@ mod pieces;
 mod real_boot;
 mod real_boot_book;
 mod refusals;
+mod rows;
 mod sinks;
 mod texts;
