@@ -1,8 +1,9 @@
 #!/usr/bin/env python3
 """Runs a command, and says what it cost, with all that it started.
 
-bench/cost.py FILE COMMAND..: appends a line to FILE: minutes of processor time, minutes from start to end, and the most memory at
-one time in GB, of the command and of all processes below it (what they share counts once). Exits with the command's status."""
+bench/cost.py FILE COMMAND..: writes a line to FILE: minutes of processor time, minutes from start to end, and the most memory in GB, of
+the command and of all processes below it (what they share counts once), as looked at every few seconds. Exits with the command's
+status."""
 
 import os
 import resource
@@ -19,7 +20,7 @@ def children():
     below = {}
     for stat in Path("/proc").glob("[0-9]*/stat"):
         try:
-            parent = stat.read_text().rpartition(")")[2].split()[1]
+            parent = stat.read_bytes().rpartition(b")")[2].split()[1]
         except OSError:
             continue  # it ended meanwhile
         below.setdefault(int(parent), []).append(int(stat.parent.name))
@@ -56,7 +57,7 @@ def main():
             pass
     used = resource.getrusage(resource.RUSAGE_CHILDREN)
     minutes = (used.ru_utime + used.ru_stime) / 60, (time.monotonic() - started) / 60
-    with open(file, "a") as costs:
+    with open(file, "w") as costs:
         costs.write(f"{minutes[0]:.1f} {minutes[1]:.1f} {most / 1e6:.1f}\n")
     return command.returncode if command.returncode >= 0 else 128 - command.returncode
 

@@ -231,7 +231,9 @@ def read_case(path):
 def read_shared():
     """The files that several cases name, by name."""
     files = {}
-    end, sections = sections_of((FOLDER / "shared.files").read_text().split("\n")[:-1])
-    for section in sections:
+    lines = (FOLDER / "shared.files").read_text().split("\n")
+    if lines[-1] != "":
+        raise Malformed(len(lines), "the last line of shared.files has no end")
+    for section in sections_of(lines[:-1])[1]:
         files[section.name] = section.data(files)
     return files

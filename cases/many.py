@@ -49,7 +49,7 @@ def measurements():
     the last: line feeds or NULs, one of them or several, and none after the last."""
     registers = ["--print", "registers", "L"]
     yield Measurement("995 files, 1,001 words", [*registers, *names_of(0, 995)])
-    yield Measurement("1,200 files by words, and no limit", [*registers, *names_of(0, 1_200)])
+    yield Measurement("1,200 files by words", [*registers, *names_of(0, 1_200)])
     yield Measurement("the lines of 10,000 files", ["L", "--files-from", "names"], "\n".join(names_of(0, FILES)) + "\n")
     for named, options, between, end in (
         (0, ["--files-from", "names"], "\n", "\n"),

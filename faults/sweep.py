@@ -8,8 +8,8 @@ Nth run its Nth allocation is refused (faults/refuse.c), until a run ends with n
 answer as its case wants, or with `failed: memory` and status 3. A test or command without a refused allocation fails, and so does a
 run that crashes or takes longer than a minute.
 
-Commands are of one kind if they have the same word, options and status, the same fault where they are refused, and both or neither
-name a sample. Of each kind the first runs, in the order of the cases, that names no file of the system, in a case whose files have at
+Commands are of one kind if they have the same word, options and status, as many names (three or more are alike), the same fault where
+they are refused, and both or neither name a sample, or have a text with more names. Of each kind the first runs, in the order of the cases, that names no file of the system, in a case whose files have at
 most 64 KiB.
 
 Before that, the program measures 50 files of 40 MiB within 64 MiB of address space. The last line, 'N passed, M failed', counts
@@ -90,17 +90,26 @@ class CommandRun:
             return fault_of(self.command, answer, self.folder)
 
 
-def kind_of(command):
-    """What a command has in common with those of its kind."""
+def request_of(command, folder):
+    """What a command with a word asks for: its options, how many names it has, three or more being alike, and whether a text in its
+    folder has more."""
+    names, given = read_arguments(COMMANDS[command.words[0]], command.words[1:])
+    listed = folder / given.pop("--files-from", "")
+    has_listed = listed.is_file() and listed.stat().st_size > 0
+    options = frozenset((name, value if isinstance(value, str) else value == 1) for name, value in given.items())
+    return options, min(len(names), 3), has_listed
+
+
+def kind_of(command, folder):
+    """What a command, which is run in this folder, has in common with those of its kind."""
     word = command.words[0] if command.words else ""
     names_sample = any(it and it.startswith(form.SAMPLES) for it in (*command.words, command.input))
     try:
-        given = read_arguments(COMMANDS[word], command.words[1:])[1] if word in COMMANDS else {}
-        options = frozenset((name, value) if isinstance(value, str) and name != "--files-from" else name for name, value in given.items())
+        request = request_of(command, folder) if word in COMMANDS else None
     except (Fault, HelpAsked) as cause:
-        options = type(cause)
+        request = type(cause)
     fault = FAULT.match(command.wanted[0]) if command.status > 1 and command.wanted else None
-    return word if word in COMMANDS else "", options, command.status, fault and fault.groups(), names_sample
+    return word if word in COMMANDS else "", request, command.status, fault and fault.groups(), names_sample
 
 
 def command_runs(program, folder):
@@ -118,7 +127,7 @@ def command_runs(program, folder):
                     if command.output and not (home / command.output).exists():
                         run.fault({}, home / "none")  # (it makes a file for those after it)
                     if not any(word.startswith("/") for word in command.words):
-                        runs.setdefault(kind_of(command), run)
+                        runs.setdefault(kind_of(command, home), run)
         except form.Malformed as fault:
             faults.append(f"{path}:{fault}")
     return list(runs.values()), faults
@@ -126,7 +135,8 @@ def command_runs(program, folder):
 
 def test_runs(root):
     """The tests of every crate that are made for refused allocations."""
-    for binary in sorted(root.glob("crates/*_tests/out/*_tests")):
+    for crate in sorted(root.glob("crates/*_tests")):
+        binary = crate / "out" / f"{crate.name}_tests"
         listing = subprocess.run([binary, "--list"], capture_output=True, timeout=SECONDS, check=True)
         for line in listing.stdout.decode().splitlines():
             name = line.removesuffix(": test").strip()

@@ -8,7 +8,7 @@ use test_kit::samples::{
 };
 
 /// The files, by their names; `-` is standard input, and has `log` in hexadecimal.
-pub static FILES: [(&str, &[u8]); 9] = [
+pub static FILES: [(&str, &[u8]); 10] = [
     (
         "-",
         b"00000000 03000000 0000000000000000000000000000000000000000 21000000
@@ -24,6 +24,7 @@ pub static FILES: [(&str, &[u8]); 9] = [
     ("printed", PRINTED),
     ("/bin/sh", b"abc"),
     ("names", b"/bin/sh\nentry\nprinted\n"),
+    ("shell", b"/bin/sh\n"),
 ];
 
 /// Words, and the status and the output that they get.
@@ -45,7 +46,7 @@ pub const MEASURE: Command = Command {
 };
 
 /// Every command.
-pub static COMMANDS: [Command; 9] = [
+pub static COMMANDS: [Command; 10] = [
     Command {
         words: &[],
         status: 0,
@@ -87,6 +88,17 @@ pub static COMMANDS: [Command; 9] = [
         output: PLACES,
     },
     MEASURE,
+    Command {
+        words: &[
+            "measure",
+            "--print=registers",
+            "header",
+            "--files-from",
+            "shell",
+        ],
+        status: 0,
+        output: SHELL_LINE,
+    },
 ];
 
 /// Commands that are refused, or fail.
