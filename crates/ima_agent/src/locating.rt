@@ -2,9 +2,10 @@
 
 ghost use Rattle.std.specs.Prelude.{◌≡◌, IfOk, IfErr};
 ghost use Rattle.boot_verdict.specs.PlaceTexts.{places_text};
-ghost use Rattle.ima_agent.specs.Locating.{ShowsPlaces, ShowsPlacesOn, places_status};
+ghost use Rattle.boot_verdict.specs.Places.{AreLocatedFrom};
+ghost use Rattle.ima_agent.specs.Loading.{input_limit};
+ghost use Rattle.ima_agent.specs.Locating.{ArePlacesIn, HasPlaces, ShowsPlaces, ShowsPlacesOn, places_status};
 ghost use Rattle.ima_agent.specs.Verifying.{IsNoReportOn, IsReportFault};
-ghost use Rattle.ima_agent.specs.parts.Locating.{ArePlacesFrom};
 ghost use Rattle.ima_agent.specs.parts.Verifying.{IsNoVerdictFrom};
 
 use crate::evidence::{Evidence, opened};
@@ -31,12 +32,8 @@ pub(crate) fn located<F: Files>(
     ensures shown { IfOk result (λ output. ShowsPlaces (F.told files.old) log.now list.now expected.now output.text.items output.status) }
     ensures fault { IfErr result (IsReportFault (F.told files.old) log.now list.now expected.now) }
 {
-    let Evidence {
-        log,
-        expected,
-        list: mut source,
-    } = opened(alloc, files, log, list, expected)?;
-    places_from(alloc, &log, &mut source, list, &expected)
+    let places = found(alloc, files, log, list, expected)?;
+    Ok(places_output(alloc, &places)?)
 }
 
 /// The places in this log and this list of the registers that the text `expected` states, with their status: what `locate` shows of
@@ -52,27 +49,60 @@ pub fn places_on(
     ensures shown { IfOk result (λ output. ShowsPlacesOn log.now list.now expected.now output.text.items output.status) }
     ensures fault { IfErr result (IsNoReportOn log.now list.now expected.now) }
 {
+    let places = found_on(alloc, log, list, expected)?;
+    Ok(places_output(alloc, &places)?)
+}
+
+// The places of the expected registers in the files of these names, before they are written.
+fn found<F: Files>(
+    alloc: Global,
+    files: &mut F,
+    log: &str,
+    list: &str,
+    expected: &str,
+) -> Result<Vec<Located>, RunFault>
+    ensures places { IfOk result (λ places. HasPlaces (F.told files.old) log.now list.now expected.now places.items) }
+    ensures fault { IfErr result (IsReportFault (F.told files.old) log.now list.now expected.now) }
+{
+    let Evidence {
+        log,
+        expected,
+        list: mut source,
+    } = opened(alloc, files, log, list, expected)?;
+    found_from(alloc, &log, &mut source, list, &expected)
+}
+
+// The places in this log and this list of the registers that the text states, before they are written.
+fn found_on(
+    alloc: Global,
+    log: &[u8],
+    list: &[u8],
+    expected: &[u8],
+) -> Result<Vec<Located>, RunFault>
+    ensures places { IfOk result (λ places. ArePlacesIn log.now list.now expected.now places.items) }
+    ensures fault { IfErr result (IsNoReportOn log.now list.now expected.now) }
+{
     let expected = read_expected(alloc, expected)?;
     match locate(alloc, log, list, &expected) {
-        Ok(places) => Ok(places_output(alloc, &places)?),
+        Ok(places) => Ok(places),
         Err(fault) => Err(first_cause(fault)),
     }
 }
 
 // The places of these expected registers in this log and the list that the source of this name has left.
-fn places_from<R: Source>(
+fn found_from<R: Source>(
     alloc: Global,
     log: &[u8],
     list: &mut R,
     name: &str,
     expected: &[Expected],
-) -> Result<Output, RunFault>
-    ensures shown { IfOk result (λ output. ArePlacesFrom log.now (R.state list.old).remaining (R.state list.new).remaining expected.now
-        output.text.items output.status) }
+) -> Result<Vec<Located>, RunFault>
+    ensures places { IfOk result (λ places. AreLocatedFrom log.now (R.state list.old).remaining (R.state list.new).remaining input_limit
+        expected.now places.items) }
     ensures fault { IfErr result (IsNoVerdictFrom name.now log.now (R.state list.old).remaining (R.state list.new).remaining) }
 {
     match locate_from(alloc, log, list, INPUT_LIMIT, expected) {
-        Ok(places) => Ok(places_output(alloc, &places)?),
+        Ok(places) => Ok(places),
         Err(fault) => Err(verdict_fault(alloc, name, fault)),
     }
 }

@@ -1,11 +1,12 @@
 //! The report on a log, a list and expected registers, as text.
 
 ghost use Rattle.std.specs.Prelude.{◌≡◌, ℕ, List, IfOk, IfErr};
-ghost use Rattle.boot_verdict.specs.Verdicts.{IsVerifyFault, verdict_of};
+ghost use Rattle.boot_verdict.specs.Verdicts.{IsVerdictFrom, IsVerifyFault, verdict_of};
 ghost use Rattle.boot_verdict.specs.ReportTexts.{report_text};
 ghost use Rattle.ima_agent.specs.Faults.{IsFaultOfVerdict};
-ghost use Rattle.ima_agent.specs.parts.Verifying.{IsNoVerdictFrom, IsReportFrom};
-ghost use Rattle.ima_agent.specs.Verifying.{IsFirstCause, IsNoReportOn, IsReportFault, ShowsReport, ShowsReportOn, verdict_status};
+ghost use Rattle.ima_agent.specs.Loading.{input_limit};
+ghost use Rattle.ima_agent.specs.parts.Verifying.{IsNoVerdictFrom};
+ghost use Rattle.ima_agent.specs.Verifying.{HasVerdict, IsFirstCause, IsNoReportOn, IsReportFault, IsVerdictOn, ShowsReport, ShowsReportOn, verdict_status};
 
 use crate::evidence::{Evidence, opened};
 use crate::fault::RunFault;
@@ -30,12 +31,8 @@ pub(crate) fn verified<F: Files>(
     ensures shown { IfOk result (λ output. ShowsReport (F.told files.old) log.now list.now expected.now output.text.items output.status) }
     ensures fault { IfErr result (IsReportFault (F.told files.old) log.now list.now expected.now) }
 {
-    let Evidence {
-        log,
-        expected,
-        list: mut source,
-    } = opened(alloc, files, log, list, expected)?;
-    report_from(alloc, &log, &mut source, list, &expected)
+    let report = judged(alloc, files, log, list, expected)?;
+    Ok(report_output(alloc, &report)?)
 }
 
 /// The report on this log, this list and the registers that the text `expected` states, with the status of its verdict: what
@@ -53,9 +50,42 @@ pub fn report_on(
     ensures shown { IfOk result (λ output. ShowsReportOn log.now list.now expected.now output.text.items output.status) }
     ensures fault { IfErr result (IsNoReportOn log.now list.now expected.now) }
 {
+    let report = judged_on(alloc, log, list, expected)?;
+    Ok(report_output(alloc, &report)?)
+}
+
+// The report on the files of these names, before it is written.
+fn judged<F: Files>(
+    alloc: Global,
+    files: &mut F,
+    log: &str,
+    list: &str,
+    expected: &str,
+) -> Result<Report, RunFault>
+    ensures report { IfOk result (λ report. HasVerdict (F.told files.old) log.now list.now expected.now (verdict_of report)) }
+    ensures fault { IfErr result (IsReportFault (F.told files.old) log.now list.now expected.now) }
+{
+    let Evidence {
+        log,
+        expected,
+        list: mut source,
+    } = opened(alloc, files, log, list, expected)?;
+    judged_from(alloc, &log, &mut source, list, &expected)
+}
+
+// The report on this log, this list and the registers that the text states, before it is written.
+fn judged_on(
+    alloc: Global,
+    log: &[u8],
+    list: &[u8],
+    expected: &[u8],
+) -> Result<Report, RunFault>
+    ensures report { IfOk result (λ report. IsVerdictOn log.now list.now expected.now (verdict_of report)) }
+    ensures fault { IfErr result (IsNoReportOn log.now list.now expected.now) }
+{
     let expected = read_expected(alloc, expected)?;
     match verify(alloc, log, list, &expected) {
-        Ok(report) => Ok(report_output(alloc, &report)?),
+        Ok(report) => Ok(report),
         Err(fault) => Err(first_cause(fault)),
     }
 }
@@ -73,19 +103,19 @@ pub(crate) fn first_cause(fault: VerifyFault) -> RunFault
 }
 
 // The report on this log, the list that the source of this name has left, and these expected registers.
-fn report_from<R: Source>(
+fn judged_from<R: Source>(
     alloc: Global,
     log: &[u8],
     list: &mut R,
     name: &str,
     expected: &[Expected],
-) -> Result<Output, RunFault>
-    ensures shown { IfOk result (λ output. IsReportFrom log.now (R.state list.old).remaining (R.state list.new).remaining expected.now
-        output.text.items output.status) }
+) -> Result<Report, RunFault>
+    ensures report { IfOk result (λ report. IsVerdictFrom log.now (R.state list.old).remaining (R.state list.new).remaining input_limit
+        expected.now (verdict_of report)) }
     ensures fault { IfErr result (IsNoVerdictFrom name.now log.now (R.state list.old).remaining (R.state list.new).remaining) }
 {
     match verify_from(alloc, log, list, INPUT_LIMIT, expected) {
-        Ok(report) => Ok(report_output(alloc, &report)?),
+        Ok(report) => Ok(report),
         Err(fault) => Err(verdict_fault(alloc, name, fault)),
     }
 }
