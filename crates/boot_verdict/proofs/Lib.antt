@@ -12,3 +12,4 @@ pub mod RangeLaws
 pub mod WrittenLaws
 pub mod LineLaws
 pub mod ReadingLaws
+pub mod RequirementLaws

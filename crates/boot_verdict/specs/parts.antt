@@ -5,4 +5,5 @@ pub mod Rows
 pub mod PcrReadLines
 pub mod WrittenLines
 pub mod RangeEnds
+pub mod RequirementParts
 pub mod Watches

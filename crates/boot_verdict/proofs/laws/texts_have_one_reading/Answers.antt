@@ -1,5 +1,6 @@
 use Rattle.boot_verdict.proofs.RangeLaws.{range_once}
 use Rattle.boot_verdict.proofs.ReadingLaws.{expected_once, printed_once}
+use Rattle.boot_verdict.proofs.RequirementLaws.{requirement_once}
 use Rattle.boot_verdict.proofs.laws.texts_have_one_reading.Goals as goal
 
 pub returns-clause-expected : goal.returns-clause-expected
@@ -10,3 +11,6 @@ returns-clause-printed c = printed_once
 
 pub returns-clause-range : goal.returns-clause-range
 returns-clause-range c = range_once
+
+pub returns-clause-requirement : goal.returns-clause-requirement
+returns-clause-requirement c = requirement_once
