@@ -3,8 +3,10 @@
 ghost use Rattle.std.specs.Prelude.{◌≡◌, IfOk, IfErr};
 ghost use Rattle.boot_verdict.specs.PlaceTexts.{places_text};
 ghost use Rattle.boot_verdict.specs.Places.{AreLocatedFrom};
+ghost use Rattle.boot_verdict.specs.RequiredTexts.{required_places_text};
 ghost use Rattle.ima_agent.specs.Loading.{input_limit};
 ghost use Rattle.ima_agent.specs.Locating.{ArePlacesIn, HasPlaces, ShowsPlaces, ShowsPlacesOn, places_status};
+ghost use Rattle.ima_agent.specs.Requiring.{IsFaultWith, ShowsRequiredPlaces, ShowsRequiredPlacesOn, required_places_status};
 ghost use Rattle.ima_agent.specs.Verifying.{IsNoReportOn, IsReportFault};
 ghost use Rattle.ima_agent.specs.parts.Verifying.{IsNoVerdictFrom};
 
@@ -13,9 +15,11 @@ use crate::fault::RunFault;
 use crate::files::Files;
 use crate::inputs::INPUT_LIMIT;
 use crate::output::{DIFFERS, DONE, Output};
+use crate::requiring::requirement_in;
 use crate::verifying::{first_cause, verdict_fault};
 use boot_verdict::{
-    Expected, Located, all_found, locate, locate_from, read_expected, write_places,
+    Expected, Located, Requirement, all_found, locate, locate_from, read_expected, required_found,
+    write_places, write_required_places,
 };
 use byte_streams::{Source, VecSink};
 use std::alloc::{AllocError, Global};
@@ -36,6 +40,24 @@ pub(crate) fn located<F: Files>(
     Ok(places_output(alloc, &places)?)
 }
 
+/// The same, where the text `required` spells which registers are required. It is read first.
+pub(crate) fn located_with<F: Files>(
+    alloc: Global,
+    files: &mut F,
+    log: &str,
+    list: &str,
+    expected: &str,
+    required: &str,
+) -> Result<Output, RunFault>
+    ensures shown { IfOk result (λ output. ShowsRequiredPlaces (F.told files.old) log.now list.now expected.now required.now
+        output.text.items output.status) }
+    ensures fault { IfErr result (IsFaultWith required.now (IsReportFault (F.told files.old) log.now list.now expected.now)) }
+{
+    let requirement = requirement_in(alloc, required.as_bytes())?;
+    let places = found(alloc, files, log, list, expected)?;
+    Ok(required_output(alloc, &places, &requirement)?)
+}
+
 /// The places in this log and this list of the registers that the text `expected` states, with their status: what `locate` shows of
 /// files with these bytes, here of bytes in memory and of any size.
 ///
@@ -51,6 +73,24 @@ pub fn places_on(
 {
     let places = found_on(alloc, log, list, expected)?;
     Ok(places_output(alloc, &places)?)
+}
+
+/// The same, where the text `required` spells which registers are required: what `locate --require` shows. It is read first.
+///
+/// Fails as [`crate::required_report_on`] does.
+pub fn required_places_on(
+    alloc: Global,
+    log: &[u8],
+    list: &[u8],
+    expected: &[u8],
+    required: &[u8],
+) -> Result<Output, RunFault>
+    ensures shown { IfOk result (λ output. ShowsRequiredPlacesOn log.now list.now expected.now required.now output.text.items output.status) }
+    ensures fault { IfErr result (IsFaultWith required.now (IsNoReportOn log.now list.now expected.now)) }
+{
+    let requirement = requirement_in(alloc, required)?;
+    let places = found_on(alloc, log, list, expected)?;
+    Ok(required_output(alloc, &places, &requirement)?)
 }
 
 // The places of the expected registers in the files of these names, before they are written.
@@ -117,6 +157,30 @@ fn places_output(alloc: Global, places: &[Located]) -> Result<Output, AllocError
         return Err(AllocError);
     }
     let status = if all_found(places) { DONE } else { DIFFERS };
+    Ok(Output {
+        text: text.into_bytes(),
+        status,
+    })
+}
+
+// Places as text where these registers are required, and their status.
+fn required_output(
+    alloc: Global,
+    places: &[Located],
+    requirement: &Requirement,
+) -> Result<Output, AllocError>
+    ensures text { IfOk result (λ output. output.text.items ≡ required_places_text requirement.now places.now) }
+    ensures status { IfOk result (λ output. output.status ≡ required_places_status requirement.now places.now) }
+{
+    let mut text = VecSink::new(Vec::new(alloc));
+    if write_required_places(places, requirement, &mut text).is_err() {
+        return Err(AllocError);
+    }
+    let status = if required_found(places, requirement) {
+        DONE
+    } else {
+        DIFFERS
+    };
     Ok(Output {
         text: text.into_bytes(),
         status,

@@ -1,11 +1,13 @@
 //! The report on a log, a list and expected registers, as text.
 
 ghost use Rattle.std.specs.Prelude.{◌≡◌, ℕ, List, IfOk, IfErr};
+ghost use Rattle.boot_verdict.specs.RequiredTexts.{required_report_text};
 ghost use Rattle.boot_verdict.specs.Verdicts.{IsVerdictFrom, IsVerifyFault, verdict_of};
 ghost use Rattle.boot_verdict.specs.ReportTexts.{report_text};
 ghost use Rattle.ima_agent.specs.Faults.{IsFaultOfVerdict};
 ghost use Rattle.ima_agent.specs.Loading.{input_limit};
 ghost use Rattle.ima_agent.specs.parts.Verifying.{IsNoVerdictFrom};
+ghost use Rattle.ima_agent.specs.Requiring.{IsFaultWith, ShowsRequiredReport, ShowsRequiredReportOn, required_verdict_status};
 ghost use Rattle.ima_agent.specs.Verifying.{HasVerdict, IsFirstCause, IsNoReportOn, IsReportFault, IsVerdictOn, ShowsReport, ShowsReportOn, verdict_status};
 
 use crate::evidence::{Evidence, opened};
@@ -13,8 +15,10 @@ use crate::fault::RunFault;
 use crate::files::Files;
 use crate::inputs::{INPUT_LIMIT, not_read, too_long};
 use crate::output::{DIFFERS, DONE, Output};
+use crate::requiring::requirement_in;
 use boot_verdict::{
-    Expected, Report, VerifyFault, read_expected, verify, verify_from, write_report,
+    Expected, Report, Requirement, VerifyFault, read_expected, verify, verify_from, write_report,
+    write_required_report,
 };
 use byte_streams::{Source, VecSink};
 use std::alloc::{AllocError, Global};
@@ -35,6 +39,24 @@ pub(crate) fn verified<F: Files>(
     Ok(report_output(alloc, &report)?)
 }
 
+/// The same, where the text `required` spells which registers are required. It is read first.
+pub(crate) fn verified_with<F: Files>(
+    alloc: Global,
+    files: &mut F,
+    log: &str,
+    list: &str,
+    expected: &str,
+    required: &str,
+) -> Result<Output, RunFault>
+    ensures shown { IfOk result (λ output. ShowsRequiredReport (F.told files.old) log.now list.now expected.now required.now
+        output.text.items output.status) }
+    ensures fault { IfErr result (IsFaultWith required.now (IsReportFault (F.told files.old) log.now list.now expected.now)) }
+{
+    let requirement = requirement_in(alloc, required.as_bytes())?;
+    let report = judged(alloc, files, log, list, expected)?;
+    Ok(required_output(alloc, &report, &requirement)?)
+}
+
 /// The report on this log, this list and the registers that the text `expected` states, with the status of its verdict: what
 /// `verify` shows of files with these bytes, here of bytes in memory and of any size. The text `expected` is read first.
 ///
@@ -52,6 +74,25 @@ pub fn report_on(
 {
     let report = judged_on(alloc, log, list, expected)?;
     Ok(report_output(alloc, &report)?)
+}
+
+/// The same, where the text `required` spells which registers are required, as in `sha256:0-10`: what `verify --require` shows. It is
+/// read first.
+///
+/// Fails with [`RunFault::Usage`] if `required` spells no registers; else as [`report_on`].
+pub fn required_report_on(
+    alloc: Global,
+    log: &[u8],
+    list: &[u8],
+    expected: &[u8],
+    required: &[u8],
+) -> Result<Output, RunFault>
+    ensures shown { IfOk result (λ output. ShowsRequiredReportOn log.now list.now expected.now required.now output.text.items output.status) }
+    ensures fault { IfErr result (IsFaultWith required.now (IsNoReportOn log.now list.now expected.now)) }
+{
+    let requirement = requirement_in(alloc, required)?;
+    let report = judged_on(alloc, log, list, expected)?;
+    Ok(required_output(alloc, &report, &requirement)?)
 }
 
 // The report on the files of these names, before it is written.
@@ -144,6 +185,30 @@ fn report_output(alloc: Global, report: &Report) -> Result<Output, AllocError>
         return Err(AllocError);
     }
     let status = if report.matches() { DONE } else { DIFFERS };
+    Ok(Output {
+        text: text.into_bytes(),
+        status,
+    })
+}
+
+// A report as text where these registers are required, and its status.
+fn required_output(
+    alloc: Global,
+    report: &Report,
+    requirement: &Requirement,
+) -> Result<Output, AllocError>
+    ensures text { IfOk result (λ output. output.text.items ≡ required_report_text requirement.now (verdict_of report.now)) }
+    ensures status { IfOk result (λ output. output.status ≡ required_verdict_status requirement.now (verdict_of report.now)) }
+{
+    let mut text = VecSink::new(Vec::new(alloc));
+    if write_required_report(report, requirement, &mut text).is_err() {
+        return Err(AllocError);
+    }
+    let status = if report.meets(requirement) {
+        DONE
+    } else {
+        DIFFERS
+    };
     Ok(Output {
         text: text.into_bytes(),
         status,
