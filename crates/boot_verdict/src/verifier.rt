@@ -193,7 +193,11 @@ fn report_on(
 }
 
 /// The row of each expected register, by these banks.
-pub(crate) fn rows_on(alloc: Global, now: &Banks, expected: &[Expected]) -> Result<Vec<Row>, AllocError>
+pub(crate) fn rows_on(
+    alloc: Global,
+    now: &Banks,
+    expected: &[Expected],
+) -> Result<Vec<Row>, AllocError>
     ensures { IfOk result (λ rows. rows.items ≡ map (row_of now.now) expected.now) }
 {
     expected

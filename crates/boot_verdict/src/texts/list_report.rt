@@ -41,7 +41,10 @@ fn write_entries<S: Sink>(entries: usize, sink: &mut S) -> Result<(), Failed>
     ensures { Sends (S.state sink.old) (S.state sink.new) result (codes "entries " ++ (decimal entries ++ codes "\n")) }
 {
     let mut number = Buffer::new();
-    send_pieces(&[b"entries ", number.format(entries).as_bytes(), b"\n"], sink)
+    send_pieces(
+        &[b"entries ", number.format(entries).as_bytes(), b"\n"],
+        sink,
+    )
 }
 
 // Writes how many entries the list has, and how many registers were compared.

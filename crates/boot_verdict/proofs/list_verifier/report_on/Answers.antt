@@ -11,11 +11,10 @@ returns-in_err-watch-clause-fault c =
 pub returns-clause-report : goal.returns-clause-report
 returns-clause-report c =
     λ start entries reset replays.
-    let both = c.in_ok-watch.ensures.watched start entries replays in
-    (
+    let both = c.in_ok-watch.ensures.watched start entries replays in (
       both.0,
       list_verdict_same start.banks c.in_ok-watch.watch.banks entries c.args.expected.now _ _ reset both.1.replayed replays.count
-      c.in_ok-rows_on.ensures,
+          c.in_ok-rows_on.ensures,
     )
 
 pub returns-in_err-rows_on-clause-fault : goal.returns-in_err-rows_on-clause-fault
