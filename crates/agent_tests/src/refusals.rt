@@ -1,8 +1,8 @@
 //! Commands in which an allocation is refused: each answers that memory ran out, or what it answers with ample memory; and then the
 //! same command answers the latter. `faults/sweep.py` refuses the allocations, one in each run.
 
-use super::commands::{COMMANDS, Command, FAULTS, FILES};
-use super::devices::{PieceFiles, words_of};
+use crate::commands::{COMMANDS, Command, FAULTS, FILES};
+use crate::devices::{PieceFiles, words_of};
 use byte_streams::VecSink;
 use ima_agent::run;
 use std::alloc::AllocError;

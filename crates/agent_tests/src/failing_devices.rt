@@ -1,7 +1,7 @@
 //! The program on files that fail at each read, and to sinks that fail at each write; and its exit codes.
 
-use super::commands::{COMMANDS, Command, FAULTS, FILES};
-use super::devices::{PieceFiles, answered, words_of};
+use crate::commands::{COMMANDS, Command, FAULTS, FILES};
+use crate::devices::{PieceFiles, answered, words_of};
 use ima_agent::{NoProgress, exit_code, run};
 use std::io::{Error, ErrorKind};
 use std::process::{Abort, ExitCode};

@@ -1,7 +1,7 @@
 //! Who is told how far a measurement is.
 
-use super::commands::FILES;
-use super::devices::{PieceFiles, words_of};
+use crate::commands::FILES;
+use crate::devices::{PieceFiles, words_of};
 use byte_streams::VecSink;
 use ima_agent::{Progress, run_with_progress};
 use std::sync::Wait;
