@@ -1,5 +1,5 @@
 -- Why no book was opened, as the agent's fault.
-use Rattle.std.proofs.Common.{◌≡◌, ◌≢◌, ℕ, Bool, true, false, Option, Some, None, refl, sym, ap, ◌∙◌, subst}
+use Rattle.std.proofs.Common.{◌≡◌, ◌≢◌, ℕ, Bool, true, false, Option, Some, None, refl, ap, ◌∙◌}
 use Rattle.std.specs.Prelude.{◌==◌, not, if◌then◌else◌, unwrap_or, Result, Ok, Err, MatchResult}
 use Rattle.std.specs.Result.{IsErrAnd}
 use Rattle.std.proofs.lemmas.Option.{same_Some, none-some}
@@ -7,7 +7,7 @@ use Rattle.ima_list.specs.Templates.{takes_alg}
 use Rattle.pcr_banks.specs.Registers.{is_active}
 use Rattle.measure_book.specs.declared.origin.Origin.{Origin}
 use Rattle.measure_book.specs.declared.fault.BookFault.{BookFault}
-use Rattle.measure_book.specs.declared.fault.BookFault.TheVariants.{WrongHash, NoBank, BadRegister, NulInPath, PathTooLong, ZeroDigest, Full, Memory}
+use Rattle.measure_book.specs.declared.fault.BookFault.TheVariants.{WrongHash, NoBank, ZeroDigest, Full, Memory}
 use Rattle.measure_book.specs.Histories.{open_refusal_of, opens_with_zero_digest}
 use Rattle.hash_workers.specs.declared.batch.Batch.{Batch}
 use Rattle.hash_workers.specs.declared.fault.JobsFault.{JobsFault}
@@ -30,29 +30,19 @@ never_memory origin is =
 book_fault : (workers : ℕ) (origin : Origin) (fault : BookFault) → fault ≢ Memory → IsNumberOfWorkers workers
     → open_refusal_of origin ≡ Some fault
     → IsFaultOf workers origin (fault_of_book fault)
-book_fault workers origin WrongHash other number is = (number, is)
-book_fault workers origin NoBank other number is = (number, is)
-book_fault workers origin BadRegister other number is = (number, is)
-book_fault workers origin NulInPath other number is = (number, is)
-book_fault workers origin PathTooLong other number is = (number, is)
-book_fault workers origin ZeroDigest other number is = (number, is)
-book_fault workers origin Full other number is = (number, is)
 book_fault workers origin Memory other number is = absurd (other refl)
+book_fault workers origin fault other number is = (number, is)
 
 fault_of : (workers : ℕ) (origin : Origin) (fault : BookFault) (refusal : Option BookFault) → open_refusal_of origin ≡ refusal
     → IsNumberOfWorkers workers
     → fault ≡ unwrap_or refusal Memory → IsFaultOf workers origin (fault_of_book fault)
-fault_of workers origin fault None none number is =
-    let At : BookFault → Type 0 = λ f. IsFaultOf workers origin (fault_of_book f) in subst At (sym is) (number, none)
+fault_of workers origin fault None none number is = rw is (number, none)
 fault_of workers origin fault (Some other) some number is =
-    let At : BookFault → Type 0 = λ f. IsFaultOf workers origin (fault_of_book f) in
-    subst At (sym is) (book_fault workers origin other (λ memory. never_memory origin (some ∙ ap (λ (f : BookFault). Some f) memory))
-    number some)
+    rw is (book_fault workers origin other (λ memory. never_memory origin (some ∙ ap (λ (f : BookFault). Some f) memory)) number some)
 
 pub opening_fault : (workers : ℕ) (origin : Origin) (fault : BookFault) (result : Result Batch JobsFault) → IsNumberOfWorkers workers
     → fault ≡ unwrap_or (open_refusal_of origin) Memory → IsErrAnd result (λ f. f ≡ jobs_fault_of_book fault)
     → MatchResult result (λ _. MayBegin workers origin) (IsJobsFaultOf workers origin)
 opening_fault workers origin fault (Ok batch) number is gives = absurd gives
 opening_fault workers origin fault (Err found) number is gives =
-    let At : JobsFault → Type 0 = λ f. IsJobsFaultOf workers origin f in
-    subst At (sym gives) (fault_of workers origin fault (open_refusal_of origin) refl number is)
+    rw gives (fault_of workers origin fault (open_refusal_of origin) refl number is)

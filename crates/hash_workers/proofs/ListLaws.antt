@@ -1,5 +1,5 @@
 -- Elements of lists, of mapped lists, and of lists of lists.
-use Rattle.std.proofs.Common.{◌≡◌, ℕ, zero, suc, ◌+◌, ◌<◌, List, [], ◌∷◌, ◌++◌, length, length-append, map, Option, Some, None, refl, sym, ap, ◌∙◌, inl, inr, arith}
+use Rattle.std.proofs.Common.{◌≡◌, ℕ, zero, suc, ◌+◌, ◌<◌, List, [], ◌∷◌, ◌++◌, length, length-append, map, Option, Some, None, refl, sym, ap, inl, inr, arith}
 use Rattle.std.specs.Prelude.{◌⊎◌, slice_get, option_and_then}
 use Rattle.std.proofs.lemmas.Option.{same_Some, none-some, slice_get_cases}
 use Rattle.hash_workers.specs.parts.Scattering.{got_at}
@@ -67,4 +67,12 @@ list_at lists worker i x has = one_at (slice_get lists worker) i x has
 pub at_list : {X : Type 0} → (lists : List (List X)) (worker i : ℕ) (one : List X) (x : X) → slice_get lists worker ≡ Some one
     → slice_get one i ≡ Some x
     → got_at lists worker i ≡ Some x
-at_list {X = X} lists worker i one x here has = ap (option_and_then (λ (xs : List X). slice_get xs i)) here ∙ has
+at_list lists worker i one x here has = rw here has
+
+-- An element of a list that is part of another element.
+pub in_mapped : {A X : Type 0} → (f : A → List X) (xs : List A) (worker i : ℕ) (x : X) → got_at (map f xs) worker i ≡ Some x
+    → (a : A) × (slice_get xs worker ≡ Some a) × (slice_get (f a) i ≡ Some x)
+in_mapped f xs worker i x has =
+    let one = list_at (map f xs) worker i x has in
+    let from = map_at f xs worker one.0 one.1 in
+    (from.0, from.1, rw from.2 one.2)

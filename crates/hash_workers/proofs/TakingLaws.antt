@@ -1,5 +1,5 @@
 -- Numbers that are handed out once each, by worker and index.
-use Rattle.std.proofs.Common.{◌≡◌, ℕ, zero, suc, ◌+◌, ◌<◌, ◌≤◌, ◌≢◌, List, [], ◌∷◌, Some, refl, sym, ap, ◌∙◌, subst, inl, inr, arith}
+use Rattle.std.proofs.Common.{◌≡◌, ℕ, zero, suc, ◌+◌, ◌<◌, ◌≤◌, ◌≢◌, List, [], ◌∷◌, Some, refl, sym, ap, ◌∙◌, inl, inr, arith}
 use Rattle.std.specs.Prelude.{slice_get}
 use Rattle.std.specs.List.{concat}
 use Rattle.std.proofs.lemmas.Bool.{cases_lt}
@@ -113,8 +113,7 @@ one_index count takings worker index at job hands order took also =
     let taken = list_at takings worker index job took in
     let again = list_at takings worker at job also in
     let same : again.0 ≡ taken.0 = same_Some again.0 taken.0 (sym again.1 ∙ taken.1) in
-    let At : List ℕ → Type 0 = λ xs. slice_get xs at ≡ Some job in
-    let twice = stands_twice taken.0 index at job order taken.2 (subst At same again.2) in
+    let twice = stands_twice taken.0 index at job order taken.2 (rw same at again.2) in
     let in_all = here takings worker taken.0 job taken.1 in
     let one = at_most_once count (concat takings) job hands in omega arith
 
@@ -136,8 +135,7 @@ once_taken count takings worker other index at job hands took also = elim (cases
     | inl less ↦ absurd (one_worker count takings other worker at index job hands less also took)
     | inr past ↦
         let same : worker ≡ other = omega arith in
-        let At : ℕ → Type 0 = λ w. Took takings w at job in
-        (same, same_index count takings worker index at job hands took (subst At (sym same) also))
+        (same, same_index count takings worker index at job hands took (rw (← same) at also))
   ]
 ]
 
