@@ -1,4 +1,5 @@
 pub mod RegisterLaws
+pub mod StatedLaws
 pub mod ExpectedLaws
 pub mod VerdictLaws
 pub mod WatchLaws
@@ -11,4 +12,3 @@ pub mod PcrReadLaws
 pub mod RangeLaws
 pub mod WrittenLaws
 pub mod LineLaws
-pub mod ReadingLaws

@@ -12,6 +12,7 @@ mod places;
 mod register_range;
 mod replaying;
 mod report;
+mod stated;
 mod texts;
 mod verifier;
 
