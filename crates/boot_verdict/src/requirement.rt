@@ -73,7 +73,6 @@ pub struct Requirement {
 
 impl Model for Requirement {
     ghost use Rattle.std.specs.Prelude.{List};
-
     ghost use Rattle.boot_verdict.specs.declared.requirement.BankRange.{BankRange};
 
     ghost Value = { List BankRange };
@@ -188,8 +187,7 @@ impl HasExpected for Located {
 fn states<T: HasExpected>(rows: &[T], alg: Alg, register: u32) -> bool
     ensures { result ≡ states (map T.expected_of rows.now) alg register }
 {
-    rows.iter()
-        .any(|row| is_of(row.expected(), alg, register))
+    rows.iter().any(|row| is_of(row.expected(), alg, register))
 }
 
 // Whether this is the value of this register.
