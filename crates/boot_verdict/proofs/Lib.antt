@@ -12,3 +12,4 @@ pub mod PcrReadLaws
 pub mod RangeLaws
 pub mod WrittenLaws
 pub mod LineLaws
+pub mod RequirementLaws

@@ -12,4 +12,6 @@ pub mod parts
 pub mod EventTexts
 pub mod PcrReadTexts
 pub mod RegisterRanges
+pub mod Requirements
+pub mod RequiredTexts
 pub mod WrittenTexts

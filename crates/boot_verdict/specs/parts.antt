@@ -4,4 +4,5 @@ pub mod LogPlaces
 pub mod Rows
 pub mod WrittenLines
 pub mod RangeEnds
+pub mod RequirementParts
 pub mod Watches

@@ -12,6 +12,7 @@ mod places;
 mod register_range;
 mod replaying;
 mod report;
+mod requirement;
 mod stated;
 mod texts;
 mod verifier;
@@ -19,11 +20,13 @@ mod verifier;
 pub use expected::{ExpectFault, Expected, read_expected};
 pub use locating::{locate, locate_from};
 pub use pcr_read::read_pcrread;
-pub use places::{Located, Place, all_found};
+pub use places::{Located, Place, all_found, required_found};
 pub use register_range::RegisterRange;
 pub use replaying::{list_start, replay_from};
 pub use report::{Aggregate, Report, Row, State};
+pub use requirement::{BankRange, Requirement, RequirementFault};
 pub use texts::{
     EventData, write_events, write_expected, write_places, write_registers, write_report,
+    write_required_places, write_required_report,
 };
 pub use verifier::{VerifyFault, verify, verify_from};

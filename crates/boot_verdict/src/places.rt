@@ -4,9 +4,11 @@ ghost use Rattle.std.specs.Prelude.{◌≡◌, Option, List, ℕ, map, option_ma
 ghost use Rattle.pcr_banks.specs.Digests.{digest_of};
 ghost use Rattle.pcr_banks.specs.Registers.{value_at};
 ghost use Rattle.boot_verdict.specs.Places.{all_found, is_found, is_reached};
+ghost use Rattle.boot_verdict.specs.Requirements.{required_found};
 ghost use Rattle.boot_verdict.specs.parts.Watches.{looked, looked_at};
 
 use crate::expected::Expected;
+use crate::requirement::Requirement;
 use pcr_banks::{Banks, Digest};
 use std::alloc::Global;
 
@@ -51,6 +53,13 @@ pub fn all_found(located: &[Located]) -> bool
     ensures { result ≡ all_found located.now }
 {
     located.iter().all(|row| row.place.is_found())
+}
+
+/// Whether each expected register has its value at some place, and each required register has a row.
+pub fn required_found(located: &[Located], requirement: &Requirement) -> bool
+    ensures { result ≡ required_found requirement.now located.now }
+{
+    all_found(located) && requirement.is_met_by(located)
 }
 
 /// Registers, and the rows whose values are watched for in them.

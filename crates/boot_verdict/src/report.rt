@@ -2,9 +2,11 @@
 
 ghost use Rattle.std.specs.Prelude.{◌≡◌};
 ghost use Rattle.std.specs.List.{list_all};
+ghost use Rattle.boot_verdict.specs.Requirements.{required_matches};
 ghost use Rattle.boot_verdict.specs.Verdicts.{is_match, matches, verdict_of};
 
 use crate::expected::Expected;
+use crate::requirement::Requirement;
 use pcr_banks::Digest;
 
 /// How a register compares with its expected value.
@@ -62,6 +64,13 @@ impl Report {
         ensures { result ≡ matches (verdict_of self.now) }
     {
         matches!(self.aggregate, Aggregate::Good) && all_match(&self.rows)
+    }
+
+    /// Whether the report matches, and has a row for each required register.
+    pub fn meets(&self, requirement: &Requirement) -> bool
+        ensures { result ≡ required_matches requirement.now (verdict_of self.now) }
+    {
+        self.matches() && requirement.is_met_by(&self.rows)
     }
 }
 

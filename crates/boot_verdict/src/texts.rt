@@ -6,9 +6,11 @@ mod expected;
 mod places;
 mod registers;
 mod report;
+mod required;
 
 pub use events::{EventData, write_events};
 pub use expected::write_expected;
 pub use places::write_places;
 pub use registers::write_registers;
 pub use report::write_report;
+pub use required::{write_required_places, write_required_report};

@@ -5,6 +5,7 @@ use Rattle.boot_verdict.proofs.ExpectedLaws.{spells_once}
 use Rattle.boot_verdict.proofs.PcrReadLaws.{says_once}
 use Rattle.boot_verdict.proofs.RangeLaws.{range_once}
 use Rattle.boot_verdict.proofs.StatedLaws.{states_once}
+use Rattle.boot_verdict.proofs.RequirementLaws.{requirement_once}
 use Rattle.boot_verdict.proofs.laws.texts_have_one_reading.Goals as goal
 
 pub returns-clause-expected : goal.returns-clause-expected
@@ -15,3 +16,6 @@ returns-clause-printed c = states_once Says says_once None
 
 pub returns-clause-range : goal.returns-clause-range
 returns-clause-range c = range_once
+
+pub returns-clause-requirement : goal.returns-clause-requirement
+returns-clause-requirement c = requirement_once
