@@ -18,7 +18,7 @@ use std::marker::Model;
 use thiserror::Error;
 
 /// Some registers of a bank.
-#[derive(Clone, Copy, Debug, PartialEq, Eq)]
+#[derive(Clone, Copy, PartialEq, Eq)]
 pub struct BankRange {
     /// The bank.
     pub alg: Alg,
@@ -66,7 +66,7 @@ impl<T: Drop> From<AllocFailed<T>> for RequirementFault {
 }
 
 /// Registers that must be among the expected ones, as ranges of banks. Contracts see the list of these.
-#[derive(Debug, Drop)]
+#[derive(Drop)]
 pub struct Requirement {
     ranges: Vec<BankRange>,
 }
