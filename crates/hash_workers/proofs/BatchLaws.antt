@@ -19,7 +19,7 @@ use Rattle.hash_workers.specs.parts.Taking.{Took, NumbersRiseForEach}
 use Rattle.hash_workers.specs.Outcomes.{IsOutcomeOf}
 use Rattle.hash_workers.specs.parts.Scattering.{items_of, got_at, ArePairs, AreScattered}
 use Rattle.hash_workers.specs.Batches.{IsReceiptOfJob, IsRefusalOfJob, IsBatchOf}
-use Rattle.hash_workers.proofs.ListLaws.{map_at, at_map, list_at, at_list, in_mapped, within_at}
+use Rattle.hash_workers.proofs.ListLaws.{at_list, at_map, equal_of, in_mapped, list_at, map_at, within_at}
 use Rattle.hash_workers.proofs.TakingLaws.{TakeEach}
 
 -- ---- the gathered groups are the workers' outcomes
@@ -178,22 +178,14 @@ module _ (origin : Origin) (count : ℕ) (Makes : ℕ → BookOp → Type 0) (wo
   -- Two receipts of the same place are of the same worker and index.
   same_source : (worker other i k : ℕ) (receipt another : BookReceipt) → Receipts worker i receipt → Receipts other k another
       → receipt.place ≡ another.place → (worker ≡ other) × (i ≡ k)
-  same_source worker other i k receipt another has also same = elim (cases_lt worker other) [
-    | inl less ↦ absurd (s.accounts.apart.each worker other i k receipt another less has also same)
-    | inr more ↦ elim (cases_lt other worker) [
-      | inl less ↦ absurd (s.accounts.apart.each other worker k i another receipt less also has (sym same))
-      | inr past ↦
-          let one : worker ≡ other = omega arith in
-          let here = rw one at has in
-          elim (cases_lt i k) [
-            | inl earlier ↦ let rises = s.accounts.rise.each other i k receipt another earlier here also in absurd (omega arith)
-            | inr later ↦ elim (cases_lt k i) [
-              | inl earlier ↦ let rises = s.accounts.rise.each other k i another receipt earlier also here in absurd (omega arith)
-              | inr over ↦ (one, omega arith)
-            ]
-          ]
-    ]
-  ]
+  same_source worker other i k receipt another has also same =
+      let one = equal_of worker other (λ less. s.accounts.apart.each worker other i k receipt another less has also same)
+      (λ more. s.accounts.apart.each other worker k i another receipt more also has (sym same)) in
+      let here = rw one at has in (
+        one,
+        equal_of i k (λ less. let rises = s.accounts.rise.each other i k receipt another less here also in omega arith)
+            (λ more. let rises = s.accounts.rise.each other k i another receipt more also here in omega arith),
+      )
 
   rise_by : (worker i k first second : ℕ) (earlier later : BookReceipt) → first < second → Took takings worker i first
       → Took takings worker k second → Receipts worker i earlier → Receipts worker k later → earlier.place < later.place

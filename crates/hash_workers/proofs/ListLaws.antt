@@ -1,8 +1,16 @@
--- Elements of lists, of mapped lists, and of lists of lists.
+-- Two numbers; elements of lists, of mapped lists, and of lists of lists.
 use Rattle.std.proofs.Common.{◌≡◌, ℕ, zero, suc, ◌+◌, ◌<◌, List, [], ◌∷◌, ◌++◌, length, length-append, map, Option, Some, None, refl, sym, ap, inl, inr, arith}
 use Rattle.std.specs.Prelude.{◌⊎◌, slice_get, option_and_then}
+use Rattle.std.proofs.lemmas.Bool.{cases_lt}
 use Rattle.std.proofs.lemmas.Option.{same_Some, none-some, slice_get_cases}
 use Rattle.hash_workers.specs.parts.Scattering.{got_at}
+
+-- Two numbers are equal if neither is below the other.
+pub equal_of : (m n : ℕ) → (m < n → ⊥) → (n < m → ⊥) → m ≡ n
+equal_of m n not_less not_more = elim (cases_lt m n) [
+  | inl less ↦ absurd (not_less less)
+  | inr more ↦ elim (cases_lt n m) [ inl less ↦ absurd (not_more less) | inr past ↦ omega arith ]
+]
 
 -- ---- one list
 
