@@ -92,24 +92,18 @@ refusal_at_end origin n m op fault is full = or_full (op_refusal origin op) n m 
 
 -- ---- the batch
 
-not_refused : (receipt : BookReceipt) → done receipt ≡ refused Memory → ⊥
-not_refused receipt is = absurd cc
-
 done_op : (origin : Origin) (count : ℕ) (Makes : ℕ → BookOp → Type 0) (job : ℕ) (receipt : BookReceipt)
     → IsOutcomeOf origin count Makes job (done receipt) → IsReceiptOfJob Makes job receipt
 done_op origin count Makes job receipt of = elim of.becomes [
-  | inl memory ↦ absurd (not_refused receipt memory)
+  | inl memory ↦ absurd cc
   | inr made ↦ record { op = made.0; has = made.1; operation = made.2 }
 ]
-
-same_refusal : (one other : BookFault) → refused one ≡ refused other → one ≡ other
-same_refusal one other is = cc
 
 refused_op : (origin : Origin) (count : ℕ) (Makes : ℕ → BookOp → Type 0) (records job : ℕ) (fault : BookFault)
     → IsOutcomeOf origin count Makes job (refused fault) → fault ≢ Memory
     → (fault ≡ Full → records ≡ origin.limit) → IsRefusalOfJob origin Makes records job fault
 refused_op origin count Makes records job fault of not_memory full = elim of.becomes [
-  | inl memory ↦ absurd (not_memory (same_refusal fault Memory memory))
+  | inl memory ↦ absurd (not_memory cc)
   | inr made ↦ elim made.2 [
     | inl memory ↦ absurd (not_memory memory)
     | inr cause ↦ record {
@@ -172,9 +166,6 @@ module _ (origin : Origin) (count : ℕ) (Makes : ℕ → BookOp → Type 0) (wo
         by_is = placed.1;
       }
 
-  of_source : (job : ℕ) (outcome : BookOutcome) → Source takings gs by job outcome → IsOutcomeOf origin count Makes job outcome
-  of_source job outcome from = s.of_jobs from.worker from.index job outcome from.took from.has
-
   -- Two receipts of the same place are of the same worker and index.
   same_source : (worker other i k : ℕ) (receipt another : BookReceipt) → Receipts worker i receipt → Receipts other k another
       → receipt.place ≡ another.place → (worker ≡ other) × (i ≡ k)
@@ -206,7 +197,8 @@ module _ (origin : Origin) (count : ℕ) (Makes : ℕ → BookOp → Type 0) (wo
     workers_of_all = s.by_len;
     worker_below = below_workers;
     receipts = λ job receipt has.
-        done_op origin count Makes job receipt (of_source job (done receipt) (source job (done receipt) has));
+        let from = source job (done receipt) has in
+        done_op origin count Makes job receipt (s.of_jobs from.worker from.index job (done receipt) from.took from.has);
     names = λ job receipt has.
         let from = source job (done receipt) has in s.accounts.names.each from.worker from.index receipt from.has;
     apart = λ job other receipt another has also same.
@@ -234,7 +226,8 @@ module _ (origin : Origin) (count : ℕ) (Makes : ℕ → BookOp → Type 0) (wo
         (rw one at from.has) there.has;
     refusals = λ job fault has not_memory.
         let from = source job (refused fault) has in
-        refused_op origin count Makes (length book.records) job fault (of_source job (refused fault) from) not_memory (λ full.
+        let of_job = s.of_jobs from.worker from.index job (refused fault) from.took from.has in
+        refused_op origin count Makes (length book.records) job fault of_job not_memory (λ full.
         s.accounts.full (record {
           group = from.worker;
           index = from.index;
