@@ -7,11 +7,13 @@ The TPM has a bank of each of the four algorithms. What extends them is what `sa
 entry by entry of the list. Keys and clocks differ from run to run. The exit status is that of the command."""
 
 import os
+import shutil
 import socket
 import subprocess
 import sys
 import tempfile
 import time
+from contextlib import contextmanager
 from pathlib import Path
 
 ROOT = Path(__file__).resolve().parent.parent
@@ -22,20 +24,30 @@ from reference.log import read_log  # noqa: E402
 from reference.measurement_list import read_list  # noqa: E402
 from reference.registers import ALGORITHMS, SHA256  # noqa: E402
 
+# Those that leave an object in the TPM.
+TOOLS = ("tpm2_createek", "tpm2_createak", "tpm2_evictcontrol", "tpm2_quote", "tpm2_sign", "tpm2_hash")
+# Makes room for the next objects first, as Linux does at /dev/tpmrm0.
+ROOMY = """#!/bin/sh
+tpm2_flushcontext --transient-object && exec {tool} "$@"
+"""
+
 
 def extension(register, digest_of):
     """A word of tpm2_pcrextend."""
     return f"{register}:" + ",".join(f"{algorithm.name}={digest_of(algorithm).hex()}" for algorithm in ALGORITHMS)
 
 
-def extensions():
-    """The words of tpm2_pcrextend for the sample boot."""
+def event_extensions():
+    """The words of tpm2_pcrextend for the events of the sample's log."""
     for event in read_log((BOOT / "firmware.log").read_bytes()).events:
         own = event.digest_of(SHA256)
         if event.is_extended:
             yield extension(event.register, lambda algorithm, own=own: own if algorithm is SHA256 else algorithm.hash(own))
-    for entry in read_list((BOOT / "ima.list").read_bytes()):
-        yield extension(entry.register, entry.digest_of)
+
+
+def entry_extensions(measurements):
+    """The same for the entries of a list."""
+    return [extension(entry.register, entry.digest_of) for entry in read_list(measurements)]
 
 
 def free_ports():
@@ -52,38 +64,49 @@ def free_ports():
 
 
 def started(folder):
-    """The emulator, in the foreground of its own process, and what the tools call it."""
+    """The emulator, in the foreground of a process of its own, and the environment of tools that talk to it."""
     port, control = free_ports()
     words = ["swtpm", "socket", "--tpm2", "--tpmstate", f"dir={folder}", "--flags", "not-need-init,startup-clear"]
     words += ["--server", f"type=tcp,bindaddr=127.0.0.1,port={port}", "--ctrl", f"type=tcp,bindaddr=127.0.0.1,port={control}"]
-    return subprocess.Popen(words), {**os.environ, "TPM2TOOLS_TCTI": f"swtpm:host=127.0.0.1,port={port}"}
+    tools = Path(folder, "tools")
+    tools.mkdir()
+    for tool in TOOLS:
+        tools.joinpath(tool).write_text(ROOMY.format(tool=shutil.which(tool)))
+        tools.joinpath(tool).chmod(0o755)
+    settings = {"TPM2TOOLS_TCTI": f"swtpm:host=127.0.0.1,port={port}", "PATH": f"{tools}:{os.environ['PATH']}"}
+    return subprocess.Popen(words), {**os.environ, **settings}
 
 
-def run_beside(emulator, environment, command):
-    """The command's status, with the boot extended before it."""
+def wait_for(emulator, environment):
     for _ in range(100):
-        ended = subprocess.run(["tpm2_pcrread", "sha256:0"], env=environment, capture_output=True)
-        if ended.returncode == 0:
-            break
+        if subprocess.run(["tpm2_pcrread", "sha256:0"], env=environment, capture_output=True).returncode == 0:
+            return
         if emulator.poll() is not None:
-            sys.exit("emulated.py: swtpm ended")
+            break
         time.sleep(0.1)
-    else:
-        sys.exit("emulated.py: swtpm does not answer")
-    subprocess.run(["tpm2_pcrextend", *extensions()], env=environment, check=True)
-    return subprocess.run(command, env=environment).returncode
+    raise RuntimeError("swtpm does not answer")
+
+
+@contextmanager
+def emulated():
+    """An emulated TPM with the sample boot: the environment of tools that talk to it."""
+    with tempfile.TemporaryDirectory() as folder:
+        emulator, environment = started(folder)
+        try:
+            wait_for(emulator, environment)
+            words = [*event_extensions(), *entry_extensions((BOOT / "ima.list").read_bytes())]
+            subprocess.run(["tpm2_pcrextend", *words], env=environment, check=True)
+            yield environment
+        finally:
+            emulator.terminate()
+            emulator.wait()
 
 
 def main():
     if len(sys.argv) < 2:
         sys.exit("usage: attest/emulated.py COMMAND [ARGUMENT]..")
-    with tempfile.TemporaryDirectory() as folder:
-        emulator, environment = started(folder)
-        try:
-            return run_beside(emulator, environment, sys.argv[1:])
-        finally:
-            emulator.terminate()
-            emulator.wait()
+    with emulated() as environment:
+        return subprocess.run(sys.argv[1:], env=environment).returncode
 
 
 if __name__ == "__main__":

@@ -29,7 +29,6 @@ SELECTIONS = {
 
 def tool(*words):
     """Runs a tool that must succeed: what it prints."""
-    subprocess.run(["tpm2_flushcontext", "--transient-object"], check=True)
     return subprocess.run(words, check=True, stdout=subprocess.PIPE).stdout
 
 
