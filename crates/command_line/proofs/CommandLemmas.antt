@@ -1,4 +1,4 @@
--- Commands that get one more argument, or one more command, as a row of a table says.
+-- Commands that get one more argument, or one more command, as a row of a table says; and a flag that gets a requirement.
 use Rattle.std.proofs.Common.{◌≡◌, ◌∙◌, ◌+◌, ◌<◌, ◌++◌, ◌&&◌, ℕ, Bool, Bor, List, [], ◌∷◌, ap, arith, false, length, length-append, not, refl, slice_index_or, sym, take, true}
 use Rattle.std.specs.List.{fold}
 use Rattle.std.proofs.lemmas.Bool.Decides.{nat_tests}
@@ -42,6 +42,7 @@ not_empty : {X : Type 0} (xs : List X) (x : X) → is_empty (xs ++ x ∷ []) ≡
 not_empty xs x =
     let some : 0 < length (xs ++ x ∷ []) = omega (arith, length-append xs (x ∷ [])) in grind (arith, nat_tests)
 
+-- One false fact among those that make an argument free.
 never_free : (a b : Bool) → (a && (b && false)) ≡ false
 never_free false b = refl
 never_free true false = refl
