@@ -1,4 +1,5 @@
 pub mod RegisterLaws
+pub mod StatedLaws
 pub mod ExpectedLaws
 pub mod VerdictLaws
 pub mod WatchLaws
@@ -6,9 +7,10 @@ pub mod PlaceLaws
 pub mod FollowLaws
 pub mod LocateLaws
 pub mod ReplayLaws
+pub mod ListVerdictLaws
 pub mod EventTextLaws
 pub mod PcrReadLaws
 pub mod RangeLaws
 pub mod WrittenLaws
 pub mod LineLaws
-pub mod ReadingLaws
+pub mod RequirementLaws

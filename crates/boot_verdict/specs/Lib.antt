@@ -1,5 +1,6 @@
 pub mod RegisterTexts
 pub mod ExpectFaults
+pub mod StatedRegisters
 pub mod ExpectedTexts
 pub mod Verdicts
 pub mod ReportTexts
@@ -11,4 +12,7 @@ pub mod parts
 pub mod EventTexts
 pub mod PcrReadTexts
 pub mod RegisterRanges
+pub mod Requirements
+pub mod RequiredTexts
+pub mod ListVerdicts
 pub mod WrittenTexts

@@ -17,12 +17,19 @@ aggregate_word Wrong = codes "wrong"
 aggregate_word NoBank = codes "nobank"
 aggregate_word Missing = codes "missing"
 
+-- Two lines, events and locality, and entries; after the number of entries comes `rest`.
+abbrev pub counts_then : ℕ → ℕ → ℕ → List ℕ → List ℕ
+counts_then events locality entries rest =
+    codes "events " ++ (decimal events ++ (codes " locality " ++ (decimal locality
+    ++ (codes "\nentries " ++ (decimal entries ++ rest)))))
+
+-- The end of the line before, and the line of the boot aggregate.
+abbrev pub aggregate_text : Aggregate → List ℕ
+aggregate_text aggregate = codes "\nboot_aggregate " ++ (aggregate_word aggregate ++ codes "\n")
+
 -- Three lines: events and locality, entries, boot aggregate.
 abbrev pub heading_text : ℕ → ℕ → ℕ → Aggregate → List ℕ
-heading_text events locality entries aggregate =
-    codes "events " ++ (decimal events ++ (codes " locality " ++ (decimal locality
-    ++ (codes "\nentries " ++ (decimal entries
-    ++ (codes "\nboot_aggregate " ++ (aggregate_word aggregate ++ codes "\n")))))))
+heading_text events locality entries aggregate = counts_then events locality entries (aggregate_text aggregate)
 
 -- The word for a state; after `differ` comes the value.
 abbrev pub state_word : State → List ℕ

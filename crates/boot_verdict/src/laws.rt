@@ -10,11 +10,13 @@ ghost use Rattle.boot_verdict.specs.declared.places.Place.TheVariants.{Nowhere};
 ghost use Rattle.boot_verdict.specs.declared.report.State.TheVariants.{Match};
 ghost use Rattle.boot_verdict.specs.Places.{is_found, pcr_after, place_after, place_on, reached_after};
 ghost use Rattle.boot_verdict.specs.declared.register_range.RegisterRange.{RegisterRange};
+ghost use Rattle.boot_verdict.specs.declared.requirement.BankRange.{BankRange};
 ghost use Rattle.boot_verdict.specs.ExpectedTexts.{IsExpectedText};
 ghost use Rattle.boot_verdict.specs.PcrReadTexts.{IsPcrReadText};
 ghost use Rattle.boot_verdict.specs.RegisterRanges.{IsRangeText};
+ghost use Rattle.boot_verdict.specs.Requirements.{HasMatch, IsRequirementText, names, required_matches};
 ghost use Rattle.boot_verdict.specs.WrittenTexts.{expected_text, those_within};
-ghost use Rattle.boot_verdict.specs.Verdicts.{pcr_after_log_and_list, row_on};
+ghost use Rattle.boot_verdict.specs.Verdicts.{pcr_after_log_and_list, row_on, verdict_on};
 
 /// The place of an expected register is where its value is first reached: after the steps of that place the register has the
 /// value, and after no fewer steps (`first`). A register whose place is nowhere has the value after none of the steps (`nowhere`). A
@@ -36,7 +38,8 @@ pub fn place_is_where_the_value_is_first()
 {}
 
 /// A text has one reading: it states one list of registers at most, whether it is one that [`crate::read_expected`] reads
-/// (`expected`) or one that tpm2_pcrread printed (`printed`); and it spells one range of registers at most (`range`).
+/// (`expected`) or one that tpm2_pcrread printed (`printed`); and it spells one range of registers (`range`) and one requirement
+/// (`requirement`) at most.
 pub fn texts_have_one_reading()
     ensures expected { (text : List ℕ) (first second : List Expected)
         → IsExpectedText text first → IsExpectedText text second → first ≡ second }
@@ -44,6 +47,17 @@ pub fn texts_have_one_reading()
         → IsPcrReadText text first → IsPcrReadText text second → first ≡ second }
     ensures range { (text : List ℕ) (first second : RegisterRange)
         → IsRangeText text first → IsRangeText text second → first ≡ second }
+    ensures requirement { (text : List ℕ) (first second : List BankRange)
+        → IsRequirementText text first → IsRequirementText text second → first ≡ second }
+{}
+
+/// A verdict that meets a requirement has a `match` for each register that the requirement names. The requirement is one that a
+/// text spells, such as [`crate::Requirement::from_text`] reads.
+pub fn met_requirement_is_matched()
+    ensures { (algs : AlgSet) (events : List LogEvent) (entries : List ListEntry) (expected : List Expected)
+        (text : List ℕ) (ranges : List BankRange) (alg : Alg) (register : ℕ) → IsRequirementText text ranges
+        → required_matches ranges (verdict_on algs events entries expected) ≡ true → names ranges alg register ≡ true
+        → HasMatch (verdict_on algs events entries expected).rows alg register }
 {}
 
 /// What [`crate::read_pcrread`] read and [`crate::write_expected`] wrote, [`crate::read_expected`] reads back: if a text that

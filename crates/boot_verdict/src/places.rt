@@ -4,14 +4,16 @@ ghost use Rattle.std.specs.Prelude.{◌≡◌, Option, List, ℕ, map, option_ma
 ghost use Rattle.pcr_banks.specs.Digests.{digest_of};
 ghost use Rattle.pcr_banks.specs.Registers.{value_at};
 ghost use Rattle.boot_verdict.specs.Places.{all_found, is_found, is_reached};
+ghost use Rattle.boot_verdict.specs.Requirements.{required_found};
 ghost use Rattle.boot_verdict.specs.parts.Watches.{looked, looked_at};
 
 use crate::expected::Expected;
+use crate::requirement::Requirement;
 use pcr_banks::{Banks, Digest};
 use std::alloc::Global;
 
 /// Where a register first has its expected value.
-#[derive(Clone, Copy, Debug, PartialEq, Eq)]
+#[derive(Clone, Copy, PartialEq, Eq)]
 pub enum Place {
     /// Before the log's events: it is the register's reset value.
     Reset,
@@ -38,7 +40,7 @@ impl Place {
 }
 
 /// An expected register, and where it first has its value.
-#[derive(Clone, Copy, Debug, PartialEq, Eq)]
+#[derive(Clone, Copy, PartialEq, Eq)]
 pub struct Located {
     /// What is expected.
     pub expected: Expected,
@@ -51,6 +53,13 @@ pub fn all_found(located: &[Located]) -> bool
     ensures { result ≡ all_found located.now }
 {
     located.iter().all(|row| row.place.is_found())
+}
+
+/// Whether each expected register has its value at some place, and each required register has a row.
+pub fn required_found(located: &[Located], requirement: &Requirement) -> bool
+    ensures { result ≡ required_found requirement.now located.now }
+{
+    all_found(located) && requirement.is_met_by(located)
 }
 
 /// Registers, and the rows whose values are watched for in them.

@@ -2,9 +2,11 @@
 
 ghost use Rattle.std.specs.Prelude.{◌≡◌};
 ghost use Rattle.std.specs.List.{list_all};
+ghost use Rattle.boot_verdict.specs.Requirements.{required_matches};
 ghost use Rattle.boot_verdict.specs.Verdicts.{is_match, matches, verdict_of};
 
 use crate::expected::Expected;
+use crate::requirement::Requirement;
 use pcr_banks::Digest;
 
 /// How a register compares with its expected value.
@@ -19,7 +21,7 @@ pub enum State {
 }
 
 /// An expected register, and how it compares.
-#[derive(Clone, Copy, Debug, PartialEq, Eq)]
+#[derive(Clone, Copy, PartialEq, Eq)]
 pub struct Row {
     /// What is expected.
     pub expected: Expected,
@@ -29,7 +31,7 @@ pub struct Row {
 
 /// Whether the list states the boot aggregate of the log: its first entry should be a measurement of the path `boot_aggregate`,
 /// with the hash of the first registers that the firmware left.
-#[derive(Clone, Copy, Debug, PartialEq, Eq)]
+#[derive(Clone, Copy, PartialEq, Eq)]
 pub enum Aggregate {
     /// The first entry states the boot aggregate of the log's registers.
     Good,
@@ -42,7 +44,7 @@ pub enum Aggregate {
 }
 
 /// The report on a firmware event log, a measurement list and expected registers.
-#[derive(Debug, Drop)]
+#[derive(Drop)]
 pub struct Report {
     /// How many events the log has after its header.
     pub events: usize,
@@ -63,10 +65,17 @@ impl Report {
     {
         matches!(self.aggregate, Aggregate::Good) && all_match(&self.rows)
     }
+
+    /// Whether the report matches, and has a row for each required register.
+    pub fn meets(&self, requirement: &Requirement) -> bool
+        ensures { result ≡ required_matches requirement.now (verdict_of self.now) }
+    {
+        self.matches() && requirement.is_met_by(&self.rows)
+    }
 }
 
-// Whether each expected register has its value.
-fn all_match(rows: &[Row]) -> bool
+/// Whether each expected register has its value.
+pub(crate) fn all_match(rows: &[Row]) -> bool
     ensures { result ≡ list_all is_match rows.now }
 {
     rows.iter().all(|row| matches!(row.state, State::Match))

@@ -21,7 +21,7 @@ pub fn write_places<S: Sink>(located: &[Located], sink: &mut S) -> Result<(), Fa
     send(found_line(all_found(located)), sink)
 }
 
-fn write_all<S: Sink>(located: &[Located], sink: &mut S) -> Result<(), Failed>
+pub(super) fn write_all<S: Sink>(located: &[Located], sink: &mut S) -> Result<(), Failed>
     ensures { Sends (S.state sink.old) (S.state sink.new) result (flat_map located_text located.now) }
 {
     for row in located {
@@ -60,7 +60,7 @@ fn place_digits<'a>(place: Place, room: &'a mut Buffer) -> &'a [u8]
     }
 }
 
-fn found_line(all_found: bool) -> &'static [u8]
+pub(super) fn found_line(all_found: bool) -> &'static [u8]
     ensures { result.now ≡ found_text all_found }
 {
     if all_found {

@@ -47,7 +47,7 @@ fn write_heading<S: Sink>(report: &Report, sink: &mut S) -> Result<(), Failed>
     send_pieces(&pieces, sink)
 }
 
-fn aggregate_word(aggregate: Aggregate) -> &'static str
+pub(super) fn aggregate_word(aggregate: Aggregate) -> &'static str
     ensures { result.now ≡ aggregate_word aggregate }
 {
     match aggregate {
@@ -58,7 +58,7 @@ fn aggregate_word(aggregate: Aggregate) -> &'static str
     }
 }
 
-fn write_rows<S: Sink>(rows: &[Row], sink: &mut S) -> Result<(), Failed>
+pub(super) fn write_rows<S: Sink>(rows: &[Row], sink: &mut S) -> Result<(), Failed>
     ensures { Sends (S.state sink.old) (S.state sink.new) result (flat_map row_text rows.now) }
 {
     for row in rows {
@@ -103,7 +103,7 @@ fn write_register_words<S: Sink>(expected: &Expected, sink: &mut S) -> Result<()
     send_pieces(&[name, b" ", register, b" "], sink)
 }
 
-fn verdict_line(is_match: bool) -> &'static [u8]
+pub(super) fn verdict_line(is_match: bool) -> &'static [u8]
     ensures { result.now ≡ verdict_text is_match }
 {
     if is_match {

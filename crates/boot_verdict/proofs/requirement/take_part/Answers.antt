@@ -1,0 +1,4 @@
+use Rattle.boot_verdict.proofs.requirement.take_part.Goals as goal
+
+pub returns-in_default-clause-fault : goal.returns-in_default-clause-fault
+returns-in_default-clause-fault c = λ malformed spells. c.in_default.ensures.none spells.0 spells.1

@@ -1,0 +1,47 @@
+-- The texts of a report and of places where registers are required. All of this is this project's choice.
+use Rattle.std.specs.Prelude.{ℕ, if◌then◌else◌, List, [], ◌++◌, length, codes, decimal, flat_map}
+use Rattle.pcr_banks.specs.declared.alg.Alg.{Alg}
+use Rattle.pcr_banks.specs.Hashing.{all_algs, name_of}
+use Rattle.boot_verdict.specs.declared.expected.Expected.{Expected}
+use Rattle.boot_verdict.specs.declared.places.Located.{Located}
+use Rattle.boot_verdict.specs.declared.report.Aggregate.{Aggregate}
+use Rattle.boot_verdict.specs.declared.requirement.BankRange.{BankRange}
+use Rattle.boot_verdict.specs.PlaceTexts.{found_text, located_text}
+use Rattle.boot_verdict.specs.RegisterTexts.{all_registers}
+use Rattle.boot_verdict.specs.ReportTexts.{aggregate_text, counts_then, row_text, verdict_text}
+use Rattle.boot_verdict.specs.Requirements.{expected_of_located, expected_of_rows, is_missing, required_found, required_matches}
+use Rattle.boot_verdict.specs.Verdicts.{Verdict}
+
+-- The line of a missing register, as `sha256 4 missing`.
+abbrev pub missing_line : Alg → ℕ → List ℕ
+missing_line alg register = name_of alg ++ (codes " " ++ (decimal register ++ codes " missing\n"))
+
+-- The same if it is missing; else nothing.
+abbrev pub line_if_missing : List BankRange → List Expected → Alg → ℕ → List ℕ
+line_if_missing ranges expected alg register = if is_missing ranges expected alg register then missing_line alg register else []
+
+-- The lines of a bank, by ascending register.
+abbrev pub missing_in : List BankRange → List Expected → Alg → List ℕ
+missing_in ranges expected alg = flat_map (line_if_missing ranges expected alg) all_registers
+
+-- The lines of all banks, in the order of algorithms.
+abbrev pub missing_text : List BankRange → List Expected → List ℕ
+missing_text ranges expected = flat_map (missing_in ranges expected) all_algs
+
+-- Four lines: events and locality, entries, how many registers were compared, boot aggregate.
+abbrev pub required_heading_text : ℕ → ℕ → ℕ → ℕ → Aggregate → List ℕ
+required_heading_text events locality entries compared aggregate =
+    counts_then events locality entries (codes "\ncompared " ++ (decimal compared ++ aggregate_text aggregate))
+
+-- The report: its heading, a line for each expected register, one for each that is missing, and the verdict.
+abbrev pub required_report_text : List BankRange → Verdict → List ℕ
+required_report_text ranges verdict =
+    required_heading_text verdict.events verdict.locality verdict.entries (length verdict.rows) verdict.aggregate
+    ++ (flat_map row_text verdict.rows
+    ++ (missing_text ranges (expected_of_rows verdict.rows) ++ verdict_text (required_matches ranges verdict)))
+
+-- A line for each expected register, one for each that is missing, and whether all were found.
+abbrev pub required_places_text : List BankRange → List Located → List ℕ
+required_places_text ranges located =
+    flat_map located_text located
+    ++ (missing_text ranges (expected_of_located located) ++ found_text (required_found ranges located))

@@ -1,0 +1,127 @@
+//! The lines of reports and places where registers are required.
+
+ghost use Rattle.std.specs.Prelude.{length, map};
+ghost use Rattle.byte_streams.specs.Streams.{Sends};
+ghost use Rattle.boot_verdict.specs.RequiredTexts.{line_if_missing, missing_in, missing_line, missing_text, required_heading_text, required_places_text, required_report_text};
+ghost use Rattle.boot_verdict.specs.Verdicts.{verdict_of};
+
+use super::places::{found_line, write_all};
+use super::report::{aggregate_word, verdict_line, write_rows};
+use crate::places::{Located, required_found};
+use crate::report::Report;
+use crate::requirement::{HasExpected, Requirement};
+use byte_streams::{Failed, Sink, send, send_pieces};
+use itoa::Buffer;
+use pcr_banks::{Alg, REGISTERS};
+
+/// Writes a report as [`crate::write_report`] does, with two differences. After the line with the number of entries is one with
+/// the number of expected registers, `compared 24`. And after the lines of these is one for each required register that is not
+/// among them, `sha256 4 missing`, by bank in the order of [`Alg::ALL`], then by register; the verdict then is `differ`.
+pub fn write_required_report<S: Sink>(
+    report: &Report,
+    requirement: &Requirement,
+    sink: &mut S,
+) -> Result<(), Failed>
+    ensures { Sends (S.state sink.old) (S.state sink.new) result
+        (required_report_text requirement.now (verdict_of report.now)) }
+{
+    write_heading(report, sink)?;
+    write_rows(&report.rows, sink)?;
+    write_missing(requirement, &report.rows, sink)?;
+    send(verdict_line(report.meets(requirement)), sink)
+}
+
+/// Writes places as [`crate::write_places`] does, and after the lines of expected registers one for each required register that
+/// is not among them, as [`write_required_report`] does; the last line then is `not located`.
+pub fn write_required_places<S: Sink>(
+    located: &[Located],
+    requirement: &Requirement,
+    sink: &mut S,
+) -> Result<(), Failed>
+    ensures { Sends (S.state sink.old) (S.state sink.new) result (required_places_text requirement.now located.now) }
+{
+    write_all(located, sink)?;
+    write_missing(requirement, located, sink)?;
+    send(found_line(required_found(located, requirement)), sink)
+}
+
+fn write_heading<S: Sink>(report: &Report, sink: &mut S) -> Result<(), Failed>
+    ensures { Sends (S.state sink.old) (S.state sink.new) result
+        (required_heading_text report.now.events report.now.locality report.now.entries (length report.now.rows.items)
+        report.now.aggregate) }
+{
+    let mut events = Buffer::new();
+    let mut locality = Buffer::new();
+    let mut entries = Buffer::new();
+    let mut compared = Buffer::new();
+    let pieces: [&[u8]; 11] = [
+        b"events ",
+        events.format(report.events).as_bytes(),
+        b" locality ",
+        locality.format(report.locality).as_bytes(),
+        b"\nentries ",
+        entries.format(report.entries).as_bytes(),
+        b"\ncompared ",
+        compared.format(report.rows.len()).as_bytes(),
+        b"\nboot_aggregate ",
+        aggregate_word(report.aggregate).as_bytes(),
+        b"\n",
+    ];
+    send_pieces(&pieces, sink)
+}
+
+pub(super) fn write_missing<T: HasExpected, S: Sink>(
+    requirement: &Requirement,
+    rows: &[T],
+    sink: &mut S,
+) -> Result<(), Failed>
+    ensures { Sends (S.state sink.old) (S.state sink.new) result (missing_text requirement.now (map T.expected_of rows.now)) }
+{
+    for alg in &Alg::ALL {
+        write_missing_in(requirement, rows, *alg, sink)?;
+    }
+    Ok(())
+}
+
+// The same of the registers of one bank.
+fn write_missing_in<T: HasExpected, S: Sink>(
+    requirement: &Requirement,
+    rows: &[T],
+    alg: Alg,
+    sink: &mut S,
+) -> Result<(), Failed>
+    ensures { Sends (S.state sink.old) (S.state sink.new) result (missing_in requirement.now (map T.expected_of rows.now) alg) }
+{
+    for register in 0..REGISTERS {
+        write_if_missing(requirement, rows, alg, register, sink)?;
+    }
+    Ok(())
+}
+
+// Writes the register's line if it is missing.
+fn write_if_missing<T: HasExpected, S: Sink>(
+    requirement: &Requirement,
+    rows: &[T],
+    alg: Alg,
+    register: u32,
+    sink: &mut S,
+) -> Result<(), Failed>
+    ensures { Sends (S.state sink.old) (S.state sink.new) result
+        (line_if_missing requirement.now (map T.expected_of rows.now) alg register) }
+{
+    if requirement.lacks(rows, alg, register) {
+        return write_line(alg, register, sink);
+    }
+    Ok(())
+}
+
+fn write_line<S: Sink>(alg: Alg, register: u32, sink: &mut S) -> Result<(), Failed>
+    ensures { Sends (S.state sink.old) (S.state sink.new) result (missing_line alg register) }
+{
+    let mut number = Buffer::new();
+    let register = number.format(register).as_bytes();
+    send_pieces(
+        &[alg.name().as_bytes(), b" ", register, b" missing\n"],
+        sink,
+    )
+}
