@@ -1,4 +1,5 @@
 pub mod RegisterLaws
+pub mod StatedLaws
 pub mod ExpectedLaws
 pub mod VerdictLaws
 pub mod WatchLaws
@@ -12,5 +13,4 @@ pub mod PcrReadLaws
 pub mod RangeLaws
 pub mod WrittenLaws
 pub mod LineLaws
-pub mod ReadingLaws
 pub mod RequirementLaws

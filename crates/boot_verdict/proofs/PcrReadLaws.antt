@@ -1,26 +1,20 @@
--- What tpm2_pcrread prints: a line says one thing at most, and what is known of the lines as they are read.
-use Rattle.std.proofs.Common.{◌≡◌, ℕ, ◌+◌, ◌-◌, ◌*◌, ◌/◌, ◌%◌, ◌<◌, ◌≤◌, true, false, List, [], ◌∷◌, ◌++◌, length, drop, take, slice_index, decimal, codes, Option, None, Some, option_map, Bor, refl, sym, ap, subst, ◌∙◌, inl, inr, arith, append_assoc, append-nil}
-use Rattle.std.specs.Prelude.{◌⊎◌, IfNone, IfSome, IsTrue, replicate, option_to_list, unwrap_or}
-use Rattle.std.specs.List.{AllPass, IsDistinct, list_all, list_any}
+-- What tpm2_pcrread prints: a line says one thing at most.
+use Rattle.std.proofs.Common.{◌≡◌, ℕ, ◌+◌, ◌-◌, ◌*◌, ◌/◌, ◌%◌, ◌<◌, ◌≤◌, true, List, [], ◌∷◌, ◌++◌, length, drop, take, slice_index, decimal, codes, Option, None, Some, Bor, refl, sym, ap, ◌∙◌, inl, inr, arith}
+use Rattle.std.specs.Prelude.{◌⊎◌, IfNone, IfSome, replicate, unwrap_or}
+use Rattle.std.specs.List.{AllPass, list_all}
 use Rattle.std.proofs.lemmas.Bool.{and_parts, cases_lt}
 use Rattle.std.proofs.lemmas.List.{length-append, append_cancel_right}
 use Rattle.std.proofs.lemmas.Fmt.{decimal_digit, decimal_step, decimal_injective}
 use Rattle.pcr_banks.specs.declared.alg.Alg.{Alg}
-use Rattle.pcr_banks.specs.declared.digest.Digest.{Digest}
 use Rattle.pcr_banks.specs.Hashing.{name_of, size_of}
-use Rattle.pcr_banks.specs.Digests.{alg_of, bytes_of, digest_of}
+use Rattle.pcr_banks.specs.Digests.{bytes_of}
 use Rattle.pcr_banks.proofs.AlgLaws.{same_name_is}
-use Rattle.pcr_banks.proofs.SetLaws.{digest_again}
-use Rattle.hex.specs.Hex.{decode_of, is_hex_digit}
-use Rattle.hex.proofs.HexLemmas.{decode_of-ok, decode_of-same}
+use Rattle.hex.specs.Hex.{is_hex_digit}
+use Rattle.hex.proofs.HexLemmas.{decode_of-ok}
 use Rattle.boot_verdict.specs.declared.expected.Expected.{Expected}
-use Rattle.boot_verdict.specs.declared.expected.ExpectFault.{ExpectFault}
-use Rattle.boot_verdict.specs.declared.expected.ExpectFault.TheVariants.{BadLine, DoubleLine, Memory}
-use Rattle.boot_verdict.specs.ExpectedTexts.{lines_of, same_register}
-use Rattle.boot_verdict.specs.parts.ExpectedLines.{lines_left}
-use Rattle.boot_verdict.specs.PcrReadTexts.{ArePrinted, Begins, GivesValue, IsBankLine, IsPcrReadText, IsPrintedFault, IsSkipped, IsValueLine, Place, PrintsRegister, SayAll, Says, is_name_byte, two_columns}
-use Rattle.boot_verdict.specs.parts.PcrReadLines.{AddsStated, GivesAnother, IsAdded}
-use Rattle.boot_verdict.proofs.ExpectedLaws.{distinct_apart, distinct_more, left_count, left_within, parts_more}
+use Rattle.boot_verdict.specs.PcrReadTexts.{Begins, GivesValue, IsBankLine, IsSkipped, IsValueLine, Place, Says, is_name_byte, two_columns}
+use Rattle.boot_verdict.specs.parts.StatedLines.{SaysOnce}
+use Rattle.boot_verdict.proofs.StatedLaws.{same_expected}
 
 -- ---- fronts
 
@@ -145,17 +139,6 @@ pub one_bank : (line name other : List ℕ) → IsBankLine line name → IsBankL
 one_bank line name other is another =
     append_cancel_right name other (codes ":") (ap (λ (l : List ℕ). drop 2 l) (sym is.spelled ∙ another.spelled))
 
-pub same_expected : (e other : Expected) → e.alg ≡ other.alg → e.register ≡ other.register → e.value ≡ other.value → e ≡ other
-same_expected e other algs registers values =
-    ap (λ (a : Alg). let x : Expected = record { alg = a; register = e.register; value = e.value } in x) algs
-    ∙ ap (λ (r : ℕ). let x : Expected = record { alg = other.alg; register = r; value = e.value } in x) registers
-    ∙ ap (λ (v : Digest). let x : Expected = record { alg = other.alg; register = other.register; value = v } in x) values
-
-pub same_digest : (digest other : Digest) → alg_of digest ≡ alg_of other → bytes_of digest ≡ bytes_of other → digest ≡ other
-same_digest digest other algs bytes =
-    sym (digest_again digest) ∙ ap (λ (a : Alg). digest_of a (bytes_of digest)) algs
-    ∙ ap (λ (b : List ℕ). digest_of (alg_of other) b) bytes ∙ digest_again other
-
 -- A line gives one value to one register.
 pub one_value : (bank line : List ℕ) (e other : Expected) → IsValueLine bank line e → IsValueLine bank line other → e ≡ other
 one_value bank line e other is another =
@@ -163,12 +146,9 @@ one_value bank line e other is another =
     ap (λ (l : List ℕ). drop 4 l) (sym is.spelled ∙ another.spelled) in
     let parts = same_fronts (two_columns e.register) (two_columns other.register) (codes ": 0x" ++ is.digits) (codes ": 0x" ++ another.digits)
     (columns_length e.register is.exists ∙ sym (columns_length other.register another.exists)) rest in
-    let digits : is.digits ≡ another.digits = ap (λ (l : List ℕ). drop 4 l) parts.1 in
-    let algs : e.alg ≡ other.alg = same_name_is e.alg other.alg (is.bank_is ∙ sym another.bank_is) in
-    let bytes = decode_of-same is.digits (bytes_of e.value) (bytes_of other.value) is.value_is
-    (ap decode_of digits ∙ another.value_is) in
-    same_expected e other algs (columns_injective e.register other.register is.exists another.exists parts.0)
-    (same_digest e.value other.value (is.alg_is ∙ algs ∙ sym another.alg_is) bytes)
+    same_expected e other is.digits another.digits (same_name_is e.alg other.alg (is.bank_is ∙ sym another.bank_is))
+    (columns_injective e.register other.register is.exists another.exists parts.0) (ap (λ (l : List ℕ). drop 4 l) parts.1)
+    is.alg_is another.alg_is is.value_is another.value_is
 
 skipped_bank : (place next : Place) (line : List ℕ) → IsSkipped place line → Begins line next → ⊥
 skipped_bank place None line skipped begins = begins
@@ -215,9 +195,9 @@ value_here None line e other p q = absurd p
 value_here (Some bank) line e other p q = one_value bank line e other p q
 
 -- A line says one thing.
-pub says_once : (place next other : Place) (line : List ℕ) (first second : Option Expected) → Says place line next first
+say_once : (place next other : Place) (line : List ℕ) (first second : Option Expected) → Says place line next first
     → Says place line other second → (next ≡ other) × (first ≡ second)
-says_once place next other line None None p q =
+say_once place next other line None None p q =
     elim p [
       | inl skipped ↦ elim q [
         | inl also ↦ (skipped.1 ∙ sym also.1, refl)
@@ -228,10 +208,13 @@ says_once place next other line None None p q =
         | inr also ↦ (one_place line next other begins also, refl)
       ]
     ]
-says_once place next other line None (Some e) p q = absurd (no_value_here place next line e p q.0)
-says_once place next other line (Some e) None p q = absurd (no_value_here place other line e q p.0)
-says_once place next other line (Some e) (Some second) p q =
+say_once place next other line None (Some e) p q = absurd (no_value_here place next line e p q.0)
+say_once place next other line (Some e) None p q = absurd (no_value_here place other line e q p.0)
+say_once place next other line (Some e) (Some second) p q =
     (p.1 ∙ sym q.1, ap (λ (x : Expected). Some x) (value_here place line e second p.0 q.0))
+
+pub says_once : SaysOnce Says
+says_once = record { once = say_once }
 
 -- ---- why a line gives no value
 
@@ -255,152 +238,3 @@ no_value_in line text rest digits n alg e lt below columns mark none is =
     let spelled = decode_of-ok is.digits (bytes_of e.value) is.value_is in
     let size : length is.digits ≡ 2 * size_of e.alg = spelled.2 ∙ ap (λ (n : ℕ). 2 * n) is.value_size in
     none (rw (same, digits-are) (size, spelled.1))
-
--- ---- one more line
-
--- One more line after others.
-pub say_more : (before : List (List ℕ)) (start place next : Place) (line : List ℕ) (expected : List Expected) (stated : Option Expected)
-    → SayAll start before place expected → Says place line next stated
-    → SayAll start (before ++ line ∷ []) next (expected ++ option_to_list stated)
-say_more [] start place next line expected stated all says = (
-  next,
-  stated,
-  [],
-  subst (λ (p : Place). Says p line next stated) all.0 says,
-  (refl, refl),
-  ap (λ (l : List Expected). l ++ option_to_list stated) all.1 ∙ sym (append-nil (option_to_list stated)),
-)
-say_more (first ∷ before) start place next line expected stated all says = (
-  all.0,
-  all.1,
-  all.2 ++ option_to_list stated,
-  all.3,
-  say_more before all.0 place next line all.2 stated all.4 says,
-  ap (λ (l : List Expected). l ++ option_to_list stated) all.5
-      ∙ append_assoc (option_to_list all.1) all.2 (option_to_list stated),
-)
-
--- What the others say, where the first lines lead to this place and state these registers.
-pub say_parted : (before rest : List (List ℕ)) (start place end : Place) (expected front : List Expected)
-    → SayAll start (before ++ rest) end expected → SayAll start before place front
-    → (back : List Expected) × (expected ≡ front ++ back) × SayAll place rest end back
-say_parted [] rest start place end expected front all some = (
-  expected,
-  ap (λ (l : List Expected). l ++ expected) (sym some.1),
-  subst (λ (p : Place). SayAll p rest end expected) (sym some.0) all,
-)
-say_parted (line ∷ before) rest start place end expected front all some =
-    let same = says_once start all.0 some.0 line all.1 some.1 all.3 some.3 in
-    let others = say_parted before rest some.0 place end all.2 some.2
-    (subst (λ (p : Place). SayAll p (before ++ rest) end all.2) same.0 all.4) some.4 in (
-      others.0,
-      all.5 ∙ ap (λ (o : Option Expected). option_to_list o ++ all.2) same.1
-          ∙ ap (λ (l : List Expected). option_to_list some.1 ++ l) others.1
-          ∙ sym (append_assoc (option_to_list some.1) some.2 others.0)
-          ∙ ap (λ (l : List Expected). l ++ others.0) (sym some.5),
-      others.2,
-    )
-
-added : (before after : List Expected) (stated : Option Expected) → IsAdded before stated after
-    → after ≡ before ++ option_to_list stated
-added before after None is = is ∙ sym (append-nil before)
-added before after (Some e) is = is.1
-
-added_distinct : (before after : List Expected) (stated : Option Expected) → IsDistinct same_register before → IsAdded before stated after
-    → IsDistinct same_register after
-added_distinct before after None distinct is = rw is distinct
-added_distinct before after (Some e) distinct is = rw is.1 (distinct_more before e distinct is.0)
-
-printed_more : (before : List (List ℕ)) (place next : Place) (line : List ℕ) (expected after : List Expected)
-    → ArePrinted before place expected → AddsStated place line next expected after → ArePrinted (before ++ line ∷ []) next after
-printed_more before place next line expected after printed adds = record {
-  say = subst (λ (l : List Expected). SayAll None (before ++ line ∷ []) next l) (sym (added expected after adds.0 adds.2))
-      (say_more before None place next line expected adds.0 printed.say adds.1);
-  distinct = added_distinct expected after adds.0 printed.distinct adds.2;
-}
-
--- ---- line by line
-
--- The lines before `rest` are read, and this is their number, what they state and the place after them.
-pub record ReadsPrinted (text : List ℕ) (expected : List Expected) (number : ℕ) (place : Place) (rest : Option (Bor (List ℕ))) : Type 0 where
-  pub before : List (List ℕ)
-  pub parts : lines_of text ≡ before ++ lines_left (option_map (λ left. left.now) rest)
-  pub printed : ArePrinted before place expected
-  pub count : length before ≡ number
-  pub within : number + left_count rest ≤ length text + 1
-
--- Nothing is read yet.
-pub prints_none : (text : Bor (List ℕ)) → ReadsPrinted text.now [] 0 None (Some text)
-unfolding IsDistinct
-prints_none text = record {
-  before = [];
-  parts = refl;
-  printed = record { say = (refl, refl); distinct = tt };
-  count = refl;
-  within = omega arith;
-}
-
--- One more line is read.
-pub prints_more : (text line : List ℕ) (expected after : List Expected) (number : ℕ) (place next : Place) (left : Bor (List ℕ))
-    (rest : Option (Bor (List ℕ)))
-    → ReadsPrinted text expected number place (Some left) → lines_of left.now ≡ line ∷ lines_left (option_map (λ r. r.now) rest)
-    → IfSome rest (λ r. length r.now < length left.now) → AddsStated place line next expected after
-    → ReadsPrinted text after (number + 1) next rest
-prints_more text line expected after number place next left rest on first shorter adds = record {
-  before = on.before ++ line ∷ [];
-  parts = parts_more text on.before line (lines_of left.now) (lines_left (option_map (λ r. r.now) rest)) on.parts first;
-  printed = printed_more on.before place next line expected after on.printed adds;
-  count = length-append on.before (line ∷ []) ∙ ap (λ (n : ℕ). n + 1) on.count;
-  within = omega (arith, on.within, left_within left.now rest shorter);
-}
-
--- ---- a text whose first lines state a register
-
--- The line after those that were read states a register.
-pub begins_with_value : (text line : List ℕ) (expected : List Expected) (number : ℕ) (place : Place) (left : Bor (List ℕ))
-    (rest : Option (Bor (List ℕ)))
-    → ReadsPrinted text expected number place (Some left) → lines_of left.now ≡ line ∷ lines_left (option_map (λ r. r.now) rest)
-    → GivesAnother place line expected → PrintsRegister text
-begins_with_value text line expected number place left rest on first gives = record {
-  lines = on.before ++ line ∷ [];
-  after = lines_left (option_map (λ r. r.now) rest);
-  place = place;
-  expected = expected ++ gives.0 ∷ [];
-  parts = parts_more text on.before line (lines_of left.now) (lines_left (option_map (λ r. r.now) rest)) on.parts first;
-  printed = printed_more on.before place place line expected (expected ++ gives.0 ∷ []) on.printed
-      (Some gives.0, (gives.1, refl), (gives.2, refl));
-  some = omega (arith, length-append expected (gives.0 ∷ []));
-}
-
--- ---- a text that states registers has no faulty line
-
-double_line : (place end : Place) (line : List ℕ) (more : List (List ℕ)) (e : Expected) (earlier back : List Expected)
-    → SayAll place (line ∷ more) end back → IsDistinct same_register (earlier ++ back) → GivesValue place line e
-    → IsTrue (list_any (λ x. same_register x e) earlier) → ⊥
-double_line place end line more e earlier back all distinct gives among =
-    let same = says_once place all.0 place line all.1 (Some e) all.3 (gives, refl) in
-    let back_is : back ≡ e ∷ all.2 = all.5 ∙ ap (λ (o : Option Expected). option_to_list o ++ all.2) same.1 in
-    let apart = distinct_apart earlier e all.2 (subst (λ (l : List Expected). IsDistinct same_register (earlier ++ l)) back_is distinct) in
-    let wrong : false ≡ true = sym apart ∙ among in
-    absurd cc
-
-no_fault_after : (before more : List (List ℕ)) (line : List ℕ) (place end : Place) (earlier expected : List Expected) (number : ℕ)
-    (fault : ExpectFault)
-    → SayAll None before place earlier → ArePrinted (before ++ line ∷ more) end expected → IsPrintedFault earlier place line number fault → ⊥
-no_fault_after before more line place end earlier expected number Memory some all wrong = wrong
-no_fault_after before more line place end earlier expected number (BadLine at) some all wrong =
-    let two = say_parted before (line ∷ more) None place end expected earlier all.say some in
-    wrong.1 two.2.0 two.2.1 two.2.3
-no_fault_after before more line place end earlier expected number (DoubleLine at) some all wrong =
-    let two = say_parted before (line ∷ more) None place end expected earlier all.say some in
-    double_line place end line more wrong.1.0 earlier two.0 two.2 (rw two.1 at all.distinct) wrong.1.1 wrong.1.2
-
--- No line of a text that states registers has a fault.
-pub no_printed_fault : (text line : List ℕ) (earlier expected : List Expected) (number : ℕ) (place : Place) (left : Bor (List ℕ))
-    (rest : Option (Bor (List ℕ))) (fault : ExpectFault)
-    → ReadsPrinted text earlier number place (Some left) → lines_of left.now ≡ line ∷ lines_left (option_map (λ r. r.now) rest)
-    → IsPrintedFault earlier place line (number + 1) fault → IsPcrReadText text expected → ⊥
-no_printed_fault text line earlier expected number place left rest fault on first wrong states =
-    let lines = on.parts ∙ ap (λ (l : List (List ℕ)). on.before ++ l) first in
-    no_fault_after on.before (lines_left (option_map (λ r. r.now) rest)) line place states.end earlier expected (number + 1) fault
-    on.printed.say (subst (λ (l : List (List ℕ)). ArePrinted l states.end expected) lines states.printed) wrong

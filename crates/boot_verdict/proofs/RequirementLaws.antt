@@ -1,13 +1,13 @@
 -- Requirements: what their texts spell, which registers are missing, and the rows of those that are not.
-use Rattle.std.proofs.Common.{rules, ◌≡◌, ℕ, suc, ◌+◌, ◌<◌, Bool, true, false, List, [], ◌∷◌, ◌++◌, length, get_or, take, codes, Option, None, Some, option_map, Bor, refl, sym, ap, ◌∙◌, inl, inr, arith, append_assoc, append-nil, ◌==◌, ◌&&◌, ◌||◌}
-use Rattle.std.specs.Prelude.{map, not}
+use Rattle.std.proofs.Common.{rules, ◌≡◌, ℕ, suc, ◌<◌, Bool, true, false, List, [], ◌∷◌, ◌++◌, length, get_or, Option, None, Some, option_map, Bor, refl, sym, ap, ◌∙◌, inl, inr, arith, append_assoc, ◌==◌, ◌&&◌, ◌||◌}
+use Rattle.std.specs.Prelude.{map, nat_le, not}
 use Rattle.std.specs.List.{AllByRecursion, list_all, list_any}
 use Rattle.std.specs.Str.Iter.{LacksByte}
-use Rattle.std.proofs.lemmas.Bool.{and_parts, both_ways, cases_Bool, eqb-true, leb-true, not-true, or_cases}
+use Rattle.std.proofs.lemmas.Bool.{and_parts, both_ways, cases_Bool, eqb-true, leb-true, or_cases}
 use Rattle.std.proofs.lemmas.List.Folds.{list_all_at}
 use Rattle.pcr_banks.specs.declared.alg.Alg.{Alg}
 use Rattle.pcr_banks.specs.declared.sets.AlgSet.{AlgSet}
-use Rattle.pcr_banks.specs.Hashing.{all_algs, name_of, same_alg}
+use Rattle.pcr_banks.specs.Hashing.{name_of, same_alg}
 use Rattle.pcr_banks.specs.Registers.{register_count}
 use Rattle.pcr_banks.proofs.AlgLaws.{every_alg, every_passes, same_alg_is, same_name_is}
 use Rattle.boot_log.specs.Spelling.{LogEvent}
@@ -23,8 +23,8 @@ use Rattle.boot_verdict.specs.declared.requirement.RequirementFault.TheVariants.
 use Rattle.boot_verdict.specs.RegisterRanges.{IsRangeText, is_within}
 use Rattle.boot_verdict.specs.RegisterTexts.{all_registers}
 use Rattle.boot_verdict.specs.Requirements.{AreBankRanges, BeginsWithBankRange, HasMatch, IsBankRangeText, IsRequirementText, expected_of_rows, is_complete, is_complete_in, is_in, is_missing, is_of, names, required_matches, split_at_commas, states}
-use Rattle.boot_verdict.specs.Verdicts.{Verdict, is_good, is_match, state_matches, verdict_on}
-use Rattle.boot_verdict.specs.parts.ExpectedLines.{IsSplitOnce}
+use Rattle.boot_verdict.specs.Verdicts.{is_good, is_match, state_matches, verdict_on}
+use Rattle.boot_verdict.specs.parts.StatedLines.{IsSplitOnce}
 use Rattle.boot_verdict.specs.parts.RequirementParts.{SpellsRange, TakesPart, parts_left}
 use Rattle.boot_verdict.proofs.ExpectedLaws.{Lacks, lacks_from, not_lacked, one_cut}
 use Rattle.boot_verdict.proofs.RangeLaws.{range_once}
@@ -92,11 +92,6 @@ only_part text lacks = no_comma text (lacks_from 44 text lacks)
 
 -- ---- part by part
 
--- How much of a text is left: its bytes and one, or nothing after the last part.
-abbrev pub left_count : Option (Bor (List ℕ)) → ℕ
-left_count None = 0
-left_count (Some text) = length text.now + 1
-
 -- The parts before `rest` spell these ranges.
 pub record ReadsParts (text : List ℕ) (ranges : List BankRange) (rest : Option (Bor (List ℕ))) : Type 0 where
   pub before : List (List ℕ)
@@ -129,10 +124,6 @@ reads_more text part ranges after left rest on next takes = rw takes.2 (record {
       ∙ sym (append_assoc on.before (part ∷ []) (parts_left (option_map (λ r. r.now) rest)));
   are = one_more on.before part ranges takes.0 on.are takes.1;
 })
-
--- All parts are read.
-pub reads_all : (text : List ℕ) (ranges : List BankRange) → ReadsParts text ranges None → IsRequirementText text ranges
-reads_all text ranges on = rw (on.parts ∙ append-nil on.before) on.are
 
 spelled_among : (before others : List (List ℕ)) (part : List ℕ) (ranges : List BankRange) → AreBankRanges (before ++ part ∷ others) ranges
     → SpellsRange part
@@ -210,7 +201,7 @@ named_exists (part ∷ parts) (bank ∷ ranges) alg register are named =
     elim (or_cases (is_in bank alg register) (names ranges alg register) named) [
       | inl here ↦
           let within = (and_parts (same_alg bank.alg alg) (is_within bank.range register) here).1 in
-          let last = leb-true register bank.range.last ((and_parts _ _ within).1) in
+          let last = leb-true register bank.range.last (and_parts (nat_le bank.range.first register) (nat_le register bank.range.last) within).1 in
           omega (arith, last, are.0.range_is.exist)
       | inr there ↦ named_exists parts ranges alg register are.1 there
     ]

@@ -15,12 +15,13 @@ use Rattle.pcr_banks.specs.Digests.{alg_of, bytes_of}
 use Rattle.pcr_banks.specs.Registers.{register_count}
 use Rattle.boot_verdict.specs.declared.expected.Expected.{Expected}
 use Rattle.boot_verdict.specs.declared.register_range.RegisterRange.{RegisterRange}
-use Rattle.boot_verdict.specs.ExpectedTexts.{AreRegisterLines, IsExpectedText, IsRegisterLine, lines_of, same_register, without_return}
-use Rattle.boot_verdict.specs.PcrReadTexts.{GivesValue, IsPcrReadText, Place, SayAll, Says}
+use Rattle.boot_verdict.specs.StatedRegisters.{SayAll, lines_of, same_register, without_return}
+use Rattle.boot_verdict.specs.ExpectedTexts.{IsExpectedText, IsRegisterLine, Spells}
+use Rattle.boot_verdict.specs.PcrReadTexts.{GivesValue, IsPcrReadText, Place, Says}
 use Rattle.boot_verdict.specs.RegisterRanges.{is_within}
 use Rattle.boot_verdict.specs.WrittenTexts.{expected_line, expected_text, those_within}
 use Rattle.boot_verdict.specs.parts.WrittenLines.{line_within}
-use Rattle.boot_verdict.proofs.ExpectedLaws.{AllAbove, Lacks, feed_cuts, line_has_space, name_above}
+use Rattle.boot_verdict.proofs.ExpectedLaws.{AllAbove, Lacks, feed_cuts, name_above}
 
 -- ---- one after another
 
@@ -81,7 +82,7 @@ one_proper : (start next : Place) (line : List ℕ) (first : Option Expected) (o
 one_proper start next line None others says all = all
 one_proper start next line (Some e) others says all = (value_proper start line e says.0, all)
 
-all_proper : (lines : List (List ℕ)) (start end : Place) (expected : List Expected) → SayAll start lines end expected
+all_proper : (lines : List (List ℕ)) (start end : Place) (expected : List Expected) → SayAll Says start lines end expected
     → AllByRecursion IsProper expected
 all_proper [] start end expected say = rw say.1 tt
 all_proper (line ∷ lines) start end expected say =
@@ -181,26 +182,25 @@ lines_are (e ∷ expected) all =
     ∙ ap (λ (l : List ℕ). l ∷ lines_of (flat_map expected_line expected)) (kept_whole (body e) line)
     ∙ ap (λ (l : List (List ℕ)). body e ∷ l) (lines_are expected all.1)
 
-one_more_line : (line : List ℕ) (lines : List (List ℕ)) (e : Expected) (expected : List Expected) → IsRegisterLine line e
-    → AreRegisterLines lines expected → AreRegisterLines (line ∷ lines) (e ∷ expected)
-one_more_line [] lines e expected is are = absurd (line_has_space [] e (λ k lt. absurd (omega (arith, lt))) is)
-one_more_line (byte ∷ line) lines e expected is are = (is, are)
-
-bodies_spell : (expected : List Expected) → AllByRecursion IsProper expected → AreRegisterLines (map body expected ++ [] ∷ []) expected
-bodies_spell [] all = refl
-bodies_spell (e ∷ expected) all = one_more_line (body e) (map body expected ++ [] ∷ []) e expected (body_spells e all.0) (bodies_spell expected all.1)
+bodies_spell : (expected : List Expected) → AllByRecursion IsProper expected
+    → SayAll Spells tt (map body expected ++ [] ∷ []) tt expected
+bodies_spell [] all = (tt, None, [], refl, (refl, refl), refl)
+bodies_spell (e ∷ expected) all = (tt, Some e, expected, body_spells e all.0, bodies_spell expected all.1, refl)
 
 written_states : (expected : List Expected) → AllByRecursion IsProper expected → IsDistinct same_register expected
     → IsExpectedText (flat_map expected_line expected) expected
 written_states expected all distinct = record {
-  lines_are = subst (λ (l : List (List ℕ)). AreRegisterLines l expected) (sym (lines_are expected all)) (bodies_spell expected all);
-  distinct = distinct;
+  end = tt;
+  stated = record {
+    say = subst (λ (l : List (List ℕ)). SayAll Spells tt l tt expected) (sym (lines_are expected all)) (bodies_spell expected all);
+    distinct = distinct;
+  };
 }
 
 -- What is written of the registers that a text of tpm2_pcrread states, states them.
 pub reads_back : (text : List ℕ) (expected : List Expected) (range : RegisterRange) → IsPcrReadText text expected
     → IsExpectedText (expected_text range expected) (those_within range expected)
 reads_back text expected range states =
-    let proper = all_proper (lines_of text) None states.end expected states.printed.say in
+    let proper = all_proper (lines_of text) None states.end expected states.stated.say in
     written_states (those_within range expected) (filter_all (λ e. is_within range e.register) IsProper expected proper)
-    (filter_distinct (λ e. is_within range e.register) expected states.printed.distinct)
+    (filter_distinct (λ e. is_within range e.register) expected states.stated.distinct)

@@ -1,35 +1,12 @@
 -- Expected registers, as text. All of this is this project's choice.
-use Rattle.std.specs.Prelude.{◌≡◌, ℕ, ◌-◌, ◌<◌, ◌&&◌, ◌==◌, Bool, IsTrue, if◌then◌else◌, List, [], ◌∷◌, ◌++◌, length, take, drop, map, codes, decimal, bytes_eq, Ok}
-use Rattle.std.specs.List.{IsDistinct, list_any}
+use Rattle.std.specs.Prelude.{◌≡◌, ℕ, ◌<◌, List, [], ◌++◌, length, codes, decimal, Option, Some, None, Ok}
 use Rattle.hex.specs.Hex.{decode_of}
-use Rattle.pcr_banks.specs.Hashing.{name_of, same_alg, size_of}
+use Rattle.pcr_banks.specs.Hashing.{name_of, size_of}
 use Rattle.pcr_banks.specs.Digests.{alg_of, bytes_of}
 use Rattle.pcr_banks.specs.Registers.{register_count}
 use Rattle.boot_verdict.specs.declared.expected.Expected.{Expected}
 use Rattle.boot_verdict.specs.declared.expected.ExpectFault.{ExpectFault}
-use Rattle.boot_verdict.specs.declared.expected.ExpectFault.TheVariants.{BadLine, DoubleLine, Memory}
-
--- ---- lines
-
--- The lines, with this byte put in front of the first one.
-abbrev pub onto_first : ℕ → List (List ℕ) → List (List ℕ)
-onto_first byte [] = []
-onto_first byte (line ∷ lines) = (byte ∷ line) ∷ lines
-
--- A text, split at its line feeds: one more line than there are line feeds.
-abbrev pub split_at_feeds : List ℕ → List (List ℕ)
-split_at_feeds [] = [] ∷ []
-split_at_feeds (byte ∷ text) = if byte == 10 then [] ∷ split_at_feeds text else onto_first byte (split_at_feeds text)
-
--- A line without its trailing carriage return, if it has one.
-abbrev pub without_return : List ℕ → List ℕ
-without_return line = if bytes_eq (drop (length line - 1) line) (13 ∷ []) then take (length line - 1) line else line
-
--- The lines of a text.
-abbrev pub lines_of : List ℕ → List (List ℕ)
-lines_of text = map without_return (split_at_feeds text)
-
--- ---- what lines spell
+use Rattle.boot_verdict.specs.StatedRegisters.{BeginsWithStated, HasFaultOfFirst, States}
 
 -- The line spells this register: the algorithm's name, the register in decimal, and the value in hexadecimal digits of either
 -- case, separated by single spaces.
@@ -41,51 +18,21 @@ pub record IsRegisterLine (line : List ℕ) (expected : Expected) : Type 0 where
   pub value_size : length (bytes_of expected.value) ≡ size_of expected.alg
   pub spelled : line ≡ name_of expected.alg ++ (codes " " ++ (decimal expected.register ++ (codes " " ++ digits)))
 
--- The lines spell these registers, one per line; empty lines are skipped.
-abbrev pub AreRegisterLines : List (List ℕ) → List Expected → Type 0
-AreRegisterLines [] expected = expected ≡ []
-AreRegisterLines ([] ∷ lines) expected = AreRegisterLines lines expected
-AreRegisterLines ((byte ∷ line) ∷ lines) [] = ⊥
-AreRegisterLines ((byte ∷ line) ∷ lines) (first ∷ expected) = IsRegisterLine (byte ∷ line) first × AreRegisterLines lines expected
+-- The line is empty and states nothing, or it spells the register that it states. All places are alike.
+abbrev pub Spells : Unit {0} → List ℕ → Unit {0} → Option Expected → Type 0
+Spells before line after None = line ≡ []
+Spells before line after (Some expected) = IsRegisterLine line expected
 
--- Whether two name the same register of the same bank.
-abbrev pub same_register : Expected → Expected → Bool
-same_register first second = same_alg first.alg second.alg && (first.register == second.register)
-
--- The lines spell these registers, and no register of a bank occurs twice.
-pub record AreExpected (lines : List (List ℕ)) (expected : List Expected) : Type 0 where
-  pub lines_are : AreRegisterLines lines expected
-  pub distinct : IsDistinct same_register expected
-
--- The text states these expected registers.
+-- The text states these expected registers: each line that is not empty spells one of them, in order, and no register of a bank
+-- occurs twice.
 abbrev pub IsExpectedText : List ℕ → List Expected → Type 0
-IsExpectedText text expected = AreExpected (lines_of text) expected
+IsExpectedText text expected = States Spells tt text expected
 
 -- The text begins with lines that state at least one register.
-pub record BeginsWithRegister (text : List ℕ) : Type 0 where
-  pub lines : List (List ℕ)
-  pub after : List (List ℕ)
-  pub expected : List Expected
-  pub parts : lines_of text ≡ lines ++ after
-  pub are : AreExpected lines expected
-  pub some : 0 < length expected
+abbrev pub BeginsWithRegister : List ℕ → Type 0
+BeginsWithRegister text = BeginsWithStated Spells tt text
 
--- ---- faults
-
--- The fault of this line, which has this number and follows lines that spell `earlier`: it is neither empty nor a register line,
--- or it names a register that is among them.
-abbrev pub IsLineFault : List Expected → List ℕ → ℕ → ExpectFault → Type 0
-IsLineFault earlier line number (BadLine at) = (at ≡ number) × (0 < length line) × ((e : Expected) → IsRegisterLine line e → ⊥)
-IsLineFault earlier line number (DoubleLine at) =
-    (at ≡ number) × ((e : Expected) × IsRegisterLine line e × IsTrue (list_any (λ x. same_register x e) earlier))
-IsLineFault earlier line number Memory = ⊥
-
--- The fault is that of the first wrong line. Lines count from 1.
-pub record HasFirstFault (text : List ℕ) (fault : ExpectFault) : Type 0 where
-  pub before : List (List ℕ)
-  pub line : List ℕ
-  pub after : List (List ℕ)
-  pub earlier : List Expected
-  pub parts : lines_of text ≡ before ++ line ∷ after
-  pub are : AreExpected before earlier
-  pub fault_is : IsLineFault earlier line (length (before ++ line ∷ [])) fault
+-- The fault is that of the first wrong line, which is neither empty nor a register line, or names a register that an earlier line
+-- names. Lines count from 1.
+abbrev pub HasFirstFault : List ℕ → ExpectFault → Type 0
+HasFirstFault text fault = HasFaultOfFirst Spells tt text fault

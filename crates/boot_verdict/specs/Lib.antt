@@ -1,5 +1,6 @@
 pub mod RegisterTexts
 pub mod ExpectFaults
+pub mod StatedRegisters
 pub mod ExpectedTexts
 pub mod Verdicts
 pub mod ReportTexts

@@ -1,8 +1,8 @@
 -- What tpm2_pcrread (tpm2-tools) prints: banks, and below each the values of its registers. Which lines are taken is this project's
 -- choice.
-use Rattle.std.specs.Prelude.{◌≡◌, ◌⊎◌, ℕ, ◌-◌, ◌<◌, ◌||◌, ◌==◌, Bool, IsTrue, List, [], ◌∷◌, ◌++◌, length, codes, decimal, replicate, Option, Some, None, option_to_list, Ok}
+use Rattle.std.specs.Prelude.{◌≡◌, ◌⊎◌, ℕ, ◌-◌, ◌<◌, ◌||◌, ◌==◌, Bool, IsTrue, List, [], ◌++◌, length, codes, decimal, replicate, Option, Some, None, Ok}
 use Rattle.std.specs.Char.{is_ascii_alphanumeric}
-use Rattle.std.specs.List.{IsDistinct, list_all, list_any}
+use Rattle.std.specs.List.{list_all}
 use Rattle.hex.specs.Hex.{decode_of}
 use Rattle.pcr_banks.specs.declared.alg.Alg.{Alg}
 use Rattle.pcr_banks.specs.Hashing.{name_of, size_of}
@@ -10,8 +10,7 @@ use Rattle.pcr_banks.specs.Digests.{alg_of, bytes_of}
 use Rattle.pcr_banks.specs.Registers.{register_count}
 use Rattle.boot_verdict.specs.declared.expected.Expected.{Expected}
 use Rattle.boot_verdict.specs.declared.expected.ExpectFault.{ExpectFault}
-use Rattle.boot_verdict.specs.declared.expected.ExpectFault.TheVariants.{BadLine, DoubleLine, Memory}
-use Rattle.boot_verdict.specs.ExpectedTexts.{lines_of, same_register}
+use Rattle.boot_verdict.specs.StatedRegisters.{BeginsWithStated, HasFaultOfFirst, States}
 
 -- ---- one line
 
@@ -73,53 +72,18 @@ abbrev pub Says : Place → List ℕ → Place → Option Expected → Type 0
 Says before line after None = (IsSkipped before line × (after ≡ before)) ⊎ Begins line after
 Says before line after (Some expected) = GivesValue before line expected × (after ≡ before)
 
--- Lines from the place `before` lead to the place `after`, and state these registers, in order.
-abbrev pub SayAll : Place → List (List ℕ) → Place → List Expected → Type 0
-SayAll before [] after expected = (after ≡ before) × (expected ≡ [])
-SayAll before (line ∷ lines) after expected =
-    (next : Place) × (first : Option Expected) × (others : List Expected)
-    × Says before line next first × SayAll next lines after others × (expected ≡ option_to_list first ++ others)
-
--- The lines at the front of a text lead to this place and state these registers, and no register of a bank occurs twice.
-pub record ArePrinted (lines : List (List ℕ)) (place : Place) (expected : List Expected) : Type 0 where
-  pub say : SayAll None lines place expected
-  pub distinct : IsDistinct same_register expected
-
 -- ---- a whole text
 
--- The text states these registers.
-pub record IsPcrReadText (text : List ℕ) (expected : List Expected) : Type 0 where
-  pub end : Place
-  pub printed : ArePrinted (lines_of text) end expected
+-- The text states these registers: each line is skipped, begins a bank or gives a register its value, and no register of a bank
+-- occurs twice.
+abbrev pub IsPcrReadText : List ℕ → List Expected → Type 0
+IsPcrReadText text expected = States Says None text expected
 
 -- The text begins with lines that state at least one register.
-pub record PrintsRegister (text : List ℕ) : Type 0 where
-  pub lines : List (List ℕ)
-  pub after : List (List ℕ)
-  pub place : Place
-  pub expected : List Expected
-  pub parts : lines_of text ≡ lines ++ after
-  pub printed : ArePrinted lines place expected
-  pub some : 0 < length expected
+abbrev pub PrintsRegister : List ℕ → Type 0
+PrintsRegister text = BeginsWithStated Says None text
 
--- ---- faults
-
--- The fault of this line, which has this number and stands at this place, after lines that state `earlier`: it is neither skipped
--- nor a bank line nor a value, or it gives a value to a register that is among them.
-abbrev pub IsPrintedFault : List Expected → Place → List ℕ → ℕ → ExpectFault → Type 0
-IsPrintedFault earlier place line number (BadLine at) =
-    (at ≡ number) × ((next : Place) (stated : Option Expected) → Says place line next stated → ⊥)
-IsPrintedFault earlier place line number (DoubleLine at) =
-    (at ≡ number) × ((e : Expected) × GivesValue place line e × IsTrue (list_any (λ x. same_register x e) earlier))
-IsPrintedFault earlier place line number Memory = ⊥
-
--- The fault is that of the first wrong line. Lines count from 1.
-pub record HasFirstPrintedFault (text : List ℕ) (fault : ExpectFault) : Type 0 where
-  pub before : List (List ℕ)
-  pub line : List ℕ
-  pub after : List (List ℕ)
-  pub place : Place
-  pub earlier : List Expected
-  pub parts : lines_of text ≡ before ++ line ∷ after
-  pub printed : ArePrinted before place earlier
-  pub fault_is : IsPrintedFault earlier place line (length (before ++ line ∷ [])) fault
+-- The fault is that of the first wrong line, which is neither skipped nor a bank line nor a value, or gives a value to a register
+-- to which an earlier line gives one. Lines count from 1.
+abbrev pub HasFirstPrintedFault : List ℕ → ExpectFault → Type 0
+HasFirstPrintedFault text fault = HasFaultOfFirst Says None text fault

@@ -1,8 +1,7 @@
-pub mod ExpectedLines
+pub mod StatedLines
 pub mod ListReplays
 pub mod LogPlaces
 pub mod Rows
-pub mod PcrReadLines
 pub mod WrittenLines
 pub mod RangeEnds
 pub mod RequirementParts

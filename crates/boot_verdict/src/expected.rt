@@ -1,14 +1,13 @@
 //! Expected registers, read from text.
 
-ghost use Rattle.std.specs.Prelude.{◌≡◌, ◌⊎◌, List, false, ◌∷◌, ◌++◌, [], IfSome, IfNone, IfOk, IfErr, IsErrOf, IsTrue, OnOk};
-ghost use Rattle.std.specs.List.{list_any};
+ghost use Rattle.std.specs.Prelude.{◌≡◌, ◌⊎◌, List, IfSome, IfNone, IfOk, IfErr, IsErrOf};
 ghost use Rattle.boot_verdict.specs.declared.expected.Expected.{Expected};
-ghost use Rattle.boot_verdict.specs.declared.expected.ExpectFault.TheVariants.{DoubleLine, Memory};
+ghost use Rattle.boot_verdict.specs.declared.expected.ExpectFault.TheVariants.{Memory};
 ghost use Rattle.boot_verdict.specs.ExpectFaults.{expect_fault_number, expect_fault_line};
-ghost use Rattle.boot_verdict.specs.ExpectedTexts.{BeginsWithRegister, IsExpectedText, IsLineFault, IsRegisterLine, HasFirstFault, same_register};
-ghost use Rattle.boot_verdict.specs.parts.ExpectedLines.{SpellsAnother, TakesLine};
+ghost use Rattle.boot_verdict.specs.ExpectedTexts.{BeginsWithRegister, HasFirstFault, IsExpectedText, IsRegisterLine, Spells};
 
-use crate::lines::{line_at, register_named, split_once};
+use crate::lines::{register_named, split_once};
+use crate::stated::{LinePlace, read_lines};
 use pcr_banks::{Alg, Digest};
 use std::alloc::{AllocError, AllocFailed, Global};
 use thiserror::Error;
@@ -87,57 +86,26 @@ pub fn read_expected(alloc: Global, text: &[u8]) -> Result<Vec<Expected>, Expect
     ensures fault { IfErr result (λ fault. (fault ≡ ExpectFault.Memory) ⊎ HasFirstFault text.now fault) }
     ensures memory { IsErrOf result ExpectFault.Memory → BeginsWithRegister text.now }
 {
-    let mut expected = Vec::new(alloc);
-    let mut rest = Some(text);
-    let mut number = 0;
-    while let Some(text) = rest {
-        let (line, after) = line_at(text);
-        number += 1;
-        take_line(&mut expected, number, line)?;
-        rest = after;
-    }
-    Ok(expected)
+    read_lines(alloc, Anywhere, text)
 }
 
-// Appends the register that this line names, or nothing if the line is empty. `number` counts lines from 1.
-fn take_line(expected: &mut Vec<Expected>, number: usize, line: &[u8]) -> Result<(), ExpectFault>
-    ensures taken { OnOk result (TakesLine line.now expected.old.items expected.new.items) }
-    ensures fault { IfErr result (λ fault. (fault ≡ ExpectFault.Memory) ⊎ IsLineFault expected.old.items line.now number fault) }
-    ensures memory { IsErrOf result ExpectFault.Memory → SpellsAnother line.now expected.old.items }
-{
-    if line.is_empty() {
-        return Ok(());
-    }
-    let Some(register) = register_on(line) else {
-        return Err(ExpectFault::BadLine { line: number });
-    };
-    add_register(expected, number, register)
-}
+// The only place of such a text: what a line says does not depend on the lines before it.
+#[derive(Clone, Copy)]
+struct Anywhere;
 
-/// Appends this register, which the line of this number names.
-pub(crate) fn add_register(
-    expected: &mut Vec<Expected>,
-    number: usize,
-    register: Expected,
-) -> Result<(), ExpectFault>
-    ensures added { OnOk result ((list_any (λ x. same_register x register) expected.old.items ≡ false)
-        × (expected.new.items ≡ expected.old.items ++ register ∷ [])) }
-    ensures fault { IfErr result (λ fault. (fault ≡ ExpectFault.Memory)
-        ⊎ ((fault ≡ DoubleLine number) × IsTrue (list_any (λ x. same_register x register) expected.old.items))) }
-    ensures memory { IsErrOf result ExpectFault.Memory → list_any (λ x. same_register x register) expected.old.items ≡ false }
-{
-    if is_among(&register, expected) {
-        return Err(ExpectFault::DoubleLine { line: number });
-    }
-    expected.push(register)?;
-    Ok(())
-}
+impl<'a> LinePlace<'a> for Anywhere {
+    ghost Value = { Unit {0} };
 
-// Whether `expected` already has this register of this bank.
-fn is_among(register: &Expected, expected: &[Expected]) -> bool
-    ensures { result ≡ list_any (λ x. same_register x register.now) expected.now }
-{
-    expected.iter().any(|other| other.alg == register.alg && other.register == register.register)
+    ghost value = { λ _. tt };
+
+    ghost says = { Spells };
+
+    fn after(self, line: &'a [u8]) -> Option<(Anywhere, Option<Expected>)> {
+        if line.is_empty() {
+            return Some((self, None));
+        }
+        Some((self, Some(register_on(line)?)))
+    }
 }
 
 // The register that the line names, if it is a register line.

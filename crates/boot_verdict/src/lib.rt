@@ -14,6 +14,7 @@ mod register_range;
 mod replaying;
 mod report;
 mod requirement;
+mod stated;
 mod texts;
 mod verifier;
 

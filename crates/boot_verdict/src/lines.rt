@@ -4,8 +4,8 @@ ghost use Rattle.std.specs.Prelude.{◌≡◌, ◌<◌, ℕ, List, ◌∷◌, �
 ghost use Rattle.std.specs.Str.{bytes_eq};
 ghost use Rattle.std.specs.Str.Iter.{LacksByte};
 ghost use Rattle.pcr_banks.specs.Registers.{register_count};
-ghost use Rattle.boot_verdict.specs.ExpectedTexts.{lines_of, without_return};
-ghost use Rattle.boot_verdict.specs.parts.ExpectedLines.{IsSplitOnce, lines_left};
+ghost use Rattle.boot_verdict.specs.StatedRegisters.{lines_of, without_return};
+ghost use Rattle.boot_verdict.specs.parts.StatedLines.{IsSplitOnce, lines_left};
 
 use itoa::Buffer;
 use memchr::memchr;

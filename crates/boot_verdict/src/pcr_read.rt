@@ -1,15 +1,15 @@
 //! The registers that tpm2_pcrread prints, read from text.
 
-ghost use Rattle.std.specs.Prelude.{◌≡◌, ◌<◌, ◌⊎◌, ℕ, List, ◌++◌, Option, IfSome, IfNone, IfOk, IfErr, IsErrOf};
+ghost use Rattle.std.specs.Prelude.{◌≡◌, ◌<◌, ◌⊎◌, ℕ, List, ◌++◌, option_map, IfSome, IfNone, IfOk, IfErr, IsErrOf};
 ghost use Rattle.std.specs.List.{list_all};
 ghost use Rattle.pcr_banks.specs.Hashing.{name_of};
 ghost use Rattle.pcr_banks.specs.Registers.{register_count};
 ghost use Rattle.boot_verdict.specs.declared.expected.Expected.{Expected};
-ghost use Rattle.boot_verdict.specs.PcrReadTexts.{HasFirstPrintedFault, IsBankLine, IsPcrReadText, IsPrintedFault, IsValueLine, Place, PrintsRegister, Says, is_name_byte, two_columns};
-ghost use Rattle.boot_verdict.specs.parts.PcrReadLines.{AddsStated, GivesAnother, place_of};
+ghost use Rattle.boot_verdict.specs.PcrReadTexts.{HasFirstPrintedFault, IsBankLine, IsPcrReadText, IsValueLine, Place, PrintsRegister, Says, is_name_byte, two_columns};
 
-use crate::expected::{ExpectFault, Expected, add_register};
-use crate::lines::{after_prefix, before_suffix, line_at, register_named};
+use crate::expected::{ExpectFault, Expected};
+use crate::lines::{after_prefix, before_suffix, register_named};
+use crate::stated::{LinePlace, read_lines};
 use pcr_banks::{Alg, Digest};
 use std::alloc::Global;
 
@@ -34,76 +34,38 @@ pub fn read_pcrread(alloc: Global, text: &[u8]) -> Result<Vec<Expected>, ExpectF
     ensures fault { IfErr result (λ fault. (fault ≡ ExpectFault.Memory) ⊎ HasFirstPrintedFault text.now fault) }
     ensures memory { IsErrOf result ExpectFault.Memory → PrintsRegister text.now }
 {
-    let mut expected = Vec::new(alloc);
-    let mut bank = None;
-    let mut rest = Some(text);
-    let mut number = 0;
-    while let Some(text) = rest {
-        let (line, after) = line_at(text);
-        number += 1;
-        bank = take_line(&mut expected, bank, number, line)?;
-        rest = after;
-    }
-    Ok(expected)
+    read_lines(alloc, InBank { name: None }, text)
 }
 
-// Appends the register that this line states, if it states one. `bank` is the name of the bank that the line stands in, if it
-// stands in one, and `number` counts lines from 1. Returns the same of the line after it.
-fn take_line<'a>(
-    expected: &mut Vec<Expected>,
-    bank: Option<&'a [u8]>,
-    number: usize,
-    line: &'a [u8],
-) -> Result<Option<&'a [u8]>, ExpectFault>
-    ensures taken { IfOk result (λ next. AddsStated (place_of bank.entry) line.now (place_of next)
-        expected.old.items expected.new.items) }
-    ensures fault { IfErr result (λ fault. (fault ≡ ExpectFault.Memory)
-        ⊎ IsPrintedFault expected.old.items (place_of bank.entry) line.now number fault) }
-    ensures memory { IsErrOf result ExpectFault.Memory → GivesAnother (place_of bank.entry) line.now expected.old.items }
-{
-    let Some(said) = said_by(bank, line) else {
-        return Err(ExpectFault::BadLine { line: number });
-    };
-    if let Some(register) = said.register {
-        add_register(expected, number, register)?;
-    }
-    Ok(said.bank)
-}
-
-// What a line says: the name of the bank that the next line stands in, and the register that it states.
+// A place between lines: in the bank of this name, or before the first bank line.
 #[derive(Clone, Copy)]
-struct Said<'a> {
-    bank: Option<&'a [u8]>,
-    register: Option<Expected>,
+struct InBank<'a> {
+    name: Option<&'a [u8]>,
 }
 
-// What this line says, if it is right in this bank.
-fn said_by<'a>(bank: Option<&'a [u8]>, line: &'a [u8]) -> Option<Said<'a>>
-    ensures found { IfSome result (λ said.
-        Says (place_of bank.entry) line.now (place_of said.bank) said.register) }
-    ensures none { IfNone result ((next : Place) (stated : Option Expected)
-        → Says (place_of bank.entry) line.now next stated → ⊥) }
-{
-    if line.is_empty() {
-        return Some(Said {
-            bank,
-            register: None,
-        });
-    }
-    if let Some(name) = bank_on(line) {
-        return Some(Said {
-            bank: Some(name),
-            register: None,
-        });
-    }
-    let register = match Alg::from_name(bank?) {
-        Some(alg) => Some(value_on(alg, line)?),
-        None => {
-            after_prefix(b"    ", line)?;
-            None
+impl<'a> LinePlace<'a> for InBank<'a> {
+    ghost Value = { Place };
+
+    ghost value = { λ bank. option_map (λ name. name.now) bank.name };
+
+    ghost says = { Says };
+
+    fn after(self, line: &'a [u8]) -> Option<(InBank<'a>, Option<Expected>)> {
+        if line.is_empty() {
+            return Some((self, None));
         }
-    };
-    Some(Said { bank, register })
+        if let Some(name) = bank_on(line) {
+            return Some((InBank { name: Some(name) }, None));
+        }
+        let stated = match Alg::from_name(self.name?) {
+            Some(alg) => Some(value_on(alg, line)?),
+            None => {
+                after_prefix(b"    ", line)?;
+                None
+            }
+        };
+        Some((self, stated))
+    }
 }
 
 // The name of the bank that the line begins, if it begins one.

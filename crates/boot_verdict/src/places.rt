@@ -13,7 +13,7 @@ use pcr_banks::{Banks, Digest};
 use std::alloc::Global;
 
 /// Where a register first has its expected value.
-#[derive(Clone, Copy, Debug, PartialEq, Eq)]
+#[derive(Clone, Copy, PartialEq, Eq)]
 pub enum Place {
     /// Before the log's events: it is the register's reset value.
     Reset,
@@ -40,7 +40,7 @@ impl Place {
 }
 
 /// An expected register, and where it first has its value.
-#[derive(Clone, Copy, Debug, PartialEq, Eq)]
+#[derive(Clone, Copy, PartialEq, Eq)]
 pub struct Located {
     /// What is expected.
     pub expected: Expected,

@@ -10,7 +10,7 @@ use crate::lines::{register_named, split_once};
 use pcr_banks::REGISTERS;
 
 /// Some registers of every bank: from a first to a last one, both included.
-#[derive(Clone, Copy, Debug, PartialEq, Eq)]
+#[derive(Clone, Copy, PartialEq, Eq)]
 pub struct RegisterRange {
     first: u32,
     last: u32,

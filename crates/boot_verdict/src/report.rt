@@ -21,7 +21,7 @@ pub enum State {
 }
 
 /// An expected register, and how it compares.
-#[derive(Clone, Copy, Debug, PartialEq, Eq)]
+#[derive(Clone, Copy, PartialEq, Eq)]
 pub struct Row {
     /// What is expected.
     pub expected: Expected,
@@ -31,7 +31,7 @@ pub struct Row {
 
 /// Whether the list states the boot aggregate of the log: its first entry should be a measurement of the path `boot_aggregate`,
 /// with the hash of the first registers that the firmware left.
-#[derive(Clone, Copy, Debug, PartialEq, Eq)]
+#[derive(Clone, Copy, PartialEq, Eq)]
 pub enum Aggregate {
     /// The first entry states the boot aggregate of the log's registers.
     Good,
@@ -44,7 +44,7 @@ pub enum Aggregate {
 }
 
 /// The report on a firmware event log, a measurement list and expected registers.
-#[derive(Debug, Drop)]
+#[derive(Drop)]
 pub struct Report {
     /// How many events the log has after its header.
     pub events: usize,

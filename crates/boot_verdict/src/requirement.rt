@@ -18,7 +18,7 @@ use std::marker::Model;
 use thiserror::Error;
 
 /// Some registers of a bank.
-#[derive(Clone, Copy, Debug, PartialEq, Eq)]
+#[derive(Clone, Copy, PartialEq, Eq)]
 pub struct BankRange {
     /// The bank.
     pub alg: Alg,
@@ -66,14 +66,13 @@ impl<T: Drop> From<AllocFailed<T>> for RequirementFault {
 }
 
 /// Registers that must be among the expected ones, as ranges of banks. Contracts see the list of these.
-#[derive(Debug, Drop)]
+#[derive(Drop)]
 pub struct Requirement {
     ranges: Vec<BankRange>,
 }
 
 impl Model for Requirement {
     ghost use Rattle.std.specs.Prelude.{List};
-
     ghost use Rattle.boot_verdict.specs.declared.requirement.BankRange.{BankRange};
 
     ghost Value = { List BankRange };
@@ -188,8 +187,7 @@ impl HasExpected for Located {
 fn states<T: HasExpected>(rows: &[T], alg: Alg, register: u32) -> bool
     ensures { result ≡ states (map T.expected_of rows.now) alg register }
 {
-    rows.iter()
-        .any(|row| is_of(row.expected(), alg, register))
+    rows.iter().any(|row| is_of(row.expected(), alg, register))
 }
 
 // Whether this is the value of this register.

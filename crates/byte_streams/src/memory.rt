@@ -7,7 +7,7 @@ ghost use Rattle.byte_streams.specs.Memory.{vec_sink_bytes, vec_sink_failures, v
 use crate::streams::{Failed, Sink, Source};
 
 /// A sink that appends to a vector; contracts know its bytes. It fails if the vector cannot grow.
-#[derive(Debug, Drop)]
+#[derive(Drop)]
 pub struct VecSink {
     bytes: Vec<u8>,
     failures: u64,
@@ -52,7 +52,7 @@ impl Sink for VecSink {
 }
 
 /// A source over a slice; contracts know its bytes. It never fails.
-#[derive(Clone, Copy, Debug)]
+#[derive(Clone, Copy)]
 pub struct SliceSource<'a> {
     rest: &'a [u8],
 }

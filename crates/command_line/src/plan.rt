@@ -4,7 +4,7 @@ use ima_list::Template;
 use pcr_banks::Alg;
 
 /// What a measurement prints.
-#[derive(Clone, Copy, Debug, PartialEq, Eq)]
+#[derive(Clone, Copy, PartialEq, Eq)]
 pub enum Print {
     /// The list as text, one line per entry.
     Ascii,
@@ -15,7 +15,7 @@ pub enum Print {
 }
 
 /// What ends each name in a text of file names.
-#[derive(Clone, Copy, Debug, PartialEq, Eq)]
+#[derive(Clone, Copy, PartialEq, Eq)]
 pub enum NameEnd {
     /// A line feed; the last name may lack it.
     LineFeed,
@@ -24,7 +24,7 @@ pub enum NameEnd {
 }
 
 /// What is shown of the data of a log's events.
-#[derive(Clone, Copy, Debug, PartialEq, Eq)]
+#[derive(Clone, Copy, PartialEq, Eq)]
 pub enum DataShown {
     /// How many bytes there are.
     Size,

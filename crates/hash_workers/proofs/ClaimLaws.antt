@@ -41,60 +41,56 @@ pub drawn_past : (view : SeatView) (number : ℕ) → view.jobs ≤ number
     → drawn_view view number ≡ view_of view.jobs view.seats view.places view.draws true
 drawn_past view number past = let test : ltb number view.jobs ≡ false = grind (arith, nat_tests) in rw test refl
 
--- A view of the claims stays one when the word grows by one.
-still_view : (jobs seats word : ℕ) (view : SeatView) → IsViewOf jobs seats word view → IsViewOf jobs seats (word + 1) view
-still_view jobs seats word view (inl is) = inl is
-still_view jobs seats word view (inr known) = inr (known.0, known.1, known.2, λ ended. let past = known.3 ended in omega arith)
+-- A view of the claims stays one when the word grows.
+later_view : (jobs seats word next : ℕ) (view : SeatView) → word ≤ next → IsViewOf jobs seats word view → IsViewOf jobs seats next view
+later_view jobs seats word next view grows (inl is) = inl is
+later_view jobs seats word next view grows (inr known) =
+    inr (known.0, known.1, known.2, λ ended. let past = known.3 ended in omega arith)
+
+-- The word grows, and one seat's view changes, which then has the numbers from the word on that are drawn.
+replaced : (jobs seats word next : ℕ) (views : List SeatView) (seat : ℕ) (view new : SeatView) → AreClaimed jobs seats word views
+    → get_elem? views seat ≡ some view → word ≤ next → IsViewOf jobs seats next new → new.places ≡ view.places
+    → ((number : ℕ) → times number new.draws + once_below number (min word jobs) ≡ times number view.draws + once_below number (min next jobs))
+    → next ≤ jobs + total ended_places_of (set views seat new) → AreClaimed jobs seats next (set views seat new)
+replaced jobs seats word next views seat view new rule here grows is same drawn bound = record {
+  few = rule.few;
+  each = λ other found at. ⊎_elim
+      (λ one. subst (IsViewOf jobs seats next) one.1 is)
+      (λ old. later_view jobs seats word next found grows (rule.each other found old.1)) (at_set views seat other new found at);
+  places = let sums = total-set places_of views seat view new here in let places = rule.places in omega arith;
+  drawn = handed (min next jobs) (set views seat new) (λ number.
+      let sums = total-set (times_of number) views seat view new here in
+      let known = counted (min word jobs) views rule.drawn number in
+      let more = drawn number in
+      omega arith);
+  bound = bound;
+}
 
 below_kept : (seats word : ℕ) (views : List SeatView) (seat : ℕ) (view : SeatView) → AreClaimed view.jobs seats word views
     → get_elem? views seat ≡ some view → view.seats ≡ seats → 1 ≤ view.places → view.ended ≡ false → word < view.jobs
     → AreClaimed view.jobs seats (word + 1) (set views seat (view_of view.jobs view.seats view.places (view.draws ++ word ∷ []) view.ended))
 below_kept seats word views seat view rule here same placed going below =
     let new : SeatView = view_of view.jobs view.seats view.places (view.draws ++ word ∷ []) view.ended in
-    record {
-      few = rule.few;
-      each = λ other found is. ⊎_elim
-          (λ at. subst (IsViewOf view.jobs seats (word + 1)) at.1 (inr (refl, same, placed, λ end. absurd (let no = sym going ∙ end in cc))))
-          (λ at. still_view view.jobs seats word found (rule.each other found at.1)) (at_set views seat other new found is);
-      places = let sums = total-set places_of views seat view new here in let places = rule.places in omega arith;
-      drawn = let least : min word view.jobs ≡ word = omega arith in
-          let next : min (word + 1) view.jobs ≡ word + 1 = omega arith in
-          let before = rw least at rule.drawn in
-          rw next (handed (word + 1) (set views seat new) (λ number.
-          let sums = total-set (times_of number) views seat view new here in
-          let known = counted word views before number in
-          let longer = times-append number view.draws (word ∷ []) in
-          let more = below_one_more number word in
-          omega arith));
-      bound = let sums = total-set ended_places_of views seat view new here in let bound = rule.bound in omega arith;
-    }
+    let least : min word view.jobs ≡ word = omega arith in
+    let next : min (word + 1) view.jobs ≡ word + 1 = omega arith in
+    replaced view.jobs seats word (word + 1) views seat view new rule here (omega arith)
+    (inr (refl, same, placed, λ end. absurd (let no = sym going ∙ end in cc))) refl
+    (λ number. let longer = times-append number view.draws (word ∷ []) in let more = below_one_more number word in
+    rw (least, next) (omega arith))
+    (omega arith)
 
 past_kept : (seats word : ℕ) (views : List SeatView) (seat : ℕ) (view : SeatView) → AreClaimed view.jobs seats word views
     → get_elem? views seat ≡ some view → view.seats ≡ seats → 1 ≤ view.places → view.ended ≡ false → view.jobs ≤ word
     → AreClaimed view.jobs seats (word + 1) (set views seat (view_of view.jobs view.seats view.places view.draws true))
 past_kept seats word views seat view rule here same placed going past =
     let new : SeatView = view_of view.jobs view.seats view.places view.draws true in
-    record {
-      few = rule.few;
-      each = λ other found is. ⊎_elim
-          (λ at. subst (IsViewOf view.jobs seats (word + 1)) at.1 (inr (refl, same, placed, λ _. omega arith)))
-          (λ at. still_view view.jobs seats word found (rule.each other found at.1)) (at_set views seat other new found is);
-      places = let sums = total-set places_of views seat view new here in let places = rule.places in omega arith;
-      drawn = let least : min word view.jobs ≡ view.jobs = omega arith in
-          let next : min (word + 1) view.jobs ≡ view.jobs = omega arith in
-          let before = rw least at rule.drawn in
-          rw next (handed view.jobs (set views seat new) (λ number.
-          let sums = total-set (times_of number) views seat view new here in
-          let known = counted view.jobs views before number in
-          omega arith));
-      bound = let sums = total-set ended_places_of views seat view new here in let bound = rule.bound in
-          let no_end : ended_places_of view ≡ 0 = rw going refl in omega arith;
-    }
-
--- A view of the claims stays one when the word is raised to the number of jobs.
-past_view : (jobs seats word : ℕ) (view : SeatView) → IsViewOf jobs seats word view → IsViewOf jobs seats (max word jobs) view
-past_view jobs seats word view (inl is) = inl is
-past_view jobs seats word view (inr known) = inr (known.0, known.1, known.2, λ ended. let past = known.3 ended in omega arith)
+    let least : min word view.jobs ≡ view.jobs = omega arith in
+    let next : min (word + 1) view.jobs ≡ view.jobs = omega arith in
+    let sums = total-set ended_places_of views seat view new here in
+    let bound = rule.bound in
+    let no_end : ended_places_of view ≡ 0 = rw going refl in
+    replaced view.jobs seats word (word + 1) views seat view new rule here (omega arith) (inr (refl, same, placed, λ _. omega arith)) refl
+    (λ number. rw (least, next)) (omega arith)
 
 -- How often a number occurs among those that are left.
 left_times : (number jobs word : ℕ)
@@ -117,22 +113,15 @@ emptied_kept : (seats word : ℕ) (views : List SeatView) (seat : ℕ) (view : S
     → AreClaimed view.jobs seats (max word view.jobs) (set views seat (emptied_view view word))
 emptied_kept seats word views seat view rule here same placed going =
     let new : SeatView = emptied_view view word in
-    record {
-      few = rule.few;
-      each = λ other found is. ⊎_elim
-          (λ at. subst (IsViewOf view.jobs seats (max word view.jobs)) at.1 (inr (refl, same, placed, λ _. omega arith)))
-          (λ at. past_view view.jobs seats word found (rule.each other found at.1)) (at_set views seat other new found is);
-      places = let sums = total-set places_of views seat view new here in let places = rule.places in omega arith;
-      drawn = let next : min (max word view.jobs) view.jobs ≡ view.jobs = omega arith in
-          rw next (handed view.jobs (set views seat new) (λ number.
-          let sums = total-set (times_of number) views seat view new here in
-          let known = counted (min word view.jobs) views rule.drawn number in
-          let longer = times-append number view.draws (range_with_len word (view.jobs - word)) in
-          let left = left_times number view.jobs word in
-          omega arith));
-      bound = let sums = total-set ended_places_of views seat view new here in let bound = rule.bound in
-          let no_end : ended_places_of view ≡ 0 = rw going refl in omega arith;
-    }
+    let next : min (max word view.jobs) view.jobs ≡ view.jobs = omega arith in
+    let sums = total-set ended_places_of views seat view new here in
+    let bound = rule.bound in
+    let no_end : ended_places_of view ≡ 0 = rw going refl in
+    replaced view.jobs seats word (max word view.jobs) views seat view new rule here (omega arith)
+    (inr (refl, same, placed, λ _. omega arith)) refl
+    (λ number. let longer = times-append number view.draws (range_with_len word (view.jobs - word)) in
+    let left = left_times number view.jobs word in rw next (omega arith))
+    (omega arith)
 
 -- The word never wraps.
 never_wraps : (jobs seats word : ℕ) (views : List SeatView) → AreClaimed jobs seats word views
@@ -157,8 +146,7 @@ module _ (allotment : Allotment) (slots seat : ℕ) (holder : Holder) where
       → KeepsRule allotment (stepped state 0 word seat holder.1 view keeps)
   moved state view word kept rule =
       let one = kept.0 in
-      let At : ℕ → Type 0 = λ n. AreClaimed allotment.jobs allotment.seats n (set state.views seat view) in
-      (length-set state.words 0 word ∙ one, subst At (sym (get_or-set_same state.words 0 word 0 (omega arith))) rule)
+      (length-set state.words 0 word ∙ one, rw (get_or-set_same state.words 0 word 0 (omega arith)) rule)
 
   pub draws : holder.0.jobs ≡ allotment.jobs → holder.0.seats ≡ allotment.seats → 1 ≤ holder.0.places → holder.0.ended ≡ false
       → MayDraw allotment slots seat holder
@@ -213,8 +201,7 @@ module _ (allotment : Allotment) (slots seat : ℕ) (holder : Holder) where
 -- ---- a split
 
 cut_places : (view : SeatView) → 2 ≤ view.places → ended_places_of (giver view) + ended_places_of (taker view) ≡ ended_places_of view
-cut_places view two =
-    elim view.ended as (λ b. cond b (view.places - 1) 0 + cond b 1 0 ≡ cond b view.places 0) [ true ↦ omega arith | false ↦ omega arith ]
+cut_places view two = grind (arith, nat_tests)
 
 pub splits : (allotment : Allotment) (seat : ℕ) (view : SeatView) → view.jobs ≡ allotment.jobs → view.seats ≡ allotment.seats
     → 2 ≤ view.places → Splits (KeepsRule allotment) seat view (giver view) (taker view)
@@ -222,7 +209,6 @@ splits allotment seat view jobs_are seats_are two state kept here =
     let rule = kept.1 in
     let word : ℕ = get_or state.words 0 0 in
     let views = set state.views seat (giver view) in
-    let At : SeatView → Type 0 = λ v. IsViewOf allotment.jobs allotment.seats word v in
     let past : view.ended ≡ true → allotment.jobs ≤ word =
     λ ended. ⊎_elim (λ is. absurd (let no_place : view.places ≡ 0 = ap places_of is in omega arith)) (λ known. known.3 ended)
     (rule.each seat view here) in (
@@ -230,9 +216,9 @@ splits allotment seat view jobs_are seats_are two state kept here =
       record {
         few = rule.few;
         each = λ other found is. ⊎_elim
-            (λ old. ⊎_elim (λ at. subst At at.1 (inr (jobs_are, seats_are, omega arith, past))) (λ at. rule.each other found at.1)
+            (λ old. ⊎_elim (λ at. subst (IsViewOf allotment.jobs allotment.seats word) at.1 (inr (jobs_are, seats_are, omega arith, past))) (λ at. rule.each other found at.1)
             (at_set state.views seat other (giver view) found old))
-            (λ new. subst At new (inr (jobs_are, seats_are, omega arith, past)))
+            (λ new. rw (← new) (inr (jobs_are, seats_are, omega arith, past)))
             (at_snoc views (taker view) found other is);
         places = let cut = total-set places_of state.views seat view (giver view) here in
             let longer = total-push places_of views (taker view) in let places = rule.places in omega arith;
@@ -250,14 +236,10 @@ splits allotment seat view jobs_are seats_are two state kept here =
 -- ---- a join
 
 both_ended : (one other : Bool) (m n : ℕ) → cond one m 0 + cond other n 0 ≤ cond (one || other) (m + n) 0
-both_ended true true m n = omega arith
-both_ended true false m n = omega arith
-both_ended false true m n = omega arith
-both_ended false false m n = omega arith
+both_ended one other m n = grind (arith, nat_tests)
 
 either_ended : (one other : Bool) → (one || other) ≡ true → (one ≡ true) ⊎ (other ≡ true)
-either_ended true other is = inl refl
-either_ended false other is = inr is
+either_ended one other is = grind arith
 
 past_of : (jobs seats word : ℕ) (views : List SeatView) (seat : ℕ) (view : SeatView) → AreClaimed jobs seats word views
     → get_elem? views seat ≡ some view → 1 ≤ view.places → view.ended ≡ true → jobs ≤ word
@@ -270,7 +252,6 @@ joins allotment seat taken view other jobs_are seats_are placed other_placed sta
     let rule = kept.1 in
     let word : ℕ = get_or state.words 0 0 in
     let middle = set state.views seat (merged view other) in
-    let At : SeatView → Type 0 = λ v. IsViewOf allotment.jobs allotment.seats word v in
     let before : get_elem? state.views taken ≡ some other = sym (set_else state.views seat taken (merged view other) apart) ∙ there in
     let past : (view.ended || other.ended) ≡ true → allotment.jobs ≤ word =
     λ ended. ⊎_elim (past_of allotment.jobs allotment.seats word state.views seat view rule here placed)
@@ -280,8 +261,8 @@ joins allotment seat taken view other jobs_are seats_are placed other_placed sta
       record {
         few = rule.few;
         each = λ at_seat found is. ⊎_elim
-            (λ at. subst At at.1 (inl refl))
-            (λ old. ⊎_elim (λ at. subst At at.1 (inr (jobs_are, seats_are, omega arith, past))) (λ at. rule.each at_seat found at.1)
+            (λ at. rw (← at.1) (inl refl))
+            (λ old. ⊎_elim (λ at. subst (IsViewOf allotment.jobs allotment.seats word) at.1 (inr (jobs_are, seats_are, omega arith, past))) (λ at. rule.each at_seat found at.1)
             (at_set state.views seat at_seat (merged view other) found old.1))
             (at_set middle taken at_seat spent found is);
         places = let one = total-set places_of state.views seat view (merged view other) here in
@@ -326,9 +307,8 @@ all_drawn allotment seat view words values final all ended =
     let cut = total-set places_of state.views seat view spent here in
     let places = rule.places in
     let empty : total places_of others ≡ 0 = omega arith in
-    let At : SeatView → Type 0 = λ v. IsViewOf allotment.jobs allotment.seats word v in
-    let each : (at_seat : ℕ) (found : SeatView) → get_elem? others at_seat ≡ some found → At found =
-    λ at_seat found is. ⊎_elim (λ at. subst At at.1 (inl refl)) (λ at. rule.each at_seat found at.1)
+    let each : (at_seat : ℕ) (found : SeatView) → get_elem? others at_seat ≡ some found → IsViewOf allotment.jobs allotment.seats word found =
+    λ at_seat found is. ⊎_elim (λ at. rw (← at.1) (inl refl)) (λ at. rule.each at_seat found at.1)
     (at_set state.views seat at_seat spent found is) in
     let least : min word allotment.jobs ≡ allotment.jobs = omega arith in
     let drawn = rw least at rule.drawn in

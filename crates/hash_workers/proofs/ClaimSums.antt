@@ -1,8 +1,7 @@
 -- Sums over all views of claims, and how often numbers occur among the draws.
-use Rattle.std.proofs.Common.{◌≡◌, ℕ, zero, suc, ◌+◌, ◌-◌, ◌<◌, ◌≤◌, cond, eqb, ltb, true, false, List, [], ◌∷◌, ◌++◌, length, get_or, set, map, sym, refl, ap, ◌∙◌, subst, arith}
+use Rattle.std.proofs.Common.{◌≡◌, ℕ, zero, suc, ◌+◌, ◌-◌, ◌<◌, ◌≤◌, cond, eqb, ltb, List, [], ◌∷◌, ◌++◌, length, get_or, set, map, sym, refl, ap, ◌∙◌, subst, arith}
 use Rattle.std.specs.List.{All, concat, range_with_len}
 use Rattle.std.proofs.lemmas.List.FromFn.{length-range_with_len, get_or-range_with_len}
-use Rattle.std.proofs.lemmas.List.{append-nil}
 use Rattle.std.proofs.lemmas.Bool.Decides.{nat_tests}
 use mathlib.Core.Logic.{dite}
 use mathlib.Core.Option.{some, some-injective, some-ne-none}
@@ -31,7 +30,7 @@ total_at of (other ∷ views) zero view here = let is : of other ≡ of view = a
 total_at of (other ∷ views) (suc seat) view here = let others = total_at of views seat view here in omega arith
 
 ended_at : (view : SeatView) → ended_places_of view ≤ places_of view
-ended_at view = elim view.ended as (λ b. cond b view.places 0 ≤ view.places) [ true ↦ omega arith | false ↦ omega arith ]
+ended_at view = grind (arith, nat_tests)
 
 pub ended_within : (views : List SeatView) → total ended_places_of views ≤ total places_of views
 ended_within [] = omega arith
@@ -126,12 +125,4 @@ draws_more jobs number draws now_draws is above = record {
   below = below_range number (jobs - number) (λ n. n < jobs) (λ more within. omega arith);
   beyond = below_range number (jobs - number) (λ n. All (λ drawn. drawn < n) draws)
       (λ more within. all_below (number + more) draws (λ drawn some_times. let below = above drawn some_times in omega arith));
-}
-
-pub draws_none : (jobs : ℕ) (draws now_draws : List ℕ) → now_draws ≡ draws → DrawsMore jobs draws now_draws
-draws_none jobs draws now_draws is = record {
-  rest = [];
-  draws_are = is ∙ sym (append-nil draws);
-  below = λ index d within. absurd (omega arith);
-  beyond = λ index d within. absurd (omega arith);
 }

@@ -1,18 +1,16 @@
 -- Whether some worker ended for a reason, and the first job without an operation.
-use Rattle.std.proofs.Common.{◌≡◌, ◌≢◌, ℕ, ◌+◌, ◌<◌, ◌≤◌, Bool, true, false, List, length, get_or, Option, None, Some, refl, sym, ◌∙◌, ap, subst, inl, inr, arith}
+use Rattle.std.proofs.Common.{◌≡◌, ◌≢◌, ℕ, ◌+◌, ◌<◌, Bool, true, false, List, length, get_or, Option, None, Some, refl, sym, ◌∙◌, ap, inl, inr, arith}
 use Rattle.std.specs.Prelude.{slice_get, IfSome}
 use Rattle.std.proofs.lemmas.Bool.{cases_lt, true≢false}
-use Rattle.std.proofs.lemmas.Option.{same_Some, slice_get_read, slice_get_within}
+use Rattle.std.proofs.lemmas.Option.{same_Some, slice_get_read}
 use Rattle.std.proofs.Math.Nat.{le_refl}
 use denote.Enum.Bare.{sameb, same_true, true_same}
 use Rattle.hash_workers.specs.contracts.work.End as ends
 use Rattle.hash_workers.specs.declared.work.End.{End}
 use Rattle.hash_workers.specs.declared.work.Work.{Work}
-use Rattle.hash_workers.specs.declared.work.End.TheVariants.{NoOperation}
 use Rattle.hash_workers.specs.declared.work.Lack.{Lack}
 use Rattle.hash_workers.specs.parts.Ending.{IsFrom}
-use Rattle.hash_workers.specs.parts.Seats.{HasEnd, HasLack, HasNoEnd, HaveLacks, IsEarlier, IsLeastLack}
-use Rattle.hash_workers.specs.parts.Settling.{IsLackOf}
+use Rattle.hash_workers.specs.parts.Seats.{HasEnd, HasLack, HasNoEnd, IsEarlier, IsLeastLack}
 
 pub has_end_here : (works : List Work) (end : End) (i : ℕ) (work : Work) (b : Bool) → i < length works → work ≡ get_or works i work
     → b ≡ sameb ends.the_type work.end end → b ≡ true → HasEnd works end
@@ -44,19 +42,14 @@ some_lack (Some lack) is = (lack, refl)
 
 earlier_old : (old here new : Option Lack) (job : ℕ) → IsEarlier old here new → IsFrom old job → IsFrom new job
 earlier_old None here new job is from = absurd from
-earlier_old (Some one) None new job is from = let At : Option Lack → Type 0 = λ o. IsFrom o job in subst At (sym is) from
-earlier_old (Some one) (Some other) new job (inl is) from =
-    let At : Option Lack → Type 0 = λ o. IsFrom o job in subst At (sym is.0) from
-earlier_old (Some one) (Some other) new job (inr is) from =
-    let At : Option Lack → Type 0 = λ o. IsFrom o job in
-    let less = is.1 in
-    let past : other.job ≤ job = omega arith in subst At (sym is.0) past
+earlier_old (Some one) None new job is from = rw is from
+earlier_old (Some one) (Some other) new job (inl is) from = rw is.0 from
+earlier_old (Some one) (Some other) new job (inr is) from = rw is.0 (omega (arith, is.1))
 
 earlier_here : (old new : Option Lack) (lack : Lack) → IsEarlier old (Some lack) new → IsFrom new lack.job
-earlier_here None new lack is = let At : Option Lack → Type 0 = λ o. IsFrom o lack.job in subst At (sym is) (le_refl lack.job)
-earlier_here (Some one) new lack (inl is) = let At : Option Lack → Type 0 = λ o. IsFrom o lack.job in subst At (sym is.0) is.1
-earlier_here (Some one) new lack (inr is) =
-    let At : Option Lack → Type 0 = λ o. IsFrom o lack.job in subst At (sym is.0) (le_refl lack.job)
+earlier_here None new lack is = rw is (le_refl lack.job)
+earlier_here (Some one) new lack (inl is) = rw is.0 is.1
+earlier_here (Some one) new lack (inr is) = rw is.0 (le_refl lack.job)
 
 lack_here : (works : List Work) (i : ℕ) (work : Work) (lack : Option Lack) → slice_get works i ≡ Some work → work.lack ≡ lack
     → IfSome lack (HasLack works)
@@ -65,15 +58,10 @@ lack_here works i work (Some lack) stands is = record { worker = i; work = work;
 
 earlier_has : (works : List Work) (old here new : Option Lack) → IsEarlier old here new → IfSome old (HasLack works)
     → IfSome here (HasLack works) → IfSome new (HasLack works)
-earlier_has works None here new is has also = let At : Option Lack → Type 0 = λ o. IfSome o (HasLack works) in subst At (sym is) also
-earlier_has works (Some one) None new is has also = let At : Option Lack → Type 0 = λ o. IfSome o (HasLack works) in subst At (sym is) has
-earlier_has works (Some one) (Some other) new (inl is) has also =
-    let At : Option Lack → Type 0 = λ o. IfSome o (HasLack works) in subst At (sym is.0) has
-earlier_has works (Some one) (Some other) new (inr is) has also =
-    let At : Option Lack → Type 0 = λ o. IfSome o (HasLack works) in subst At (sym is.0) also
-
-pub least_none : (works : List Work) → IsLeastLack works 0 None
-least_none works = record { some = tt; none_before = λ worker work lack below has is. absurd (omega arith) }
+earlier_has works None here new is has also = rw is also
+earlier_has works (Some one) None new is has also = rw is has
+earlier_has works (Some one) (Some other) new (inl is) has also = rw is.0 has
+earlier_has works (Some one) (Some other) new (inr is) has also = rw is.0 also
 
 pub least_more : (works : List Work) (i : ℕ) (work : Work) (old new : Option Lack) → i < length works → work ≡ get_or works i work
     → IsEarlier old work.lack new → IsLeastLack works i old → IsLeastLack works (i + 1) new
@@ -86,22 +74,6 @@ least_more works i work old new within is earlier least =
         | inr more ↦
             let same : worker ≡ i = omega arith in
             let one : work ≡ other = same_Some work other (sym here ∙ ap (slice_get works) (sym same) ∙ has) in
-            let At : Option Lack → Type 0 = λ o. IsEarlier old o new in
-            earlier_here old new lack (subst At (ap (λ (w : Work). w.lack) one ∙ lacks) earlier)
+            earlier_here old new lack (rw (ap (λ (w : Work). w.lack) one ∙ lacks) at earlier)
       ];
     }
-
-pub lack_of_end : (works : List Work) (lack : Option Lack) → HaveLacks works → HasEnd works NoOperation
-    → IsLeastLack works (length works) lack → IsLackOf works lack
-lack_of_end works lack have ends least = record {
-  none = λ is.
-      let first = some_lack ends.work.lack (have ends.worker ends.work ends.stands ends.ends) in
-      let From : Option Lack → Type 0 = λ o. IsFrom o first.0.job in
-      let from = least.none_before ends.worker ends.work first.0 (slice_get_within works ends.worker ends.work ends.stands) ends.stands
-      first.1 in
-      absurd (subst From is from);
-  some = λ _. least;
-}
-
-pub lack_of_none : (works : List Work) → HasNoEnd works NoOperation (length works) → IsLackOf works None
-lack_of_none works none = record { none = λ _. none; some = λ is. absurd (is refl) }

@@ -1,88 +1,45 @@
 -- Outcomes that are put to their jobs, one after another.
-use Rattle.std.proofs.Common.{◌≡◌, ◌≢◌, ℕ, zero, suc, ◌+◌, ◌<◌, ◌≤◌, List, [], ◌∷◌, ◌++◌, length, get_or, set, map, Some, refl, sym, ap, ◌∙◌, subst, inl, inr, arith}
-use Rattle.std.specs.Prelude.{slice_get, Vec, option_map, option_and_then}
+use Rattle.std.proofs.Common.{◌≡◌, ◌≢◌, ℕ, ◌+◌, ◌<◌, List, [], ◌∷◌, ◌++◌, length, get_or, set, map, Some, refl, sym, ap, ◌∙◌, inl, inr, arith}
+use Rattle.std.specs.Prelude.{slice_get, Vec}
 use Rattle.std.specs.declared.alloc.Global.{Global}
 use Rattle.std.proofs.lemmas.Bool.{cases_lt}
-use Rattle.std.proofs.lemmas.Option.{same_Some, none-some, slice_get-map, slice_get_read}
-use Rattle.hash_workers.specs.parts.Taking.{Took, NumbersRise, NumbersRiseForEach}
+use Rattle.std.proofs.lemmas.Grind.{common_steps}
+use Rattle.std.proofs.lemmas.Option.{gets, same_Some, slice_get_read}
+use Rattle.hash_workers.specs.parts.Taking.{NumbersRise, NumbersRiseForEach}
+use Rattle.hash_workers.proofs.ListLaws.{at_last, at_list, at_longer, at_map}
 use Rattle.hash_workers.proofs.TakingLaws.{TakeEach}
-use Rattle.hash_workers.specs.parts.Scattering.{items_of, AreBelow, ArePlaced, AreKept, got_at, AreScattered}
+use Rattle.hash_workers.specs.parts.Scattering.{items_of, AreBelow, ArePlaced, AreKept, AreScattered}
 
 -- ---- lists
 
 pub get_set_same : {X : Type 0} → (xs : List X) (i : ℕ) (x : X) → i < length xs → slice_get (set xs i x) i ≡ Some x
-get_set_same [] i x within = absurd (omega arith)
-get_set_same (y ∷ xs) zero x within = refl
-get_set_same (y ∷ xs) (suc i) x within = get_set_same xs i x (omega arith)
+get_set_same xs i x within = grind (arith, common_steps, gets)
 
 pub get_set_other : {X : Type 0} → (xs : List X) (i j : ℕ) (x : X) → j ≢ i → slice_get (set xs i x) j ≡ slice_get xs j
-get_set_other [] i j x other = refl
-get_set_other (y ∷ xs) zero zero x other = absurd (other refl)
-get_set_other (y ∷ xs) zero (suc j) x other = refl
-get_set_other (y ∷ xs) (suc i) zero x other = refl
-get_set_other (y ∷ xs) (suc i) (suc j) x other = get_set_other xs i j x (λ same. other (ap suc same))
-
-pub get_front : {X : Type 0} → (xs : List X) (x y : X) (i : ℕ) → slice_get xs i ≡ Some y → slice_get (xs ++ x ∷ []) i ≡ Some y
-get_front [] x y i has = absurd (none-some y has)
-get_front (z ∷ xs) x y zero has = has
-get_front (z ∷ xs) x y (suc i) has = get_front xs x y i has
-
-at_end : {X : Type 0} → (xs : List X) (x : X) → slice_get (xs ++ x ∷ []) (length xs) ≡ Some x
-at_end [] x = refl
-at_end (y ∷ xs) x = at_end xs x
-
-pub get_last : {X : Type 0} → (xs : List X) (x : X) (n : ℕ) → n ≡ length xs → slice_get (xs ++ x ∷ []) n ≡ Some x
-get_last xs x n is = ap (slice_get (xs ++ x ∷ [])) is ∙ at_end xs x
+get_set_other xs i j x other = grind (arith, common_steps, gets)
 
 -- A list has all that its front has.
 pub front_less : {X : Type 0} → (all longer front : List X) (x : X) → longer ≡ front ++ x ∷ []
     → ((i : ℕ) (y : X) → slice_get longer i ≡ Some y → slice_get all i ≡ Some y) → (i : ℕ) (y : X) → slice_get front i ≡ Some y
     → slice_get all i ≡ Some y
-front_less {X = X} all longer front x is has i y here =
-    let At : List X → Type 0 = λ xs. slice_get xs i ≡ Some y in
-    has i y (subst At (sym is) (get_front front x y i here))
+front_less all longer front x is has i y here = has i y (rw is (at_longer front x i y here))
 
 pub front_last : {X : Type 0} → (all longer front : List X) (x : X) (n : ℕ) → longer ≡ front ++ x ∷ [] → n ≡ length front
     → ((i : ℕ) (y : X) → slice_get longer i ≡ Some y → slice_get all i ≡ Some y) → slice_get all n ≡ Some x
-front_last {X = X} all longer front x n is at has =
-    let At : List X → Type 0 = λ xs. slice_get xs n ≡ Some x in
-    has n x (subst At (sym is) (get_last front x n at))
-
--- ---- what stands in a list of lists
-
-pub here_at : {X : Type 0} → (lists : List (List X)) (worker index : ℕ) (one : List X) (x : X) → slice_get lists worker ≡ Some one
-    → slice_get one index ≡ Some x
-    → got_at lists worker index ≡ Some x
-here_at {X = X} lists worker index one x here has = ap (option_and_then (λ (xs : List X). slice_get xs index)) here ∙ has
-
-pub in_here : {X : Type 0} → (lists : List (List X)) (worker index : ℕ) (one : List X) (x : X) → slice_get lists worker ≡ Some one
-    → got_at lists worker index ≡ Some x
-    → slice_get one index ≡ Some x
-in_here {X = X} lists worker index one x here got = sym (ap (option_and_then (λ (xs : List X). slice_get xs index)) here) ∙ got
+front_last all longer front x n is last has = has n x (rw (is, last) (at_last front x))
 
 pub items_here : {T : Type 0} → (lists : List (Vec T Global)) (worker : ℕ) (one : Vec T Global) → worker < length lists
     → one ≡ get_or lists worker one
     → slice_get (map items_of lists) worker ≡ Some one.items
-items_here lists worker one within is =
-    slice_get-map items_of lists worker ∙ ap (option_map items_of) (slice_get_read lists (length lists) worker one refl within is)
-
-pub items_at : {T : Type 0} → (lists : List (Vec T Global)) (worker : ℕ) (one : Vec T Global) → slice_get lists worker ≡ Some one
-    → slice_get (map items_of lists) worker ≡ Some one.items
-items_at lists worker one is = slice_get-map items_of lists worker ∙ ap (option_map items_of) is
+items_here lists worker one within is = at_map items_of lists worker one (slice_get_read lists (length lists) worker one refl within is)
 
 -- ---- one worker
-
-pub placed_none : {X : Type 0} → (taken : List ℕ) (group outcomes : List X) (worker from : ℕ) (by : List ℕ) → length taken ≤ from
-    → ((index job : ℕ) → slice_get taken index ≡ Some job → index < length taken) → ArePlaced taken group worker from outcomes by
-placed_none taken group outcomes worker from by past within = record {
-  each = λ index job outcome after took has. let below = within index job took in absurd (omega arith);
-}
 
 pub placed_more : {X : Type 0} → (taken : List ℕ) (group outcomes : List X) (by : List ℕ) (worker from next job : ℕ) (outcome : X)
     → from + 1 ≡ next → NumbersRise taken → slice_get taken from ≡ Some job → slice_get group from ≡ Some outcome → job < length outcomes
     → job < length by
     → ArePlaced taken group worker next outcomes by → ArePlaced taken group worker from (set outcomes job outcome) (set by job worker)
-placed_more {X = X} taken group outcomes by worker from next job outcome step rise took got within by_within placed = record {
+placed_more taken group outcomes by worker from next job outcome step rise took got within by_within placed = record {
   each = λ index other result after has_job has. elim (cases_lt from index) [
     | inl later ↦
         let above : job < other = rise.each from index job other later took has_job in
@@ -91,22 +48,11 @@ placed_more {X = X} taken group outcomes by worker from next job outcome step ri
         (get_set_other outcomes job other outcome apart ∙ before.0, get_set_other by job other worker apart ∙ before.1)
     | inr here ↦
         let same : index ≡ from = omega arith in
-        let At : ℕ → Type 0 = λ i. slice_get taken i ≡ Some other in
-        let Of : ℕ → Type 0 = λ i. slice_get group i ≡ Some result in
-        let job_is : job ≡ other = same_Some job other (sym took ∙ subst At same has_job) in
-        let outcome_is : outcome ≡ result = same_Some outcome result (sym got ∙ subst Of same has) in
-        let For : ℕ → Type 0 = λ j. (slice_get (set outcomes job outcome) j ≡ Some result) ×
-        (slice_get (set by job worker) j ≡ Some worker) in
-        subst For job_is (
-          get_set_same outcomes job outcome within ∙ ap (λ (x : X). Some x) outcome_is,
-          get_set_same by job worker
-              by_within,
-        )
+        let job_is : job ≡ other = same_Some job other (sym took ∙ (rw same at has_job)) in
+        let outcome_is : outcome ≡ result = same_Some outcome result (sym got ∙ (rw same at has)) in
+        rw (← job_is, ← outcome_is) (get_set_same outcomes job outcome within, get_set_same by job worker by_within)
   ];
 }
-
-pub kept_none : {X : Type 0} → (taken : List ℕ) (from : ℕ) (outcomes : List X) (by : List ℕ) → AreKept taken from outcomes outcomes by by
-kept_none taken from outcomes by = record { each = λ job none. (refl, refl) }
 
 pub kept_more : {X : Type 0} → (taken : List ℕ) (old outcomes : List X) (old_by by : List ℕ) (worker from next job : ℕ) (outcome : X)
     → from + 1 ≡ next → slice_get taken from ≡ Some job
@@ -123,16 +69,15 @@ kept_more taken old outcomes old_by by worker from next job outcome step took ke
 pub below_of : (count : ℕ) (takings : List (List ℕ)) (worker : ℕ) (taken : List ℕ) → TakeEach count takings
     → slice_get takings worker ≡ Some taken → AreBelow count taken
 below_of count takings worker taken hands here = record {
-  each = λ index job has. hands.below worker index job
-      (here_at takings worker index taken job here has);
+  each = λ index job has. hands.below worker index job (at_list takings worker index taken job here has);
 }
 
 pub rise_of : (takings : List (List ℕ)) (worker : ℕ) (taken : List ℕ) → NumbersRiseForEach takings → slice_get takings worker ≡ Some taken
     → NumbersRise taken
 rise_of takings worker taken rise here = record {
   each = λ first second earlier later order has_first has_second.
-      rise.each worker first second earlier later order (here_at takings worker first taken earlier here has_first)
-      (here_at takings worker second taken later here has_second);
+      rise.each worker first second earlier later order (at_list takings worker first taken earlier here has_first)
+      (at_list takings worker second taken later here has_second);
 }
 
 pub scattered_more : {X : Type 0}
@@ -147,15 +92,10 @@ scattered_more count takings groups worker next taken group old outcomes old_by 
         | inl later ↦
             let before = scattered.each other index job outcome (omega arith) took got in
             let same = kept.each job (λ at _ has. let one : worker ≡ other = (hands.once worker other at index job
-            (here_at takings worker at taken job has_taken has) took).0 in omega arith) in
+            (at_list takings worker at taken job has_taken has) took).0 in omega arith) in
             (same.0 ∙ before.0, same.1 ∙ before.1)
         | inr here ↦
             let same : other ≡ worker = omega arith in
-            let At : ℕ → Type 0 = λ w. Took takings w index job in
-            let Of : ℕ → Type 0 = λ w. got_at groups w index ≡ Some outcome in
-            let For : ℕ → Type 0 = λ w. (slice_get outcomes job ≡ Some outcome) × (slice_get by job ≡ Some w) in
-            subst For (sym same) (placed.each index job outcome (omega arith)
-            (in_here takings worker index taken job has_taken (subst At same took))
-            (in_here groups worker index group outcome has_group (subst Of same got)))
+            rw same (placed.each index job outcome (omega arith) (rw (same, has_taken) at took) (rw (same, has_group) at got))
       ];
     }

@@ -21,7 +21,7 @@ use measure_book::{BookFault, Op, Origin, Outcome};
 use std::alloc::{AllocError, Global};
 
 /// Why a worker takes no more jobs.
-#[derive(Clone, Copy, Debug, PartialEq, Eq)]
+#[derive(Clone, Copy, PartialEq, Eq)]
 enum End {
     /// No job is left.
     NoneLeft,
@@ -54,7 +54,7 @@ impl From<ForeignBook> for End {
 }
 
 /// Whether a worker takes another job.
-#[derive(Clone, Copy, Debug, PartialEq, Eq)]
+#[derive(Clone, Copy, PartialEq, Eq)]
 enum Turn {
     /// It does.
     Next,

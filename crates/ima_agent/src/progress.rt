@@ -14,7 +14,7 @@ pub trait Progress: Sync {
 }
 
 /// Ignores the progress.
-#[derive(Clone, Copy, Debug)]
+#[derive(Clone, Copy)]
 pub struct NoProgress;
 
 impl Progress for NoProgress {

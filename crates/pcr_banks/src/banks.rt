@@ -18,7 +18,7 @@ type Register = [u8; MOST_BYTES];
 type Bank = [Register; PLACES];
 
 /// The register banks of a TPM: the values of PCR 0 to 23 for each active algorithm.
-#[derive(Clone, Copy, Debug, PartialEq, Eq)]
+#[derive(Clone, Copy, PartialEq, Eq)]
 pub struct Banks {
     banks: PerAlg<Option<Bank>>,
 }

@@ -6,7 +6,7 @@ ghost use Rattle.pcr_banks.specs.PerAlgs.{at};
 use crate::Alg;
 
 /// One value for each algorithm.
-#[derive(Clone, Copy, Debug, PartialEq, Eq)]
+#[derive(Clone, Copy, PartialEq, Eq)]
 pub struct PerAlg<T> {
     pub(crate) sha1: T,
     pub(crate) sha256: T,

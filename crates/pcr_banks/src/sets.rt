@@ -9,7 +9,7 @@ use crate::per_alg::PerAlg;
 use crate::{Alg, Digest};
 
 /// A set of algorithms.
-#[derive(Clone, Copy, Debug, PartialEq, Eq)]
+#[derive(Clone, Copy, PartialEq, Eq)]
 pub struct AlgSet {
     has: PerAlg<bool>,
 }
@@ -55,7 +55,7 @@ impl AlgSet {
 }
 
 /// For each algorithm, a digest or none.
-#[derive(Clone, Copy, Debug, PartialEq, Eq)]
+#[derive(Clone, Copy, PartialEq, Eq)]
 pub struct PerBank {
     digests: PerAlg<Option<Digest>>,
 }

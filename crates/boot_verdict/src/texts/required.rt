@@ -120,5 +120,8 @@ fn write_line<S: Sink>(alg: Alg, register: u32, sink: &mut S) -> Result<(), Fail
 {
     let mut number = Buffer::new();
     let register = number.format(register).as_bytes();
-    send_pieces(&[alg.name().as_bytes(), b" ", register, b" missing\n"], sink)
+    send_pieces(
+        &[alg.name().as_bytes(), b" ", register, b" missing\n"],
+        sink,
+    )
 }

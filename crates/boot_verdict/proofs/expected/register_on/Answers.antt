@@ -1,4 +1,5 @@
-use Rattle.boot_verdict.proofs.ExpectedLaws.{if_none, line_has_space, no_number, no_alg, no_register, no_value}
+use Rattle.boot_verdict.proofs.LineLaws.{if_none}
+use Rattle.boot_verdict.proofs.ExpectedLaws.{line_has_space, no_number, no_alg, no_register, no_value}
 use Rattle.boot_verdict.proofs.expected.register_on.Goals as goal
 
 pub returns-in_err-name-clause-found : goal.returns-in_err-name-clause-found

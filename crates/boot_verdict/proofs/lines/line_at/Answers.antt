@@ -1,5 +1,5 @@
 use Rattle.std.proofs.Common.{List, ℕ, ◌∷◌, [], sym, ap, ◌∙◌}
-use Rattle.boot_verdict.specs.ExpectedTexts.{lines_of}
+use Rattle.boot_verdict.specs.StatedRegisters.{lines_of}
 use Rattle.boot_verdict.proofs.ExpectedLaws.{first_line, only_line}
 use Rattle.boot_verdict.proofs.lines.line_at.Goals as goal
 

@@ -1,5 +1,5 @@
 use Rattle.std.proofs.Common.{ℕ, List, Bor, ap, ◌∙◌}
-use Rattle.boot_verdict.proofs.ExpectedLaws.{if_none}
+use Rattle.boot_verdict.proofs.LineLaws.{if_none}
 use Rattle.boot_verdict.proofs.PcrReadLaws.{columns_front, columns_stripped}
 use Rattle.boot_verdict.proofs.pcr_read.columns_at.Goals as goal
 

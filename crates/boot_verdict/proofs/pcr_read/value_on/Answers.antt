@@ -1,5 +1,5 @@
 use Rattle.pcr_banks.specs.Hashing.{name_of}
-use Rattle.boot_verdict.proofs.ExpectedLaws.{if_none}
+use Rattle.boot_verdict.proofs.LineLaws.{if_none}
 use Rattle.boot_verdict.proofs.PcrReadLaws.{after_columns, no_value_in}
 use Rattle.boot_verdict.proofs.pcr_read.value_on.Goals as goal
 

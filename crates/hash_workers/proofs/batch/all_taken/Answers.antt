@@ -1,4 +1,4 @@
-use Rattle.std.proofs.Common.{arith}
+use Rattle.std.proofs.Common.{◌≡◌, arith}
 use Rattle.hash_workers.proofs.SeatLaws.{hand_back}
 use Rattle.hash_workers.proofs.SettlingLaws.{all_work}
 use Rattle.hash_workers.proofs.batch.all_taken.Goals as goal
@@ -10,7 +10,8 @@ of-requires-clause-works g c =
 
 pub returns : goal.returns
 returns g c =
-    all_work c.args.origin.now (g.J.Jobs.makes c.args.jobs.now c.args.origin.now.alg) (g.J.Jobs.lacks c.args.jobs.now) c.args.workers
-    (g.J.Jobs.total c.args.jobs.now) c.in_ok-claims.claims c.in_ok-book.works.items c.in_ok-all.all (c.in_ok-claims.ensures.claims.1)
-    (omega (arith, c.in_ok-claims.ensures.claims.0, c.count-count.ensures)) c.in_ok-book.ensures
-    (rw c.count-count.ensures at c.in_ok-all.ensures.made) c.in_ok-all.ensures.each c.in_ok-all.ensures.before
+    let jobs : c.in_ok-claims.claims.jobs ≡ g.J.Jobs.total c.args.jobs.now = omega (arith, c.in_ok-claims.ensures.claims.0, c.count-count.ensures) in
+    rw (jobs, c.in_ok-claims.ensures.claims.1) at
+    (all_work c.args.origin.now (g.J.Jobs.makes c.args.jobs.now c.args.origin.now.alg) (g.J.Jobs.lacks c.args.jobs.now) c.in_ok-claims.claims
+    c.in_ok-book.works.items c.in_ok-book.ensures c.in_ok-all.all (rw (c.count-count.ensures, ← jobs) at c.in_ok-all.ensures.made)
+    c.in_ok-all.ensures.each c.in_ok-all.ensures.before)

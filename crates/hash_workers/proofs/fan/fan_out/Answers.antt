@@ -1,7 +1,5 @@
-use Rattle.std.proofs.Common.{◌≡◌, ◌<◌, length, vec_len, subst, arith}
+use Rattle.std.proofs.Common.{◌≡◌, ◌<◌, length, vec_len, arith}
 use Rattle.std.proofs.lemmas.Option.{slice_get_within, get_or_from_slice_get}
-use Rattle.hash_workers.specs.declared.work.Work.{Work}
-use Rattle.hash_workers.specs.parts.Seats.{IsWorkOf}
 use Rattle.hash_workers.proofs.fan.fan_out.Goals as goal
 
 pub returns : goal.returns
@@ -15,7 +13,5 @@ returns g c =
           let within = slice_get_within c.in_ok-works.works.items worker work here in
           let inside : worker < length c.in_ok-seats.seats.items = omega arith in
           let gives = (c.in_ok-works.ensures.each worker work inside).1 in
-          let At : Work → Type 0 =
-          λ w. IsWorkOf c.args.origin.now (g.J.Jobs.makes c.args.jobs.now c.args.origin.now.alg) (g.J.Jobs.lacks c.args.jobs.now) c.args.claims.now w in
-          subst At (get_or_from_slice_get c.in_ok-works.works.items worker work work here) gives.call.met;
+          rw (get_or_from_slice_get c.in_ok-works.works.items worker work work here) at gives.call.met;
     }

@@ -1,4 +1,4 @@
-use Rattle.std.proofs.Common.{◌≡◌, ◌+◌, ◌<◌, ℕ, length, get_or, vec_len, Some, ◌∙◌, subst, arith}
+use Rattle.std.proofs.Common.{◌≡◌, ◌+◌, ◌<◌, length, get_or, vec_len, sym, ap, ◌∙◌, arith}
 use Rattle.std.specs.Prelude.{slice_get}
 use Rattle.std.proofs.lemmas.Option.{slice_get-get_or}
 use Rattle.hash_workers.proofs.ScatterLaws.{front_less, front_last, placed_more, kept_more}
@@ -9,11 +9,9 @@ loop-outcome-preserved c =
     let kept = c.loop-outcome.invariant in
     let popped = c.in-Some.ensures.items in
     let step : vec_len c.pop.new.self + 1 ≡ vec_len c.loop-outcome.group = c.in-Some.ensures.cases in
-    let at : c.len.result ≡ vec_len c.pop.new.self = c.len.ensures in
+    let last : c.len.result ≡ vec_len c.pop.new.self = c.len.ensures in
     let inside : c.len.result < length c.args.taken.now = omega arith in
-    let At : ℕ → Type 0 = λ i. slice_get c.args.taken.now i ≡ Some (get_or c.args.taken.now c.len.result 0) in
-    let took : slice_get c.args.taken.now (vec_len c.pop.new.self) ≡ Some (get_or c.args.taken.now c.len.result 0) =
-    subst At at (slice_get-get_or c.args.taken.now c.len.result 0 inside) in
+    let took = ap (slice_get c.args.taken.now) (sym last) ∙ slice_get-get_or c.args.taken.now c.len.result 0 inside in
     let below : get_or c.args.taken.now c.len.result 0 < vec_len c.args.outcomes.now = c.requires.below.each _ _ took in
     let sizes = c.requires.sizes in
     let got = front_last c.args.group.items c.loop-outcome.group.items c.pop.new.self.items c.in-Some.outcome (vec_len c.pop.new.self)

@@ -1,5 +1,5 @@
 use Rattle.std.proofs.Common.{arith}
-use Rattle.boot_verdict.proofs.ExpectedLaws.{if_none}
+use Rattle.boot_verdict.proofs.LineLaws.{if_none}
 use Rattle.boot_verdict.proofs.RangeLaws.{not_ordered, range_ends, range_spelled}
 use Rattle.boot_verdict.proofs.register_range.RegisterRange.from_text.Goals as goal
 

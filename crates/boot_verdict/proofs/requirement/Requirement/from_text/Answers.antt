@@ -3,7 +3,7 @@ use Rattle.std.proofs.lemmas.Result.{err_from_is_err_and}
 use Rattle.byte_fields.proofs.Steps.{fault_is}
 use Rattle.boot_verdict.specs.declared.requirement.RequirementFault.{RequirementFault}
 use Rattle.boot_verdict.specs.declared.requirement.RequirementFault.TheVariants.{Malformed, Memory}
-use Rattle.boot_verdict.proofs.RequirementLaws.{begins_with_range, is_memory, part_spelled, reads_all, reads_more, reads_none}
+use Rattle.boot_verdict.proofs.RequirementLaws.{begins_with_range, is_memory, part_spelled, reads_more, reads_none}
 use Rattle.boot_verdict.proofs.requirement.Requirement.from_text.Goals as goal
 
 pub returns-in_err-take_part-clause-found : goal.returns-in_err-take_part-clause-found

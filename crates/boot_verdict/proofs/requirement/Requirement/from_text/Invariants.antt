@@ -1,4 +1,5 @@
-use Rattle.boot_verdict.proofs.RequirementLaws.{ReadsParts, left_count}
+use Rattle.boot_verdict.proofs.StatedLaws.{left_count}
+use Rattle.boot_verdict.proofs.RequirementLaws.{ReadsParts}
 use Rattle.boot_verdict.proofs.requirement.Requirement.from_text.Given as goal
 
 abbrev pub invariant-loop-rest : goal.invariant-loop-rest

@@ -1,5 +1,5 @@
-use Rattle.std.proofs.Common.{refl, ap}
-use Rattle.hash_workers.proofs.WorkLaws.{keeps_one, keeps_at_some, keeps_at_none}
+use Rattle.std.proofs.Common.{ap}
+use Rattle.hash_workers.proofs.WorkLaws.{keeps_one, known_none, known_recorded}
 use Rattle.hash_workers.proofs.work.Work.keep.Goals as goal
 use Rattle.hash_workers.proofs.work.Work.keep.Goals.{in-Some+in_ok-outcome-in-Some, in-None}
 
@@ -9,10 +9,7 @@ returns-clause-keeps g c =
     c.args.self.now.outcomes.items c.reserve-2.new.self.items c.push_reserved-2.new.self.items c.match-op.outcome _ _
     c.reserve.ensures.items c.push_reserved.ensures.items c.reserve-2.ensures.items c.push_reserved-2.ensures.items
     (elim c.match-op.branch [
-      | in-Some+in_ok-outcome-in-Some w ↦
-          keeps_at_some c.args.origin.now _ _ _ c.args.op w.in-Some.op w.in_ok-outcome-in-Some.outcome c.match-op.outcome
-          w.in-Some.is (ap g.B.Recorder.told w.recorder-is) w.outcome-is w.in_ok-outcome-in-Some.ensures
-      | in-None w ↦
-          keeps_at_none c.args.origin.now _ _ c.args.op _ c.match-op.outcome w.in-None.is (ap g.B.Recorder.told w.recorder-is)
-          w.outcome-is refl
+      | in-Some+in_ok-outcome-in-Some w ↦ rw (w.in-Some.is, ap g.B.Recorder.told w.recorder-is, w.outcome-is)
+          (known_recorded _ _ _ _ _ w.in_ok-outcome-in-Some.ensures)
+      | in-None w ↦ rw (w.in-None.is, ap g.B.Recorder.told w.recorder-is, w.outcome-is) (known_none c.args.origin.now _)
     ])

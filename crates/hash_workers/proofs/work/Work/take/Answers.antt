@@ -3,12 +3,12 @@ use Rattle.hash_workers.proofs.work.Work.take.Goals as goal
 
 pub returns-in_ok-pass-in-Ok-clause-takes : goal.returns-in_ok-pass-in-Ok-clause-takes
 returns-in_ok-pass-in-Ok-clause-takes g c =
-    takes_made _ _ _ _ c.args.number _ _ _ _ _ _ c.requires c.in-Ok.ensures c.in_ok-pass-in-Ok.ensures.keeps
+    takes_made _ _ _ c.args.number _ _ _ _ _ _ c.requires _ c.in-Ok.ensures c.in_ok-pass-in-Ok.ensures.keeps
 
 pub returns-in_ok-pass-in-Ok-clause-lack : goal.returns-in_ok-pass-in-Ok-clause-lack
 returns-in_ok-pass-in-Ok-clause-lack g c =
     let passed = c.in_ok-pass-in-Ok.ensures in
-    lack_made _ _ _ c.args.number _ _ _ _ _ c.in-Ok.ensures passed.keeps.takes passed.same.2
+    lack_made _ _ _ c.args.number _ _ passed.keeps.takes _ _ _ c.in-Ok.ensures passed.same.2
 
 pub returns-in_ok-pass-in-Err-clause-takes : goal.returns-in_ok-pass-in-Err-clause-takes
 returns-in_ok-pass-in-Err-clause-takes g c =
@@ -18,5 +18,5 @@ returns-in_ok-pass-in-Err-clause-takes g c =
 pub returns-in_ok-pass-in-Err-clause-lack : goal.returns-in_ok-pass-in-Err-clause-lack
 returns-in_ok-pass-in-Err-clause-lack g c =
     let passed = c.in_ok-pass-in-Err.ensures in
-    rw c.note.ensures.same.2
-    (lack_noted _ _ _ c.args.number _ _ _ _ _ c.requires c.in-Err.ensures passed.keeps.takes (rw passed.same.2 at c.note.ensures.noted))
+    rw c.note.ensures.same.2 (lack_noted _ _ _ c.args.number _ _ passed.keeps.takes _ _ _ c.requires c.in-Err.ensures
+    (rw passed.same.2 at c.note.ensures.noted))

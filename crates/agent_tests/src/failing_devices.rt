@@ -1,0 +1,135 @@
+//! The program on files that fail at each read, and to sinks that fail at each write; and its exit codes.
+
+use crate::commands::{COMMANDS, Command, FAULTS, FILES};
+use crate::devices::{PieceFiles, answered, words_of};
+use ima_agent::{NoProgress, exit_code, run};
+use std::io::{Error, ErrorKind};
+use std::process::{Abort, ExitCode};
+use std::sync::Wait;
+use std::test::Fail;
+use std::thread::Threads;
+use test_kit::sinks::PieceSink;
+
+/// Whether the command reads the file of this name; without words it reads standard input.
+fn reads_file(command: &Command, name: &str) -> bool {
+    command.words.contains(&name) || (command.words.is_empty() && name == "-")
+}
+
+/// The files, of which this one gives one byte at a time and fails after so many reads.
+fn failing(name: &str, reads: usize) -> PieceFiles<'_> {
+    PieceFiles {
+        files: &FILES,
+        most: 1,
+        failing: name,
+        reads,
+        opened: 0,
+    }
+}
+
+/// The name that the line of a file that failed has.
+fn failed_name(line: &[u8]) -> Option<&[u8]> {
+    line.strip_prefix(b"failed: read ")?.strip_suffix(b"\n")
+}
+
+/// Each read of the file fails in turn, also the one after the last byte; and then none.
+fn assert_each_read_fails(
+    rt: &(impl Threads + Wait + Sync + AllocGlobal + Abort),
+    command: &Command,
+    name: &str,
+    size: usize,
+) -> Result<(), Fail> {
+    let words = words_of(rt.alloc(), command.words)?;
+    for reads in 0..=size {
+        let (status, output) = answered(rt, &words, &mut failing(name, reads));
+        assert_eq!(rt; status, 3, "{name}, {reads} reads");
+        assert_eq!(rt;
+            failed_name(&output),
+            Some(name.as_bytes()),
+            "{reads} reads"
+        );
+    }
+    let (status, output) = answered(rt, &words, &mut failing(name, usize::MAX));
+    assert_eq!(rt; status, command.status, "{name}");
+    assert_eq!(rt; output.as_slice(), command.output, "{name}");
+    Ok(())
+}
+
+/// Every command, on each of the files that it reads.
+#[test]
+fn each_read_of_a_file_fails(rt: HostRuntime) -> Result<(), Fail> {
+    for command in &COMMANDS {
+        for (name, bytes) in &FILES {
+            if reads_file(command, name) {
+                assert_each_read_fails(&rt, command, name, bytes.len())?;
+            }
+        }
+    }
+    Ok(())
+}
+
+/// Each write of the output fails in turn, where a write takes so many bytes at most: then nothing more is written, and the status
+/// is 3.
+fn assert_each_write_fails(
+    rt: &(impl Threads + Wait + Sync + AllocGlobal + Abort),
+    command: &Command,
+    words: &[String],
+    most: usize,
+) {
+    let mut is_whole = false;
+    for writes in 0..=command.output.len() {
+        let mut files = PieceFiles::whole(&FILES);
+        let mut sink = PieceSink::failing(command.output, most, writes);
+        let status = run(rt, rt.alloc(), words, &mut files, &mut sink);
+        is_whole = sink.is_full();
+        if is_whole {
+            assert_eq!(rt; status, command.status);
+            break;
+        }
+        assert!(rt; status == 3 && sink.is_cut(), "{writes} writes of {most}");
+    }
+    assert!(rt; is_whole);
+}
+
+/// Every command, and faults, by sinks that take one byte a write, three, or all that are offered.
+#[test]
+fn each_write_of_an_output_fails(rt: HostRuntime) -> Result<(), Fail> {
+    for command in COMMANDS.iter().chain(&FAULTS) {
+        let words = words_of(rt.alloc(), command.words)?;
+        for most in [1, 3, usize::MAX] {
+            assert_each_write_fails(&rt, command, &words, most);
+        }
+    }
+    Ok(())
+}
+
+/// The exit code is the status of the run. Each input is opened once.
+#[test]
+fn exit_codes(rt: HostRuntime) -> Result<(), Fail> {
+    let opened = [1, 1, 1, 1, 1, 2, 1, 3, 3, 3, 1, 2, 1, 1, 1];
+    for (command, opened) in COMMANDS.iter().chain(&FAULTS).zip(opened) {
+        let words = words_of(rt.alloc(), command.words)?;
+        let mut files = PieceFiles::whole(&FILES);
+        let mut sink = PieceSink::failing(command.output, usize::MAX, usize::MAX);
+        let code = exit_code(
+            &rt,
+            rt.alloc(),
+            Ok(words),
+            &mut files,
+            &mut sink,
+            &NoProgress,
+        );
+        assert!(rt; code == ExitCode::from(command.status) && sink.is_full());
+        assert_eq!(rt; files.opened, opened);
+    }
+    Ok(())
+}
+
+/// Without words it is that of a program that is out of memory.
+#[test]
+fn exit_code_without_words(rt: HostRuntime) {
+    let words = Err(Error::from(ErrorKind::InvalidInput));
+    let mut files = PieceFiles::whole(&[]);
+    let mut sink = PieceSink::failing(b"failed: memory\n", usize::MAX, usize::MAX);
+    let code = exit_code(&rt, rt.alloc(), words, &mut files, &mut sink, &NoProgress);
+    assert!(rt; code == ExitCode::from(3) && sink.is_full());
+}

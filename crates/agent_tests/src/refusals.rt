@@ -1,0 +1,55 @@
+//! Commands in which an allocation is refused: each answers that memory ran out, or what it answers with ample memory; and then the
+//! same command answers the latter. `faults/sweep.py` refuses the allocations, one in each run.
+
+use crate::commands::{COMMANDS, Command, FAULTS, FILES};
+use crate::devices::{PieceFiles, words_of};
+use byte_streams::VecSink;
+use ima_agent::run;
+use std::alloc::AllocError;
+use std::process::Abort;
+use std::sync::Wait;
+use std::test::Fail;
+use std::thread::Threads;
+use test_kit::once_more;
+
+/// What the program answers and writes into a sink that has room for it.
+fn ran_with_room(
+    rt: &(impl Threads + Wait + Sync + AllocGlobal),
+    words: &[String],
+) -> Result<(u8, Vec<u8>), AllocError> {
+    let room = once_more(AllocError, || Vec::with_capacity(rt.alloc(), 4096))?;
+    let mut sink = VecSink::new(room);
+    let status = run(
+        rt,
+        rt.alloc(),
+        words,
+        &mut PieceFiles::whole(&FILES),
+        &mut sink,
+    );
+    Ok((status, sink.into_bytes()))
+}
+
+/// The program answers so; or it says that memory ran out, and does so when it is asked again.
+fn assert_answered(
+    rt: &(impl Threads + Wait + Sync + AllocGlobal + Abort),
+    command: &Command,
+) -> Result<(), Fail> {
+    let words = words_of(rt.alloc(), command.words)?;
+    let mut answer = ran_with_room(rt, &words)?;
+    if answer.1.as_slice() == b"failed: memory\n".as_slice() {
+        assert_eq!(rt; answer.0, 3);
+        answer = ran_with_room(rt, &words)?;
+    }
+    assert_eq!(rt; answer.0, command.status);
+    assert_eq!(rt; answer.1.as_slice(), command.output);
+    Ok(())
+}
+
+/// Every command, and faults.
+#[test]
+fn each_allocation_refused_in_a_command(rt: HostRuntime) -> Result<(), Fail> {
+    for command in COMMANDS.iter().chain(&FAULTS) {
+        assert_answered(&rt, command)?;
+    }
+    Ok(())
+}

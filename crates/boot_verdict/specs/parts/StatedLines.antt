@@ -1,0 +1,35 @@
+-- Lines that state registers, while they are read one after another.
+use Rattle.std.specs.Prelude.{◌≡◌, ℕ, false, List, [], ◌∷◌, ◌++◌, Option, Some, None}
+use Rattle.std.specs.List.{list_any}
+use Rattle.std.specs.Str.Iter.{LacksByte}
+use Rattle.boot_verdict.specs.declared.expected.Expected.{Expected}
+use Rattle.boot_verdict.specs.StatedRegisters.{Saying, lines_of, same_register}
+
+-- `front` is what stands before the first `byte` of the text, and `rest` what stands after it.
+pub record IsSplitOnce (byte : ℕ) (text front rest : List ℕ) : Type 0 where
+  pub lacks : LacksByte byte front
+  pub parts : text ≡ front ++ byte ∷ rest
+
+-- The lines of the rest of a text; none after its last line.
+abbrev pub lines_left : Option (List ℕ) → List (List ℕ)
+lines_left None = []
+lines_left (Some text) = lines_of text
+
+-- At a place, a line says one thing.
+pub record SaysOnce {Place : Type 0} (Says : Saying Place) : Type 0 where
+  pub once : (place next other : Place) (line : List ℕ) (first second : Option Expected) → Says place line next first
+      → Says place line other second → (next ≡ other) × (first ≡ second)
+
+-- `after` is `before` with this register, which is not among them, if there is one.
+abbrev pub IsAdded : List Expected → Option Expected → List Expected → Type 0
+IsAdded before None after = after ≡ before
+IsAdded before (Some e) after = (list_any (λ x. same_register x e) before ≡ false) × (after ≡ before ++ e ∷ [])
+
+-- `after` is `before` with the register that the line states, if it states one; it is not among them.
+abbrev pub AddsStated : {Place : Type 0} → Saying Place → Place → List ℕ → Place → List Expected → List Expected → Type 0
+AddsStated {Place} Says place line next before after = (stated : Option Expected) × Says place line next stated × IsAdded before stated after
+
+-- The line states a register that is not among `earlier`.
+abbrev pub StatesAnother : {Place : Type 0} → Saying Place → Place → List ℕ → List Expected → Type 0
+StatesAnother {Place} Says place line earlier =
+    (next : Place) × (e : Expected) × Says place line next (Some e) × (list_any (λ x. same_register x e) earlier ≡ false)

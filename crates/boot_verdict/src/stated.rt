@@ -1,0 +1,102 @@
+//! Registers that the lines of a text state, whatever the form of the lines.
+
+ghost use Rattle.std.specs.Prelude.{◌≡◌, ◌⊎◌, List, ℕ, false, ◌∷◌, ◌++◌, [], Option, IfSome, IfNone, IfOk, IfErr, IsErrOf, IsTrue, OnOk};
+ghost use Rattle.std.specs.List.{list_any};
+ghost use Rattle.boot_verdict.specs.declared.expected.Expected.{Expected};
+ghost use Rattle.boot_verdict.specs.declared.expected.ExpectFault.TheVariants.{DoubleLine, Memory};
+ghost use Rattle.boot_verdict.specs.StatedRegisters.{BeginsWithStated, HasFaultOfFirst, IsFaultOfLine, States, same_register};
+ghost use Rattle.boot_verdict.specs.parts.StatedLines.{AddsStated, SaysOnce, StatesAnother};
+
+use crate::expected::{ExpectFault, Expected};
+use crate::lines::line_at;
+use std::alloc::Global;
+
+/// A place in a text whose lines have one form: the beginning, or after a line.
+pub(crate) trait LinePlace<'a>: Copy {
+    // The place, as a value.
+    ghost Value: { Type 0 };
+
+    ghost value: { Self → Value };
+
+    // What a line of this form says.
+    ghost says: { Value → List ℕ → Value → Option Expected → Type 0 };
+
+    /// The place after this line, and the register that the line states, if it may stand here.
+    fn after(self, line: &'a [u8]) -> Option<(Self, Option<Expected>)>
+        ensures found { IfSome result (λ said. says (value self) line.now (value said.0) said.1) }
+        ensures none { IfNone result ((next : Value) (stated : Option Expected) → says (value self) line.now next stated → ⊥) };
+}
+
+/// Reads the registers that the lines of this text state, from the place where it begins.
+pub(crate) fn read_lines<'a, P: LinePlace<'a>>(
+    alloc: Global,
+    start: P,
+    text: &'a [u8],
+) -> Result<Vec<Expected>, ExpectFault>
+    ensures found { IfOk result (λ expected. States P.says (P.value start) text.now expected.items) }
+    ensures only { SaysOnce P.says → (expected : List Expected) → States P.says (P.value start) text.now expected
+        → IfErr result (λ fault. fault ≡ ExpectFault.Memory) }
+    ensures fault { IfErr result (λ fault. (fault ≡ ExpectFault.Memory) ⊎ HasFaultOfFirst P.says (P.value start) text.now fault) }
+    ensures memory { IsErrOf result ExpectFault.Memory → BeginsWithStated P.says (P.value start) text.now }
+{
+    let mut expected = Vec::new(alloc);
+    let mut place = start;
+    let mut rest = Some(text);
+    let mut number = 0;
+    while let Some(text) = rest {
+        let (line, after) = line_at(text);
+        number += 1;
+        place = take_line(&mut expected, place, number, line)?;
+        rest = after;
+    }
+    Ok(expected)
+}
+
+// Appends the register that this line at this place states, if it states one. `number` counts lines from 1. Returns the place after
+// the line.
+fn take_line<'a, P: LinePlace<'a>>(
+    expected: &mut Vec<Expected>,
+    place: P,
+    number: usize,
+    line: &'a [u8],
+) -> Result<P, ExpectFault>
+    ensures taken { IfOk result (λ next. AddsStated P.says (P.value place) line.now (P.value next)
+        expected.old.items expected.new.items) }
+    ensures fault { IfErr result (λ fault. (fault ≡ ExpectFault.Memory)
+        ⊎ IsFaultOfLine P.says expected.old.items (P.value place) line.now number fault) }
+    ensures memory { IsErrOf result ExpectFault.Memory → StatesAnother P.says (P.value place) line.now expected.old.items }
+{
+    let Some((next, stated)) = place.after(line) else {
+        return Err(ExpectFault::BadLine { line: number });
+    };
+    if let Some(register) = stated {
+        add_register(expected, number, register)?;
+    }
+    Ok(next)
+}
+
+// Appends this register, which the line of this number states.
+fn add_register(
+    expected: &mut Vec<Expected>,
+    number: usize,
+    register: Expected,
+) -> Result<(), ExpectFault>
+    ensures added { OnOk result ((list_any (λ x. same_register x register) expected.old.items ≡ false)
+        × (expected.new.items ≡ expected.old.items ++ register ∷ [])) }
+    ensures fault { IfErr result (λ fault. (fault ≡ ExpectFault.Memory)
+        ⊎ ((fault ≡ DoubleLine number) × IsTrue (list_any (λ x. same_register x register) expected.old.items))) }
+    ensures memory { IsErrOf result ExpectFault.Memory → list_any (λ x. same_register x register) expected.old.items ≡ false }
+{
+    if is_among(&register, expected) {
+        return Err(ExpectFault::DoubleLine { line: number });
+    }
+    expected.push(register)?;
+    Ok(())
+}
+
+// Whether `expected` already has this register of this bank.
+fn is_among(register: &Expected, expected: &[Expected]) -> bool
+    ensures { result ≡ list_any (λ x. same_register x register.now) expected.now }
+{
+    expected.iter().any(|other| other.alg == register.alg && other.register == register.register)
+}

@@ -1,4 +1,0 @@
-//! Sources and devices of the tests' own.
-
-mod sources;
-mod system;
