@@ -57,13 +57,13 @@ COMMANDS = {
         "--files-from": Option(str, None),
         "--null": Option(FLAG, False),
     }),
-    "verify": Command(3, 3, {}),
-    "locate": Command(3, 3, {}),
+    "verify": Command(3, 3, {"--require": Option(str, None)}),
+    "locate": Command(3, 3, {"--require": Option(str, None)}),
     "expected": Command(1, 1, {"--registers": Option(read_range, range(24))}),
     "registers": Command(1, 1, {}),
     "events": Command(1, 1, {"--data": Option(FLAG, False)}),
     "show": Command(1, 1, {}),
-    "replay": Command(1, 1, {}),
+    "replay": Command(1, 2, {"--require": Option(str, None)}),
 }
 
 
@@ -80,10 +80,17 @@ def read_words(words):
         raise USAGE
     command = COMMANDS[name]
     names, values = read_arguments(command, rest)
-    if len(names) < command.fewest_names or (values.get("--null") and "--files-from" not in values):
+    if len(names) < command.fewest_names or lacks_another(name, names, values):
         raise USAGE
     defaults = {option: it.default for option, it in command.options.items()}
     return Words(name, names, {**defaults, **values})
+
+
+def lacks_another(command, names, values):
+    """Whether an option is there without the one, or the name, that it goes with."""
+    if command == "replay":
+        return "--require" in values and len(names) < 2
+    return "--null" in values and "--files-from" not in values
 
 
 def read_arguments(command, words):

@@ -3,12 +3,12 @@
 import os
 
 from .command_line import HelpAsked, read_words
-from .faults import NO_ARGUMENTS, BookFault, Fault, ListFault, not_read, not_utf8, too_long
+from .faults import NO_ARGUMENTS, USAGE, BookFault, Fault, ListFault, not_read, not_utf8, too_long
 from .log import read_log
 from .measurement_list import BOOT_AGGREGATE, IMA, LONGEST_IMA_PATH, entry_of, list_spelling, list_text, read_list, replay
 from .registers import ALGORITHMS, BY_NAME, SHA1, Registers
-from .texts import read_expected, read_hexadecimal, read_names, read_pcrread
-from .verdict import locate, verdict
+from .texts import read_expected, read_hexadecimal, read_names, read_pcrread, read_requirement
+from .verdict import list_verdict, locate, verdict
 
 MOST_BYTES = 64 << 20
 LONGEST_PATH = 4095
@@ -93,10 +93,26 @@ def show_command(inputs, values, listed):
     return list_text(read_list(inputs.load(listed))), 0
 
 
-def replay_command(inputs, values, listed):
-    registers = Registers(ALGORITHMS)
-    replay(registers, list_of(*inputs.opened(listed)()))
-    return registers.text(), 0
+def replay_command(inputs, values, listed, expected=None):
+    if expected is None:
+        registers = Registers(ALGORITHMS)
+        replay(registers, list_of(*inputs.opened(listed)()))
+        return registers.text(), 0
+    required = required_by(values)
+    expected = read_expected(inputs.load(expected))
+    text, is_well = list_verdict(list_of(*inputs.opened(listed)()), expected, required)
+    return text, 0 if is_well else 1
+
+
+def required_by(values):
+    """What `--require` names, or None without it."""
+    text = values["--require"]
+    if text is None:
+        return None
+    required = read_requirement(text)
+    if required is None:
+        raise USAGE
+    return required
 
 
 def expected_command(inputs, values, text):
@@ -108,11 +124,12 @@ def judge(decide):
     """The command that decides on a log, a list and expected registers."""
 
     def command(inputs, values, log, listed, expected):
+        required = required_by(values)
         log = inputs.load(log)
         expected = read_expected(inputs.load(expected))
         read = inputs.opened(listed)
         log = read_log(log)
-        text, is_well = decide(log, list_of(*read()), expected)
+        text, is_well = decide(log, list_of(*read()), expected, required)
         return text, 0 if is_well else 1
 
     return command

@@ -95,6 +95,18 @@ def read_range(text):
     return range(first, last + 1) if first <= last else None
 
 
+def read_requirement(text):
+    """The registers that a text requires, each by its algorithm and its number ('Required registers'), or None if the text is none."""
+    required = set()
+    for part in text.split(","):
+        name, _, numbers = part.partition(":")
+        registers = read_range(numbers)
+        if name not in BY_NAME or registers is None:
+            return None
+        required |= {(BY_NAME[name], register) for register in registers}
+    return required
+
+
 def read_names(text, has_nul_ends):
     """The names in a text of UTF-8."""
     return [name for name in text.decode().split("\0" if has_nul_ends else "\n") if name]

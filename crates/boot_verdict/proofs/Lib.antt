@@ -7,6 +7,7 @@ pub mod PlaceLaws
 pub mod FollowLaws
 pub mod LocateLaws
 pub mod ReplayLaws
+pub mod ListVerdictLaws
 pub mod EventTextLaws
 pub mod PcrReadLaws
 pub mod RangeLaws

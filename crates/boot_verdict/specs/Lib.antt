@@ -14,4 +14,5 @@ pub mod PcrReadTexts
 pub mod RegisterRanges
 pub mod Requirements
 pub mod RequiredTexts
+pub mod ListVerdicts
 pub mod WrittenTexts

@@ -6,6 +6,7 @@ mod expected;
 pub mod laws;
 mod lines;
 mod list_replay;
+mod list_verifier;
 mod locating;
 mod pcr_read;
 mod places;
@@ -18,6 +19,7 @@ mod texts;
 mod verifier;
 
 pub use expected::{ExpectFault, Expected, read_expected};
+pub use list_verifier::{ListReport, verify_list_from};
 pub use locating::{locate, locate_from};
 pub use pcr_read::read_pcrread;
 pub use places::{Located, Place, all_found, required_found};
@@ -26,7 +28,7 @@ pub use replaying::{list_start, replay_from};
 pub use report::{Aggregate, Report, Row, State};
 pub use requirement::{BankRange, Requirement, RequirementFault};
 pub use texts::{
-    EventData, write_events, write_expected, write_places, write_registers, write_report,
-    write_required_places, write_required_report,
+    EventData, write_events, write_expected, write_list_report, write_places, write_registers,
+    write_report, write_required_list_report, write_required_places, write_required_report,
 };
 pub use verifier::{VerifyFault, verify, verify_from};

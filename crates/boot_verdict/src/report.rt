@@ -74,8 +74,8 @@ impl Report {
     }
 }
 
-// Whether each expected register has its value.
-fn all_match(rows: &[Row]) -> bool
+/// Whether each expected register has its value.
+pub(crate) fn all_match(rows: &[Row]) -> bool
     ensures { result ≡ list_all is_match rows.now }
 {
     rows.iter().all(|row| matches!(row.state, State::Match))

@@ -3,6 +3,7 @@
 mod digits;
 mod events;
 mod expected;
+mod list_report;
 mod places;
 mod registers;
 mod report;
@@ -10,6 +11,7 @@ mod required;
 
 pub use events::{EventData, write_events};
 pub use expected::write_expected;
+pub use list_report::{write_list_report, write_required_list_report};
 pub use places::write_places;
 pub use registers::write_registers;
 pub use report::write_report;

@@ -192,8 +192,8 @@ fn report_on(
     })
 }
 
-// The row of each expected register, by these banks.
-fn rows_on(alloc: Global, now: &Banks, expected: &[Expected]) -> Result<Vec<Row>, AllocError>
+/// The row of each expected register, by these banks.
+pub(crate) fn rows_on(alloc: Global, now: &Banks, expected: &[Expected]) -> Result<Vec<Row>, AllocError>
     ensures { IfOk result (λ rows. rows.items ≡ map (row_of now.now) expected.now) }
 {
     expected

@@ -1,6 +1,7 @@
 -- The commands as they are defined for clap, and how a plan follows from clap's matches. What arguments match is clap's own
 -- definition (`subcommand_of`). All of this is this project's choice.
-use Rattle.std.specs.Prelude.{◌≡◌, ℕ, false, true, List, [], ◌∷◌, codes, map, option_map, unwrap_or, Option, None, Some, string_bytes}
+use Rattle.std.specs.Prelude.{◌≡◌, ℕ, false, true, List, [], ◌∷◌, codes, map, option_map, unwrap_or, Option, None, Some, String, string_bytes}
+use Rattle.std.specs.Global.{Global}
 use Rattle.std.specs.List.{fold}
 use Rattle.std.specs.Str.Parse.{digits_value, without_leading_plus}
 use Rattle.clap.specs.Words.{App, Row, Rule, Text, all_of, first_of, new_app, new_rule, one_of, subcommand_of, with_rule, with_subcommand}
@@ -14,7 +15,7 @@ use Rattle.command_line.specs.declared.plan.DataShown.TheVariants.{Size, Bytes}
 use Rattle.command_line.specs.declared.plan.NameEnd.{NameEnd}
 use Rattle.command_line.specs.declared.plan.NameEnd.TheVariants.{LineFeed, Nul}
 use Rattle.command_line.specs.declared.plan.Plan.{Plan}
-use Rattle.command_line.specs.declared.plan.Plan.TheVariants.{Registers, Measure, MeasureListed, Verify, Locate, Expected, RegistersAfter, Events, Show, Replay, Help}
+use Rattle.command_line.specs.declared.plan.Plan.TheVariants.{Registers, Measure, MeasureListed, Verify, VerifyRequired, Locate, LocateRequired, Expected, RegistersAfter, Events, Show, Replay, ReplayExpected, Help}
 use Rattle.command_line.specs.declared.plan.Print.{Print}
 use Rattle.command_line.specs.declared.plan.Print.TheVariants as prints
 
@@ -32,6 +33,10 @@ pub record Parsers : Type 0 where
 abbrev pub required : Text → Rule
 required id = record (new_rule id) { required = true }
 
+-- An argument that may be left out.
+abbrev pub omittable : Text → Rule
+omittable id = new_rule id
+
 -- An option with this default value.
 abbrev pub optional : Text → Text → ValueParser → Rule
 optional id default parser = record (new_rule id) {
@@ -44,6 +49,10 @@ optional id default parser = record (new_rule id) {
 -- An option without a default value.
 abbrev pub without_default : Text → Rule
 without_default id = record (new_rule id) { long = Some id; value_names = 1 }
+
+-- An option without a default value that requires another argument. Which one that is, a plan says (`HasValues`).
+abbrev pub without_default_beside : Text → Rule
+without_default_beside id = record (new_rule id) { long = Some id; value_names = 1; is_free = false }
 
 -- A flag.
 abbrev pub flag : Text → Rule
@@ -75,13 +84,13 @@ table parsers = (
       ∷ repeated (codes "FILE")
       ∷ [],
 )
-    ∷ (codes "verify", required (codes "LOG") ∷ required (codes "LIST") ∷ required (codes "EXPECTED") ∷ [])
-    ∷ (codes "locate", required (codes "LOG") ∷ required (codes "LIST") ∷ required (codes "EXPECTED") ∷ [])
+    ∷ (codes "verify", without_default (codes "require") ∷ required (codes "LOG") ∷ required (codes "LIST") ∷ required (codes "EXPECTED") ∷ [])
+    ∷ (codes "locate", without_default (codes "require") ∷ required (codes "LOG") ∷ required (codes "LIST") ∷ required (codes "EXPECTED") ∷ [])
     ∷ (codes "expected", without_default (codes "registers") ∷ required (codes "PCRREAD") ∷ [])
     ∷ (codes "registers", required (codes "LOG") ∷ [])
     ∷ (codes "events", flag (codes "data") ∷ required (codes "LOG") ∷ [])
     ∷ (codes "show", required (codes "LIST") ∷ [])
-    ∷ (codes "replay", required (codes "LIST") ∷ [])
+    ∷ (codes "replay", without_default_beside (codes "require") ∷ required (codes "LIST") ∷ omittable (codes "EXPECTED") ∷ [])
     ∷ []
 
 -- One command more, of this name and with these arguments.
@@ -132,7 +141,19 @@ pub record HasMeasure (rows : List Row) (alg template print log : Text) (workers
   pub log_is : first_of (codes "LOG") rows ≡ Some log
   pub files_is : unwrap_or (all_of (codes "FILE") rows) [] ≡ files
 
--- The plan has the options and names of these matches. `Measure` requires that neither `--files-from` nor `--null` is present.
+-- The matches have these names, as `verify` and `locate` take them.
+pub record HasEvidence (rows : List Row) (log list expected : Text) : Type 0 where
+  pub log_is : first_of (codes "LOG") rows ≡ Some log
+  pub list_is : first_of (codes "LIST") rows ≡ Some list
+  pub expected_is : first_of (codes "EXPECTED") rows ≡ Some expected
+
+-- The argument of this name has this first value, or it is not present.
+abbrev pub IsGivenAs : Text → List Row → Option (String Global) → Type 0
+IsGivenAs id rows None = all_of id rows ≡ None
+IsGivenAs id rows (Some text) = first_of id rows ≡ Some (string_bytes text)
+
+-- The plan has the options and names of these matches. `Measure` requires that neither `--files-from` nor `--null` is present,
+-- `Verify`, `Locate` and `Replay` that `--require` is not, and `Replay` also that EXPECTED is not.
 abbrev pub HasValues : List Row → Plan → Type 0
 HasValues rows Registers = ⊥
 HasValues rows (Measure alg template workers limit print log files) =
@@ -144,22 +165,33 @@ HasValues rows (MeasureListed alg template workers limit print log files names e
     × (first_of (codes "files-from") rows ≡ Some (string_bytes names))
     × (first_of (codes "null") rows ≡ Some (null_value ends))
 HasValues rows (Verify log list expected) =
-    (first_of (codes "LOG") rows ≡ Some (string_bytes log))
-    × (first_of (codes "LIST") rows ≡ Some (string_bytes list))
-    × (first_of (codes "EXPECTED") rows ≡ Some (string_bytes expected))
+    HasEvidence rows (string_bytes log) (string_bytes list) (string_bytes expected)
+    × (all_of (codes "require") rows ≡ None)
+HasValues rows (VerifyRequired log list expected required) =
+    HasEvidence rows (string_bytes log) (string_bytes list) (string_bytes expected)
+    × (first_of (codes "require") rows ≡ Some (string_bytes required))
 HasValues rows (Locate log list expected) =
-    (first_of (codes "LOG") rows ≡ Some (string_bytes log))
-    × (first_of (codes "LIST") rows ≡ Some (string_bytes list))
-    × (first_of (codes "EXPECTED") rows ≡ Some (string_bytes expected))
+    HasEvidence rows (string_bytes log) (string_bytes list) (string_bytes expected)
+    × (all_of (codes "require") rows ≡ None)
+HasValues rows (LocateRequired log list expected required) =
+    HasEvidence rows (string_bytes log) (string_bytes list) (string_bytes expected)
+    × (first_of (codes "require") rows ≡ Some (string_bytes required))
 HasValues rows (Expected printed registers) =
     (first_of (codes "PCRREAD") rows ≡ Some (string_bytes printed))
-    × (first_of (codes "registers") rows ≡ option_map string_bytes registers)
+    × IsGivenAs (codes "registers") rows registers
 HasValues rows (RegistersAfter log) = first_of (codes "LOG") rows ≡ Some (string_bytes log)
 HasValues rows (Events log shown) =
     (first_of (codes "LOG") rows ≡ Some (string_bytes log))
     × (first_of (codes "data") rows ≡ Some (data_value shown))
 HasValues rows (Show list) = first_of (codes "LIST") rows ≡ Some (string_bytes list)
-HasValues rows (Replay list) = first_of (codes "LIST") rows ≡ Some (string_bytes list)
+HasValues rows (Replay list) =
+    (first_of (codes "LIST") rows ≡ Some (string_bytes list))
+    × (all_of (codes "EXPECTED") rows ≡ None)
+    × (all_of (codes "require") rows ≡ None)
+HasValues rows (ReplayExpected list expected required) =
+    (first_of (codes "LIST") rows ≡ Some (string_bytes list))
+    × (first_of (codes "EXPECTED") rows ≡ Some (string_bytes expected))
+    × IsGivenAs (codes "require") rows required
 HasValues rows (Help text) = ⊥
 
 -- The same of the matches of a command, which was found.

@@ -4,7 +4,7 @@ use Rattle.std.specs.List.{list_any, starts_with}
 use Rattle.std.specs.Global.{Global}
 use Rattle.command_line.specs.Commands.{IsMatched}
 use Rattle.command_line.specs.declared.plan.Plan.{Plan}
-use Rattle.command_line.specs.declared.plan.Plan.TheVariants.{Registers, Measure, MeasureListed, Verify, Locate, Expected, RegistersAfter, Events, Show, Replay, Help}
+use Rattle.command_line.specs.declared.plan.Plan.TheVariants.{Registers, Measure, MeasureListed, Verify, VerifyRequired, Locate, LocateRequired, Expected, RegistersAfter, Events, Show, Replay, ReplayExpected, Help}
 
 -- A measurement has 1 to 8 workers, a limit of at least one record, and fewer than 2^32 files named by arguments.
 abbrev pub IsWithinRanges : Plan → Type 0
@@ -14,12 +14,15 @@ IsWithinRanges (Measure alg template workers limit print log files) =
 IsWithinRanges (MeasureListed alg template workers limit print log files names ends) =
     (1 ≤ workers) × (workers ≤ 8) × (1 ≤ limit) × (vec_len files < 2 ^ 32)
 IsWithinRanges (Verify log list expected) = Unit {0}
+IsWithinRanges (VerifyRequired log list expected required) = Unit {0}
 IsWithinRanges (Locate log list expected) = Unit {0}
+IsWithinRanges (LocateRequired log list expected required) = Unit {0}
 IsWithinRanges (Expected printed registers) = Unit {0}
 IsWithinRanges (RegistersAfter log) = Unit {0}
 IsWithinRanges (Events log shown) = Unit {0}
 IsWithinRanges (Show list) = Unit {0}
 IsWithinRanges (Replay list) = Unit {0}
+IsWithinRanges (ReplayExpected list expected required) = Unit {0}
 IsWithinRanges (Help text) = Unit {0}
 
 -- The plan is of the command with this name.
@@ -28,12 +31,15 @@ IsOfCommand command Registers = ⊥
 IsOfCommand command (Measure alg template workers limit print log files) = command ≡ codes "measure"
 IsOfCommand command (MeasureListed alg template workers limit print log files names ends) = command ≡ codes "measure"
 IsOfCommand command (Verify log list expected) = command ≡ codes "verify"
+IsOfCommand command (VerifyRequired log list expected required) = command ≡ codes "verify"
 IsOfCommand command (Locate log list expected) = command ≡ codes "locate"
+IsOfCommand command (LocateRequired log list expected required) = command ≡ codes "locate"
 IsOfCommand command (Expected printed registers) = command ≡ codes "expected"
 IsOfCommand command (RegistersAfter log) = command ≡ codes "registers"
 IsOfCommand command (Events log shown) = command ≡ codes "events"
 IsOfCommand command (Show list) = command ≡ codes "show"
 IsOfCommand command (Replay list) = command ≡ codes "replay"
+IsOfCommand command (ReplayExpected list expected required) = command ≡ codes "replay"
 IsOfCommand command (Help text) = ⊥
 
 -- The argument requests help: it is `--help`, or short options of which the first is `-h`.

@@ -43,6 +43,8 @@ pub(crate) struct ArgumentRow<'a> {
 pub(crate) enum Form<'a> {
     /// By one value, which has to be there.
     Required,
+    /// By one value, or not at all.
+    Omittable,
     /// By any number of values.
     Repeated,
     /// As a flag.
@@ -56,6 +58,13 @@ pub(crate) enum Form<'a> {
     Optional {
         /// What the help calls the value.
         value: &'a str,
+    },
+    /// As an option with a value, or not at all, and only beside this argument.
+    OptionalBeside {
+        /// What the help calls the value.
+        value: &'a str,
+        /// The argument that it requires.
+        argument: &'a str,
     },
     /// As an option with a value; without it, the value is the default.
     Defaulted {
@@ -87,11 +96,15 @@ macro_rules! help_end {
             $($table)+;
             "\
 Exit status:
-  0  done; for verify: the expected registers and the boot aggregate match
+  0  done; for verify: the expected registers and the boot aggregate match;
+     for replay with EXPECTED: the expected registers match
   1  for verify: an expected register or the boot aggregate does not match;
-     for locate: a register's value was not reached
+     for replay with EXPECTED: an expected register does not match;
+     for locate: a register's value was not reached;
+     for each of these: EXPECTED lacks a register that --require names
   2  the arguments or an input were refused
-  3  out of memory, or a device failed"
+  3  out of memory, an input could not be read, or the output failed;
+     for measure: an error of the program itself"
         )
     };
 }
@@ -108,6 +121,22 @@ spaces. `ima-agent expected` writes such lines"
         )
     };
 }
+
+/// The help of --require, and what else is to be said of it.
+macro_rules! require_help {
+    ($more:literal) => {
+        concat!(
+            "\
+Registers that EXPECTED has to name, for example sha256:0-10 or
+sha256:0-7,sha1:10. Each that it lacks is a row `missing`, and the
+",
+            $more
+        )
+    };
+}
+
+/// What the help calls the value of --require.
+const REQUIRED_REGISTERS: &str = "BANK:A-B[,BANK:C-D..]";
 
 /// What the program does.
 pub(crate) const PROGRAM_ABOUT: &str = "\
@@ -220,6 +249,13 @@ differ from their reset values\n",
         about: "Replays a firmware event log and a measurement list, and compares the registers",
         end: HelpEnd::Verify,
         arguments: &[
+            ArgumentRow {
+                id: "require",
+                help: require_help!("verdict is `differ`"),
+                form: Form::Optional {
+                    value: REQUIRED_REGISTERS,
+                },
+            },
             LOG,
             LIST,
             ArgumentRow {
@@ -227,7 +263,8 @@ differ from their reset values\n",
                 help: expected_help!(
                     "\
 An empty file compares no
-register: the verdict then depends on the list's boot aggregate alone"
+register: without --require the verdict then depends on the list's boot
+aggregate alone"
                 ),
                 form: Form::Required,
             },
@@ -238,6 +275,13 @@ register: the verdict then depends on the list's boot aggregate alone"
         about: "Prints which event or entry first gives each expected register its value",
         end: HelpEnd::Locate,
         arguments: &[
+            ArgumentRow {
+                id: "require",
+                help: require_help!("last line is `not located`"),
+                form: Form::Optional {
+                    value: REQUIRED_REGISTERS,
+                },
+            },
             LOG,
             LIST,
             ArgumentRow {
@@ -249,7 +293,7 @@ register: the verdict then depends on the list's boot aggregate alone"
     },
     CommandRow {
         name: "expected",
-        about: "Prints expected registers, for EXPECTED, from what tpm2_pcrread printed",
+        about: "Prints expected registers from what tpm2_pcrread or tpm2_checkquote printed",
         end: HelpEnd::Expected,
         arguments: &[
             ArgumentRow {
@@ -259,7 +303,7 @@ register: the verdict then depends on the list's boot aggregate alone"
             },
             ArgumentRow {
                 id: "PCRREAD",
-                help: "Text that tpm2_pcrread printed, at most 64 MiB",
+                help: "Text that tpm2_pcrread or tpm2_checkquote printed, at most 64 MiB",
                 form: Form::Required,
             },
         ],
@@ -291,9 +335,28 @@ register: the verdict then depends on the list's boot aggregate alone"
     },
     CommandRow {
         name: "replay",
-        about: "Replays a measurement list alone, and prints the registers it gives",
+        about: "Replays a measurement list alone, and prints or compares the registers it gives",
         end: HelpEnd::Replay,
-        arguments: &[LIST],
+        arguments: &[
+            ArgumentRow {
+                id: "require",
+                help: require_help!("verdict is `differ`. Only with EXPECTED"),
+                form: Form::OptionalBeside {
+                    value: REQUIRED_REGISTERS,
+                    argument: "EXPECTED",
+                },
+            },
+            LIST,
+            ArgumentRow {
+                id: "EXPECTED",
+                help: expected_help!(
+                    "\
+Without EXPECTED the
+registers are printed that differ from their reset values"
+                ),
+                form: Form::Omittable,
+            },
+        ],
     },
 ];
 
@@ -311,6 +374,7 @@ pub(crate) fn help_end_of<'a>(end: HelpEnd) -> &'a str {
         HelpEnd::Registers => help_end!("ima-agent registers firmware.log"; log),
         HelpEnd::Events => help_end!("ima-agent events --data firmware.log"; log),
         HelpEnd::Show => help_end!("ima-agent show ima.list"; list),
-        HelpEnd::Replay => help_end!("ima-agent replay ima.list"; list replay),
+        HelpEnd::Replay =>
+            help_end!("ima-agent replay ima.list expected.txt"; list replay expected),
     }
 }

@@ -5,7 +5,7 @@ ghost use Rattle.std.specs.List.{fold};
 ghost use Rattle.clap.specs.Words.{app_of, new_app};
 ghost use Rattle.command_line.specs.parts.Commands.{IsArgument, IsCommand, app_of_row, parser_of_values, rule_of_row, with_argument_row, with_row};
 ghost use Rattle.command_line.specs.declared.commands.KnownNames.{KnownNames};
-ghost use Rattle.command_line.specs.Commands.{Parsers, commands, flag, flag_beside, optional, program_app, repeated, required, without_default};
+ghost use Rattle.command_line.specs.Commands.{Parsers, commands, flag, flag_beside, omittable, optional, program_app, repeated, required, without_default, without_default_beside};
 
 use crate::command_table::{
     ArgumentRow, COMMANDS, CommandRow, Form, PROGRAM_ABOUT, PROGRAM_END, Values, help_end_of,
@@ -125,10 +125,14 @@ fn argument<'a>(
 {
     match row.form {
         Form::Required => Ok(input(alloc, row.id, row.help)),
+        Form::Omittable => Ok(omittable_input(alloc, row.id, row.help)),
         Form::Repeated => Ok(inputs(alloc, row.id, row.help)),
         Form::Flag => Ok(flag(alloc, row.id, row.help)),
         Form::FlagBeside { option } => flag_beside(alloc, row.id, row.help, option),
         Form::Optional { value } => Ok(option(alloc, row.id, row.help, value)),
+        Form::OptionalBeside { value, argument } => {
+            option_beside(alloc, row.id, row.help, value, argument)
+        }
         Form::Defaulted {
             value,
             default,
@@ -160,6 +164,13 @@ fn input<'a>(alloc: Global, id: &'a str, help: &'a str) -> Arg<'a>
     ensures { IsArgument (required id.now) result }
 {
     Arg::new(alloc, id).help(help).required(true)
+}
+
+// An argument that may be left out.
+fn omittable_input<'a>(alloc: Global, id: &'a str, help: &'a str) -> Arg<'a>
+    ensures { IsArgument (omittable id.now) result }
+{
+    Arg::new(alloc, id).help(help)
 }
 
 // An argument with any number of values.
@@ -203,6 +214,23 @@ fn option<'a>(alloc: Global, id: &'a str, help: &'a str, value: &'a str) -> Arg<
     ensures { IsArgument (without_default id.now) result }
 {
     Arg::new(alloc, id).help(help).long(id).value_name(value)
+}
+
+// The same, and it requires this argument.
+fn option_beside<'a>(
+    alloc: Global,
+    id: &'a str,
+    help: &'a str,
+    value: &'a str,
+    argument: &'a str,
+) -> Result<Arg<'a>, AllocError>
+    ensures { IfOk result (IsArgument (without_default_beside id.now)) }
+{
+    Arg::new(alloc, id)
+        .help(help)
+        .long(id)
+        .value_name(value)
+        .requires_arg(argument)
 }
 
 // An option with a default value.

@@ -84,6 +84,17 @@ pub enum Plan {
         /// The name of the text of expected registers.
         expected: String,
     },
+    /// As `Verify`, with registers that the expected ones have to include.
+    VerifyRequired {
+        /// The name of the firmware event log, binary.
+        log: String,
+        /// The name of the measurement list, binary.
+        list: String,
+        /// The name of the text of expected registers.
+        expected: String,
+        /// The text of the registers that have to be among them, as `sha256:0-10`. It is any text here.
+        required: String,
+    },
     /// Find where the expected registers first have their values, in a log and a list.
     Locate {
         /// The name of the firmware event log, binary.
@@ -93,9 +104,20 @@ pub enum Plan {
         /// The name of the text of expected registers.
         expected: String,
     },
-    /// Write the text of expected registers from what `tpm2_pcrread` printed.
+    /// As `Locate`, with registers that the expected ones have to include.
+    LocateRequired {
+        /// The name of the firmware event log, binary.
+        log: String,
+        /// The name of the measurement list, binary.
+        list: String,
+        /// The name of the text of expected registers.
+        expected: String,
+        /// The text of the registers that have to be among them, as `sha256:0-10`. It is any text here.
+        required: String,
+    },
+    /// Write the text of expected registers from what `tpm2_pcrread` or `tpm2_checkquote` printed.
     Expected {
-        /// The name of the text that `tpm2_pcrread` printed.
+        /// The name of the text that one of them printed.
         printed: String,
         /// The text of the range of registers to write, as `0-10`; none for all of them. It is any text here.
         registers: Option<String>,
@@ -121,6 +143,15 @@ pub enum Plan {
     Replay {
         /// The name of the measurement list, binary.
         list: String,
+    },
+    /// Replay a list alone, and compare the registers it gives with expected ones.
+    ReplayExpected {
+        /// The name of the measurement list, binary.
+        list: String,
+        /// The name of the text of expected registers.
+        expected: String,
+        /// The text of the registers that have to be among them, as `sha256:0-10`, if there is one. It is any text here.
+        required: Option<String>,
     },
     /// Show this help.
     Help(String),

@@ -1,9 +1,9 @@
 //! Reads the command line.
 
-ghost use Rattle.std.specs.Prelude.{◌≡◌, ◌<◌, ◌≤◌, ◌^◌, ◌⊎◌, [], Ok, Some, codes, drop, map, option_map, string_bytes, unwrap_or, vec_len, IfOk};
+ghost use Rattle.std.specs.Prelude.{◌≡◌, ◌<◌, ◌≤◌, ◌^◌, ◌⊎◌, [], Ok, Some, codes, drop, map, string_bytes, unwrap_or, vec_len, IfOk};
 ghost use Rattle.clap.specs.Words.{all_of, first_of, found_of, rows_of, subcommand_rows_of};
 ghost use Rattle.command_line.specs.parts.Commands.{IsCommand};
-ghost use Rattle.command_line.specs.Commands.{HasMeasure, HasNumber, HasValues, HasValuesIn, IsMatched, Parsers, commands, data_value, null_value, print_name};
+ghost use Rattle.command_line.specs.Commands.{HasEvidence, HasMeasure, HasNumber, HasValues, HasValuesIn, IsGivenAs, IsMatched, Parsers, commands, data_value, null_value, print_name};
 ghost use Rattle.std.specs.Vec.Iter.{into_iter_items};
 ghost use Rattle.command_line.specs.Plans.{HasHelpWord, IsAskedBy, IsHelp, IsOfCommand, IsWithinRanges, asks_help};
 ghost use Rattle.std.specs.List.{list_any};
@@ -164,29 +164,76 @@ fn measurement_of(alloc: Global, matches: &ArgMatches) -> Result<Measurement, Wo
     })
 }
 
+// What `verify` and `locate` take.
+#[derive(Drop)]
+struct Evidence {
+    log: String,
+    list: String,
+    expected: String,
+    required: Option<String>,
+}
+
+// The names that `verify` and `locate` take, and the text of `--require`, if it is present.
+fn evidence_of(alloc: Global, matches: &ArgMatches) -> Result<Evidence, WordsFault>
+    ensures names { IfOk result (λ asked. HasEvidence (rows_of (found_of matches.now)) (string_bytes asked.log) (string_bytes asked.list) (string_bytes asked.expected)) }
+    ensures required { IfOk result (λ asked. IsGivenAs (codes "require") (rows_of (found_of matches.now)) asked.required) }
+{
+    Ok(Evidence {
+        log: name_of(alloc, matches, "LOG")?,
+        list: name_of(alloc, matches, "LIST")?,
+        expected: name_of(alloc, matches, "EXPECTED")?,
+        required: text_if_given(alloc, matches, "require")?,
+    })
+}
+
 // The plan of `verify`.
 fn verify_of(alloc: Global, matches: &ArgMatches) -> Result<Plan, WordsFault>
     ensures { IfOk result (λ plan. IsOfCommand (codes "verify") plan × IsWithinRanges plan × HasValues (rows_of (found_of matches.now)) plan) }
 {
-    Ok(Plan::Verify {
-        log: name_of(alloc, matches, "LOG")?,
-        list: name_of(alloc, matches, "LIST")?,
-        expected: name_of(alloc, matches, "EXPECTED")?,
-    })
+    let Evidence {
+        log,
+        list,
+        expected,
+        required,
+    } = evidence_of(alloc, matches)?;
+    match required {
+        None => Ok(Plan::Verify {
+            log,
+            list,
+            expected,
+        }),
+        Some(required) => Ok(Plan::VerifyRequired {
+            log,
+            list,
+            expected,
+            required,
+        }),
+    }
 }
 
 // The plan of `locate`.
 fn locate_of(alloc: Global, matches: &ArgMatches) -> Result<Plan, WordsFault>
     ensures { IfOk result (λ plan. IsOfCommand (codes "locate") plan × IsWithinRanges plan × HasValues (rows_of (found_of matches.now)) plan) }
 {
-    let log = name_of(alloc, matches, "LOG")?;
-    let list = name_of(alloc, matches, "LIST")?;
-    let expected = name_of(alloc, matches, "EXPECTED")?;
-    Ok(Plan::Locate {
+    let Evidence {
         log,
         list,
         expected,
-    })
+        required,
+    } = evidence_of(alloc, matches)?;
+    match required {
+        None => Ok(Plan::Locate {
+            log,
+            list,
+            expected,
+        }),
+        Some(required) => Ok(Plan::LocateRequired {
+            log,
+            list,
+            expected,
+            required,
+        }),
+    }
 }
 
 // The plan of `expected`.
@@ -227,13 +274,22 @@ fn show_of(alloc: Global, matches: &ArgMatches) -> Result<Plan, WordsFault>
     })
 }
 
-// The plan of `replay`.
+// The plan of `replay`. Refuses `--require` without EXPECTED.
 fn replay_of(alloc: Global, matches: &ArgMatches) -> Result<Plan, WordsFault>
     ensures { IfOk result (λ plan. IsOfCommand (codes "replay") plan × IsWithinRanges plan × HasValues (rows_of (found_of matches.now)) plan) }
 {
-    Ok(Plan::Replay {
-        list: name_of(alloc, matches, "LIST")?,
-    })
+    let list = name_of(alloc, matches, "LIST")?;
+    let expected = text_if_given(alloc, matches, "EXPECTED")?;
+    let required = text_if_given(alloc, matches, "require")?;
+    match (expected, required) {
+        (Some(expected), required) => Ok(Plan::ReplayExpected {
+            list,
+            expected,
+            required,
+        }),
+        (None, None) => Ok(Plan::Replay { list }),
+        (None, Some(_)) => Err(WordsFault::Usage),
+    }
 }
 
 // What `--print` with this value prints.
@@ -348,13 +404,13 @@ fn text_if_given(
     alloc: Global,
     matches: &ArgMatches,
     id: &str,
-) -> Result<Option<String>, AllocError>
-    ensures { IfOk result (λ text. first_of id.now (rows_of (found_of matches.now)) ≡ option_map string_bytes text) }
+) -> Result<Option<String>, WordsFault>
+    ensures { IfOk result (λ text. IsGivenAs id.now (rows_of (found_of matches.now)) text) }
 {
-    match matches.get_str(id) {
-        Some(text) => Ok(Some(String::from_str(alloc, text)?)),
-        None => Ok(None),
+    if matches.contains_id(id) {
+        return Ok(Some(name_of(alloc, matches, id)?));
     }
+    Ok(None)
 }
 
 // A copy of each value.

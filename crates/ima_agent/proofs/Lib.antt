@@ -6,3 +6,4 @@ pub mod VerifyingLaws
 pub mod ShowingLaws
 pub mod ReplayingLaws
 pub mod LocatingLaws
+pub mod ListVerifyingLaws

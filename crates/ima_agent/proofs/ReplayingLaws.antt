@@ -75,7 +75,7 @@ list_refused inputs name old new fault first has fails says =
       cause = inl (record { first = first; reading = rw more.parts (fails.3.1 more.more); says = says });
     })))
 
-replay_fault : (inputs : Inputs) (name : List ℕ) (old new : Option (List ℕ)) (fault : RunFault) → HasAll (inputs (Some name)) old
+pub replay_fault : (inputs : Inputs) (name : List ℕ) (old new : Option (List ℕ)) (fault : RunFault) → HasAll (inputs (Some name)) old
     → IsNoReplayFrom name old new fault → IsReplayFaultOf inputs name fault
 replay_fault inputs name old new fault has (inr memory) = inr (inr (inr memory))
 replay_fault inputs name old new fault has (inl (verdicts.Log first, is, says)) = absurd is

@@ -9,14 +9,15 @@ use Rattle.ima_list.specs.declared.fault.ListFault.TheVariants as lists
 use Rattle.boot_verdict.specs.declared.verifier.VerifyFault.{VerifyFault}
 use Rattle.boot_verdict.specs.declared.verifier.VerifyFault.TheVariants as verdicts
 use Rattle.boot_verdict.specs.ListSources.{CameFrom, CameWhole, FailsFor}
-use Rattle.boot_verdict.specs.Verdicts.{IsSomeLog, IsVerifyFault}
+use Rattle.boot_verdict.specs.ReportTexts.{report_text}
+use Rattle.boot_verdict.specs.Verdicts.{IsSomeLog, IsVerdictFrom, IsVerifyFault, Verdict, verdict_of}
 use Rattle.boot_verdict.specs.declared.expected.Expected.{Expected}
+use Rattle.boot_verdict.specs.declared.report.Report.{Report}
 use Rattle.ima_agent.specs.declared.fault.RunFault.{RunFault}
-use Rattle.ima_agent.specs.declared.output.Output.{Output}
 use Rattle.ima_agent.specs.Faults.{IsFaultOfVerdict}
 use Rattle.ima_agent.specs.Loading.{Inputs, Holds, input_limit}
-use Rattle.ima_agent.specs.parts.Verifying.{IsEvidence, IsNoVerdictFrom, IsReportFrom}
-use Rattle.ima_agent.specs.Verifying.{IsReportFault, ShowsReport}
+use Rattle.ima_agent.specs.parts.Verifying.{IsEvidence, IsNoVerdictFrom}
+use Rattle.ima_agent.specs.Verifying.{HasVerdict, IsReportFault, IsVerdictOn, ShowsReport, ShowsReportOn, verdict_status}
 
 -- The source gives exactly what the input holds.
 abbrev pub HasAll : Option (List ℕ) → Option (List ℕ) → Type 0
@@ -125,26 +126,51 @@ module _ (inputs : Inputs) (log_name list_name text_name log : List ℕ) (old ne
 
 -- ---- what the program shows
 
-pub shown_from : (inputs : Inputs) (log_name list_name text_name log : List ℕ) (expected : List Expected) (source : SourceState)
-    (new : Option (List ℕ)) (result : Result Output RunFault) → IsEvidence inputs log_name list_name text_name log expected source
-    → IfOk result (λ output. IsReportFrom log source.remaining new expected output.text.items output.status)
-    → IfOk result (λ output. ShowsReport inputs log_name list_name text_name output.text.items output.status)
-shown_from inputs log_name list_name text_name log expected source new (Ok output) evidence shows = record {
+pub verdict_from : (inputs : Inputs) (log_name list_name text_name log : List ℕ) (expected : List Expected) (source : SourceState)
+    (new : Option (List ℕ)) (result : Result Report RunFault) → IsEvidence inputs log_name list_name text_name log expected source
+    → IfOk result (λ report. IsVerdictFrom log source.remaining new input_limit expected (verdict_of report))
+    → IfOk result (λ report. HasVerdict inputs log_name list_name text_name (verdict_of report))
+verdict_from inputs log_name list_name text_name log expected source new (Ok report) evidence is = record {
   log = log;
-  list = shows.list;
+  list = is.list;
   text = evidence.text;
   expected = expected;
   log_held = evidence.log_held;
-  list_held = held_whole (inputs (Some list_name)) source.remaining new input_limit shows.list evidence.list_given shows.came;
+  list_held = held_whole (inputs (Some list_name)) source.remaining new input_limit is.list evidence.list_given is.came;
   text_held = evidence.text_held;
   expected_is = evidence.expected_is;
-  report = shows.report;
+  verdict_is = is.verdict_is;
 }
-shown_from inputs log_name list_name text_name log expected source new (Err fault) evidence shows = tt
+verdict_from inputs log_name list_name text_name log expected source new (Err fault) evidence is = tt
 
-pub refused_from : (inputs : Inputs) (log_name list_name text_name log : List ℕ) (expected : List Expected) (source : SourceState)
-    (new : Option (List ℕ)) (result : Result Output RunFault) → IsEvidence inputs log_name list_name text_name log expected source
+pub refused_from : {A : Type 0} (inputs : Inputs) (log_name list_name text_name log : List ℕ) (expected : List Expected)
+    (source : SourceState) (new : Option (List ℕ)) (result : Result A RunFault)
+    → IsEvidence inputs log_name list_name text_name log expected source
     → IfErr result (IsNoVerdictFrom list_name log source.remaining new) → IfErr result (IsReportFault inputs log_name list_name text_name)
-refused_from inputs log_name list_name text_name log expected source new (Ok output) evidence none = tt
+refused_from inputs log_name list_name text_name log expected source new (Ok value) evidence none = tt
 refused_from inputs log_name list_name text_name log expected source new (Err fault) evidence none =
     report_fault inputs log_name list_name text_name log source.remaining new fault evidence.log_held evidence.list_given none
+
+-- The report on such a verdict, as it is written.
+pub shows_report : (inputs : Inputs) (log_name list_name text_name : List ℕ) (verdict : Verdict) (shown : List ℕ) (status : ℕ)
+    → HasVerdict inputs log_name list_name text_name verdict → shown ≡ report_text verdict → status ≡ verdict_status verdict
+    → ShowsReport inputs log_name list_name text_name shown status
+shows_report inputs log_name list_name text_name verdict shown status has text-is status-is = record {
+  log = has.log;
+  list = has.list;
+  text = has.text;
+  expected = has.expected;
+  log_held = has.log_held;
+  list_held = has.list_held;
+  text_held = has.text_held;
+  expected_is = has.expected_is;
+  report = record { verdict = verdict; verdict_is = has.verdict_is; text_is = text-is; status_is = status-is };
+}
+
+pub shows_report_on : (log list text : List ℕ) (verdict : Verdict) (shown : List ℕ) (status : ℕ) → IsVerdictOn log list text verdict
+    → shown ≡ report_text verdict → status ≡ verdict_status verdict → ShowsReportOn log list text shown status
+shows_report_on log list text verdict shown status is text-is status-is = record {
+  expected = is.expected;
+  expected_is = is.expected_is;
+  report = record { verdict = verdict; verdict_is = is.verdict_is; text_is = text-is; status_is = status-is };
+}

@@ -8,6 +8,8 @@ pub mod Showing
 pub mod Verifying
 pub mod Locating
 pub mod Replaying
+pub mod Requiring
+pub mod ListVerifying
 pub mod Expecting
 pub mod Measuring
 pub mod Program

@@ -7,11 +7,13 @@ use Rattle.ima_agent.specs.declared.fault.RunFault.{RunFault}
 use Rattle.ima_agent.specs.declared.fault.RunFault.TheVariants as runs
 use Rattle.command_line.specs.declared.plan.Plan.{Plan}
 use Rattle.command_line.specs.declared.plan.NameEnd.{NameEnd}
-use Rattle.command_line.specs.declared.plan.Plan.TheVariants.{Registers, Measure, MeasureListed, Verify, Locate, Expected, RegistersAfter, Events, Show, Replay, Help}
+use Rattle.command_line.specs.declared.plan.Plan.TheVariants.{Registers, Measure, MeasureListed, Verify, VerifyRequired, Locate, LocateRequired, Expected, RegistersAfter, Events, Show, Replay, ReplayExpected, Help}
 use Rattle.ima_agent.specs.Loading.{Inputs, Holds, IsInputFault}
 use Rattle.ima_agent.specs.Expecting.{IsNotPrintedFor, IsRangeFault, ShowsExpected}
+use Rattle.ima_agent.specs.ListVerifying.{IsListReportFaultWith, ShowsListReport}
 use Rattle.ima_agent.specs.Locating.{ShowsPlaces}
 use Rattle.ima_agent.specs.Replaying.{IsReplayFaultOf, ShowsReplay}
+use Rattle.ima_agent.specs.Requiring.{IsFaultWith, ShowsRequiredPlaces, ShowsRequiredReport}
 use Rattle.ima_agent.specs.Showing.{IsNoListFor, IsNoLogFor, IsRefusedFor, ShowsEvents, ShowsList, ShowsRegisters, ShowsRegistersAfter}
 use Rattle.ima_agent.specs.Measuring.{IsMeasuringFault, IsNamesFault, HasLogFault, Manner, ShowsMeasured, all_names, files_in}
 use Rattle.ima_agent.specs.Verifying.{IsReportFault, ShowsReport}
@@ -40,8 +42,12 @@ IsOutputFor inputs (MeasureListed alg template workers limit print log files nam
     × (status ≡ 0)
 IsOutputFor inputs (Verify log list expected) shown status =
     ShowsReport inputs (string_bytes log) (string_bytes list) (string_bytes expected) shown status
+IsOutputFor inputs (VerifyRequired log list expected required) shown status =
+    ShowsRequiredReport inputs (string_bytes log) (string_bytes list) (string_bytes expected) (string_bytes required) shown status
 IsOutputFor inputs (Locate log list expected) shown status =
     ShowsPlaces inputs (string_bytes log) (string_bytes list) (string_bytes expected) shown status
+IsOutputFor inputs (LocateRequired log list expected required) shown status =
+    ShowsRequiredPlaces inputs (string_bytes log) (string_bytes list) (string_bytes expected) (string_bytes required) shown status
 IsOutputFor inputs (Expected printed registers) shown status =
     OfInput inputs (Some (string_bytes printed)) (λ text. ShowsExpected (option_map string_bytes registers) text shown) × (status ≡ 0)
 IsOutputFor inputs (RegistersAfter log) shown status =
@@ -49,6 +55,8 @@ IsOutputFor inputs (RegistersAfter log) shown status =
 IsOutputFor inputs (Events log requested) shown status =
     OfInput inputs (Some (string_bytes log)) (λ bytes. ShowsEvents bytes requested shown) × (status ≡ 0)
 IsOutputFor inputs (Replay list) shown status = OfInput inputs (Some (string_bytes list)) (λ bytes. ShowsReplay bytes shown) × (status ≡ 0)
+IsOutputFor inputs (ReplayExpected list expected required) shown status =
+    ShowsListReport inputs (string_bytes list) (string_bytes expected) (option_map string_bytes required) shown status
 IsOutputFor inputs (Show list) shown status = OfInput inputs (Some (string_bytes list)) (λ bytes. ShowsList bytes shown) × (status ≡ 0)
 IsOutputFor inputs (Help text) shown status = (shown ≡ string_bytes text) × (status ≡ 0)
 
@@ -76,8 +84,12 @@ IsFaultOf inputs (MeasureListed alg template workers limit print log files names
     (map string_bytes files.items) (string_bytes names) ends fault)
 IsFaultOf inputs (Verify log list expected) fault =
     IsReportFault inputs (string_bytes log) (string_bytes list) (string_bytes expected) fault
+IsFaultOf inputs (VerifyRequired log list expected required) fault =
+    IsFaultWith (string_bytes required) (IsReportFault inputs (string_bytes log) (string_bytes list) (string_bytes expected)) fault
 IsFaultOf inputs (Locate log list expected) fault =
     IsReportFault inputs (string_bytes log) (string_bytes list) (string_bytes expected) fault
+IsFaultOf inputs (LocateRequired log list expected required) fault =
+    IsFaultWith (string_bytes required) (IsReportFault inputs (string_bytes log) (string_bytes list) (string_bytes expected)) fault
 IsFaultOf inputs (Expected printed registers) fault =
     IsRangeFault (option_map string_bytes registers) fault ⊎ IsInputFault inputs (Some (string_bytes printed)) fault
     ⊎ OfInput inputs (Some (string_bytes printed)) (λ text. IsNotPrintedFor text fault)
@@ -88,6 +100,8 @@ IsFaultOf inputs (Events log requested) fault =
     IsInputFault inputs (Some (string_bytes log)) fault
     ⊎ OfInput inputs (Some (string_bytes log)) (λ bytes. IsNoLogFor bytes fault)
 IsFaultOf inputs (Replay list) fault = IsReplayFaultOf inputs (string_bytes list) fault
+IsFaultOf inputs (ReplayExpected list expected required) fault =
+    IsListReportFaultWith inputs (string_bytes list) (string_bytes expected) (option_map string_bytes required) fault
 IsFaultOf inputs (Show list) fault =
     IsInputFault inputs (Some (string_bytes list)) fault
     ⊎ OfInput inputs (Some (string_bytes list)) (λ bytes. IsNoListFor bytes fault)

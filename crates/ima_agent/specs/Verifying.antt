@@ -24,6 +24,18 @@ pub record IsReportOn (log list : List ℕ) (expected : List Expected) (shown : 
   pub text_is : shown ≡ report_text verdict
   pub status_is : status ≡ verdict_status verdict
 
+-- This is the verdict on the log and the list of these names, and the registers stated by the text of this name.
+pub record HasVerdict (inputs : Inputs) (log_name list_name text_name : List ℕ) (verdict : Verdict) : Type 0 where
+  pub log : List ℕ
+  pub list : List ℕ
+  pub text : List ℕ
+  pub expected : List Expected
+  pub log_held : Holds inputs (Some log_name) log
+  pub list_held : Holds inputs (Some list_name) list
+  pub text_held : Holds inputs (Some text_name) text
+  pub expected_is : IsExpectedText text expected
+  pub verdict_is : IsVerdict log list expected verdict
+
 -- What is shown is the report on the log and the list of these names, and the registers stated by the text of this name.
 pub record ShowsReport (inputs : Inputs) (log_name list_name text_name : List ℕ) (shown : List ℕ) (status : ℕ) : Type 0 where
   pub log : List ℕ
@@ -85,6 +97,12 @@ IsReportFault inputs log list text fault =
     ⊎ IsNotExpected inputs text fault ⊎ IsNoVerdict inputs log list fault ⊎ (fault ≡ runs.Memory)
 
 -- ---- of bytes in memory
+
+-- This is the verdict on this log, this list and the registers that the text states.
+pub record IsVerdictOn (log list text : List ℕ) (verdict : Verdict) : Type 0 where
+  pub expected : List Expected
+  pub expected_is : IsExpectedText text expected
+  pub verdict_is : IsVerdict log list expected verdict
 
 -- What is shown is the report on this log, this list and the registers that the text states, with the status of its verdict.
 pub record ShowsReportOn (log list text : List ℕ) (shown : List ℕ) (status : ℕ) : Type 0 where

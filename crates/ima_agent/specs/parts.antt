@@ -3,6 +3,5 @@ pub mod Loading
 pub mod Measuring
 pub mod NamedFiles
 pub mod Verifying
-pub mod Locating
 pub mod Replaying
 pub mod Program

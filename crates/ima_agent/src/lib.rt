@@ -9,6 +9,7 @@ mod files;
 mod hashing;
 mod hexadecimal;
 mod inputs;
+mod list_verifying;
 mod listing;
 mod loading;
 mod locating;
@@ -19,6 +20,7 @@ mod output;
 mod program;
 mod progress;
 mod replaying;
+mod requiring;
 mod showing;
 mod system;
 mod texts;
@@ -26,10 +28,11 @@ mod verifying;
 mod words;
 
 pub use boot_verdict::{
-    Aggregate, EventData, ExpectFault, Expected, Located, Place, RegisterRange, Report, Row, State,
-    VerifyFault, all_found, list_start, locate, locate_from, read_expected, read_pcrread,
-    replay_from, verify, verify_from, write_events, write_expected, write_places, write_registers,
-    write_report,
+    Aggregate, BankRange, EventData, ExpectFault, Expected, Located, Place, RegisterRange, Report,
+    Requirement, RequirementFault, Row, State, VerifyFault, all_found, list_start, locate,
+    locate_from, read_expected, read_pcrread, replay_from, required_found, verify, verify_from,
+    write_events, write_expected, write_places, write_registers, write_report,
+    write_required_places, write_required_report,
 };
 pub use command_line::{DataShown, NameEnd, Plan, Print, words_after_name};
 pub use expecting::expected_on;
@@ -37,12 +40,12 @@ pub use fault::RunFault;
 pub use files::{Files, SharedFiles};
 pub use hashing::hash_from;
 pub use loading::{LoadFault, load};
-pub use locating::places_on;
+pub use locating::{places_on, required_places_on};
 pub use output::Output;
 pub use program::{exit_code, run, run_with_progress};
 pub use progress::{NoProgress, Progress, SystemProgress};
 pub use showing::{entries_on, registers_on};
 pub use system::{Input, ReadSource, SystemFiles, WriteSink};
 pub use texts::{status_of, write_fault};
-pub use verifying::report_on;
+pub use verifying::{report_on, required_report_on};
 pub use words::read_words;

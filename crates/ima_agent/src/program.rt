@@ -11,14 +11,15 @@ ghost use Rattle.ima_agent.specs.parts.Program.{ShowsInputs, ShowsText};
 use crate::expecting::expected_from;
 use crate::fault::RunFault;
 use crate::files::Files;
-use crate::locating::located;
+use crate::list_verifying::list_verified;
+use crate::locating::{located, located_with};
 use crate::measuring::measured_for;
 use crate::output::{FAILED, Output};
 use crate::progress::{NoProgress, Progress};
 use crate::replaying::replayed;
 use crate::showing::{registers_after, shown_events, shown_list, shown_registers};
 use crate::texts::{status_of, write_fault};
-use crate::verifying::verified;
+use crate::verifying::{verified, verified_with};
 use crate::words::read_words;
 use byte_streams::{Failed, Sink, send};
 use command_line::Plan;
@@ -60,12 +61,13 @@ fn exits_with(status: u8) -> ExitCode
 /// reset values. With arguments, as [`crate::read_words`] reads them: `measure` measures files into the registers of a log, and
 /// writes the list or the registers; `verify` writes the report on a log, a list and expected registers, and `locate` where in the log
 /// and the list each of these registers first has its value; `expected` writes the lines of expected registers, from what tpm2_pcrread
-/// printed; `registers` writes the registers that differ from their reset values after a log, and `replay` those after a list alone;
-/// `events` writes the lines of a log's events, and `show` those of a list's entries; and `--help` writes the help.
+/// printed; `registers` writes the registers that differ from their reset values after a log, and `replay` those after a list alone,
+/// or the report on the list alone and expected registers; `events` writes the lines of a log's events, and `show` those of a list's
+/// entries; and `--help` writes the help.
 ///
 /// The whole output is prepared before its first byte is written; a fault is written as one line. The status is 0 on success, 1
-/// if the report does not match or a register's value was not reached, 2 for refused input, and 3 if memory ran out, outcomes do
-/// not account for the book, or a device failed. After the sink fails, nothing more is written.
+/// if the report does not match, a register's value was not reached or a required register is missing, 2 for refused input, and 3 if
+/// memory ran out, outcomes do not account for the book, or a device failed. After the sink fails, nothing more is written.
 pub fn run<R: Threads + Wait + Sync, F: Files, S: Sink>(
     rt: &R,
     alloc: Global,
@@ -174,11 +176,28 @@ fn shown_for<R: Threads + Wait + Sync, F: Files, P: Progress>(
             list,
             expected,
         } => verified(alloc, files, log, list, expected),
+        Plan::VerifyRequired {
+            log,
+            list,
+            expected,
+            required,
+        } => verified_with(alloc, files, log, list, expected, required),
         Plan::Locate {
             log,
             list,
             expected,
         } => located(alloc, files, log, list, expected),
+        Plan::LocateRequired {
+            log,
+            list,
+            expected,
+            required,
+        } => located_with(alloc, files, log, list, expected, required),
+        Plan::ReplayExpected {
+            list,
+            expected,
+            required,
+        } => list_verified(alloc, files, list, expected, required.as_deref()),
         _ => Ok(Output::done(text_for(rt, alloc, plan, files, progress)?)),
     }
 }

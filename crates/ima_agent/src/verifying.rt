@@ -1,19 +1,24 @@
 //! The report on a log, a list and expected registers, as text.
 
 ghost use Rattle.std.specs.Prelude.{◌≡◌, ℕ, List, IfOk, IfErr};
-ghost use Rattle.boot_verdict.specs.Verdicts.{IsVerifyFault, verdict_of};
+ghost use Rattle.boot_verdict.specs.RequiredTexts.{required_report_text};
+ghost use Rattle.boot_verdict.specs.Verdicts.{IsVerdictFrom, IsVerifyFault, verdict_of};
 ghost use Rattle.boot_verdict.specs.ReportTexts.{report_text};
 ghost use Rattle.ima_agent.specs.Faults.{IsFaultOfVerdict};
-ghost use Rattle.ima_agent.specs.parts.Verifying.{IsNoVerdictFrom, IsReportFrom};
-ghost use Rattle.ima_agent.specs.Verifying.{IsFirstCause, IsNoReportOn, IsReportFault, ShowsReport, ShowsReportOn, verdict_status};
+ghost use Rattle.ima_agent.specs.Loading.{input_limit};
+ghost use Rattle.ima_agent.specs.parts.Verifying.{IsNoVerdictFrom};
+ghost use Rattle.ima_agent.specs.Requiring.{IsFaultWith, ShowsRequiredReport, ShowsRequiredReportOn, required_verdict_status};
+ghost use Rattle.ima_agent.specs.Verifying.{HasVerdict, IsFirstCause, IsNoReportOn, IsReportFault, IsVerdictOn, ShowsReport, ShowsReportOn, verdict_status};
 
 use crate::evidence::{Evidence, opened};
 use crate::fault::RunFault;
 use crate::files::Files;
 use crate::inputs::{INPUT_LIMIT, not_read, too_long};
 use crate::output::{DIFFERS, DONE, Output};
+use crate::requiring::requirement_in;
 use boot_verdict::{
-    Expected, Report, VerifyFault, read_expected, verify, verify_from, write_report,
+    Expected, Report, Requirement, VerifyFault, read_expected, verify, verify_from, write_report,
+    write_required_report,
 };
 use byte_streams::{Source, VecSink};
 use std::alloc::{AllocError, Global};
@@ -30,12 +35,26 @@ pub(crate) fn verified<F: Files>(
     ensures shown { IfOk result (λ output. ShowsReport (F.told files.old) log.now list.now expected.now output.text.items output.status) }
     ensures fault { IfErr result (IsReportFault (F.told files.old) log.now list.now expected.now) }
 {
-    let Evidence {
-        log,
-        expected,
-        list: mut source,
-    } = opened(alloc, files, log, list, expected)?;
-    report_from(alloc, &log, &mut source, list, &expected)
+    let report = judged(alloc, files, log, list, expected)?;
+    Ok(report_output(alloc, &report)?)
+}
+
+/// The same, where the text `required` spells which registers are required. It is read first.
+pub(crate) fn verified_with<F: Files>(
+    alloc: Global,
+    files: &mut F,
+    log: &str,
+    list: &str,
+    expected: &str,
+    required: &str,
+) -> Result<Output, RunFault>
+    ensures shown { IfOk result (λ output. ShowsRequiredReport (F.told files.old) log.now list.now expected.now required.now
+        output.text.items output.status) }
+    ensures fault { IfErr result (IsFaultWith required.now (IsReportFault (F.told files.old) log.now list.now expected.now)) }
+{
+    let requirement = requirement_in(alloc, required.as_bytes())?;
+    let report = judged(alloc, files, log, list, expected)?;
+    Ok(required_output(alloc, &report, &requirement)?)
 }
 
 /// The report on this log, this list and the registers that the text `expected` states, with the status of its verdict: what
@@ -53,9 +72,61 @@ pub fn report_on(
     ensures shown { IfOk result (λ output. ShowsReportOn log.now list.now expected.now output.text.items output.status) }
     ensures fault { IfErr result (IsNoReportOn log.now list.now expected.now) }
 {
+    let report = judged_on(alloc, log, list, expected)?;
+    Ok(report_output(alloc, &report)?)
+}
+
+/// The same, where the text `required` spells which registers are required, as in `sha256:0-10`: what `verify --require` shows. It is
+/// read first.
+///
+/// Fails with [`RunFault::Usage`] if `required` spells no registers; else as [`report_on`].
+pub fn required_report_on(
+    alloc: Global,
+    log: &[u8],
+    list: &[u8],
+    expected: &[u8],
+    required: &[u8],
+) -> Result<Output, RunFault>
+    ensures shown { IfOk result (λ output. ShowsRequiredReportOn log.now list.now expected.now required.now output.text.items output.status) }
+    ensures fault { IfErr result (IsFaultWith required.now (IsNoReportOn log.now list.now expected.now)) }
+{
+    let requirement = requirement_in(alloc, required)?;
+    let report = judged_on(alloc, log, list, expected)?;
+    Ok(required_output(alloc, &report, &requirement)?)
+}
+
+// The report on the files of these names, before it is written.
+fn judged<F: Files>(
+    alloc: Global,
+    files: &mut F,
+    log: &str,
+    list: &str,
+    expected: &str,
+) -> Result<Report, RunFault>
+    ensures report { IfOk result (λ report. HasVerdict (F.told files.old) log.now list.now expected.now (verdict_of report)) }
+    ensures fault { IfErr result (IsReportFault (F.told files.old) log.now list.now expected.now) }
+{
+    let Evidence {
+        log,
+        expected,
+        list: mut source,
+    } = opened(alloc, files, log, list, expected)?;
+    judged_from(alloc, &log, &mut source, list, &expected)
+}
+
+// The report on this log, this list and the registers that the text states, before it is written.
+fn judged_on(
+    alloc: Global,
+    log: &[u8],
+    list: &[u8],
+    expected: &[u8],
+) -> Result<Report, RunFault>
+    ensures report { IfOk result (λ report. IsVerdictOn log.now list.now expected.now (verdict_of report)) }
+    ensures fault { IfErr result (IsNoReportOn log.now list.now expected.now) }
+{
     let expected = read_expected(alloc, expected)?;
     match verify(alloc, log, list, &expected) {
-        Ok(report) => Ok(report_output(alloc, &report)?),
+        Ok(report) => Ok(report),
         Err(fault) => Err(first_cause(fault)),
     }
 }
@@ -73,19 +144,19 @@ pub(crate) fn first_cause(fault: VerifyFault) -> RunFault
 }
 
 // The report on this log, the list that the source of this name has left, and these expected registers.
-fn report_from<R: Source>(
+fn judged_from<R: Source>(
     alloc: Global,
     log: &[u8],
     list: &mut R,
     name: &str,
     expected: &[Expected],
-) -> Result<Output, RunFault>
-    ensures shown { IfOk result (λ output. IsReportFrom log.now (R.state list.old).remaining (R.state list.new).remaining expected.now
-        output.text.items output.status) }
+) -> Result<Report, RunFault>
+    ensures report { IfOk result (λ report. IsVerdictFrom log.now (R.state list.old).remaining (R.state list.new).remaining input_limit
+        expected.now (verdict_of report)) }
     ensures fault { IfErr result (IsNoVerdictFrom name.now log.now (R.state list.old).remaining (R.state list.new).remaining) }
 {
     match verify_from(alloc, log, list, INPUT_LIMIT, expected) {
-        Ok(report) => Ok(report_output(alloc, &report)?),
+        Ok(report) => Ok(report),
         Err(fault) => Err(verdict_fault(alloc, name, fault)),
     }
 }
@@ -114,6 +185,30 @@ fn report_output(alloc: Global, report: &Report) -> Result<Output, AllocError>
         return Err(AllocError);
     }
     let status = if report.matches() { DONE } else { DIFFERS };
+    Ok(Output {
+        text: text.into_bytes(),
+        status,
+    })
+}
+
+// A report as text where these registers are required, and its status.
+fn required_output(
+    alloc: Global,
+    report: &Report,
+    requirement: &Requirement,
+) -> Result<Output, AllocError>
+    ensures text { IfOk result (λ output. output.text.items ≡ required_report_text requirement.now (verdict_of report.now)) }
+    ensures status { IfOk result (λ output. output.status ≡ required_verdict_status requirement.now (verdict_of report.now)) }
+{
+    let mut text = VecSink::new(Vec::new(alloc));
+    if write_required_report(report, requirement, &mut text).is_err() {
+        return Err(AllocError);
+    }
+    let status = if report.meets(requirement) {
+        DONE
+    } else {
+        DIFFERS
+    };
     Ok(Output {
         text: text.into_bytes(),
         status,

@@ -70,7 +70,7 @@ fn write_heading<S: Sink>(report: &Report, sink: &mut S) -> Result<(), Failed>
     send_pieces(&pieces, sink)
 }
 
-fn write_missing<T: HasExpected, S: Sink>(
+pub(super) fn write_missing<T: HasExpected, S: Sink>(
     requirement: &Requirement,
     rows: &[T],
     sink: &mut S,

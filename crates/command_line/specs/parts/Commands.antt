@@ -6,11 +6,11 @@ use Rattle.clap.specs.declared.builder.Arg.{Arg}
 use Rattle.clap.specs.declared.builder.Command.{Command}
 use Rattle.clap.specs.declared.builder.ValueParser.{ValueParser}
 use Rattle.clap.specs.declared.builder.ValueParser.TheVariants.{Names}
-use Rattle.command_line.specs.Commands.{flag, flag_beside, optional, repeated, required, without_default}
+use Rattle.command_line.specs.Commands.{flag, flag_beside, omittable, optional, repeated, required, without_default, without_default_beside}
 use Rattle.command_line.specs.declared.command_table.ArgumentRow.{ArgumentRow}
 use Rattle.command_line.specs.declared.command_table.CommandRow.{CommandRow}
 use Rattle.command_line.specs.declared.command_table.Form.{Form}
-use Rattle.command_line.specs.declared.command_table.Form.TheVariants.{Required, Repeated, Flag, FlagBeside, Optional, Defaulted}
+use Rattle.command_line.specs.declared.command_table.Form.TheVariants.{Required, Omittable, Repeated, Flag, FlagBeside, Optional, OptionalBeside, Defaulted}
 use Rattle.command_line.specs.declared.command_table.Values.{Values}
 use Rattle.command_line.specs.declared.command_table.Values.TheVariants.{Algs, Templates, Parsed}
 use Rattle.command_line.specs.declared.commands.KnownNames.{KnownNames}
@@ -33,10 +33,12 @@ parser_of_values known (Parsed parser) = parser
 -- The rule of an argument with this name, given in this form.
 abbrev pub rule_of_form : KnownNames → Text → Form → Rule
 rule_of_form known id Required = required id
+rule_of_form known id Omittable = omittable id
 rule_of_form known id Repeated = repeated id
 rule_of_form known id Flag = flag id
 rule_of_form known id (FlagBeside option) = flag_beside id
 rule_of_form known id (Optional value) = without_default id
+rule_of_form known id (OptionalBeside value argument) = without_default_beside id
 rule_of_form known id (Defaulted value default values) = optional id default.now (parser_of_values known values)
 
 -- The rule of a row's argument.

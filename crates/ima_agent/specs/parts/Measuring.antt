@@ -46,12 +46,15 @@ MeasuresFiles plans.Registers = ⊥
 MeasuresFiles (plans.Measure alg template workers limit print log files) = Unit {0}
 MeasuresFiles (plans.MeasureListed alg template workers limit print log files names ends) = Unit {0}
 MeasuresFiles (plans.Verify log list expected) = ⊥
+MeasuresFiles (plans.VerifyRequired log list expected required) = ⊥
 MeasuresFiles (plans.Locate log list expected) = ⊥
+MeasuresFiles (plans.LocateRequired log list expected required) = ⊥
 MeasuresFiles (plans.Expected printed registers) = ⊥
 MeasuresFiles (plans.RegistersAfter log) = ⊥
 MeasuresFiles (plans.Events log requested) = ⊥
 MeasuresFiles (plans.Show list) = ⊥
 MeasuresFiles (plans.Replay list) = ⊥
+MeasuresFiles (plans.ReplayExpected list expected required) = ⊥
 MeasuresFiles (plans.Help text) = ⊥
 
 -- These are the parts of a plan that measures files.
@@ -67,10 +70,13 @@ IsAskedOf (plans.Measure alg template workers limit print log files) asked =
 IsAskedOf (plans.MeasureListed alg template workers limit print log files names ends) asked =
     HasParts asked (record { alg = alg; template = template; workers = workers; limit = limit }) print (string_bytes log) files.items
 IsAskedOf (plans.Verify log list expected) asked = ⊥
+IsAskedOf (plans.VerifyRequired log list expected required) asked = ⊥
 IsAskedOf (plans.Locate log list expected) asked = ⊥
+IsAskedOf (plans.LocateRequired log list expected required) asked = ⊥
 IsAskedOf (plans.Expected printed registers) asked = ⊥
 IsAskedOf (plans.RegistersAfter log) asked = ⊥
 IsAskedOf (plans.Events log requested) asked = ⊥
 IsAskedOf (plans.Show list) asked = ⊥
 IsAskedOf (plans.Replay list) asked = ⊥
+IsAskedOf (plans.ReplayExpected list expected required) asked = ⊥
 IsAskedOf (plans.Help text) asked = ⊥

@@ -1,6 +1,6 @@
 -- Plans by what they show.
 use Rattle.command_line.specs.declared.plan.Plan.{Plan}
-use Rattle.command_line.specs.declared.plan.Plan.TheVariants.{Verify, Locate, Help}
+use Rattle.command_line.specs.declared.plan.Plan.TheVariants.{Verify, VerifyRequired, Locate, LocateRequired, ReplayExpected, Help}
 
 -- The plan shows something of its inputs: it is not the help.
 abbrev pub ShowsInputs : Plan → Type 0
@@ -11,5 +11,8 @@ ShowsInputs plan = Unit {0}
 abbrev pub ShowsText : Plan → Type 0
 ShowsText (Help text) = ⊥
 ShowsText (Verify log list expected) = ⊥
+ShowsText (VerifyRequired log list expected required) = ⊥
 ShowsText (Locate log list expected) = ⊥
+ShowsText (LocateRequired log list expected required) = ⊥
+ShowsText (ReplayExpected list expected required) = ⊥
 ShowsText plan = Unit {0}

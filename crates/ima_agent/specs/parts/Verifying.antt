@@ -3,14 +3,12 @@ use Rattle.std.specs.Prelude.{◌≡◌, ℕ, ◌⊎◌, List, Option, Some}
 use Rattle.byte_streams.specs.Streams.{SourceState}
 use Rattle.boot_verdict.specs.declared.expected.Expected.{Expected}
 use Rattle.boot_verdict.specs.declared.verifier.VerifyFault.{VerifyFault}
-use Rattle.boot_verdict.specs.ListSources.{CameWhole}
 use Rattle.boot_verdict.specs.ExpectedTexts.{IsExpectedText}
 use Rattle.boot_verdict.specs.Verdicts.{IsVerifyFaultFrom}
 use Rattle.ima_agent.specs.declared.fault.RunFault.{RunFault}
 use Rattle.ima_agent.specs.declared.fault.RunFault.TheVariants as runs
 use Rattle.ima_agent.specs.Faults.{IsFaultOfVerdict}
 use Rattle.ima_agent.specs.Loading.{Inputs, Holds, GivesAll, input_limit}
-use Rattle.ima_agent.specs.Verifying.{IsReportOn}
 
 -- The log, and the expected registers of the text, of the inputs of these names, and a source that gives all of the list.
 pub record IsEvidence (inputs : Inputs) (log_name list_name text_name : List ℕ) (log : List ℕ) (expected : List Expected) (source : SourceState) : Type 0 where
@@ -19,12 +17,6 @@ pub record IsEvidence (inputs : Inputs) (log_name list_name text_name : List ℕ
   pub text_held : Holds inputs (Some text_name) text
   pub expected_is : IsExpectedText text expected
   pub list_given : GivesAll (inputs (Some list_name)) source
-
--- What is shown is the report on this log, all that the list's source had left, and these expected registers.
-pub record IsReportFrom (log : List ℕ) (old new : Option (List ℕ)) (expected : List Expected) (shown : List ℕ) (status : ℕ) : Type 0 where
-  pub list : List ℕ
-  pub came : CameWhole old new input_limit list
-  pub report : IsReportOn log list expected shown status
 
 -- There is no verdict on this log and the list that the source of this name had left, and the fault is the first cause; or memory
 -- ran out.

@@ -1,12 +1,7 @@
-use Rattle.std.proofs.Common.{rules}
+use Rattle.std.proofs.Common.{sym, ◌∙◌}
 use Rattle.clap.specs.Words.{found_of}
-use Rattle.clap.proofs.WalkLemmas.{first_value-rows}
+use Rattle.command_line.proofs.ReadLemmas.{no_values}
 use Rattle.command_line.proofs.words.text_if_given.Goals as goal
 
-pub returns-in_ok-from_str-in-Some : goal.returns-in_ok-from_str-in-Some
-returns-in_ok-from_str-in-Some c =
-    let same = first_value-rows (found_of c.args.matches.now) c.args.id.now in search rules
-
-pub returns-in-None : goal.returns-in-None
-returns-in-None c =
-    let same = first_value-rows (found_of c.args.matches.now) c.args.id.now in search rules
+pub returns : goal.returns
+returns c = no_values (found_of c.args.matches.now) c.args.id.now (sym c.contains_id.ensures ∙ c.if-contains_id.false)

@@ -1,11 +1,7 @@
-use Rattle.std.proofs.Common.{inl, inr}
+use Rattle.ima_agent.proofs.LocatingLaws.{shows_places_on}
 use Rattle.ima_agent.proofs.locating.places_on.Goals as goal
 
-pub returns-clause-fault : goal.returns-clause-fault
-returns-clause-fault c = inr (inl (record {
-  expected = c.in_ok-expected.expected.items;
-  first = c.in-Err.fault;
-  expected_is = c.in_ok-expected.ensures.found;
-  first_is = c.in-Err.ensures.fault;
-  says = c.first_cause.ensures c.args.log.now c.args.list.now c.in-Err.ensures.fault;
-}))
+pub returns-clause-shown : goal.returns-clause-shown
+returns-clause-shown c =
+    shows_places_on _ _ _ _ _ _ c.in_ok-places.ensures.places (rw c.deref.ensures.value at c.in_ok-places_output.ensures.text)
+    (rw c.deref.ensures.value at c.in_ok-places_output.ensures.status)

@@ -1,11 +1,6 @@
-use Rattle.std.proofs.Common.{inl, inr}
+use Rattle.ima_agent.proofs.VerifyingLaws.{shows_report_on}
 use Rattle.ima_agent.proofs.verifying.report_on.Goals as goal
 
-pub returns-clause-fault : goal.returns-clause-fault
-returns-clause-fault c = inr (inl (record {
-  expected = c.in_ok-expected.expected.items;
-  first = c.in-Err.fault;
-  expected_is = c.in_ok-expected.ensures.found;
-  first_is = c.in-Err.ensures.fault;
-  says = c.first_cause.ensures c.args.log.now c.args.list.now c.in-Err.ensures.fault;
-}))
+pub returns-clause-shown : goal.returns-clause-shown
+returns-clause-shown c =
+    shows_report_on _ _ _ _ _ _ c.in_ok-report.ensures.report c.in_ok-report_output.ensures.text c.in_ok-report_output.ensures.status

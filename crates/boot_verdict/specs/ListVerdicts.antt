@@ -1,0 +1,88 @@
+-- The verdict on a measurement list alone and expected registers, and its text. All of this is this project's choice. How entries
+-- change the registers is defined in ima_list.
+use Rattle.std.specs.Prelude.{◌≡◌, ℕ, ◌&&◌, ◌==◌, nat_lt, not, Bool, if◌then◌else◌, List, ◌++◌, length, map, codes, decimal, flat_map, Option, Some, None, Ok, Err}
+use Rattle.std.specs.List.{list_all}
+use Rattle.pcr_banks.specs.declared.alg.Alg.{Alg}
+use Rattle.pcr_banks.specs.Registers.{register_count, extended_by_all, reset_value}
+use Rattle.ima_list.specs.ListEntry.{ListEntry}
+use Rattle.ima_list.specs.Spelling.{IsReading}
+use Rattle.ima_list.specs.Replaying.{digests_of, AreGenuine}
+use Rattle.boot_verdict.specs.declared.expected.Expected.{Expected}
+use Rattle.boot_verdict.specs.declared.list_verifier.ListReport.{ListReport}
+use Rattle.boot_verdict.specs.declared.report.Row.{Row}
+use Rattle.boot_verdict.specs.declared.requirement.BankRange.{BankRange}
+use Rattle.boot_verdict.specs.ListSources.{CameWhole}
+use Rattle.boot_verdict.specs.ReportTexts.{row_text, verdict_text}
+use Rattle.boot_verdict.specs.RequiredTexts.{missing_text}
+use Rattle.boot_verdict.specs.Requirements.{expected_of_rows, is_complete}
+use Rattle.boot_verdict.specs.Verdicts.{is_match, row_state}
+
+-- ---- registers
+
+-- The value of a register of a bank after these entries alone: its reset value after a start from locality 0, extended by each of
+-- its entries in order; none if there is no such register.
+abbrev pub pcr_after_list : List ListEntry → Alg → ℕ → Option (List ℕ)
+pcr_after_list entries alg register =
+    if nat_lt register register_count then Some (extended_by_all alg (reset_value alg register 0) (digests_of entries alg register)) else None
+
+-- The row of an expected register.
+abbrev pub list_row_on : List ListEntry → Expected → Row
+list_row_on entries expected =
+    record { expected = expected; state = row_state expected (pcr_after_list entries expected.alg expected.register) }
+
+-- ---- the verdict
+
+pub record ListVerdict : Type 0 where
+  pub entries : ℕ
+  pub rows : List Row
+
+-- The verdict on the entries of a list and expected registers.
+abbrev pub list_verdict_on : List ListEntry → List Expected → ListVerdict
+list_verdict_on entries expected = record { entries = length entries; rows = map (list_row_on entries) expected }
+
+-- The verdict is 'match': some register is expected, and each expected register has its value.
+abbrev pub list_matches : ListVerdict → Bool
+list_matches verdict = not (length verdict.rows == 0) && list_all is_match verdict.rows
+
+-- The verdict is 'match', and no register is missing.
+abbrev pub required_list_matches : List BankRange → ListVerdict → Bool
+required_list_matches ranges verdict = list_matches verdict && is_complete ranges (expected_of_rows verdict.rows)
+
+-- The bytes are a list, each entry is genuine, and this is the verdict on it.
+pub record IsListVerdict (list : List ℕ) (expected : List Expected) (verdict : ListVerdict) : Type 0 where
+  pub entries : List ListEntry
+  pub list_is : IsReading list (Ok entries)
+  pub genuine : AreGenuine entries
+  pub verdict_is : verdict ≡ list_verdict_on entries expected
+
+-- The same for all bytes that a source had left, at most `limit`.
+pub record IsListVerdictFrom (old new : Option (List ℕ)) (limit : ℕ) (expected : List Expected) (verdict : ListVerdict) : Type 0 where
+  pub list : List ℕ
+  pub came : CameWhole old new limit list
+  pub verdict_is : IsListVerdict list expected verdict
+
+-- ---- its text
+
+-- The report: a line with the number of entries, one for each expected register, and the verdict.
+abbrev pub list_report_text : ListVerdict → List ℕ
+list_report_text verdict =
+    (codes "entries " ++ (decimal verdict.entries ++ codes "\n"))
+    ++ (flat_map row_text verdict.rows ++ verdict_text (list_matches verdict))
+
+-- Two lines: entries, and how many registers were compared.
+abbrev pub list_counts_text : ℕ → ℕ → List ℕ
+list_counts_text entries compared =
+    codes "entries " ++ (decimal entries ++ (codes "\ncompared " ++ (decimal compared ++ codes "\n")))
+
+-- The report where registers are required: its counts, a line for each expected register, one for each that is missing, and the
+-- verdict.
+abbrev pub required_list_report_text : List BankRange → ListVerdict → List ℕ
+required_list_report_text ranges verdict =
+    list_counts_text verdict.entries (length verdict.rows)
+    ++ (flat_map row_text verdict.rows
+    ++ (missing_text ranges (expected_of_rows verdict.rows) ++ verdict_text (required_list_matches ranges verdict)))
+
+-- ---- what contracts see of a report
+
+abbrev pub list_verdict_of : ListReport → ListVerdict
+list_verdict_of report = record { entries = report.entries; rows = report.rows.items }

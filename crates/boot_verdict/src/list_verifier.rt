@@ -1,0 +1,97 @@
+//! The verdict on a measurement list alone and expected registers.
+
+ghost use Rattle.std.specs.Prelude.{◌≡◌, ◌⊎◌, List, is_some, Ok, IfOk, IfErr, IsErrOf};
+ghost use Rattle.byte_fields.specs.Reading.{ReadsInMemory};
+ghost use Rattle.byte_streams.specs.Streams.{LosesFront};
+ghost use Rattle.ima_list.specs.ListEntry.{ListEntry};
+ghost use Rattle.ima_list.specs.Replaying.{AreGenuine};
+ghost use Rattle.boot_verdict.specs.declared.places.Watch.{Watch};
+ghost use Rattle.boot_verdict.specs.ListSources.{HoldsGenuineList, failures_after_list};
+ghost use Rattle.boot_verdict.specs.ListVerdicts.{IsListVerdictFrom, list_matches, list_verdict_of, list_verdict_on, required_list_matches};
+ghost use Rattle.boot_verdict.specs.Replays.{IsListReplayFault, IsListStart};
+ghost use Rattle.boot_verdict.specs.parts.ListReplays.{IsReportFault, Replays};
+
+use crate::expected::Expected;
+use crate::list_replay::ListReplay;
+use crate::places::Watch;
+use crate::replaying::list_start;
+use crate::report::{Row, all_match};
+use crate::requirement::Requirement;
+use crate::verifier::{VerifyFault, rows_on};
+use byte_streams::Source;
+use ima_list::laws::no_bytes_have_two_readings;
+use std::alloc::Global;
+
+/// The report on a measurement list alone and expected registers.
+#[derive(Debug, Drop)]
+pub struct ListReport {
+    /// How many entries the list has.
+    pub entries: usize,
+    /// The expected registers and how they compare, in their order.
+    pub rows: Vec<Row>,
+}
+
+impl ListReport {
+    /// Whether some register is expected, and each expected register has its value.
+    pub fn matches(&self) -> bool
+        ensures { result ≡ list_matches (list_verdict_of self.now) }
+    {
+        !self.rows.is_empty() && all_match(&self.rows)
+    }
+
+    /// Whether the report matches, and has a row for each required register.
+    pub fn meets(&self, requirement: &Requirement) -> bool
+        ensures { result ≡ required_list_matches requirement.now (list_verdict_of self.now) }
+    {
+        self.matches() && requirement.is_met_by(&self.rows)
+    }
+}
+
+/// Replays a measurement list of at most `limit` bytes without a firmware event log, as [`crate::replay_from`] does, and compares the
+/// registers with the expected ones, in their order. Without an expected register there is a report, but it does not match.
+///
+/// Fails as [`crate::replay_from`] does.
+pub fn verify_list_from<R: Source>(
+    alloc: Global,
+    list: &mut R,
+    limit: u64,
+    expected: &[Expected],
+) -> Result<ListReport, VerifyFault>
+    // The report is the verdict on the list that the source had left, and the expected registers.
+    ensures report { IfOk result (λ report. IsListVerdictFrom (R.state list.old).remaining (R.state list.new).remaining limit expected.now
+        (list_verdict_of report)) }
+    // For a list of genuine entries within the limit there is a report, unless the source fails or memory runs out.
+    ensures only { (entries : List ListEntry) → HoldsGenuineList (R.state list.old).remaining limit entries
+        → IsErrOf result VerifyFault.Source
+        ⊎ ReadsInMemory VerifyFault.Memory list_verdict_of result (Ok (list_verdict_on entries expected.now)) }
+    // Any fault is the first cause.
+    ensures fault { IfErr result (IsListReplayFault (R.state list.old).remaining (R.state list.new).remaining limit) }
+    // In any case the source loses bytes from its front, and nothing else.
+    ensures front { LosesFront (R.state list.old).remaining (R.state list.new).remaining }
+    ensures telling { is_some (R.state list.new).remaining ≡ is_some (R.state list.old).remaining }
+    ensures counts { (R.state list.new).failures ≡ failures_after_list result (R.state list.old).failures }
+{
+    no_bytes_have_two_readings();
+    let start = Watch::of_none(alloc, list_start());
+    let replay = ListReplay::of_source(alloc, start, list, limit)?;
+    report_on(alloc, replay, expected)
+}
+
+// The report on a list that was replayed from the registers before it, and expected registers.
+fn report_on(
+    alloc: Global,
+    replay: ListReplay,
+    expected: &[Expected],
+) -> Result<ListReport, VerifyFault>
+    ensures report { IfOk result (λ report. (start : Watch) (entries : List ListEntry) → IsListStart start.banks → Replays start entries replay
+        → AreGenuine entries × (list_verdict_of report ≡ list_verdict_on entries expected.now)) }
+    ensures fault { IfErr result (λ fault. (start : Watch) (entries : List ListEntry) → Replays start entries replay
+        → IsReportFault entries fault) }
+{
+    let entries = replay.entries;
+    let watch = replay.genuine()?;
+    Ok(ListReport {
+        entries,
+        rows: rows_on(alloc, &watch.banks, expected)?,
+    })
+}

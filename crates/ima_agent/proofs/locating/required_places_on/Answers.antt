@@ -1,0 +1,30 @@
+use Rattle.std.proofs.Common.{refl, inl, inr}
+use Rattle.std.proofs.lemmas.Result.{err_from_is_err_and}
+use Rattle.ima_agent.proofs.locating.required_places_on.Goals as goal
+
+pub returns-in_err-requirement-clause-fault : goal.returns-in_err-requirement-clause-fault
+returns-in_err-requirement-clause-fault c =
+    let p = err_from_is_err_and c.from_residual.result c.from_residual.ensures.1 in
+    rw (p.1, p.2) (inl c.in_err-requirement.ensures.fault)
+
+pub returns-in_err-places-clause-fault : goal.returns-in_err-places-clause-fault
+returns-in_err-places-clause-fault c =
+    let p = err_from_is_err_and c.from_residual-in_err-places.result c.from_residual-in_err-places.ensures.1 in
+    rw (p.1, p.2) (inr ((_, c.in_ok-requirement.ensures.requirement), c.in_err-places.ensures.fault))
+
+pub returns-in_err-required_output-clause-fault : goal.returns-in_err-required_output-clause-fault
+returns-in_err-required_output-clause-fault c =
+    let p = err_from_is_err_and c.from_residual-in_err-required_output.result c.from_residual-in_err-required_output.ensures.1 in
+    rw (p.1, p.2) (inl (inr refl))
+
+pub returns-clause-shown : goal.returns-clause-shown
+returns-clause-shown c = (
+  _,
+  c.in_ok-places.ensures.places,
+  record {
+    ranges = _;
+    required_are = c.in_ok-requirement.ensures.requirement;
+    text_is = rw c.deref.ensures.value at c.in_ok-required_output.ensures.text;
+    status_is = rw c.deref.ensures.value at c.in_ok-required_output.ensures.status;
+  },
+)

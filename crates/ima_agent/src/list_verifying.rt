@@ -1,0 +1,148 @@
+//! The report on a list alone and expected registers, as text.
+
+ghost use Rattle.std.specs.Prelude.{◌≡◌, None, Some, option_map, IfOk, IfErr};
+ghost use Rattle.boot_verdict.specs.ListVerdicts.{IsListVerdictFrom, list_report_text, list_verdict_of, required_list_report_text};
+ghost use Rattle.ima_agent.specs.ListVerifying.{HasListVerdict, IsListReportFault, IsListReportFaultWith, ShowsListReport, list_verdict_status, required_list_status};
+ghost use Rattle.ima_agent.specs.Loading.{input_limit};
+ghost use Rattle.ima_agent.specs.Requiring.{IsFaultWith};
+ghost use Rattle.ima_agent.specs.parts.Replaying.{IsNoReplayFrom};
+
+use crate::fault::RunFault;
+use crate::files::Files;
+use crate::inputs::{INPUT_LIMIT, loaded, not_read};
+use crate::output::{DIFFERS, DONE, Output};
+use crate::requiring::requirement_in;
+use crate::verifying::verdict_fault;
+use boot_verdict::{
+    Expected, ListReport, Requirement, read_expected, verify_list_from, write_list_report,
+    write_required_list_report,
+};
+use byte_streams::{Failed, Source, VecSink};
+use std::alloc::{AllocError, Global};
+
+/// The report on the list and the expected registers in the files of these names; where the text `required` is given, it spells which
+/// registers are required. This text is read first; then the expected registers are loaded and read, and the list is replayed as it
+/// is read, without loading it.
+pub(crate) fn list_verified<F: Files>(
+    alloc: Global,
+    files: &mut F,
+    list: &str,
+    expected: &str,
+    required: Option<&str>,
+) -> Result<Output, RunFault>
+    ensures shown { IfOk result (λ output. ShowsListReport (F.told files.old) list.now expected.now
+        (option_map (λ text. text.now) required.entry) output.text.items output.status) }
+    ensures fault { IfErr result (IsListReportFaultWith (F.told files.old) list.now expected.now
+        (option_map (λ text. text.now) required.entry)) }
+{
+    match required {
+        None => unrequired(alloc, files, list, expected),
+        Some(required) => with_required(alloc, files, list, expected, required),
+    }
+}
+
+// The report on these files.
+fn unrequired<F: Files>(
+    alloc: Global,
+    files: &mut F,
+    list: &str,
+    expected: &str,
+) -> Result<Output, RunFault>
+    ensures shown { IfOk result (λ output. ShowsListReport (F.told files.old) list.now expected.now None output.text.items output.status) }
+    ensures fault { IfErr result (IsListReportFault (F.told files.old) list.now expected.now) }
+{
+    let report = list_judged(alloc, files, list, expected)?;
+    Ok(list_output(alloc, &report)?)
+}
+
+// The same, where this text spells which registers are required.
+fn with_required<F: Files>(
+    alloc: Global,
+    files: &mut F,
+    list: &str,
+    expected: &str,
+    required: &str,
+) -> Result<Output, RunFault>
+    ensures shown { IfOk result (λ output. ShowsListReport (F.told files.old) list.now expected.now (Some required.now)
+        output.text.items output.status) }
+    ensures fault { IfErr result (IsFaultWith required.now (IsListReportFault (F.told files.old) list.now expected.now)) }
+{
+    let requirement = requirement_in(alloc, required.as_bytes())?;
+    let report = list_judged(alloc, files, list, expected)?;
+    Ok(required_output(alloc, &report, &requirement)?)
+}
+
+// The report on these files, before it is written.
+fn list_judged<F: Files>(
+    alloc: Global,
+    files: &mut F,
+    list: &str,
+    expected: &str,
+) -> Result<ListReport, RunFault>
+    ensures report { IfOk result (λ report. HasListVerdict (F.told files.old) list.now expected.now (list_verdict_of report)) }
+    ensures fault { IfErr result (IsListReportFault (F.told files.old) list.now expected.now) }
+{
+    let text = loaded(alloc, files, Some(expected))?;
+    let expected = read_expected(alloc, &text)?;
+    match files.source(Some(list)) {
+        Ok(mut source) => list_judged_from(alloc, &mut source, list, &expected),
+        Err(Failed) => Err(not_read(alloc, list)),
+    }
+}
+
+// The report on the list that the source of this name has left, and these expected registers.
+fn list_judged_from<R: Source>(
+    alloc: Global,
+    list: &mut R,
+    name: &str,
+    expected: &[Expected],
+) -> Result<ListReport, RunFault>
+    ensures report { IfOk result (λ report. IsListVerdictFrom (R.state list.old).remaining (R.state list.new).remaining input_limit
+        expected.now (list_verdict_of report)) }
+    ensures fault { IfErr result (IsNoReplayFrom name.now (R.state list.old).remaining (R.state list.new).remaining) }
+{
+    match verify_list_from(alloc, list, INPUT_LIMIT, expected) {
+        Ok(report) => Ok(report),
+        Err(fault) => Err(verdict_fault(alloc, name, fault)),
+    }
+}
+
+// A report as text, and the status of its verdict.
+fn list_output(alloc: Global, report: &ListReport) -> Result<Output, AllocError>
+    ensures text { IfOk result (λ output. output.text.items ≡ list_report_text (list_verdict_of report.now)) }
+    ensures status { IfOk result (λ output. output.status ≡ list_verdict_status (list_verdict_of report.now)) }
+{
+    let mut text = VecSink::new(Vec::new(alloc));
+    if write_list_report(report, &mut text).is_err() {
+        return Err(AllocError);
+    }
+    let status = if report.matches() { DONE } else { DIFFERS };
+    Ok(Output {
+        text: text.into_bytes(),
+        status,
+    })
+}
+
+// A report as text where these registers are required, and its status.
+fn required_output(
+    alloc: Global,
+    report: &ListReport,
+    requirement: &Requirement,
+) -> Result<Output, AllocError>
+    ensures text { IfOk result (λ output. output.text.items ≡ required_list_report_text requirement.now (list_verdict_of report.now)) }
+    ensures status { IfOk result (λ output. output.status ≡ required_list_status requirement.now (list_verdict_of report.now)) }
+{
+    let mut text = VecSink::new(Vec::new(alloc));
+    if write_required_list_report(report, requirement, &mut text).is_err() {
+        return Err(AllocError);
+    }
+    let status = if report.meets(requirement) {
+        DONE
+    } else {
+        DIFFERS
+    };
+    Ok(Output {
+        text: text.into_bytes(),
+        status,
+    })
+}
