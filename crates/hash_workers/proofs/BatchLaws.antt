@@ -19,7 +19,7 @@ use Rattle.hash_workers.specs.parts.Taking.{Took, NumbersRiseForEach}
 use Rattle.hash_workers.specs.Outcomes.{IsOutcomeOf}
 use Rattle.hash_workers.specs.parts.Scattering.{items_of, got_at, ArePairs, AreScattered}
 use Rattle.hash_workers.specs.Batches.{IsReceiptOfJob, IsRefusalOfJob, IsBatchOf}
-use Rattle.hash_workers.proofs.ListLaws.{map_at, at_map, list_at, at_list, in_mapped, within_at}
+use Rattle.hash_workers.proofs.ListLaws.{at_list, at_map, equal_of, in_mapped, list_at, map_at, within_at}
 use Rattle.hash_workers.proofs.TakingLaws.{TakeEach}
 
 -- ---- the gathered groups are the workers' outcomes
@@ -92,24 +92,18 @@ refusal_at_end origin n m op fault is full = or_full (op_refusal origin op) n m 
 
 -- ---- the batch
 
-not_refused : (receipt : BookReceipt) → done receipt ≡ refused Memory → ⊥
-not_refused receipt is = absurd cc
-
 done_op : (origin : Origin) (count : ℕ) (Makes : ℕ → BookOp → Type 0) (job : ℕ) (receipt : BookReceipt)
     → IsOutcomeOf origin count Makes job (done receipt) → IsReceiptOfJob Makes job receipt
 done_op origin count Makes job receipt of = elim of.becomes [
-  | inl memory ↦ absurd (not_refused receipt memory)
+  | inl memory ↦ absurd cc
   | inr made ↦ record { op = made.0; has = made.1; operation = made.2 }
 ]
-
-same_refusal : (one other : BookFault) → refused one ≡ refused other → one ≡ other
-same_refusal one other is = cc
 
 refused_op : (origin : Origin) (count : ℕ) (Makes : ℕ → BookOp → Type 0) (records job : ℕ) (fault : BookFault)
     → IsOutcomeOf origin count Makes job (refused fault) → fault ≢ Memory
     → (fault ≡ Full → records ≡ origin.limit) → IsRefusalOfJob origin Makes records job fault
 refused_op origin count Makes records job fault of not_memory full = elim of.becomes [
-  | inl memory ↦ absurd (not_memory (same_refusal fault Memory memory))
+  | inl memory ↦ absurd (not_memory cc)
   | inr made ↦ elim made.2 [
     | inl memory ↦ absurd (not_memory memory)
     | inr cause ↦ record {
@@ -172,28 +166,17 @@ module _ (origin : Origin) (count : ℕ) (Makes : ℕ → BookOp → Type 0) (wo
         by_is = placed.1;
       }
 
-  of_source : (job : ℕ) (outcome : BookOutcome) → Source takings gs by job outcome → IsOutcomeOf origin count Makes job outcome
-  of_source job outcome from = s.of_jobs from.worker from.index job outcome from.took from.has
-
   -- Two receipts of the same place are of the same worker and index.
   same_source : (worker other i k : ℕ) (receipt another : BookReceipt) → Receipts worker i receipt → Receipts other k another
       → receipt.place ≡ another.place → (worker ≡ other) × (i ≡ k)
-  same_source worker other i k receipt another has also same = elim (cases_lt worker other) [
-    | inl less ↦ absurd (s.accounts.apart.each worker other i k receipt another less has also same)
-    | inr more ↦ elim (cases_lt other worker) [
-      | inl less ↦ absurd (s.accounts.apart.each other worker k i another receipt less also has (sym same))
-      | inr past ↦
-          let one : worker ≡ other = omega arith in
-          let here = rw one at has in
-          elim (cases_lt i k) [
-            | inl earlier ↦ let rises = s.accounts.rise.each other i k receipt another earlier here also in absurd (omega arith)
-            | inr later ↦ elim (cases_lt k i) [
-              | inl earlier ↦ let rises = s.accounts.rise.each other k i another receipt earlier also here in absurd (omega arith)
-              | inr over ↦ (one, omega arith)
-            ]
-          ]
-    ]
-  ]
+  same_source worker other i k receipt another has also same =
+      let one = equal_of worker other (λ less. s.accounts.apart.each worker other i k receipt another less has also same)
+      (λ more. s.accounts.apart.each other worker k i another receipt more also has (sym same)) in
+      let here = rw one at has in (
+        one,
+        equal_of i k (λ less. let rises = s.accounts.rise.each other i k receipt another less here also in omega arith)
+            (λ more. let rises = s.accounts.rise.each other k i another receipt more also here in omega arith),
+      )
 
   rise_by : (worker i k first second : ℕ) (earlier later : BookReceipt) → first < second → Took takings worker i first
       → Took takings worker k second → Receipts worker i earlier → Receipts worker k later → earlier.place < later.place
@@ -214,7 +197,8 @@ module _ (origin : Origin) (count : ℕ) (Makes : ℕ → BookOp → Type 0) (wo
     workers_of_all = s.by_len;
     worker_below = below_workers;
     receipts = λ job receipt has.
-        done_op origin count Makes job receipt (of_source job (done receipt) (source job (done receipt) has));
+        let from = source job (done receipt) has in
+        done_op origin count Makes job receipt (s.of_jobs from.worker from.index job (done receipt) from.took from.has);
     names = λ job receipt has.
         let from = source job (done receipt) has in s.accounts.names.each from.worker from.index receipt from.has;
     apart = λ job other receipt another has also same.
@@ -242,7 +226,8 @@ module _ (origin : Origin) (count : ℕ) (Makes : ℕ → BookOp → Type 0) (wo
         (rw one at from.has) there.has;
     refusals = λ job fault has not_memory.
         let from = source job (refused fault) has in
-        refused_op origin count Makes (length book.records) job fault (of_source job (refused fault) from) not_memory (λ full.
+        let of_job = s.of_jobs from.worker from.index job (refused fault) from.took from.has in
+        refused_op origin count Makes (length book.records) job fault of_job not_memory (λ full.
         s.accounts.full (record {
           group = from.worker;
           index = from.index;

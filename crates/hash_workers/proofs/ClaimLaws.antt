@@ -201,8 +201,7 @@ module _ (allotment : Allotment) (slots seat : ℕ) (holder : Holder) where
 -- ---- a split
 
 cut_places : (view : SeatView) → 2 ≤ view.places → ended_places_of (giver view) + ended_places_of (taker view) ≡ ended_places_of view
-cut_places view two =
-    elim view.ended as (λ b. cond b (view.places - 1) 0 + cond b 1 0 ≡ cond b view.places 0) [ true ↦ omega arith | false ↦ omega arith ]
+cut_places view two = grind (arith, nat_tests)
 
 pub splits : (allotment : Allotment) (seat : ℕ) (view : SeatView) → view.jobs ≡ allotment.jobs → view.seats ≡ allotment.seats
     → 2 ≤ view.places → Splits (KeepsRule allotment) seat view (giver view) (taker view)
@@ -237,14 +236,10 @@ splits allotment seat view jobs_are seats_are two state kept here =
 -- ---- a join
 
 both_ended : (one other : Bool) (m n : ℕ) → cond one m 0 + cond other n 0 ≤ cond (one || other) (m + n) 0
-both_ended true true m n = omega arith
-both_ended true false m n = omega arith
-both_ended false true m n = omega arith
-both_ended false false m n = omega arith
+both_ended one other m n = grind (arith, nat_tests)
 
 either_ended : (one other : Bool) → (one || other) ≡ true → (one ≡ true) ⊎ (other ≡ true)
-either_ended true other is = inl refl
-either_ended false other is = inr is
+either_ended one other is = grind arith
 
 past_of : (jobs seats word : ℕ) (views : List SeatView) (seat : ℕ) (view : SeatView) → AreClaimed jobs seats word views
     → get_elem? views seat ≡ some view → 1 ≤ view.places → view.ended ≡ true → jobs ≤ word

@@ -1,5 +1,5 @@
 -- Sums over all views of claims, and how often numbers occur among the draws.
-use Rattle.std.proofs.Common.{◌≡◌, ℕ, zero, suc, ◌+◌, ◌-◌, ◌<◌, ◌≤◌, cond, eqb, ltb, true, false, List, [], ◌∷◌, ◌++◌, length, get_or, set, map, sym, refl, ap, ◌∙◌, subst, arith}
+use Rattle.std.proofs.Common.{◌≡◌, ℕ, zero, suc, ◌+◌, ◌-◌, ◌<◌, ◌≤◌, cond, eqb, ltb, List, [], ◌∷◌, ◌++◌, length, get_or, set, map, sym, refl, ap, ◌∙◌, subst, arith}
 use Rattle.std.specs.List.{All, concat, range_with_len}
 use Rattle.std.proofs.lemmas.List.FromFn.{length-range_with_len, get_or-range_with_len}
 use Rattle.std.proofs.lemmas.Bool.Decides.{nat_tests}
@@ -30,7 +30,7 @@ total_at of (other ∷ views) zero view here = let is : of other ≡ of view = a
 total_at of (other ∷ views) (suc seat) view here = let others = total_at of views seat view here in omega arith
 
 ended_at : (view : SeatView) → ended_places_of view ≤ places_of view
-ended_at view = elim view.ended as (λ b. cond b view.places 0 ≤ view.places) [ true ↦ omega arith | false ↦ omega arith ]
+ended_at view = grind (arith, nat_tests)
 
 pub ended_within : (views : List SeatView) → total ended_places_of views ≤ total places_of views
 ended_within [] = omega arith

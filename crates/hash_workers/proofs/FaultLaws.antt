@@ -1,31 +1,17 @@
 -- Why no book was opened, as the agent's fault.
-use Rattle.std.proofs.Common.{◌≡◌, ◌≢◌, ℕ, Bool, true, false, Option, Some, None, refl, ap, ◌∙◌}
-use Rattle.std.specs.Prelude.{◌==◌, not, if◌then◌else◌, unwrap_or, Result, Ok, Err, MatchResult}
+use Rattle.std.proofs.Common.{arith, ◌≡◌, ◌≢◌, ℕ, Option, Some, None, refl, ap, ◌∙◌}
+use Rattle.std.specs.Prelude.{unwrap_or, Result, Ok, Err, MatchResult}
 use Rattle.std.specs.Result.{IsErrAnd}
-use Rattle.std.proofs.lemmas.Option.{same_Some, none-some}
-use Rattle.ima_list.specs.Templates.{takes_alg}
-use Rattle.pcr_banks.specs.Registers.{is_active}
 use Rattle.measure_book.specs.declared.origin.Origin.{Origin}
 use Rattle.measure_book.specs.declared.fault.BookFault.{BookFault}
-use Rattle.measure_book.specs.declared.fault.BookFault.TheVariants.{WrongHash, NoBank, ZeroDigest, Full, Memory}
-use Rattle.measure_book.specs.Histories.{open_refusal_of, opens_with_zero_digest}
+use Rattle.measure_book.specs.declared.fault.BookFault.TheVariants.{Memory}
+use Rattle.measure_book.specs.Histories.{open_refusal_of}
 use Rattle.hash_workers.specs.declared.batch.Batch.{Batch}
 use Rattle.hash_workers.specs.declared.fault.JobsFault.{JobsFault}
 use Rattle.hash_workers.specs.Faults.{IsNumberOfWorkers, MayBegin, IsFaultOf, IsJobsFaultOf, fault_of_book, jobs_fault_of_book}
 
-never_of : (a b d e : Bool)
-    → (if a then Some WrongHash else if b then Some NoBank else if d then Some ZeroDigest else if e then Some Full else None) ≡ Some
-    Memory → ⊥
-never_of true b d e is = let same : WrongHash ≡ Memory = same_Some WrongHash Memory is in cc
-never_of false true d e is = let same : NoBank ≡ Memory = same_Some NoBank Memory is in cc
-never_of false false true e is = let same : ZeroDigest ≡ Memory = same_Some ZeroDigest Memory is in cc
-never_of false false false true is = let same : Full ≡ Memory = same_Some Full Memory is in cc
-never_of false false false false is = none-some Memory is
-
 never_memory : (origin : Origin) → open_refusal_of origin ≡ Some Memory → ⊥
-never_memory origin is =
-    never_of (not (takes_alg origin.template origin.alg)) (not (is_active origin.start origin.alg)) (opens_with_zero_digest origin)
-    (origin.limit == 0) is
+never_memory origin is = grind arith
 
 book_fault : (workers : ℕ) (origin : Origin) (fault : BookFault) → fault ≢ Memory → IsNumberOfWorkers workers
     → open_refusal_of origin ≡ Some fault

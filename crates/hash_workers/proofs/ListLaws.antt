@@ -1,24 +1,28 @@
--- Elements of lists, of mapped lists, and of lists of lists.
-use Rattle.std.proofs.Common.{◌≡◌, ℕ, zero, suc, ◌+◌, ◌<◌, List, [], ◌∷◌, ◌++◌, length, length-append, map, Option, Some, None, refl, sym, ap, inl, inr, arith}
+-- Two numbers; elements of lists, of mapped lists, and of lists of lists.
+use Rattle.std.proofs.Common.{◌≡◌, ℕ, zero, suc, ◌+◌, ◌<◌, List, [], ◌∷◌, ◌++◌, length, length-append, map, Option, Some, None, refl, ap, inl, inr, arith}
 use Rattle.std.specs.Prelude.{◌⊎◌, slice_get, option_and_then}
-use Rattle.std.proofs.lemmas.Option.{same_Some, none-some, slice_get_cases}
+use Rattle.std.proofs.lemmas.Bool.{cases_lt}
+use Rattle.std.proofs.lemmas.Grind.{common_steps}
+use Rattle.std.proofs.lemmas.Option.{gets, same_Some, none-some, slice_get_cases}
 use Rattle.hash_workers.specs.parts.Scattering.{got_at}
+
+-- Two numbers are equal if neither is below the other.
+pub equal_of : (m n : ℕ) → (m < n → ⊥) → (n < m → ⊥) → m ≡ n
+equal_of m n not_less not_more = elim (cases_lt m n) [
+  | inl less ↦ absurd (not_less less)
+  | inr more ↦ elim (cases_lt n m) [ inl less ↦ absurd (not_more less) | inr past ↦ omega arith ]
+]
 
 -- ---- one list
 
 -- An element of a list with one appended was there before, or is the appended one.
 pub slice_get_snoc : {X : Type 0} → (xs : List X) (x y : X) (i : ℕ) → slice_get (xs ++ x ∷ []) i ≡ Some y
     → (slice_get xs i ≡ Some y) ⊎ ((i ≡ length xs) × (y ≡ x))
-slice_get_snoc [] x y zero has = inr (refl, sym (same_Some x y has))
-slice_get_snoc [] x y (suc i) has = absurd (none-some y has)
-slice_get_snoc (z ∷ xs) x y zero has = inl has
-slice_get_snoc (z ∷ xs) x y (suc i) has = elim (slice_get_snoc xs x y i has) [ inl old ↦ inl old | inr new ↦ inr (ap suc new.0, new.1) ]
+slice_get_snoc xs x y i has = grind (arith, common_steps, gets)
 
 -- An element of a list stays at its index when one is appended at the end.
 pub at_longer : {X : Type 0} → (xs : List X) (x : X) (i : ℕ) (y : X) → slice_get xs i ≡ Some y → slice_get (xs ++ x ∷ []) i ≡ Some y
-at_longer [] x i y has = absurd (none-some y has)
-at_longer (z ∷ xs) x zero y has = has
-at_longer (z ∷ xs) x (suc i) y has = at_longer xs x i y has
+at_longer xs x i y has = grind (arith, common_steps, gets)
 
 -- An element of two lists joined is in one of them.
 pub in_either : {X : Type 0} → (xs ys : List X) (i : ℕ) (x : X) → slice_get (xs ++ ys) i ≡ Some x
@@ -28,8 +32,7 @@ in_either (z ∷ xs) ys zero x has = inl has
 in_either (z ∷ xs) ys (suc i) x has = in_either xs ys i x has
 
 pub at_last : {X : Type 0} → (xs : List X) (x : X) → slice_get (xs ++ x ∷ []) (length xs) ≡ Some x
-at_last [] x = refl
-at_last (y ∷ xs) x = at_last xs x
+at_last xs x = grind (arith, common_steps, gets)
 
 pub length_snoc : {X : Type 0} → (xs : List X) (x : X) → length (xs ++ x ∷ []) ≡ length xs + 1
 length_snoc xs x = length-append xs (x ∷ [])

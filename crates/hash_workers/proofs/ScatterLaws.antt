@@ -1,9 +1,10 @@
 -- Outcomes that are put to their jobs, one after another.
-use Rattle.std.proofs.Common.{◌≡◌, ◌≢◌, ℕ, zero, suc, ◌+◌, ◌<◌, List, [], ◌∷◌, ◌++◌, length, get_or, set, map, Some, refl, sym, ap, ◌∙◌, inl, inr, arith}
+use Rattle.std.proofs.Common.{◌≡◌, ◌≢◌, ℕ, ◌+◌, ◌<◌, List, [], ◌∷◌, ◌++◌, length, get_or, set, map, Some, refl, sym, ap, ◌∙◌, inl, inr, arith}
 use Rattle.std.specs.Prelude.{slice_get, Vec}
 use Rattle.std.specs.declared.alloc.Global.{Global}
 use Rattle.std.proofs.lemmas.Bool.{cases_lt}
-use Rattle.std.proofs.lemmas.Option.{same_Some, slice_get_read}
+use Rattle.std.proofs.lemmas.Grind.{common_steps}
+use Rattle.std.proofs.lemmas.Option.{gets, same_Some, slice_get_read}
 use Rattle.hash_workers.specs.parts.Taking.{NumbersRise, NumbersRiseForEach}
 use Rattle.hash_workers.proofs.ListLaws.{at_last, at_list, at_longer, at_map}
 use Rattle.hash_workers.proofs.TakingLaws.{TakeEach}
@@ -12,16 +13,10 @@ use Rattle.hash_workers.specs.parts.Scattering.{items_of, AreBelow, ArePlaced, A
 -- ---- lists
 
 pub get_set_same : {X : Type 0} → (xs : List X) (i : ℕ) (x : X) → i < length xs → slice_get (set xs i x) i ≡ Some x
-get_set_same [] i x within = absurd (omega arith)
-get_set_same (y ∷ xs) zero x within = refl
-get_set_same (y ∷ xs) (suc i) x within = get_set_same xs i x (omega arith)
+get_set_same xs i x within = grind (arith, common_steps, gets)
 
 pub get_set_other : {X : Type 0} → (xs : List X) (i j : ℕ) (x : X) → j ≢ i → slice_get (set xs i x) j ≡ slice_get xs j
-get_set_other [] i j x other = refl
-get_set_other (y ∷ xs) zero zero x other = absurd (other refl)
-get_set_other (y ∷ xs) zero (suc j) x other = refl
-get_set_other (y ∷ xs) (suc i) zero x other = refl
-get_set_other (y ∷ xs) (suc i) (suc j) x other = get_set_other xs i j x (λ same. other (ap suc same))
+get_set_other xs i j x other = grind (arith, common_steps, gets)
 
 -- A list has all that its front has.
 pub front_less : {X : Type 0} → (all longer front : List X) (x : X) → longer ≡ front ++ x ∷ []

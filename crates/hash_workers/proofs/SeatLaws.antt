@@ -1,5 +1,5 @@
 -- What workers that drew from claims hand back.
-use Rattle.std.proofs.Common.{◌≡◌, ◌≢◌, ℕ, suc, ◌<◌, ◌⊎◌, ◌||◌, Bool, true, false, List, [], ◌∷◌, ◌++◌, length, map, Option, None, Some, refl, sym, ap, ◌∙◌, subst, inl, inr, arith}
+use Rattle.std.proofs.Common.{◌≡◌, ◌≢◌, ℕ, suc, ◌<◌, ◌⊎◌, ◌||◌, true, List, [], ◌∷◌, ◌++◌, length, map, Option, None, Some, refl, sym, ap, ◌∙◌, subst, inl, inr, arith}
 use Rattle.std.specs.Prelude.{slice_get, IfSome}
 use Rattle.std.specs.List.{All, concat}
 use Rattle.std.proofs.lemmas.List.{append-nil, append_assoc, length-map, map_push}
@@ -33,17 +33,9 @@ pub draws_snoc : (seats : List SeatState) (seat : SeatState)
     → concat (map draws_of (seats ++ seat ∷ [])) ≡ concat (map draws_of seats) ++ seat.draws
 draws_snoc seats seat = ap concat (map_push draws_of seats seat) ∙ concat_snoc (map draws_of seats) seat.draws
 
-either_same : (first second third : Bool) → (first || (second || third)) ≡ ((first || second) || third)
-either_same true second third = refl
-either_same false second third = refl
-
-or_none : (b : Bool) → (b || false) ≡ b
-or_none true = refl
-or_none false = refl
-
 pub ended_snoc : (seats : List SeatState) (seat : SeatState) → some_ended (seats ++ seat ∷ []) ≡ (some_ended seats || seat.ended)
-ended_snoc [] seat = or_none seat.ended
-ended_snoc (one ∷ seats) seat = ap (λ b. one.ended || b) (ended_snoc seats seat) ∙ either_same one.ended (some_ended seats) seat.ended
+ended_snoc [] seat = grind arith
+ended_snoc (one ∷ seats) seat = let rest = ended_snoc seats seat in grind arith
 
 -- ---- what each worker hands back
 
@@ -52,28 +44,18 @@ seat_end origin work NoneLeft ends = ends
 seat_end origin work NoOperation ends = ends
 seat_end origin work end ends = tt
 
--- A lack of the jobs that were taken, for any cause.
-taken_lack : (count : ℕ) (Lacks : ℕ → JobFault → Type 0) (taken : List ℕ) (lack : Lack) → IsLack count Lacks taken lack
-    → IsLack count AnyCause taken lack
-taken_lack count Lacks taken lack is = record { index = is.index; stands = is.stands; within = is.within; cause = tt }
-
 pub hand_back : (origin : Origin) (Makes : ℕ → BookOp → Type 0) (Lacks : ℕ → JobFault → Type 0) (claims : ClaimsState) (works : List Work)
     → AreWorksOf origin Makes Lacks claims works → HandBack claims works
 hand_back origin Makes Lacks claims works are = record {
   one_each = are.one_each;
   seat = λ worker work here. (are.each worker work here).seat;
   ended = λ worker work here. seat_end origin work work.end (are.each worker work here).ends;
-  lack = λ worker work lack here has.
-      taken_lack claims.jobs Lacks work.taken.items lack
-      (rw has at (are.each worker work here).lack);
+  lack = λ worker work lack here has. let right = rw has at (are.each worker work here).lack in
+      record { index = right.index; stands = right.stands; within = right.within; cause = tt };
 }
 
-stopped_lack : (work : Work) (end : End) → IsSeatEnd work end → end ≡ NoOperation → work.lack ≢ None
-stopped_lack work NoOperation ends is = ends.2
-stopped_lack work end ends is = absurd cc
-
 pub have_lacks : (claims : ClaimsState) (works : List Work) → HandBack claims works → HaveLacks works
-have_lacks claims works back worker work stands is = stopped_lack work work.end (back.ended worker work stands) is
+have_lacks claims works back worker work stands is = (rw is at (back.ended worker work stands)).2
 
 all_seats : (works : List Work) (P : SeatState → Type 0)
     → ((worker : ℕ) (work : Work) → slice_get works worker ≡ Some work → P work.seat) → All P (map seat_of works)
@@ -90,25 +72,16 @@ drawn_is_taken : (works : List Work)
     → ((worker : ℕ) (work : Work) → slice_get works worker ≡ Some work → work.seat.draws ≡ work.taken.items)
     → map draws_of (map seat_of works) ≡ map taken_of works
 drawn_is_taken [] each = refl
-drawn_is_taken (work ∷ works) each =
-    let rest = drawn_is_taken works (λ worker other here. each (suc worker) other here) in
-    ap (λ (xs : List ℕ). xs ∷ map draws_of (map seat_of works)) (each 0 work refl)
-    ∙ ap (λ (xss : List (List ℕ)). work.taken.items ∷ xss) rest
+drawn_is_taken (work ∷ works) each = rw (each 0 work refl, drawn_is_taken works (λ worker other here. each (suc worker) other here))
 
 -- A worker that did not run out of memory or find another book ended its seat, which drew what the worker took and then perhaps
 -- numbers above these.
-ended_seat : (work : Work) (end : End) → end ≢ OutOfMemory → end ≢ ForeignBook → IsSeatEnd work end → work.seat.ended ≡ true
-ended_seat work NoneLeft memory foreign ends = ends.0
-ended_seat work NoOperation memory foreign ends = ends.0
+ended_seat : (work : Work) (end : End) → end ≢ OutOfMemory → end ≢ ForeignBook → IsSeatEnd work end
+    → (work.seat.ended ≡ true) × (end ≢ NoOperation → work.seat.draws ≡ work.taken.items)
+ended_seat work NoneLeft memory foreign ends = (ends.0, λ _. ends.1)
+ended_seat work NoOperation memory foreign ends = (ends.0, λ made. absurd (made refl))
 ended_seat work OutOfMemory memory foreign ends = absurd (memory refl)
 ended_seat work ForeignBook memory foreign ends = absurd (foreign refl)
-
-drew_taken : (work : Work) (end : End) → end ≢ OutOfMemory → end ≢ ForeignBook → end ≢ NoOperation → IsSeatEnd work end
-    → work.seat.draws ≡ work.taken.items
-drew_taken work NoneLeft memory foreign made ends = ends.1
-drew_taken work NoOperation memory foreign made ends = absurd (made refl)
-drew_taken work OutOfMemory memory foreign made ends = absurd (memory refl)
-drew_taken work ForeignBook memory foreign made ends = absurd (foreign refl)
 
 above_all : (rest taken : List ℕ) (index number : ℕ) → All (λ number. All (λ drawn. drawn < number) taken) rest
     → slice_get rest index ≡ Some number → All (λ drawn. drawn < number) taken
@@ -139,19 +112,21 @@ took_or_passed jobs work ForeignBook index job memory foreign ends known drew = 
 module _ (claims : ClaimsState) (works : List Work) (back : HandBack claims works)
     (not_memory : HasNoEnd works OutOfMemory (length works)) (not_foreign : HasNoEnd works ForeignBook (length works))
     (closed : All (λ seat. seat.ended ≡ true) (map seat_of works) → HandsOutEach claims.jobs (concat (map draws_of (map seat_of works)))) where
-  drawn_each : HandsOutEach claims.jobs (concat (map draws_of (map seat_of works)))
-  drawn_each = closed (all_seats works (λ seat. seat.ended ≡ true) (λ worker work is.
+  how_ended : (worker : ℕ) (work : Work) → slice_get works worker ≡ Some work
+      → (work.seat.ended ≡ true) × (work.end ≢ NoOperation → work.seat.draws ≡ work.taken.items)
+  how_ended worker work is =
       let within = slice_get_within works worker work is in
       ended_seat work work.end (not_memory.each worker work within is) (not_foreign.each worker work within is)
-      (back.ended worker work is)))
+      (back.ended worker work is)
+
+  drawn_each : HandsOutEach claims.jobs (concat (map draws_of (map seat_of works)))
+  drawn_each = closed (all_seats works (λ seat. seat.ended ≡ true) (λ worker work is. (how_ended worker work is).0))
 
   -- If no worker stopped for a job without an operation, each job was taken once.
   pub taken_each : HasNoEnd works NoOperation (length works) → HandsOutEach claims.jobs (concat (map taken_of works))
   taken_each not_stopped =
       let drawn = drawn_is_taken works (λ worker work is.
-      let within = slice_get_within works worker work is in
-      drew_taken work work.end (not_memory.each worker work within is) (not_foreign.each worker work within is)
-      (not_stopped.each worker work within is) (back.ended worker work is)) in
+      (how_ended worker work is).1 (not_stopped.each worker work (slice_get_within works worker work is) is)) in
       rw drawn at drawn_each
 
   -- Each job before the first lack was taken.

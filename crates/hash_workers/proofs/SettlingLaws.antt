@@ -12,23 +12,22 @@ use Rattle.measure_book.specs.Operations.{BookOp, BookOutcome, book_outcome_of}
 use Rattle.measure_book.specs.Groups.{groups_of, outcome_at, IsFirstFault}
 use Rattle.measure_book.specs.Books.{BookState}
 use Rattle.hash_workers.specs.declared.batch.Batch.{Batch}
+use Rattle.hash_workers.specs.declared.fault.AgentFault.{AgentFault}
 use Rattle.hash_workers.specs.declared.fault.AgentFault.TheVariants as agents
 use Rattle.hash_workers.specs.declared.fault.JobFault.{JobFault}
 use Rattle.hash_workers.specs.declared.fault.JobFault.TheVariants as lacks
 use Rattle.hash_workers.specs.declared.fault.JobsFault.{JobsFault}
 use Rattle.hash_workers.specs.declared.fault.JobsFault.TheVariants as jobs
 use Rattle.hash_workers.specs.declared.work.Lack.{Lack}
-use Rattle.hash_workers.specs.declared.work.End.{End}
-use Rattle.hash_workers.specs.declared.work.End.TheVariants.{ForeignBook}
 use Rattle.hash_workers.specs.declared.work.Work.{Work}
 use Rattle.hash_workers.specs.declared.work.all.AllWork.{AllWork}
 use Rattle.hash_workers.specs.parts.Faults.{fault_for, fault_of_lack}
 use Rattle.hash_workers.specs.Faults.{fault_of_gather, MayBegin, IsFaultOf, IsJobsFaultOf}
 use Rattle.std.specs.List.{concat}
-use Rattle.hash_workers.specs.Claims.{ClaimsState, SeatState, HandsOutEach}
+use Rattle.hash_workers.specs.Claims.{ClaimsState, HandsOutEach}
 use Rattle.hash_workers.specs.parts.Taking.{Took}
 use Rattle.hash_workers.specs.Outcomes.{IsOutcomeOf}
-use Rattle.hash_workers.specs.parts.Ending.{IsEnd, IsFound, IsHad}
+use Rattle.hash_workers.specs.parts.Ending.{IsFound, IsHad}
 use Rattle.hash_workers.specs.parts.Scattering.{items_of}
 use Rattle.hash_workers.specs.parts.Seats.{AreWorksOf, IsLeastLack, outcomes_of, taken_of}
 use Rattle.hash_workers.specs.parts.Settling.{AreTakenBefore, IsAllWork, IsFirstCause, IsLackOf, IsMadeOf, IsUnsettled, outcomes_by_worker, takings_of}
@@ -38,11 +37,6 @@ use Rattle.hash_workers.proofs.SeatLaws.{rises_of, pairs_of}
 use Rattle.hash_workers.proofs.BatchLaws.{from_groups, job_for}
 
 -- ---- what all workers did
-
-found_by : (origin : Origin) (seat : SeatState) (taken : List ℕ) (lack : Option Lack) (end : End) → IsEnd origin seat taken lack end
-    → end ≡ ForeignBook → IsFound origin
-found_by origin seat taken lack ForeignBook ends is = ends
-found_by origin seat taken lack end ends is = absurd cc
 
 -- Each job that was taken and is before the first lack has an operation.
 made_at : (Makes : ℕ → BookOp → Type 0) (works : List Work) (worker : ℕ) (work : Work) (job : ℕ) (first : Lack) (lack : Option Lack)
@@ -95,8 +89,7 @@ module _ (origin : Origin) (Makes : ℕ → BookOp → Type 0) (Lacks : ℕ → 
     rise = rises_of origin Makes Lacks claims works are (takings_of all) made.takings;
     each = each;
     lack = λ same. first_lack (takings_of all) all.lack made.lack made.takings (before same);
-    found = λ foreign. let has = made.foreign foreign in
-        found_by origin has.work.seat has.work.taken.items has.work.lack has.work.end (are.each has.worker has.work has.stands).ends has.ends;
+    found = λ foreign. let has = made.foreign foreign in rw has.ends at (are.each has.worker has.work has.stands).ends;
     places = made.places;
     places_by = made.places_by;
   }
@@ -135,13 +128,9 @@ first_against origin true book groups cause found first = let known = found refl
 first_against origin false book groups cause found first = (book, first)
 
 -- The fault of a lack is neither one of `gather` nor a wrong number of workers.
-lack_no_cause : (job : ℕ) (fault : JobFault) (cause : GatherFault) → jobs.Agent (agents.Gather cause) ≡ fault_for job fault → ⊥
-lack_no_cause job lacks.Memory cause is = absurd cc
-lack_no_cause job fault cause is = absurd cc
-
-lack_no_number : (job : ℕ) (fault : JobFault) → jobs.Agent agents.Workers ≡ fault_for job fault → ⊥
-lack_no_number job lacks.Memory is = absurd cc
-lack_no_number job fault is = absurd cc
+lack_no_agent : (job : ℕ) (fault : JobFault) (agent : AgentFault) → agent ≢ agents.Memory → jobs.Agent agent ≡ fault_for job fault → ⊥
+lack_no_agent job lacks.Memory agent other is = other cc
+lack_no_agent job fault agent other is = absurd cc
 
 -- A fault of `gather` is not a wrong number of workers.
 no_number : (cause : GatherFault) → agents.Workers ≡ fault_of_gather cause → ⊥
@@ -155,7 +144,7 @@ settled_number origin all book (Err fault) (inl known) is =
     let same : agents.Workers ≡ fault_of_gather known.cause = cc known.fault_is in no_number known.cause same
 settled_number origin all book (Err fault) (inr known) is =
     let same : jobs.Agent agents.Workers ≡ fault_of_lack known.lack = cc known.fault_is in
-    lack_no_number known.lack.job known.lack.fault same
+    lack_no_agent known.lack.job known.lack.fault agents.Workers (λ memory. cc) same
 
 -- The job that the fault names is the first lack.
 job_of_lack : (job other : ℕ) (fault : JobFault) (cause : JobFault) → jobs.Job job fault ≡ fault_for other cause
@@ -192,7 +181,7 @@ module _ (workers : ℕ) (origin : Origin) (count : ℕ) (Makes : ℕ → BookOp
       cause_of cause (rw (same_cause cause known.cause same) known.first)
   settled_cause cause (Err fault) (inr known) is =
       let same : jobs.Agent (agents.Gather cause) ≡ fault_of_lack known.lack = cc known.fault_is in
-      absurd (lack_no_cause known.lack.job known.lack.fault cause same)
+      absurd (lack_no_agent known.lack.job known.lack.fault (agents.Gather cause) (λ memory. cc) same)
 
   pub settled_job : (job : ℕ) (fault : JobFault) (result : Result Batch JobsFault) → IfErr result (IsUnsettled all book origin)
       → result ≡ Err (jobs.Job job fault) → IsFirstLack count Makes Lacks job fault × (fault ≢ lacks.Memory)

@@ -1,8 +1,7 @@
 -- Numbers that are handed out once each, by worker and index.
-use Rattle.std.proofs.Common.{◌≡◌, ℕ, zero, suc, ◌+◌, ◌<◌, ◌≤◌, ◌≢◌, List, [], ◌∷◌, Some, refl, sym, ap, ◌∙◌, inl, inr, arith}
+use Rattle.std.proofs.Common.{◌≡◌, ℕ, zero, suc, ◌+◌, ◌<◌, ◌≤◌, ◌≢◌, List, [], ◌∷◌, Some, refl, sym, ap, ◌∙◌, arith}
 use Rattle.std.specs.Prelude.{slice_get}
 use Rattle.std.specs.List.{concat}
-use Rattle.std.proofs.lemmas.Bool.{cases_lt}
 use Rattle.std.proofs.lemmas.Bool.Decides.{nat_tests}
 use Rattle.std.proofs.lemmas.Option.{same_Some, none-some}
 use mathlib.Core.Logic.{dite}
@@ -10,7 +9,7 @@ use native.Mathlib.Decide.{dec_le, ℕ_discrete}
 use Rattle.hash_workers.specs.Claims.{HandsOutEach, times}
 use Rattle.hash_workers.specs.parts.Taking.{IsTaken, Took}
 use Rattle.hash_workers.proofs.ClaimSums.{hit, times-append}
-use Rattle.hash_workers.proofs.ListLaws.{list_at, at_list}
+use Rattle.hash_workers.proofs.ListLaws.{at_list, equal_of, list_at}
 
 -- Each job below the count was taken by one worker at one index, and no other job was taken.
 pub record TakeEach (count : ℕ) (takings : List (List ℕ)) : Type 0 where
@@ -92,58 +91,43 @@ drawn_by (one ∷ takings) job some_times =
       took = at_list (one ∷ takings) (suc rest.worker) rest.index taken.0 job taken.1 taken.2;
     })
 
-at_most_once : (count : ℕ) (draws : List ℕ) (job : ℕ) → HandsOutEach count draws → times job draws ≤ 1
-at_most_once count draws job hands = dite (dec_le count job)
-    (λ past. let none = hands.others job past in omega arith)
-    (λ below. let within : job < count = omega arith in let one = hands.once job within in omega arith)
+module _ (count : ℕ) (takings : List (List ℕ)) (hands : HandsOutEach count (concat takings)) where
+  at_most_once : (job : ℕ) → times job (concat takings) ≤ 1
+  at_most_once job = dite (dec_le count job)
+      (λ past. let none = hands.others job past in omega arith)
+      (λ below. let within : job < count = omega arith in let one = hands.once job within in omega arith)
 
-one_worker : (count : ℕ) (takings : List (List ℕ)) (worker other index at job : ℕ) → HandsOutEach count (concat takings)
-    → worker < other → Took takings worker index job → Took takings other at job → ⊥
-one_worker count takings worker other index at job hands order took also =
-    let taken = list_at takings worker index job took in
-    let others = list_at takings other at job also in
-    let first = stands taken.0 index job taken.2 in
-    let second = stands others.0 at job others.2 in
-    let both = in_two takings worker other taken.0 others.0 job order taken.1 others.1 in
-    let one = at_most_once count (concat takings) job hands in omega arith
+  one_worker : (worker other index at job : ℕ) → worker < other → Took takings worker index job → Took takings other at job → ⊥
+  one_worker worker other index at job order took also =
+      let taken = list_at takings worker index job took in
+      let others = list_at takings other at job also in
+      let first = stands taken.0 index job taken.2 in
+      let second = stands others.0 at job others.2 in
+      let both = in_two takings worker other taken.0 others.0 job order taken.1 others.1 in
+      let one = at_most_once job in omega arith
 
-one_index : (count : ℕ) (takings : List (List ℕ)) (worker index at job : ℕ) → HandsOutEach count (concat takings)
-    → index < at → Took takings worker index job → Took takings worker at job → ⊥
-one_index count takings worker index at job hands order took also =
-    let taken = list_at takings worker index job took in
-    let again = list_at takings worker at job also in
-    let same : again.0 ≡ taken.0 = same_Some again.0 taken.0 (sym again.1 ∙ taken.1) in
-    let twice = stands_twice taken.0 index at job order taken.2 (rw same at again.2) in
-    let in_all = here takings worker taken.0 job taken.1 in
-    let one = at_most_once count (concat takings) job hands in omega arith
+  one_index : (worker index at job : ℕ) → index < at → Took takings worker index job → Took takings worker at job → ⊥
+  one_index worker index at job order took also =
+      let taken = list_at takings worker index job took in
+      let again = list_at takings worker at job also in
+      let same : again.0 ≡ taken.0 = same_Some again.0 taken.0 (sym again.1 ∙ taken.1) in
+      let twice = stands_twice taken.0 index at job order taken.2 (rw same at again.2) in
+      let in_all = here takings worker taken.0 job taken.1 in
+      let one = at_most_once job in omega arith
 
-same_index : (count : ℕ) (takings : List (List ℕ)) (worker index at job : ℕ) → HandsOutEach count (concat takings)
-    → Took takings worker index job → Took takings worker at job → index ≡ at
-same_index count takings worker index at job hands took also = elim (cases_lt index at) [
-  | inl less ↦ absurd (one_index count takings worker index at job hands less took also)
-  | inr more ↦ elim (cases_lt at index) [
-    | inl less ↦ absurd (one_index count takings worker at index job hands less also took)
-    | inr past ↦ omega arith
-  ]
-]
+  once_taken : (worker other index at job : ℕ) → Took takings worker index job → Took takings other at job
+      → (worker ≡ other) × (index ≡ at)
+  once_taken worker other index at job took also =
+      let same = equal_of worker other (λ less. one_worker worker other index at job less took also)
+      (λ more. one_worker other worker at index job more also took) in
+      let again = rw (← same) at also in
+      (same, equal_of index at (λ less. one_index worker index at job less took again) (λ more. one_index worker at index job more again took))
 
-once_taken : (count : ℕ) (takings : List (List ℕ)) (worker other index at job : ℕ) → HandsOutEach count (concat takings)
-    → Took takings worker index job → Took takings other at job → (worker ≡ other) × (index ≡ at)
-once_taken count takings worker other index at job hands took also = elim (cases_lt worker other) [
-  | inl less ↦ absurd (one_worker count takings worker other index at job hands less took also)
-  | inr more ↦ elim (cases_lt other worker) [
-    | inl less ↦ absurd (one_worker count takings other worker at index job hands less also took)
-    | inr past ↦
-        let same : worker ≡ other = omega arith in
-        (same, same_index count takings worker index at job hands took (rw (← same) at also))
-  ]
-]
-
-pub take_each : (count : ℕ) (takings : List (List ℕ)) → HandsOutEach count (concat takings) → TakeEach count takings
-take_each count takings hands = record {
-  below = λ worker index job took. dite (dec_le count job)
-      (λ past. let none = hands.others job past in let some_times = took_some takings worker index job took in absurd (omega arith))
-      (λ not_past. omega arith);
-  each = λ job below. let one = hands.once job below in drawn_by takings job (omega arith);
-  once = λ worker other index at job took also. once_taken count takings worker other index at job hands took also;
-}
+  pub take_each : TakeEach count takings
+  take_each = record {
+    below = λ worker index job took. dite (dec_le count job)
+        (λ past. let none = hands.others job past in let some_times = took_some takings worker index job took in absurd (omega arith))
+        (λ not_past. omega arith);
+    each = λ job below. let one = hands.once job below in drawn_by takings job (omega arith);
+    once = once_taken;
+  }

@@ -24,7 +24,7 @@ use Rattle.hash_workers.specs.Outcomes.{MayBecome}
 use Rattle.hash_workers.specs.parts.Working.{IsWorked, IsEntered, Records, IsDoneAfter, AreDoneInOrder}
 use Rattle.hash_workers.specs.declared.fault.JobFault.{JobFault}
 use Rattle.hash_workers.specs.declared.work.Lack.{Lack}
-use Rattle.hash_workers.specs.parts.Ending.{AreHad, Becomes, IsHad, IsLack, IsLackAfter, IsNoted, TellsOp, KeepsOne, TakesOne, TellsAll, StopsFor}
+use Rattle.hash_workers.specs.parts.Ending.{AreHad, Becomes, IsHad, IsLack, IsLackAfter, IsNoted, TellsOp, KeepsOne, TakesOne, TellsAll, StopsFor, TurnsPrivateBook}
 use Rattle.hash_workers.proofs.ListLaws.{at_last, at_longer, slice_get_snoc, length_snoc, within_at}
 
 -- ---- one operation
@@ -76,6 +76,14 @@ keeps_one origin op job taken reserved now_taken outcomes room now_outcomes outc
 
 -- ---- one job
 
+-- What a turn of the private book gives, from what is known of it.
+turned : (told now_told : Option BookState) (Holds Gives : BookState → BookState → Type 0) → TurnsPrivateBook told now_told Holds
+    → ((before after : BookState) → Holds before after → Gives before after) → TurnsPrivateBook told now_told Gives
+turned told now_told Holds Gives turns gives = record {
+  each = λ book is. let one = turns.each book is in
+      record { after = one.after; tells = one.tells; holds = gives book one.after one.holds };
+}
+
 module _ (origin : Origin) (count : ℕ) (Makes : ℕ → BookOp → Type 0) (job : ℕ) (taken now_taken : List ℕ)
     (outcomes now_outcomes : List BookOutcome) (told now_told : Option BookState) (within : job < count) where
   -- A job with an operation.
@@ -86,14 +94,8 @@ module _ (origin : Origin) (count : ℕ) (Makes : ℕ → BookOp → Type 0) (jo
     takes = keeps.takes;
     keeps = keeps.keeps;
     of_job = record { within = within; becomes = inr (op, has, keeps.becomes) };
-    tells = record {
-      each = λ book is. let turned = keeps.tells.each book is in
-          record {
-            after = turned.after;
-            tells = turned.tells;
-            holds = record { records = turned.holds.runs.1; is_done = inr (op, has, turned.holds.runs.0) };
-          };
-    };
+    tells = turned told now_told _ _ keeps.tells
+        (λ before after left. record { records = left.runs.1; is_done = inr (op, has, left.runs.0) });
   }
 
   -- A job without an operation.
@@ -104,14 +106,7 @@ module _ (origin : Origin) (count : ℕ) (Makes : ℕ → BookOp → Type 0) (jo
     takes = keeps.takes;
     keeps = keeps.keeps;
     of_job = record { within = within; becomes = inl keeps.becomes };
-    tells = record {
-      each = λ book is. let turned = keeps.tells.each book is in
-          record {
-            after = turned.after;
-            tells = turned.tells;
-            holds = record { records = rw (turned.holds.0, turned.holds.1); is_done = inl turned.holds.0 };
-          };
-    };
+    tells = turned told now_told _ _ keeps.tells (λ before after left. record { records = rw (left.0, left.1); is_done = inl left.0 });
   }
 
 pub op_of_job : (alg : Alg) (jobs : List Job) (number : ℕ) (job : Job) → number < length jobs → job ≡ get_or jobs number job
@@ -229,14 +224,8 @@ done_more origin Makes old middle (one ∷ taken) (other ∷ outcomes) job outco
 pub tells_end : (origin : Origin) (Makes : ℕ → BookOp → Type 0) (told middle now_told : Option BookState) (taken : List ℕ)
     (outcomes : List BookOutcome) (end : End) → end ≢ ends.ForeignBook → now_told ≡ middle
     → TellsAll origin Makes told middle taken outcomes NoneLeft → TellsAll origin Makes told now_told taken outcomes end
-tells_end origin Makes told middle now_told taken outcomes end other same all = record {
-  each = λ book is. let turned = all.each book is in
-      record {
-        after = turned.after;
-        tells = same ∙ turned.tells;
-        holds = record { are_done = turned.holds.are_done; foreign = λ foreign. absurd (other foreign) };
-      };
-}
+tells_end origin Makes told middle now_told taken outcomes end other same all = rw same (turned told middle _ _ all
+    (λ before after left. record { are_done = left.are_done; foreign = λ foreign. absurd (other foreign) }))
 
 pub tells_stop : (origin : Origin) (Makes : ℕ → BookOp → Type 0) (told middle now_told : Option BookState) (taken : List ℕ)
     (outcomes : List BookOutcome) (end : End)

@@ -1,5 +1,5 @@
 -- What was hashed from a source.
-use Rattle.std.proofs.Common.{◌≡◌, ℕ, ◌+◌, ◌-◌, ◌<◌, ◌≤◌, List, [], ◌++◌, drop, length, take, Option, None, Some, sym, ap, ◌∙◌, append-nil, length-append, arith}
+use Rattle.std.proofs.Common.{◌≡◌, ℕ, ◌+◌, ◌-◌, ◌<◌, ◌≤◌, List, [], ◌++◌, drop, length, take, Option, append-nil, length-append, arith}
 use Rattle.std.specs.Prelude.{IfSome}
 use Rattle.std.proofs.Math.Seq.{take-append_seam}
 use Rattle.std.proofs.lemmas.List.{length-take-le}
@@ -14,7 +14,7 @@ use Rattle.byte_streams.specs.Streams.{LosesFront}
 use Rattle.byte_streams.proofs.SourceLaws.{Consumes-kept, Consumes-none}
 use Rattle.ima_agent.specs.Hashing.{IsHashOfAll}
 use Rattle.ima_agent.specs.Loading.{LosesMoreThan}
-use Rattle.ima_agent.proofs.LoadingLemmas.{Consumes-append}
+use Rattle.ima_agent.proofs.LoadingLemmas.{Consumes-append, had, over, whole}
 
 -- The hasher took what the source lost, and `room` more bytes are allowed.
 pub record HasHashed (old new : Option (List ℕ)) (alg : Alg) (limit room : ℕ) (hasher : Hasher) : Type 0 where
@@ -25,24 +25,6 @@ pub record HasHashed (old new : Option (List ℕ)) (alg : Alg) (limit room : ℕ
 
 pub hashed_nothing : (old : Option (List ℕ)) (alg : Alg) (limit : ℕ) (hasher : Hasher) → HasTaken hasher alg [] → HasHashed old old alg limit limit hasher
 hashed_nothing old alg limit hasher taken = record { content = []; lost = Consumes-none old; taken = taken; size = omega arith }
-
--- A source that has nothing left lost all of its bytes.
-whole : (old new : Option (List ℕ)) (content : List ℕ) → Consumes old new content → IsAtEnd new → IfSome old (λ all. content ≡ all)
-whole None new content lost end = tt
-whole (Some all) None content lost end = absurd lost
-whole (Some all) (Some rest) content lost end = sym (lost ∙ ap (λ (r : List ℕ). content ++ r) end ∙ append-nil content)
-
--- A source that lost more bytes than are allowed.
-over : (old new : Option (List ℕ)) (limit : ℕ) (lost : List ℕ) → Consumes old new lost → limit < length lost → LosesMoreThan limit old new
-over None new limit lost came more = tt
-over (Some all) None limit lost came more = absurd came
-over (Some all) (Some rest) limit lost came more = omega (arith, ap length came, length-append lost rest)
-
-had : (old new : Option (List ℕ)) (limit : ℕ) (lost : List ℕ) → Consumes old new lost → limit < length lost
-    → IfSome old (λ left. limit < length left)
-had None new limit lost came more = tt
-had (Some all) None limit lost came more = absurd came
-had (Some all) (Some rest) limit lost came more = omega (arith, ap length came, length-append lost rest)
 
 -- The vector that was lent as a buffer holds what was read.
 pub read_back : (buffer items : List ℕ) (size : ℕ) → length buffer ≡ size → take size (buffer ++ drop (length buffer) items) ≡ buffer

@@ -11,34 +11,27 @@ use hash_workers::AgentFault;
 use ima_list::{ListFault, ReplayFault};
 use measure_book::{BookFault, GatherFault};
 use std::alloc::{AllocError, AllocFailed};
+use std::fmt;
 use thiserror::Error;
 
 /// Why the program failed.
 #[derive(Debug, Drop, Error)]
 pub enum RunFault {
     /// The arguments are not those of a command, they name a range of registers that is none, or 2^32 files or more are named.
-    #[error("the arguments are not those of a command")]
     Usage,
     /// A text is not hexadecimal.
-    #[error("the text is not hexadecimal")]
     NotHex,
     /// An input is not a firmware event log.
-    #[error("not a firmware event log: {0}")]
     Log(LogFault),
     /// An input is not a measurement list.
-    #[error("not a measurement list: {0}")]
     List(ListFault),
     /// An entry of the list is not genuine.
-    #[error("the list is not genuine: {0}")]
     Replay(ReplayFault),
     /// An input does not state expected registers, or was not printed by tpm2_pcrread.
-    #[error("not expected registers: {0}")]
     Expect(ExpectFault),
     /// The book could not be opened.
-    #[error("the book cannot be opened: {0}")]
     Book(BookFault),
     /// The book refused the file of this number; files count from 0.
-    #[error("file {job} is refused: {fault}")]
     Outcome {
         /// The number of the file.
         job: u32,
@@ -46,20 +39,65 @@ pub enum RunFault {
         fault: BookFault,
     },
     /// The input of this name is longer than 64 MiB.
-    #[error("{0} is longer than 64 MiB")]
     TooLong(String),
     /// The input of this name could not be opened, or failed while it was read.
-    #[error("cannot read {0}")]
     Read(String),
     /// The text of file names in this input is not UTF-8.
-    #[error("{0} is not UTF-8")]
     NotUtf8(String),
     /// The workers' outcomes do not account for the book's records.
-    #[error("the outcomes do not account for the book: {0}")]
     Gather(GatherFault),
     /// Out of memory.
-    #[error("out of memory")]
     Memory,
+}
+
+impl fmt::Display for RunFault {
+    fn fmt<W: fmt::Write>(&self, f: &mut fmt::Formatter<W>) -> fmt::Result {
+        match self {
+            RunFault::Usage => f.write_str("the arguments are not those of a command"),
+            RunFault::NotHex => f.write_str("the text is not hexadecimal"),
+            RunFault::Log(fault) => say_cause("not a firmware event log", fault, f),
+            RunFault::List(fault) => say_cause("not a measurement list", fault, f),
+            RunFault::Replay(fault) => say_cause("the list is not genuine", fault, f),
+            RunFault::Expect(fault) => say_cause("not expected registers", fault, f),
+            RunFault::Book(fault) => say_cause("the book cannot be opened", fault, f),
+            RunFault::Outcome { job, fault } => say_outcome(*job, fault, f),
+            RunFault::TooLong(name) => say_name("", name, " is longer than 64 MiB", f),
+            RunFault::Read(name) => say_name("cannot read ", name, "", f),
+            RunFault::NotUtf8(name) => say_name("", name, " is not UTF-8", f),
+            RunFault::Gather(fault) => {
+                say_cause("the outcomes do not account for the book", fault, f)
+            }
+            RunFault::Memory => f.write_str("out of memory"),
+        }
+    }
+}
+
+// Words, and the fault that is their cause.
+fn say_cause<D: fmt::Display, W: fmt::Write>(
+    words: &str,
+    fault: &D,
+    f: &mut fmt::Formatter<W>,
+) -> fmt::Result {
+    write!(f, "{words}: {fault}")
+}
+
+// That the file of this number is refused, and why.
+fn say_outcome<W: fmt::Write>(
+    job: u32,
+    fault: &BookFault,
+    f: &mut fmt::Formatter<W>,
+) -> fmt::Result {
+    write!(f, "file {job} is refused: {fault}")
+}
+
+// A name between words.
+fn say_name<W: fmt::Write>(
+    before: &str,
+    name: &str,
+    after: &str,
+    f: &mut fmt::Formatter<W>,
+) -> fmt::Result {
+    write!(f, "{before}{name}{after}")
 }
 
 impl From<WordsFault> for RunFault {

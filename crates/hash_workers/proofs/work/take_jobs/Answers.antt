@@ -1,5 +1,4 @@
-use Rattle.std.proofs.Common.{◌≡◌, ℕ, List, [], ◌∷◌, ◌++◌, refl, sym, ap, ◌∙◌}
-use Rattle.hash_workers.specs.Claims.{SeatState}
+use Rattle.std.proofs.Common.{ℕ, List, [], ◌∷◌, ◌++◌, refl, sym, ap, ◌∙◌}
 use Rattle.hash_workers.specs.declared.work.End.TheVariants.{NoOperation}
 use Rattle.hash_workers.proofs.WorkLaws.{had_more, lack_below, rise_more, tells_end, tells_stop, turn_smaller, turn_worked, turn_tells}
 use Rattle.hash_workers.proofs.work.take_jobs.Goals as goal
@@ -21,14 +20,9 @@ loop-number-preserved g c =
     let after = c.in-Ok-Next.ensures.lack in
     let number : ℕ = c.in-Some.number in
     let above = rw kept.seat.2 at drawn.1 in
-    let seat_stays : c.take.new.self.seat ≡ c.draw.new.seat = stays.0 in
     record {
-      seat = (
-        ap (λ (s : SeatState). s.claims) seat_stays ∙ same.0,
-        ap (λ (s : SeatState). s.places) seat_stays ∙ same.1 ∙ kept.seat.1,
-        ap (λ (s : SeatState). s.draws) seat_stays ∙ drawn.2 ∙ ap (λ (xs : List ℕ). xs ++ number ∷ []) kept.seat.2 ∙ sym one.takes,
-        ap (λ (s : SeatState). s.ended) seat_stays ∙ drawn.4,
-      );
+      seat = rw stays.0
+          (same.0, same.1 ∙ kept.seat.1, drawn.2 ∙ ap (λ (xs : List ℕ). xs ++ number ∷ []) kept.seat.2 ∙ sym one.takes, drawn.4);
       rises = rise_more _ _ number kept.rises above one.takes;
       worked = turn_worked number _ _ _ _ _ _ _ _ _ one kept.worked;
       had = had_more _ _ _ number _ _ kept.had one.takes (after.had (lack_below _ _ _ number _ above kept.lack)) after.before;

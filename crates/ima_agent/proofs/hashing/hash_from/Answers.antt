@@ -1,4 +1,5 @@
 use Rattle.std.proofs.Common.{◌<◌, ◌≤◌, length, refl, ◌∙◌, arith}
+use Rattle.std.proofs.lemmas.Result.{err_from_is_err_and}
 use Rattle.ima_agent.proofs.HashingLaws.{hashed_all, hashed_more, hashed_nothing, had_more, kept_front, lost_front, lost_more, read_back}
 use Rattle.ima_agent.proofs.hashing.hash_from.Goals as goal
 
@@ -49,3 +50,43 @@ loop-piece-preserved g c =
       failures = gives.counts ∙ c.loop-piece.invariant.failures;
       some = c.loop-piece.invariant.some;
     }
+
+pub returns-in_err-resize-clause-hashed : goal.returns-in_err-resize-clause-hashed
+returns-in_err-resize-clause-hashed g c =
+    let p = err_from_is_err_and c.from_residual.result c.from_residual.ensures.1 in rw p.1 tt
+
+pub returns-in_err-resize-clause-end : goal.returns-in_err-resize-clause-end
+returns-in_err-resize-clause-end g c =
+    let p = err_from_is_err_and c.from_residual.result c.from_residual.ensures.1 in rw p.1 tt
+
+pub returns-in_err-resize-clause-telling : goal.returns-in_err-resize-clause-telling
+returns-in_err-resize-clause-telling g c = c.loop-piece.invariant.telling
+
+pub returns-in_err-count-clause-hashed : goal.returns-in_err-count-clause-hashed
+returns-in_err-count-clause-hashed g c =
+    let p = err_from_is_err_and c.from_residual-in_err-count.result c.from_residual-in_err-count.ensures.1 in rw p.1 tt
+
+pub returns-in_err-count-clause-end : goal.returns-in_err-count-clause-end
+returns-in_err-count-clause-end g c =
+    let p = err_from_is_err_and c.from_residual-in_err-count.result c.from_residual-in_err-count.ensures.1 in rw p.1 tt
+
+pub returns-in_err-count-clause-telling : goal.returns-in_err-count-clause-telling
+returns-in_err-count-clause-telling g c = c.in_err-count.ensures.gives.telling ∙ c.loop-piece.invariant.telling
+
+pub returns-then-count-room-clause-hashed : goal.returns-then-count-room-clause-hashed
+returns-then-count-room-clause-hashed g c = tt
+
+pub returns-then-count-room-clause-end : goal.returns-then-count-room-clause-end
+returns-then-count-room-clause-end g c = tt
+
+pub returns-then-count-eq0-clause-telling : goal.returns-then-count-eq0-clause-telling
+returns-then-count-eq0-clause-telling g c = c.in_ok-count.ensures.gives.telling ∙ c.loop-piece.invariant.telling
+
+pub returns-then-count-eq0-clause-counts : goal.returns-then-count-eq0-clause-counts
+returns-then-count-eq0-clause-counts g c = c.in_ok-count.ensures.gives.counts ∙ c.loop-piece.invariant.failures
+
+pub returns-then-count-room-clause-telling : goal.returns-then-count-room-clause-telling
+returns-then-count-room-clause-telling g c = c.in_ok-count.ensures.gives.telling ∙ c.loop-piece.invariant.telling
+
+pub returns-then-count-room-clause-counts : goal.returns-then-count-room-clause-counts
+returns-then-count-room-clause-counts g c = c.in_ok-count.ensures.gives.counts ∙ c.loop-piece.invariant.failures

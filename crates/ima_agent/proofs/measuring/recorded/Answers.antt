@@ -1,5 +1,6 @@
 use Rattle.std.proofs.Common.{rules, inl, length, map, string_bytes, arith}
 use Rattle.std.proofs.lemmas.List.{length-map}
+use Rattle.std.proofs.lemmas.Result.{err_from_is_err_and}
 use Rattle.measure_book.specs.Operations.{book_outcome_of}
 use Rattle.ima_agent.specs.Measuring.{IsFileFault, IsFileMeasure}
 use Rattle.ima_agent.proofs.MeasuringLaws.{file_fault, measured_all, refused_one}
@@ -32,3 +33,17 @@ returns-in-Ok-clause-fault g c =
     refused_one c.args.origin (length names) (IsFileMeasure held (map string_bytes names) c.args.origin.alg) c.args.workers
     c.in-Ok.batch.book (map book_outcome_of c.in-Ok.batch.outcomes.items) c.in-Ok.batch.by.items c.in-Ok.ensures.batch
     (IsFileFault held (map string_bytes names)) c.all_done.result c.all_done.ensures.refused
+
+pub returns-in-Err-Job-clause-book : goal.returns-in-Err-Job-clause-book
+returns-in-Err-Job-clause-book g c = tt
+
+pub returns-in_err-check-in-Err-Agent-Book-clause-book : goal.returns-in_err-check-in-Err-Agent-Book-clause-book
+returns-in_err-check-in-Err-Agent-Book-clause-book g c =
+    let p = err_from_is_err_and c.from_residual.result c.from_residual.ensures.1 in rw p.1 tt
+
+pub returns-in_err-check-in-Err-Agent-Book-clause-fault : goal.returns-in_err-check-in-Err-Agent-Book-clause-fault
+returns-in_err-check-in-Err-Agent-Book-clause-fault g c =
+    let p = err_from_is_err_and c.from_residual.result c.from_residual.ensures.1 in rw (p.1, p.2) (inl c.in_err-check-in-Err-Agent-Book.ensures)
+
+pub returns-in-Err-Agent-Book-clause-book : goal.returns-in-Err-Agent-Book-clause-book
+returns-in-Err-Agent-Book-clause-book g c = tt

@@ -1,4 +1,5 @@
 use Rattle.std.proofs.Common.{◌≡◌}
+use Rattle.std.proofs.lemmas.Result.{err_from_is_err_and}
 use Rattle.std.proofs.lemmas.Iterator.Splits.{YieldsList-from_str_split}
 use Rattle.std.proofs.lemmas.Iterator.Consumers.{YieldsList-end}
 use Rattle.std.specs.Str.Iter.{split_text}
@@ -12,3 +13,11 @@ returns-clause-names c =
     text (cc c.split-name-items.ensures.has_more) (cc (c.split-name-items.ensures.pattern, c.end_char.ensures.byte)) in
     let all = YieldsList-end parts c.loop-name.yielded _ c.loop-name.yielded_by _ _ c.in-None.is c.next.ensures.steps in
     rw all.0 at c.loop-name.invariant
+
+pub returns-in_err-from_str-clause-names : goal.returns-in_err-from_str-clause-names
+returns-in_err-from_str-clause-names c =
+    let p = err_from_is_err_and c.from_residual.result c.from_residual.ensures.1 in rw p.1 tt
+
+pub returns-in_err-push-clause-names : goal.returns-in_err-push-clause-names
+returns-in_err-push-clause-names c =
+    let p = err_from_is_err_and c.from_residual-in_err-push.result c.from_residual-in_err-push.ensures.1 in rw p.1 tt
