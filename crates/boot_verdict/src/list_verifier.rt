@@ -23,7 +23,7 @@ use ima_list::laws::no_bytes_have_two_readings;
 use std::alloc::Global;
 
 /// The report on a measurement list alone and expected registers.
-#[derive(Debug, Drop)]
+#[derive(Drop)]
 pub struct ListReport {
     /// How many entries the list has.
     pub entries: usize,
