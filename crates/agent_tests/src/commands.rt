@@ -8,7 +8,7 @@ use test_kit::samples::{
 };
 
 /// The files, by their names; `-` is standard input, and has `log` in hexadecimal.
-pub static FILES: [(&str, &[u8]); 10] = [
+pub static FILES: [(&str, &[u8]); 11] = [
     (
         "-",
         b"00000000 03000000 0000000000000000000000000000000000000000 21000000
@@ -21,6 +21,7 @@ pub static FILES: [(&str, &[u8]); 10] = [
     ("values", EXPECTED),
     ("header", HEADER),
     ("entry", MEASUREMENT),
+    ("ten", MEASUREMENT_REGISTERS),
     ("printed", PRINTED),
     ("/bin/sh", b"abc"),
     ("names", b"/bin/sh\nentry\nprinted\n"),
@@ -46,7 +47,7 @@ pub const MEASURE: Command = Command {
 };
 
 /// Every command.
-pub static COMMANDS: [Command; 10] = [
+pub static COMMANDS: [Command; 12] = [
     Command {
         words: &[],
         status: 0,
@@ -73,6 +74,19 @@ pub static COMMANDS: [Command; 10] = [
         output: MEASUREMENT_REGISTERS,
     },
     Command {
+        words: &["replay", "--require=sha256:10", "entry", "ten"],
+        status: 0,
+        output: b"\
+entries 1
+compared 4
+sha1 10 match
+sha256 10 match
+sha384 10 match
+sha512 10 match
+verdict match
+",
+    },
+    Command {
         words: &["expected", "printed"],
         status: 0,
         output: PRINTED_LINE,
@@ -86,6 +100,17 @@ pub static COMMANDS: [Command; 10] = [
         words: &["locate", "log", "list", "values"],
         status: 1,
         output: PLACES,
+    },
+    Command {
+        words: &["locate", "--require=sha256:9-10", "log", "list", "values"],
+        status: 1,
+        output: b"\
+sha256 10 after entry 2
+sha256 0 nowhere
+sha1 10 absent
+sha256 9 missing
+not located
+",
     },
     MEASURE,
     Command {

@@ -8,7 +8,7 @@ use Rattle.boot_verdict.specs.declared.places.Located.{Located}
 use Rattle.boot_verdict.specs.declared.report.Row.{Row}
 use Rattle.boot_verdict.specs.declared.report.State.TheVariants.{Match}
 use Rattle.boot_verdict.specs.declared.requirement.BankRange.{BankRange}
-use Rattle.boot_verdict.specs.ExpectedTexts.{onto_first}
+use Rattle.boot_verdict.specs.StatedRegisters.{onto_first}
 use Rattle.boot_verdict.specs.Places.{all_found}
 use Rattle.boot_verdict.specs.RegisterRanges.{IsRangeText, is_within}
 use Rattle.boot_verdict.specs.RegisterTexts.{all_registers}

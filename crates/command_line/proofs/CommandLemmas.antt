@@ -1,8 +1,13 @@
--- Commands that get one more argument, or one more command, as a row of a table says.
-use Rattle.std.proofs.Common.{◌≡◌, ◌∙◌, ◌+◌, ◌<◌, ℕ, List, [], ◌∷◌, ap, length, refl, slice_index_or, sym, take}
+-- Commands that get one more argument, or one more command, as a row of a table says; and a flag that gets a requirement.
+use Rattle.std.proofs.Common.{◌≡◌, ◌∙◌, ◌+◌, ◌<◌, ◌++◌, ◌&&◌, ℕ, Bool, Bor, List, [], ◌∷◌, ap, arith, false, length, length-append, not, refl, slice_index_or, sym, take, true}
 use Rattle.std.specs.List.{fold}
+use Rattle.std.proofs.lemmas.Bool.Decides.{nat_tests}
 use Rattle.std.proofs.lemmas.List.Sums.{fold_more}
-use Rattle.clap.specs.Words.{AddsArg, AddsSubcommand, App, app_of, new_app, with_rule, with_subcommand}
+use Rattle.clap.specs.Words.{AddsArg, AddsSubcommand, App, Rule, Text, app_of, new_app, rule_of, with_rule, with_subcommand}
+use Rattle.clap.specs.Adds.{AddsRequirements}
+use Rattle.clap.specs.Walk.{is_empty}
+use Rattle.clap.specs.declared.builder.arg.ArgPredicate.{ArgPredicate}
+use Rattle.command_line.specs.Commands.{flag, flag_beside}
 use Rattle.clap.specs.declared.builder.Arg.{Arg}
 use Rattle.clap.specs.declared.builder.Command.{Command}
 use Rattle.clap.proofs.SimpleLemmas.{plain_fields}
@@ -32,3 +37,27 @@ pub one_row_more : {Row : Type 0} (add : App → Row → App) (app : App) (rows 
     → IsCommand (fold add app (take i rows)) old → app_of new ≡ add (app_of old) (slice_index_or rows i d) → IsCommand (fold add app (take (i + 1) rows)) new
 one_row_more add app rows i d old new lt command adds =
     record { app_is = adds ∙ ap (λ a. add a (slice_index_or rows i d)) command.app_is ∙ sym (fold_more add app rows i d lt) }
+
+not_empty : {X : Type 0} (xs : List X) (x : X) → is_empty (xs ++ x ∷ []) ≡ false
+not_empty xs x =
+    let some : 0 < length (xs ++ x ∷ []) = omega (arith, length-append xs (x ∷ [])) in grind (arith, nat_tests)
+
+-- One false fact among those that make an argument free.
+never_free : (a b : Bool) → (a && (b && false)) ≡ false
+never_free false b = refl
+never_free true false = refl
+never_free true true = refl
+
+-- A flag that gets a requirement.
+pub requires_more : (id : Text) (required : ArgPredicate × Bor Text) (old new : Arg) → IsArgument (flag id) old
+    → AddsRequirements old new (required ∷ []) → IsArgument (flag_beside id) new
+requires_more id required old new argument adds =
+    let some : is_empty new.needs.items ≡ false = ap is_empty adds.1 ∙ not_empty old.needs.items required in
+    let rest = is_empty old.r_ifs.items && (is_empty old.r_ifs_all.items && (is_empty old.r_unless.items && is_empty old.r_unless_all.items)) in
+    let bound = ap (λ (b : Bool). not old.exclusive && (is_empty old.conflicts.items && (b && rest))) some
+    ∙ never_free (not old.exclusive) (is_empty old.conflicts.items) in
+    record {
+      rule_is = ap rule_of adds.0 ∙ ap (λ (b : Bool). record (rule_of old) { is_free = b }) bound
+          ∙ ap (λ (rule : Rule). record rule { is_free = false }) argument.rule_is;
+      local = ap (λ (arg : Arg). arg.global) adds.0 ∙ argument.local;
+    }

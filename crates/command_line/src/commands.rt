@@ -202,11 +202,7 @@ fn flag_beside<'a>(
 ) -> Result<Arg<'a>, AllocError>
     ensures { IfOk result (IsArgument (flag_beside id.now)) }
 {
-    Arg::new(alloc, id)
-        .help(help)
-        .long(id)
-        .action(ArgAction::SetTrue)
-        .requires_arg(option)
+    flag(alloc, id, help).requires_arg(option)
 }
 
 // An option without a default value. `value` is what the help calls its value.

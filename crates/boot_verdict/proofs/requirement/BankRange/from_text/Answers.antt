@@ -1,4 +1,4 @@
-use Rattle.boot_verdict.proofs.ExpectedLaws.{if_none}
+use Rattle.boot_verdict.proofs.LineLaws.{if_none}
 use Rattle.boot_verdict.proofs.RequirementLaws.{bank_range, no_alg, no_colon, no_range}
 use Rattle.boot_verdict.proofs.requirement.BankRange.from_text.Goals as goal
 

@@ -1,4 +1,4 @@
-use Rattle.boot_verdict.proofs.ExpectedLaws.{left_count}
+use Rattle.boot_verdict.proofs.StatedLaws.{left_count}
 use Rattle.boot_verdict.proofs.RequirementLaws.{ReadsParts}
 use Rattle.boot_verdict.proofs.requirement.Requirement.from_text.Given as goal
 
