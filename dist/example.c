@@ -1,14 +1,16 @@
-/* Prints the verdict on a firmware event log, a measurement list and expected registers, as `ima-agent verify` does.
+/* Prints the verdict on a firmware event log, a measurement list and expected registers, as `ima-agent verify --require` does.
  *
  *     cc example.c -o example $(pkg-config --cflags --libs ima_verify)
- *     ./example LOG LIST EXPECTED
+ *     ./example LOG LIST EXPECTED REQUIRE
  *
+ * REQUIRE names the registers that must be among the expected ones, as sha256:0-10.
  * The exit status is what the library returns: 0 for the verdict `match`, 1 for `differ`, 2 if an input is refused, and 3 if
  * memory ran out. It is also 3 if a file cannot be read, or the output fails. */
 #include <ima_verify.h>
 
 #include <stdio.h>
 #include <stdlib.h>
+#include <string.h>
 
 struct file {
     uint8_t *bytes;
@@ -41,10 +43,12 @@ static struct file read_file(const char *name) {
 }
 
 int main(int count, char **words) {
-    if (count != 4) {
-        fprintf(stderr, "usage: %s LOG LIST EXPECTED\n", words[0]);
+    if (count != 5) {
+        fprintf(stderr, "usage: %s LOG LIST EXPECTED REQUIRE\n", words[0]);
         return IMA_REFUSED;
     }
+    const uint8_t *require = (const uint8_t *)words[4];
+    size_t require_size = strlen(words[4]);
     struct file log = read_file(words[1]), list = read_file(words[2]), expected = read_file(words[3]);
 
     /* A report has a line for each expected register, so it may be longer than this. Then the first call says how long it is. */
@@ -55,7 +59,8 @@ int main(int count, char **words) {
         text = realloc(text, room);
         if (text == NULL)
             fail("the report");
-        status = ima_verify(log.bytes, log.size, list.bytes, list.size, expected.bytes, expected.size, text, room, &needed);
+        status = ima_verify_required(log.bytes, log.size, list.bytes, list.size, expected.bytes, expected.size, require,
+                                     require_size, text, room, &needed);
         if (status != IMA_TOO_SHORT)
             break;
         room = needed;

@@ -2,7 +2,7 @@
  *
  *     library FUNCTION STATUS TEXT ROOM INPUT..
  *
- * FUNCTION is verify, locate, registers or show; INPUT are its files, and ROOM is the size of its buffer. STATUS and the file
+ * FUNCTION is the name of a function without ima_; INPUT are its files, and ROOM is the size of its buffer. STATUS and the file
  * TEXT are the answer that it has with ample memory. In the Nth turn the Nth allocation is refused, until a turn ends with none
  * refused. Each turn calls twice: the call whose allocation is refused has the answer, or says that memory ran out; the next one
  * has the answer.
@@ -20,7 +20,7 @@
 #include <sys/stat.h>
 #include <unistd.h>
 
-enum { MOST_BLOCKS = 1 << 16, MOST_TURNS = 100000, MARGIN = 64, FREED = 0xdd, UNUSED = 0xa7 };
+enum { MOST_BLOCKS = 1 << 16, MOST_TURNS = 100000, MOST_INPUTS = 4, MARGIN = 64, FREED = 0xdd, UNUSED = 0xa7 };
 
 struct bytes {
     const uint8_t *at;
@@ -159,17 +159,31 @@ static struct bytes load(const char *name) {
     return (struct bytes){at, size};
 }
 
-static int32_t call(const char *function, const struct bytes *in, uint8_t *out, size_t room, size_t *needed) {
-    if (strcmp(function, "verify") == 0)
-        return ima_verify(in[0].at, in[0].size, in[1].at, in[1].size, in[2].at, in[2].size, out, room, needed);
-    if (strcmp(function, "locate") == 0)
-        return ima_locate(in[0].at, in[0].size, in[1].at, in[1].size, in[2].at, in[2].size, out, room, needed);
-    if (strcmp(function, "registers") == 0)
-        return ima_registers(in[0].at, in[0].size, out, room, needed);
-    if (strcmp(function, "show") == 0)
-        return ima_show(in[0].at, in[0].size, out, room, needed);
-    fail("there is no function ima_%s", function);
+/* How many inputs a function takes, or 0 if there is no such function. */
+static int inputs_of(const char *function) {
+    static const char *const names[] = {"show", "registers", "expected", "verify", "locate", "verify_required", "locate_required"};
+    static const int inputs[] = {1, 1, 2, 3, 3, 4, 4};
+    for (size_t i = 0; i < sizeof inputs / sizeof inputs[0]; i++)
+        if (strcmp(function, names[i]) == 0)
+            return inputs[i];
     return 0;
+}
+
+static int32_t call(const char *function, const struct bytes *in, uint8_t *out, size_t room, size_t *needed) {
+    struct bytes a = in[0], b = in[1], c = in[2], d = in[3];
+    if (strcmp(function, "verify") == 0)
+        return ima_verify(a.at, a.size, b.at, b.size, c.at, c.size, out, room, needed);
+    if (strcmp(function, "verify_required") == 0)
+        return ima_verify_required(a.at, a.size, b.at, b.size, c.at, c.size, d.at, d.size, out, room, needed);
+    if (strcmp(function, "locate") == 0)
+        return ima_locate(a.at, a.size, b.at, b.size, c.at, c.size, out, room, needed);
+    if (strcmp(function, "locate_required") == 0)
+        return ima_locate_required(a.at, a.size, b.at, b.size, c.at, c.size, d.at, d.size, out, room, needed);
+    if (strcmp(function, "expected") == 0)
+        return ima_expected(a.at, a.size, b.at, b.size, out, room, needed);
+    if (strcmp(function, "registers") == 0)
+        return ima_registers(a.at, a.size, out, room, needed);
+    return ima_show(a.at, a.size, out, room, needed);
 }
 
 /* What the byte at a place of the buffer is before a call. */
@@ -213,8 +227,8 @@ static int turn(const char *function, const struct bytes *in, size_t room, struc
 }
 
 int main(int count, char **words) {
-    struct bytes in[3];
-    if (count < 6 || count > 8 || count != (strcmp(words[1], "verify") && strcmp(words[1], "locate") ? 6 : 8))
+    struct bytes in[MOST_INPUTS] = {{&nothing, 0}};
+    if (count < 6 || count != 5 + inputs_of(words[1]))
         fail("library FUNCTION STATUS TEXT ROOM INPUT..");
     struct answer right = {(int32_t)strtol(words[2], NULL, 10), load(words[3])};
     size_t room = strtoul(words[4], NULL, 10);

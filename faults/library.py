@@ -30,11 +30,20 @@ ELSEWHERE |= {"mmap", "munmap", "mremap", "brk", "sbrk", "strdup", "strndup"}
 
 @dataclass
 class Case:
-    """A function's name without `ima_`, what it is given, and the files of that."""
+    """A function's name without `ima_`, what it is given, and the files of that, of which the last may have an option's value."""
 
     function: str
     title: str
     inputs: list
+    option: str = ""
+
+    def words(self):
+        """What asks the program for the same."""
+        if not self.option:
+            return [self.function, *self.inputs]
+        *files, value = self.inputs
+        text = value.read_text()
+        return [self.function.partition("_")[0], *([f"{self.option}={text}"] if text else []), *files]
 
 
 @dataclass
@@ -65,6 +74,11 @@ def made_files(folder):
         "expected": expected,
         "other bank": b"sha1 10 " + 40 * b"0",
         "wrong line": expected + b"sha256 24 00\n",
+        "printed": (boot / "tpm2_pcrread.txt").read_bytes(),
+        "all": b"sha256:0-23",
+        "more": b"sha1:10,sha256:0-10,sha512:0",
+        "range": b"0-10",
+        "no registers": b"none",
         "empty": b"",
     }
     files = {}
@@ -90,6 +104,23 @@ def cases(files):
             ("expected registers of which one is wrong", "log", "list", "wrong line"),
         ):
             yield Case(function, title, [files[name] for name in names])
+    for function in ("verify_required", "locate_required"):
+        for title, *names in (
+            ("the real boot", "log", "list", "expected", "all"),
+            ("a longer list", "log", "longer list", "expected", "all"),
+            ("registers that are missing", "log", "list", "expected", "more"),
+            ("no expected registers", "log", "list", "empty", "all"),
+            ("a requirement that names none", "log", "list", "expected", "no registers"),
+            ("a list that is cut short", "log", "cut list", "expected", "more"),
+        ):
+            yield Case(function, title, [files[name] for name in names], "--require")
+    for title, *names in (
+        ("what was printed", "printed", "empty"),
+        ("a range of it", "printed", "range"),
+        ("a range that is none", "printed", "no registers"),
+        ("another text", "expected", "range"),
+    ):
+        yield Case("expected", title, [files[name] for name in names], "--registers")
     for function, title, name in (
         ("registers", "the real boot", "log"),
         ("registers", "one event", "one event"),
@@ -104,7 +135,7 @@ def cases(files):
 
 def runs_of(case, program, file):
     """The runs of a case, one for each size of the buffer. The answer is the program's; its text goes to a file."""
-    answer = subprocess.run([program, case.function, *case.inputs], capture_output=True, timeout=SECONDS)
+    answer = subprocess.run([program, *case.words()], capture_output=True, timeout=SECONDS)
     if answer.returncode not in (0, 1, 2):
         sys.exit(f"{program} {case.function} of {case.title}: status {answer.returncode}, {answer.stderr[-500:]!r}")
     file.write_bytes(answer.stdout)

@@ -10,6 +10,9 @@
  * except that inputs may also be longer than 64 MiB. docs/formats.md has the formats, and what each fault
  * number means.
  *
+ * A verdict speaks of the registers that are expected, and of no others: ima_verify says `match` of none at all.
+ * So say which registers a verdict must cover, and call ima_verify_required.
+ *
  * Pointers. None may be null, `out` and `needed` included, even where its size is 0: give the address of any
  * byte then. To ask for the size alone, give `out` such an address, and an `out_size` of 0. Nothing may change
  * an input during a call. Inputs may overlap each other, and calls may share them; `out` and `needed` may
@@ -39,15 +42,16 @@ extern "C" {
 #endif
 
 /* The version of the interface that this header describes. */
-#define IMA_VERIFY_VERSION 1
+#define IMA_VERIFY_VERSION 2
 
 /* What a function returns. */
 enum ima_status {
-    /* The text is complete. ima_verify: the verdict is `match`. ima_locate: every value was reached. */
+    /* The text is complete. A verdict is `match`; of places, every value was reached and none is missing. */
     IMA_DONE = 0,
-    /* The text is complete. ima_verify: the verdict is `differ`. ima_locate: a value was not reached. */
+    /* The text is complete. A verdict is `differ`; of places, a value was not reached or one is missing. */
     IMA_DIFFERS = 1,
-    /* An input is refused; `out` has the line that says why, as `refused: log fault 1 at event 0`. */
+    /* An input is refused; `out` has the line that says why, as `refused: log fault 1 at event 0`. It is
+     * `refused: command line` if `require` or `registers` is not of its form. */
     IMA_REFUSED = 2,
     /* Memory ran out. */
     IMA_OUT_OF_MEMORY = 3,
@@ -67,11 +71,31 @@ int32_t ima_verify(const uint8_t *log, size_t log_size, const uint8_t *list, siz
                    const uint8_t *expected, size_t expected_size, uint8_t *out, size_t out_size,
                    size_t *needed);
 
+/* The same, where `require` is a text that names the registers which must be among the expected ones, as
+ * `sha256:0-10` or `sha256:0-7,sha1:10`: at least one. Each that is not has a row, as `sha256 4 missing`, and then
+ * the verdict is `differ`; IMA_DONE says that each register of `require` has its value. The report also says
+ * how many registers were compared. A wrong `require` is refused before all else. (Version 2.) */
+int32_t ima_verify_required(const uint8_t *log, size_t log_size, const uint8_t *list, size_t list_size,
+                            const uint8_t *expected, size_t expected_size, const uint8_t *require,
+                            size_t require_size, uint8_t *out, size_t out_size, size_t *needed);
+
 /* Where each expected register first has its value, as `sha256 10 after entry 98`. IMA_DONE if every value was
  * reached, else IMA_DIFFERS; `out` has the places. Inputs and refusals are those of ima_verify. */
 int32_t ima_locate(const uint8_t *log, size_t log_size, const uint8_t *list, size_t list_size,
                    const uint8_t *expected, size_t expected_size, uint8_t *out, size_t out_size,
                    size_t *needed);
+
+/* The same, where `require` is as in ima_verify_required; IMA_DONE also says that no register is missing.
+ * (Version 2.) */
+int32_t ima_locate_required(const uint8_t *log, size_t log_size, const uint8_t *list, size_t list_size,
+                            const uint8_t *expected, size_t expected_size, const uint8_t *require,
+                            size_t require_size, uint8_t *out, size_t out_size, size_t *needed);
+
+/* The lines of expected registers that a text which tpm2_pcrread printed states, of the registers in a range, as
+ * `0-10` or `4`, or of all if `registers_size` is 0. A wrong range is refused before the text. Nothing says
+ * that a text states any register, nor who wrote it. (Version 2.) */
+int32_t ima_expected(const uint8_t *printed, size_t printed_size, const uint8_t *registers,
+                     size_t registers_size, uint8_t *out, size_t out_size, size_t *needed);
 
 /* The registers that differ from their reset values after a firmware event log, as lines of expected
  * registers. */

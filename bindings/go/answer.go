@@ -1,14 +1,16 @@
 package imaverify
 
 import (
+	"errors"
 	"fmt"
 	"math"
 )
 
 const (
-	memoryLine = "failed: memory\n"
-	unset      = math.MaxUint64
-	mostRoom   = 1 << 40
+	memoryLine    = "failed: memory\n"
+	malformedLine = "refused: command line\n"
+	unset         = math.MaxUint64
+	mostRoom      = 1 << 40
 )
 
 // An answer of the library, and the text that it gave. The methods read the text, and give an *Unexpected unless it has exactly
@@ -44,6 +46,16 @@ func ask(room int, call func(out []byte, needed *uint64) int32) (answer, error) 
 	return answer{}, given.unexpected()
 }
 
+// The same of a call with a text that names registers, which is ErrMalformed if it is not of its form.
+func askFor(room int, call func(out []byte, needed *uint64) int32) (answer, error) {
+	given, err := ask(room, call)
+	var wrong *Unexpected
+	if errors.As(err, &wrong) && wrong.Status == refused && string(wrong.Text) == malformedLine {
+		return answer{}, ErrMalformed
+	}
+	return given, err
+}
+
 func (a answer) unexpected() error {
 	return &Unexpected{a.status, uint64(len(a.text)), a.text}
 }
@@ -53,18 +65,25 @@ func (a answer) says(all bool) bool {
 	return a.status == done && all || a.status == differs && !all
 }
 
-func (a answer) verdict() (Verdict, error) {
+// Where registers are required, a report also says how many were compared.
+func (a answer) verdict(requires bool) (Verdict, error) {
 	t := textOf(a.text)
 	head := t.line("events", word, "locality", word)
 	v := Verdict{Events: t.number(head[0], math.MaxUint64), Locality: uint8(t.number(head[1], math.MaxUint8)), Text: string(a.text)}
 	v.Entries = t.number(t.line("entries", word)[0], math.MaxUint64)
+	var compared uint64
+	if requires {
+		compared = t.number(t.line("compared", word)[0], math.MaxUint64)
+	}
 	v.BootAggregate = BootAggregate(t.line("boot_aggregate", word)[0])
 	t.require(v.BootAggregate == Good || v.BootAggregate == Wrong || v.BootAggregate == NoBank || v.BootAggregate == Missing)
 	v.Matches = v.BootAggregate == Good
 	for t.left() > 1 {
 		row := t.row()
+		t.require(row.State == Lacking && requires || row.State != Lacking && len(v.Rows) == v.Compared())
 		v.Rows, v.Matches = append(v.Rows, row), v.Matches && row.State == Match
 	}
+	t.require(!requires || compared == uint64(v.Compared()))
 	t.require(t.line("verdict", word)[0] == map[bool]string{true: "match", false: "differ"}[v.Matches] && a.says(v.Matches))
 	if t.wrong {
 		return Verdict{}, a.unexpected()
@@ -72,12 +91,14 @@ func (a answer) verdict() (Verdict, error) {
 	return v, nil
 }
 
-func (a answer) places() (Places, error) {
+func (a answer) places(requires bool) (Places, error) {
 	t := textOf(a.text)
-	p := Places{Located: true, Text: string(a.text)}
+	p, missing := Places{Located: true, Text: string(a.text)}, false
 	for t.left() > 1 {
 		row := t.placeRow()
-		p.Rows, p.Located = append(p.Rows, row), p.Located && row.Place.Kind != Nowhere && row.Place.Kind != NotThere
+		t.require(row.Place.Kind == NotNamed && requires || row.Place.Kind != NotNamed && !missing)
+		missing = missing || row.Place.Kind == NotNamed
+		p.Rows, p.Located = append(p.Rows, row), p.Located && !missing && row.Place.Kind != Nowhere && row.Place.Kind != NotThere
 	}
 	if p.Located {
 		t.line("located")
@@ -104,6 +125,14 @@ func (a answer) registers() ([]Register, error) {
 		return nil, a.unexpected()
 	}
 	return registers, nil
+}
+
+// The lines of expected registers, as they are.
+func (a answer) expected() ([]byte, error) {
+	if _, err := a.registers(); err != nil {
+		return nil, err
+	}
+	return append(make([]byte, 0, len(a.text)), a.text...), nil
 }
 
 // The text of entries says less than their bytes, so it stays as it is.

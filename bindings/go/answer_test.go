@@ -17,21 +17,41 @@ var (
 	differing = "events 1 locality 0\nentries 3\nboot_aggregate good\nsha256 0 differ " +
 		strings.Repeat("0", 64) + "\nverdict differ\n"
 	register = "sha1 4 " + strings.Repeat("a", 40) + "\n"
+
+	// Where registers are required, and some of these are missing.
+	required      = strings.Replace(report, "entries 3\n", "entries 3\ncompared 1\n", 1)
+	lacking       = strings.Replace(required, "verdict match", "sha1 4 missing\nsha256 0 missing\nverdict differ", 1)
+	lackingPlaces = strings.Replace(placesText, "located", "sha256 0 missing\nnot located", 1)
 )
 
 // What is read from a status and a text.
 func readVerdict(status int32, text string) error {
-	_, err := answer{status, []byte(text)}.verdict()
+	_, err := answer{status, []byte(text)}.verdict(false)
+	return err
+}
+
+func readRequiredVerdict(status int32, text string) error {
+	_, err := answer{status, []byte(text)}.verdict(true)
 	return err
 }
 
 func readPlaces(status int32, text string) error {
-	_, err := answer{status, []byte(text)}.places()
+	_, err := answer{status, []byte(text)}.places(false)
+	return err
+}
+
+func readRequiredPlaces(status int32, text string) error {
+	_, err := answer{status, []byte(text)}.places(true)
 	return err
 }
 
 func readRegisters(status int32, text string) error {
 	_, err := answer{status, []byte(text)}.registers()
+	return err
+}
+
+func readExpected(status int32, text string) error {
+	_, err := answer{status, []byte(text)}.expected()
 	return err
 }
 
@@ -64,6 +84,56 @@ func TestRightAnswersAreRead(t *testing.T) {
 	equal(t, readPlaces(done, placesText), nil)
 	equal(t, readPlaces(differs, notLocated), nil)
 	equal(t, readRegisters(done, register), nil)
+	equal(t, readExpected(done, register), nil)
+	equal(t, readExpected(done, ""), nil)
+}
+
+func TestRightAnswersWithRequiredRegistersAreRead(t *testing.T) {
+	equal(t, readRequiredVerdict(done, required), nil)
+	equal(t, readRequiredPlaces(done, placesText), nil)
+	equal(t, readRequiredPlaces(differs, lackingPlaces), nil)
+	verdict, err := answer{differs, []byte(lacking)}.verdict(true)
+	equal(t, err, nil)
+	equal(t, []interface{}{verdict.Matches, verdict.Compared(), len(verdict.Rows)}, []interface{}{false, 1, 3})
+}
+
+func TestWrongReportsWithRequiredRegistersAreNoVerdicts(t *testing.T) {
+	for _, change := range [][2]string{
+		{"compared 1\n", ""}, {"compared 1", "compared 3"}, {"compared 1", "compared 0"}, {"compared 1", "compared 01"},
+		{"compared 1", "compared"}, {"compared 1\nboot_aggregate good", "boot_aggregate good\ncompared 1"},
+		{"sha256 10 match\nsha1 4 missing", "sha1 4 missing\nsha256 10 match"}, {"verdict differ", "verdict match"},
+		{"sha1 4 missing", "sha1 4 missing 0"}, {"sha1 4 missing", "sha1 24 missing"},
+	} {
+		text := strings.Replace(lacking, change[0], change[1], 1)
+		checkUnexpected(t, readRequiredVerdict(differs, text), text)
+	}
+	checkUnexpected(t, readRequiredVerdict(done, lacking), lacking)
+	checkUnexpected(t, readRequiredVerdict(done, strings.Replace(lacking, "differ", "match", 1)), lacking)
+	checkUnexpected(t, readRequiredVerdict(done, report), report)
+	checkUnexpected(t, readVerdict(done, required), required)
+	checkUnexpected(t, readVerdict(differs, strings.Replace(lacking, "compared 1\n", "", 1)), lacking)
+}
+
+func TestWrongTextsWithRequiredRegistersAreNoPlaces(t *testing.T) {
+	checkUnexpected(t, readPlaces(differs, lackingPlaces), lackingPlaces)
+	checkUnexpected(t, readRequiredPlaces(done, lackingPlaces), lackingPlaces)
+	checkUnexpected(t, readRequiredPlaces(done, strings.Replace(lackingPlaces, "not located", "located", 1)), lackingPlaces)
+	first := "sha256 0 missing\n" + strings.Replace(placesText, "located", "not located", 1)
+	checkUnexpected(t, readRequiredPlaces(differs, first), first)
+}
+
+func TestTextThatNamesNoRegistersIsMalformed(t *testing.T) {
+	said := func(status int32, text string) error {
+		_, err := askFor(1000, func(out []byte, length *uint64) int32 {
+			*length = uint64(copy(out, text))
+			return status
+		})
+		return err
+	}
+	equal(t, said(refused, malformedLine), ErrMalformed)
+	checkUnexpected(t, said(refused, malformedLine[:len(malformedLine)-1]), malformedLine)
+	checkUnexpected(t, said(5, malformedLine), malformedLine)
+	checkUnexpected(t, answered(refused, malformedLine, uint64(len(malformedLine))), malformedLine)
 }
 
 func TestWrongReportsAreNoVerdicts(t *testing.T) {
@@ -103,6 +173,7 @@ func TestWrongTextsAreNoRegistersOrEntries(t *testing.T) {
 	for _, text := range []string{register[:len(register)-1], register + "\n", strings.Replace(register, "a", "g", 2),
 		strings.Replace(register, "aa", "a", 1), strings.Replace(register, "aa", "", 1), "sha1 4 \n", "sha1 4\n"} {
 		checkUnexpected(t, readRegisters(done, text), text)
+		checkUnexpected(t, readExpected(done, text), text)
 	}
 	checkUnexpected(t, readRegisters(differs, register), register)
 	checkUnexpected(t, readEntries(differs, "x\n"), "x")

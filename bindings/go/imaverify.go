@@ -4,8 +4,11 @@
 // make are compared with expected ones: what /sys/kernel/security/tpm0/binary_bios_measurements,
 // /sys/kernel/security/ima/binary_runtime_measurements, and lines as `sha256 10 <64 hexadecimal digits>` hold.
 //
-// A refused input gives an error of the type *Refused; if memory runs out, it is ErrOutOfMemory; what the
-// library's header does not describe gives an *Unexpected. With any error the result is the zero value, whose Matches and Located
+// Say which registers a verdict must cover: VerifyRequired(log, list, expected, "sha256:0-10"). That of Verify covers only those that
+// expected names, and if it names none, nothing but the boot aggregate.
+//
+// A refused input gives an error of the type *Refused, and a requirement or a range that is not of its form ErrMalformed; if memory runs
+// out, it is ErrOutOfMemory; what the library's header does not describe gives an *Unexpected. With any error the result is the zero value, whose Matches and Located
 // are false.
 //
 // Any number of goroutines may call at once. No input may change during a call.
@@ -40,12 +43,13 @@ const (
 type State string
 
 const (
-	Match  State = "match"
-	Differ State = "differ"
-	Absent State = "absent" // the log has no such bank
+	Match   State = "match"
+	Differ  State = "differ"
+	Absent  State = "absent"  // the log has no such bank
+	Lacking State = "missing" // it is required, and not among the expected registers
 )
 
-// Row is an expected register, compared. Value is what the register has instead, if the state is Differ, else nil.
+// Row is an expected register, compared, or a required one that is missing. Value is what the register has instead, if the state is Differ, else nil.
 type Row struct {
 	Algorithm Algorithm
 	Register  int
@@ -55,8 +59,9 @@ type Row struct {
 
 // Verdict is that on a log, a list and expected registers.
 //
-// Matches says only that the boot aggregate is good and that each expected register has its value: see Rows for which these are.
-// Without expected registers there are no rows, and the boot aggregate alone decides. Text is the report as ima-agent prints it.
+// Matches says that the boot aggregate is good, that each expected register has its value, and that no required one is missing. If none
+// is required, it says nothing of registers that have no row; without any row the boot aggregate alone decides. Text is the report as
+// ima-agent prints it.
 type Verdict struct {
 	Events        uint64
 	Locality      uint8
@@ -67,6 +72,17 @@ type Verdict struct {
 	Text          string
 }
 
+// Compared is how many expected registers were compared.
+func (v Verdict) Compared() int {
+	count := 0
+	for _, row := range v.Rows {
+		if row.State != Lacking {
+			count++
+		}
+	}
+	return count
+}
+
 // PlaceKind is the kind of the earliest point at which a register has its expected value.
 type PlaceKind string
 
@@ -75,7 +91,8 @@ const (
 	AfterEvent PlaceKind = "event" // after an event of the log; events count from 1
 	AfterEntry PlaceKind = "entry" // after an entry of the list; entries count from 0
 	Nowhere    PlaceKind = "nowhere"
-	NotThere   PlaceKind = "absent" // the log has no such bank
+	NotThere   PlaceKind = "absent"  // the log has no such bank
+	NotNamed   PlaceKind = "missing" // it is required, and not among the expected registers
 )
 
 // Place is such a point. Number is that of the event or the entry, else 0.
@@ -84,15 +101,15 @@ type Place struct {
 	Number uint64
 }
 
-// PlaceRow says where an expected register first has its value.
+// PlaceRow says where an expected register first has its value, or that a required one is missing.
 type PlaceRow struct {
 	Algorithm Algorithm
 	Register  int
 	Place     Place
 }
 
-// Places says where each expected register first has its value. Located says that each was reached. Text is what ima-agent
-// prints.
+// Places says where each expected register first has its value. Located says that each was reached, and that no required one is
+// missing. Text is what ima-agent prints.
 type Places struct {
 	Rows    []PlaceRow
 	Located bool
@@ -134,6 +151,9 @@ func (r *Refused) Error() string {
 // ErrOutOfMemory says that the library got no memory.
 var ErrOutOfMemory = errors.New("libima_verify got no memory")
 
+// ErrMalformed says that what is required, or the range of registers, is not of its form.
+var ErrMalformed = errors.New("the text names no registers in its form, as sha256:0-10 or 0-10")
+
 // Unexpected is the error of an answer that the library's header does not describe, so nothing is known of the inputs.
 type Unexpected struct {
 	Status int32
@@ -153,13 +173,26 @@ func Version() uint32 {
 	return libraryVersion()
 }
 
-// Verify gives the verdict on a firmware event log, a measurement list and the expected registers that a text states.
+// Verify gives the verdict on a firmware event log, a measurement list and the expected registers that a text states. It covers only
+// these registers; with none, the boot aggregate alone decides. See VerifyRequired.
 func Verify(log, list, expected []byte) (Verdict, error) {
 	answer, err := ask(room, func(out []byte, needed *uint64) int32 { return callVerify(log, list, expected, out, needed) })
 	if err != nil {
 		return Verdict{}, err
 	}
-	return answer.verdict()
+	return answer.verdict(false)
+}
+
+// VerifyRequired does the same, where require names the registers that must be among the expected ones, as "sha256:0-10" or
+// "sha256:0-7,sha1:10". Each that is not has a row whose state is Lacking, and then the verdict is no match.
+func VerifyRequired(log, list, expected []byte, require string) (Verdict, error) {
+	answer, err := askFor(room, func(out []byte, needed *uint64) int32 {
+		return callVerifyRequired(log, list, expected, []byte(require), out, needed)
+	})
+	if err != nil {
+		return Verdict{}, err
+	}
+	return answer.verdict(true)
 }
 
 // Locate says where each expected register first has its value. Inputs and refusals are those of Verify.
@@ -168,7 +201,31 @@ func Locate(log, list, expected []byte) (Places, error) {
 	if err != nil {
 		return Places{}, err
 	}
-	return answer.places()
+	return answer.places(false)
+}
+
+// LocateRequired does the same, where require is as in VerifyRequired.
+func LocateRequired(log, list, expected []byte, require string) (Places, error) {
+	answer, err := askFor(room, func(out []byte, needed *uint64) int32 {
+		return callLocateRequired(log, list, expected, []byte(require), out, needed)
+	})
+	if err != nil {
+		return Places{}, err
+	}
+	return answer.places(true)
+}
+
+// ExpectedFrom gives the lines of expected registers, for Verify and Locate, of what tpm2_pcrread printed: of the registers in a range,
+// as "0-10" or "4", or of all, if that is empty. Who wrote the text is not known from it: take the values of a quote that was checked,
+// or of a machine that is trusted.
+func ExpectedFrom(printed []byte, registers string) ([]byte, error) {
+	answer, err := askFor(room, func(out []byte, needed *uint64) int32 {
+		return callExpected(printed, []byte(registers), out, needed)
+	})
+	if err != nil {
+		return nil, err
+	}
+	return answer.expected()
 }
 
 // Registers gives the registers that differ from their reset values after a firmware event log.

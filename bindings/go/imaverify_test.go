@@ -132,6 +132,92 @@ func TestExpectedRegistersMayBeAbsentOrReachedNowhere(t *testing.T) {
 	equal(t, places.Rows, []PlaceRow{{SHA1, 10, Place{Kind: NotThere}}, {SHA256, 10, Place{Kind: Nowhere}}})
 }
 
+func verifyRequired(t *testing.T, log, list, expected []byte, require string) Verdict {
+	t.Helper()
+	verdict, err := VerifyRequired(log, list, expected, require)
+	if err != nil {
+		t.Fatal(err)
+	}
+	return verdict
+}
+
+func locateRequired(t *testing.T, log, list, expected []byte, require string) Places {
+	t.Helper()
+	places, err := LocateRequired(log, list, expected, require)
+	if err != nil {
+		t.Fatal(err)
+	}
+	return places
+}
+
+func TestAllRequiredRegistersAreExpected(t *testing.T) {
+	for _, require := range []string{"sha256:0-10", "sha256:0-23", "sha256:10,sha256:0-7"} {
+		verdict := verifyRequired(t, bootLog, bootList, bootTPM, require)
+		equal(t, []interface{}{verdict.Matches, verdict.Compared(), verdict.Entries}, []interface{}{true, 24, uint64(99)})
+		equal(t, verdict.Rows, verify(t, bootLog, bootList, bootTPM).Rows)
+		equal(t, strings.Split(verdict.Text, "\n")[2], "compared 24")
+		equal(t, locateRequired(t, bootLog, bootList, bootTPM, require), locate(t, bootLog, bootList, bootTPM))
+	}
+	verdict := verifyRequired(t, bootLog, longer, bootTPM, "sha256:10")
+	equal(t, []interface{}{verdict.Matches, verdict.Rows[10].State}, []interface{}{false, Differ})
+}
+
+func TestRequiredRegisterThatIsNotExpectedIsMissing(t *testing.T) {
+	text := bootTPM[:bytes.Index(bootTPM, []byte("sha256 23 "))]
+	equal(t, verifyRequired(t, bootLog, bootList, text, "sha256:0-22").Matches, true)
+	verdict := verifyRequired(t, bootLog, bootList, text, "sha256:0-23,sha1:10")
+	equal(t, []interface{}{verdict.Matches, verdict.Compared()}, []interface{}{false, 23})
+	equal(t, verdict.Rows[:23], verify(t, bootLog, bootList, text).Rows)
+	equal(t, verdict.Rows[23:], []Row{{SHA1, 10, Lacking, nil}, {SHA256, 23, Lacking, nil}})
+	places := locateRequired(t, bootLog, bootList, text, "sha256:0-23,sha1:10")
+	equal(t, places.Located, false)
+	equal(t, places.Rows[:23], locate(t, bootLog, bootList, text).Rows)
+	equal(t, places.Rows[23:], []PlaceRow{{SHA1, 10, Place{Kind: NotNamed}}, {SHA256, 23, Place{Kind: NotNamed}}})
+}
+
+func TestNothingExpectedNeverMatches(t *testing.T) {
+	for _, empty := range [][]byte{nil, {}, []byte("\n")} {
+		verdict := verifyRequired(t, bootLog, bootList, empty, "sha256:10")
+		equal(t, []interface{}{verdict.Matches, verdict.Compared()}, []interface{}{false, 0})
+		equal(t, verdict.Rows, []Row{{SHA256, 10, Lacking, nil}})
+		places := locateRequired(t, bootLog, bootList, empty, "sha256:10")
+		equal(t, []interface{}{places.Located, places.Rows}, []interface{}{false, []PlaceRow{{SHA256, 10, Place{Kind: NotNamed}}}})
+	}
+}
+
+func TestWrongRequirementOrRangeIsMalformed(t *testing.T) {
+	for _, require := range []string{"", "sha256", "sha256:24", "sha256:10-0", "sha256:0-10,", "sha256: 0", "none", "0-10", "\xff"} {
+		verdict, err := VerifyRequired(nil, nil, nil, require)
+		equal(t, []interface{}{verdict, err}, []interface{}{Verdict{}, ErrMalformed})
+		places, err := LocateRequired(nil, nil, nil, require)
+		equal(t, []interface{}{places, err}, []interface{}{Places{}, ErrMalformed})
+	}
+	for _, registers := range []string{"24", "10-0", "0-", "-", " ", "sha256:0"} {
+		_, err := ExpectedFrom(sample("tpm2_pcrread.txt"), registers)
+		equal(t, err, ErrMalformed)
+	}
+}
+
+func TestInputsAreRefusedAsWithoutARequirement(t *testing.T) {
+	_, err := VerifyRequired(bootLog, changed, bootTPM, "sha256:0")
+	checkRefused(t, err, Refused{"refused: replay fault 1 at entry 5", Replay, 1, 5, true})
+	_, err = LocateRequired(bootLog[:31], bootList, bootTPM, "sha256:0")
+	checkRefused(t, err, Refused{"refused: log fault 1 at event 0", Log, 1, 0, true})
+}
+
+func TestExpectedRegistersAreThoseThatWerePrinted(t *testing.T) {
+	printed := sample("tpm2_pcrread.txt")
+	all, err := ExpectedFrom(printed, "")
+	equal(t, []interface{}{string(all), err}, []interface{}{string(bootTPM), nil})
+	some, err := ExpectedFrom(printed, "0-10")
+	equal(t, err, nil)
+	equal(t, registersIn(t, some), registersIn(t, bootTPM)[:11])
+	equal(t, verifyRequired(t, bootLog, bootList, some, "sha256:0-10").Matches, true)
+	equal(t, verifyRequired(t, bootLog, bootList, some, "sha256:0-11").Matches, false)
+	_, err = ExpectedFrom(bootTPM, "")
+	checkRefused(t, err, Refused{"refused: expected fault 1 at line 1", Expected, 1, 1, true})
+}
+
 func TestVersionIsThatOfTheHeader(t *testing.T) {
 	header, err := os.ReadFile(filepath.Join("..", "..", "include", "ima_verify.h"))
 	equal(t, err, nil)
@@ -270,8 +356,8 @@ func called(result interface{}, err error) interface{} {
 	return []interface{}{result, err}
 }
 
-func ExampleVerify() {
-	verdict, err := Verify(bootLog, bootList, bootTPM)
-	fmt.Println(verdict.Matches, verdict.Entries, len(verdict.Rows), err)
+func ExampleVerifyRequired() {
+	verdict, err := VerifyRequired(bootLog, bootList, bootTPM, "sha256:0-10")
+	fmt.Println(verdict.Matches, verdict.Entries, verdict.Compared(), err)
 	// Output: true 99 24 <nil>
 }

@@ -61,6 +61,29 @@ func callLocate(log, list, expected, out []byte, needed *uint64) int32 {
 	return int32(status)
 }
 
+func callVerifyRequired(log, list, expected, require, out []byte, needed *uint64) int32 {
+	length := C.size_t(*needed)
+	status := C.ima_verify_required(start(log), size(log), start(list), size(list), start(expected), size(expected),
+		start(require), size(require), start(out), size(out), &length)
+	*needed = uint64(length)
+	return int32(status)
+}
+
+func callLocateRequired(log, list, expected, require, out []byte, needed *uint64) int32 {
+	length := C.size_t(*needed)
+	status := C.ima_locate_required(start(log), size(log), start(list), size(list), start(expected), size(expected),
+		start(require), size(require), start(out), size(out), &length)
+	*needed = uint64(length)
+	return int32(status)
+}
+
+func callExpected(printed, registers, out []byte, needed *uint64) int32 {
+	length := C.size_t(*needed)
+	status := C.ima_expected(start(printed), size(printed), start(registers), size(registers), start(out), size(out), &length)
+	*needed = uint64(length)
+	return int32(status)
+}
+
 func callRegisters(log, out []byte, needed *uint64) int32 {
 	length := C.size_t(*needed)
 	status := C.ima_registers(start(log), size(log), start(out), size(out), &length)

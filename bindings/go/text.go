@@ -99,7 +99,7 @@ func (t *text) row() Row {
 	case row.State == Differ && len(words) == 4:
 		row.Value = t.value(algorithm, words[3])
 	default:
-		t.require((row.State == Match || row.State == Absent) && len(words) == 3)
+		t.require((row.State == Match || row.State == Absent || row.State == Lacking) && len(words) == 3)
 	}
 	return row
 }
@@ -113,7 +113,7 @@ func (t *text) placeRow() PlaceRow {
 	algorithm, register := t.register(words)
 	place := Place{Kind: PlaceKind(words[len(words)-1])}
 	switch form := strings.Join(words[2:], " "); {
-	case form == "at reset" || form == "nowhere" || form == "absent":
+	case form == "at reset" || form == "nowhere" || form == "absent" || form == "missing":
 	case len(words) == 5 && words[2] == "after" && (words[3] == "event" || words[3] == "entry"):
 		place = Place{PlaceKind(words[3]), t.number(words[4], 1<<64-1)}
 	default:

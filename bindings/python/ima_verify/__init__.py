@@ -5,8 +5,12 @@ are compared with expected ones. Each function takes bytes: what /sys/kernel/sec
 /sys/kernel/security/ima/binary_runtime_measurements, and lines as `sha256 10 <64 hexadecimal digits>` hold. Bytes may be of any
 bytes-like type; a bytearray, or other memory that can be written, may not change during a call.
 
-An input that is refused raises `Refused`; if memory runs out, that is MemoryError; an answer that the library's header does not
-describe raises `LibraryError`. Nothing else that the library answers is taken for a result.
+Say which registers a verdict must cover: `verify(log, list, expected, require="sha256:0-10")`. Without `require` only those count that
+`expected` names, and if it names none, the boot aggregate alone.
+
+An input that is refused raises `Refused`, and a `require` or `registers` that is not of its form ValueError; if memory runs out, that
+is MemoryError; an answer that the library's header does not describe raises `LibraryError`. Nothing else that the library answers is
+taken for a result.
 
 Calls from several threads run at once: ctypes releases the GIL during each, and the library keeps nothing between calls. Do not
 call in the forked child of a process with threads.
@@ -14,7 +18,7 @@ call in the forked child of a process with threads.
 The shared library is the file that the environment variable IMA_VERIFY_LIBRARY names, else `libima_verify.so` in this package's
 folder, else what the system's loader finds as `libima_verify.so.1`. It is loaded when this module is imported."""
 
-from typing import Sequence, Tuple, Union
+from typing import Optional, Sequence, Tuple, Union
 
 from . import _library, _texts
 from ._library import BytesLike
@@ -24,8 +28,10 @@ from ._results import (
 
 __all__ = [
     "Algorithm", "BootAggregate", "BytesLike", "Kind", "LibraryError", "Place", "PlaceRow", "Places", "Refused", "Register",
-    "Row", "State", "Verdict", "locate", "registers", "show", "verify", "version",
+    "Row", "State", "Verdict", "expected", "locate", "registers", "show", "verify", "version",
 ]
+
+Text = Union[BytesLike, str]
 
 # 4 banks have 96 registers, and no line of any text but that of `show` has more than 146 bytes.
 _ROOM = 16 * 1024
@@ -38,14 +44,32 @@ def version() -> int:
     return _LIBRARY.ima_verify_version()
 
 
-def verify(log: BytesLike, list: BytesLike, expected: Union[BytesLike, str]) -> Verdict:
-    """The verdict on a firmware event log, a measurement list and the expected registers that a text states."""
-    return _texts.read_verdict(*_answer(_LIBRARY.ima_verify, (log, list, _bytes_of(expected)), _ROOM))
+def verify(log: BytesLike, list: BytesLike, expected: Text, *, require: Optional[Text] = None) -> Verdict:
+    """The verdict on a firmware event log, a measurement list and the expected registers that a text states.
+
+    `require` names the registers that must be among these, as `sha256:0-10` or `sha256:0-7,sha1:10`. Each that is not has a row whose
+    state is MISSING, and then the verdict is no match."""
+    given = (log, list, _bytes_of(expected))
+    if require is None:
+        return _texts.read_verdict(*_answer(_LIBRARY.ima_verify, given, _ROOM))
+    return _texts.read_required_verdict(*_answer_to(require, _LIBRARY.ima_verify_required, given))
 
 
-def locate(log: BytesLike, list: BytesLike, expected: Union[BytesLike, str]) -> Places:
-    """Where each expected register first has its value. Inputs and refusals are those of `verify`."""
-    return _texts.read_places(*_answer(_LIBRARY.ima_locate, (log, list, _bytes_of(expected)), _ROOM))
+def locate(log: BytesLike, list: BytesLike, expected: Text, *, require: Optional[Text] = None) -> Places:
+    """Where each expected register first has its value. Inputs, `require` and refusals are those of `verify`."""
+    given = (log, list, _bytes_of(expected))
+    if require is None:
+        return _texts.read_places(*_answer(_LIBRARY.ima_locate, given, _ROOM))
+    return _texts.read_required_places(*_answer_to(require, _LIBRARY.ima_locate_required, given))
+
+
+def expected(printed: Text, registers: Optional[Text] = None) -> bytes:
+    """The lines of expected registers, for `verify` and `locate`, of what tpm2_pcrread printed.
+
+    `registers` is a range, as `0-10` or `4`, whose registers are written; else all are. Who wrote the text is not known from it: take the
+    values of a quote that was checked, or of a machine that is trusted."""
+    range = b"" if registers is None else registers
+    return _texts.read_expected(*_answer_to(range, _LIBRARY.ima_expected, (_bytes_of(printed),)))
 
 
 def registers(log: BytesLike) -> Tuple[Register, ...]:
@@ -71,5 +95,14 @@ def _answer(function, inputs: Sequence[BytesLike], room: int) -> Tuple[int, byte
     return status, text
 
 
-def _bytes_of(expected: Union[BytesLike, str]) -> BytesLike:
-    return expected.encode("utf-8", "surrogatepass") if isinstance(expected, str) else expected
+def _answer_to(request: Text, function, inputs: Sequence[BytesLike]) -> Tuple[int, bytes]:
+    """The answer of a function whose last input is a text of the caller's: a ValueError says that this is not of its form."""
+    status, text = _library.ask(function, (*inputs, _bytes_of(request)), _ROOM)
+    if _texts.is_refused_request(status, text):
+        raise ValueError(f"not of its form: {request!r}")
+    _texts.raise_failure(status, text)
+    return status, text
+
+
+def _bytes_of(text: Text) -> BytesLike:
+    return text.encode("utf-8", "surrogatepass") if isinstance(text, str) else text

@@ -10,12 +10,16 @@ from ._results import LibraryError
 
 BytesLike = Union[bytes, bytearray, memoryview]
 
-VERSION = 1
+VERSION = 2
 TOO_SHORT = 4
 UNSET = c_size_t(-1).value
 FILE_NAME = "libima_verify.so"
 SYSTEM_NAME = "libima_verify.so.1"
 VARIABLE = "IMA_VERIFY_LIBRARY"
+
+# How many inputs each function takes.
+INPUTS = {"ima_verify": 3, "ima_verify_required": 4, "ima_locate": 3, "ima_locate_required": 4, "ima_expected": 2,
+          "ima_registers": 1, "ima_show": 1}
 
 _INPUT = [c_void_p, c_size_t]
 _OUTPUT = [c_void_p, c_size_t, ctypes.POINTER(c_size_t)]
@@ -36,14 +40,14 @@ def load() -> ctypes.CDLL:
     try:
         library = ctypes.CDLL(file)
         library.ima_verify_version.argtypes, library.ima_verify_version.restype = [], c_uint32
-        for name, inputs in (("ima_verify", 3), ("ima_locate", 3), ("ima_registers", 1), ("ima_show", 1)):
+        found = library.ima_verify_version()
+        if found < VERSION:
+            raise ImportError(f"{file} has version {found} of the interface, and {VERSION} or later is needed")
+        for name, inputs in INPUTS.items():
             function = getattr(library, name)
             function.argtypes, function.restype = _INPUT * inputs + _OUTPUT, c_int32
     except (OSError, AttributeError) as error:
         raise ImportError(f"{file} is not there, or not the library (name it in {VARIABLE}): {error}") from error
-    found = library.ima_verify_version()
-    if found < VERSION:
-        raise ImportError(f"{file} has version {found} of the interface, and {VERSION} or later is needed")
     return library
 
 

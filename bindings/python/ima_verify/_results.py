@@ -37,6 +37,7 @@ class State(enum.Enum):
     MATCH = "match"
     DIFFER = "differ"
     ABSENT = "absent"  # the log has no such bank
+    MISSING = "missing"  # it is required, and not among the expected registers
 
 
 class Place(enum.Enum):
@@ -47,6 +48,7 @@ class Place(enum.Enum):
     ENTRY = "entry"  # after an entry of the list; entries count from 0
     NOWHERE = "nowhere"
     ABSENT = "absent"  # the log has no such bank
+    MISSING = "missing"  # it is required, and not among the expected registers
 
 
 class Kind(str, enum.Enum):
@@ -69,7 +71,8 @@ class Register:
 
 @dataclass(frozen=True)
 class Row:
-    """An expected register, compared. `value` is what the register has instead, if the state is DIFFER, else None."""
+    """An expected register, compared, or a required one that is missing. `value` is what the register has instead, if the state is
+    DIFFER, else None."""
 
     algorithm: Algorithm
     register: int
@@ -81,9 +84,9 @@ class Row:
 class Verdict:
     """The verdict on a log, a list and expected registers; as a condition, it is true exactly if it is a match.
 
-    `matches` says only that the boot aggregate is good and that each expected register has its value: see `rows` for which these
-    are. Without expected registers there are no rows, and the boot aggregate alone decides. `text` is the report as `ima-agent`
-    prints it."""
+    `matches` says that the boot aggregate is good, that each expected register has its value, and that no required one is missing. If
+    none is required, it says nothing of registers that have no row; without any row the boot aggregate alone decides. `text` is the
+    report as `ima-agent` prints it."""
 
     events: int
     locality: int
@@ -93,13 +96,19 @@ class Verdict:
     matches: bool
     text: str
 
+    @property
+    def compared(self) -> int:
+        """How many expected registers were compared."""
+        return sum(row.state is not State.MISSING for row in self.rows)
+
     def __bool__(self) -> bool:
         return self.matches
 
 
 @dataclass(frozen=True)
 class PlaceRow:
-    """Where an expected register first has its value. `number` is that of the event or the entry, else None."""
+    """Where an expected register first has its value, or that a required one is missing. `number` is that of the event or the entry, else
+    None."""
 
     algorithm: Algorithm
     register: int
@@ -109,7 +118,8 @@ class PlaceRow:
 
 @dataclass(frozen=True)
 class Places:
-    """Where each expected register first has its value; as a condition, it is true exactly if each value was reached.
+    """Where each expected register first has its value; as a condition, it is true exactly if each value was reached and no required
+    register is missing.
 
     `text` is what `ima-agent` prints."""
 

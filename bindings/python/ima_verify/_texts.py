@@ -9,6 +9,7 @@ from ._results import (
 
 DONE, DIFFERS, REFUSED, OUT_OF_MEMORY = range(4)
 MEMORY_LINE = b"failed: memory\n"
+REQUEST_LINE = b"refused: command line\n"
 REGISTERS = 24
 
 _NUMBER = "(0|[1-9][0-9]{0,19})"
@@ -17,8 +18,8 @@ _VALUE = "([0-9a-f]+)"
 _EVENTS = re.compile(f"events {_NUMBER} locality {_NUMBER}")
 _ENTRIES = re.compile(f"entries {_NUMBER}")
 _BOOT_AGGREGATE = re.compile(f"boot_aggregate ({'|'.join(aggregate.value for aggregate in BootAggregate)})")
-_ROW = re.compile(f"{_REGISTER} (?:(match|absent)|(differ) {_VALUE})")
-_PLACE_ROW = re.compile(f"{_REGISTER} (?:at (reset)|after (event|entry) {_NUMBER}|(nowhere|absent))")
+_ROW = re.compile(f"{_REGISTER} (?:(match|absent|missing)|(differ) {_VALUE})")
+_PLACE_ROW = re.compile(f"{_REGISTER} (?:at (reset)|after (event|entry) {_NUMBER}|(nowhere|absent|missing))")
 _REGISTER_LINE = re.compile(f"{_REGISTER} {_VALUE}")
 _FAULT = re.compile(
     f"refused: (?:(log) fault {_NUMBER}(?: at event {_NUMBER})?"
@@ -33,31 +34,65 @@ def unexpected(status: int, text: bytes) -> NoReturn:
 
 def read_verdict(status: int, text: bytes) -> Verdict:
     """The verdict that a report states."""
+    return _verdict_of(status, text, False)
+
+
+def read_required_verdict(status: int, text: bytes) -> Verdict:
+    """The verdict that a report states where registers are required: it also says how many were compared."""
+    return _verdict_of(status, text, True)
+
+
+def _verdict_of(status: int, text: bytes, requires: bool) -> Verdict:
+    heading = 4 if requires else 3
     try:
         decoded, lines = _lines_of(text)
         events, locality = map(int, _fields(_EVENTS, lines[0]))
         (entries,) = map(int, _fields(_ENTRIES, lines[1]))
-        (aggregate,) = map(BootAggregate, _fields(_BOOT_AGGREGATE, lines[2]))
-        rows = tuple(map(_row_of, lines[3:-1]))
+        (aggregate,) = map(BootAggregate, _fields(_BOOT_AGGREGATE, lines[heading - 1]))
+        rows = tuple(map(_row_of, lines[heading:-1]))
+        _require_missing_last([row.state is State.MISSING for row in rows], requires)
         matches = aggregate is BootAggregate.GOOD and all(row.state is State.MATCH for row in rows)
-        _require(locality < 256 and len(lines) > 3 and lines[-1] == ("verdict match" if matches else "verdict differ"))
+        _require(locality < 256 and len(lines) > heading and lines[-1] == ("verdict match" if matches else "verdict differ"))
         _require(status == (DONE if matches else DIFFERS))
+        verdict = Verdict(events, locality, entries, aggregate, rows, matches, decoded)
+        _require(not requires or lines[2] == f"compared {verdict.compared}")
     except (ValueError, IndexError):
         unexpected(status, text)
-    return Verdict(events, locality, entries, aggregate, rows, matches, decoded)
+    return verdict
 
 
 def read_places(status: int, text: bytes) -> Places:
     """The places that a text states."""
+    return _places_of(status, text, False)
+
+
+def read_required_places(status: int, text: bytes) -> Places:
+    """The places that a text states where registers are required."""
+    return _places_of(status, text, True)
+
+
+def _places_of(status: int, text: bytes, requires: bool) -> Places:
     try:
         decoded, lines = _lines_of(text)
         rows = tuple(map(_place_row_of, lines[:-1]))
-        located = all(row.place not in (Place.NOWHERE, Place.ABSENT) for row in rows)
+        _require_missing_last([row.place is Place.MISSING for row in rows], requires)
+        located = all(row.place not in (Place.NOWHERE, Place.ABSENT, Place.MISSING) for row in rows)
         _require(lines[-1] == ("located" if located else "not located"))
         _require(status == (DONE if located else DIFFERS))
     except (ValueError, IndexError):
         unexpected(status, text)
     return Places(rows, located, decoded)
+
+
+def _require_missing_last(are_missing: List[bool], requires: bool) -> None:
+    """Rows of missing registers come after the others, where registers are required."""
+    _require(are_missing == sorted(are_missing) and (requires or not any(are_missing)))
+
+
+def read_expected(status: int, text: bytes) -> bytes:
+    """Lines of expected registers, as they are."""
+    read_registers(status, text)
+    return text
 
 
 def read_registers(status: int, text: bytes) -> Tuple[Register, ...]:
@@ -74,6 +109,11 @@ def read_entries(status: int, text: bytes) -> bytes:
     if status != DONE or text[-1:] not in (b"", b"\n"):
         unexpected(status, text)
     return text
+
+
+def is_refused_request(status: int, text: bytes) -> bool:
+    """Whether what the caller asked for is not of its form."""
+    return status == REFUSED and text == REQUEST_LINE
 
 
 def raise_failure(status: int, text: bytes) -> None:

@@ -26,6 +26,8 @@ REPORT = b"events 1 locality 0\nentries 3\nboot_aggregate good\nsha256 10 match\
 DIFFERING = b"events 1 locality 0\nentries 3\nboot_aggregate good\nsha256 0 differ " + 64 * b"0" + b"\nverdict differ\n"
 PLACES = b"sha256 8 at reset\nsha256 4 after event 18\nsha256 10 after entry 98\nlocated\n"
 NOT_LOCATED = b"sha256 8 at reset\nsha256 23 nowhere\nsha1 10 absent\nnot located\n"
+REQUIRED = REPORT.replace(b"entries 3\n", b"entries 3\ncompared 1\n")
+LACKING = REQUIRED.replace(b"verdict match", b"sha1 4 missing\nsha256 0 missing\nverdict differ")
 REGISTER = b"sha1 4 " + 40 * b"a" + b"\n"
 
 
@@ -100,6 +102,16 @@ class Answers(unittest.TestCase):
         self.assertTrue(_texts.read_places(0, PLACES).located)
         self.assertFalse(_texts.read_places(1, NOT_LOCATED).located)
         self.assertEqual(_texts.read_registers(0, REGISTER)[0].value, 20 * b"\xaa")
+        self.assertEqual(_texts.read_expected(0, REGISTER), REGISTER)
+        self.assertEqual(_texts.read_expected(0, b""), b"")
+
+    def test_right_answers_with_required_registers_are_read(self):
+        self.assertEqual(_texts.read_required_verdict(0, REQUIRED).compared, 1)
+        lacking = _texts.read_required_verdict(1, LACKING)
+        self.assertEqual((lacking.matches, lacking.compared, len(lacking.rows)), (False, 1, 3))
+        self.assertTrue(_texts.read_required_places(0, PLACES).located)
+        missing = _texts.read_required_places(1, PLACES.replace(b"located", b"sha256 0 missing\nnot located"))
+        self.assertEqual((missing.located, missing.rows[-1].place), (False, ima_verify.Place.MISSING))
 
     def check_wrong(self, read, status, text):
         with self.assertRaises(ima_verify.LibraryError, msg=f"{status} {text!r}"):
@@ -122,6 +134,27 @@ class Answers(unittest.TestCase):
         for value in (63 * b"0" + b"A", 62 * b"0", 66 * b"0", b""):
             self.check_wrong(_texts.read_verdict, 1, DIFFERING.replace(64 * b"0", value))
 
+    def test_wrong_reports_with_required_registers_are_no_verdicts(self):
+        self.check_wrong(_texts.read_verdict, 0, REQUIRED)
+        self.check_wrong(_texts.read_required_verdict, 0, REPORT)
+        self.check_wrong(_texts.read_verdict, 1, LACKING.replace(b"compared 1\n", b""))
+        for old, new in (
+            (b"compared 1\n", b""), (b"compared 1", b"compared 3"), (b"compared 1", b"compared 0"), (b"compared 1", b"compared 01"),
+            (b"compared 1", b"compared"), (b"compared 1\nboot_aggregate good", b"boot_aggregate good\ncompared 1"),
+            (b"sha256 10 match\nsha1 4 missing", b"sha1 4 missing\nsha256 10 match"), (b"verdict differ", b"verdict match"),
+            (b"sha1 4 missing", b"sha1 4 missing " + 40 * b"0"), (b"sha1 4 missing", b"sha1 24 missing"),
+        ):
+            self.check_wrong(_texts.read_required_verdict, 1, LACKING.replace(old, new, 1))
+        self.check_wrong(_texts.read_required_verdict, 0, LACKING)
+        self.check_wrong(_texts.read_required_verdict, 0, LACKING.replace(b"verdict differ", b"verdict match"))
+
+    def test_wrong_texts_with_required_registers_are_no_places(self):
+        missing = PLACES.replace(b"located", b"sha256 0 missing\nnot located")
+        self.check_wrong(_texts.read_places, 1, missing)
+        self.check_wrong(_texts.read_required_places, 0, missing)
+        self.check_wrong(_texts.read_required_places, 0, missing.replace(b"not located", b"located"))
+        self.check_wrong(_texts.read_required_places, 1, b"sha256 0 missing\n" + PLACES.replace(b"located", b"not located"))
+
     def test_wrong_texts_are_no_places(self):
         for old, new in (
             (b"at reset", b"at event"), (b"event 18", b"event"), (b"event 18", b"event 018"), (b"after entry", b"after line"),
@@ -136,6 +169,7 @@ class Answers(unittest.TestCase):
         for text in (REGISTER[:-1], REGISTER + b"\n", REGISTER.replace(b"a", b"g"), REGISTER.replace(b"aa", b"", 1),
                      b"sha1 4 \n"):
             self.check_wrong(_texts.read_registers, 0, text)
+            self.check_wrong(_texts.read_expected, 0, text)
         self.check_wrong(_texts.read_registers, 1, REGISTER)
         self.check_wrong(_texts.read_entries, 1, ASCII)
         self.check_wrong(_texts.read_entries, 0, ASCII[:-1])
@@ -143,7 +177,7 @@ class Answers(unittest.TestCase):
     def test_wrong_refusals_are_no_refusals(self):
         for text in (b"", b"refused: log fault 1 at event 0", b"refused: log fault 1 at entry 0\n", b"refused: list fault 1\n",
                      b"refused: replay fault 1 at entry 5\n\n", b"refused: expected fault 1 at entry 5\n", b"refused: job 1\n",
-                     b"refused: log fault  1\n", b"failed: memory\n", b"refused: log fault \xb2\n"):
+                     b"refused: command line\n", b"refused: log fault  1\n", b"failed: memory\n", b"refused: log fault \xb2\n"):
             self.check_wrong(_texts.raise_failure, 2, text)
         self.check_wrong(_texts.raise_failure, 3, b"refused: log fault 2\n")
         for status in (-1, 4, 5, 1 << 30):

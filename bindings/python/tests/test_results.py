@@ -22,8 +22,9 @@ from reference.registers import SHA1, SHA256
 from reference.verdict import locate
 
 SAMPLE = ROOT / "samples/real-boot"
-LOG, LIST, EXPECTED, ASCII, REGISTERS = (
-    (SAMPLE / name).read_bytes() for name in ("firmware.log", "ima.list", "expected.txt", "ima.ascii", "registers.txt")
+LOG, LIST, EXPECTED, ASCII, REGISTERS, PRINTED = (
+    (SAMPLE / name).read_bytes()
+    for name in ("firmware.log", "ima.list", "expected.txt", "ima.ascii", "registers.txt", "tpm2_pcrread.txt")
 )
 LAST_ENTRY_SIZE = 95
 LONGER = LIST + LIST[-LAST_ENTRY_SIZE:]
@@ -88,6 +89,98 @@ class Sample(unittest.TestCase):
     def test_version_is_that_of_the_header(self):
         header = (ROOT / "include/ima_verify.h").read_text()
         self.assertGreaterEqual(ima_verify.version(), int(header.split("#define IMA_VERIFY_VERSION ")[1].split()[0]))
+
+
+class Required(unittest.TestCase):
+    """Registers that a verdict must cover."""
+
+    WRONG = ("", "sha256", "sha256:24", "sha256:10-0", "sha256:0-10,", "sha256: 0", "none", "0-10", "sha3:0", "\u00e4", "\ud800", b"\xff")
+
+    def test_all_registers_are_expected(self):
+        for require in ("sha256:0-10", "sha256:0-23", "sha256:10,sha256:0-7", b"sha256:4", bytearray(b"sha256:0-23")):
+            verdict, places = (function(LOG, LIST, EXPECTED, require=require) for function in (ima_verify.verify, ima_verify.locate))
+            self.assertEqual((verdict.matches, verdict.compared, verdict.entries), (True, 24, 99))
+            self.assertEqual(verdict.rows, ima_verify.verify(LOG, LIST, EXPECTED).rows)
+            self.assertEqual(verdict.text.splitlines()[2], "compared 24")
+            self.assertEqual(places, ima_verify.locate(LOG, LIST, EXPECTED))
+
+    def test_required_register_that_is_not_expected_is_missing(self):
+        *lines, last = EXPECTED.splitlines(True)
+        self.assertTrue(last.startswith(b"sha256 23 "))
+        text = b"".join(lines)
+        for function, kinds in ((ima_verify.verify, State), (ima_verify.locate, Place)):
+            self.assertTrue(function(LOG, LIST, text, require="sha256:0-22"))
+            result = function(LOG, LIST, text, require="sha256:0-23,sha1:10")
+            self.assertFalse(result)
+            missing = [(row.algorithm, row.register) for row in result.rows if kinds.MISSING in (getattr(row, "state", None), getattr(row, "place", None))]
+            self.assertEqual(missing, [(Algorithm.SHA1, 10), (Algorithm.SHA256, 23)])
+            self.assertEqual(result.rows[:23], function(LOG, LIST, text).rows)
+        self.assertEqual(ima_verify.verify(LOG, LIST, text, require="sha256:0-23").compared, 23)
+
+    def test_nothing_expected_never_matches(self):
+        for empty in (b"", "", "\n", bytearray()):
+            verdict = ima_verify.verify(LOG, LIST, empty, require="sha256:10")
+            self.assertEqual(verdict.rows, (Row(Algorithm.SHA256, 10, State.MISSING),))
+            self.assertEqual((verdict.matches, bool(verdict), verdict.compared), (False, False, 0))
+            places = ima_verify.locate(LOG, LIST, empty, require="sha256:10")
+            self.assertEqual((places.rows, places.located), ((PlaceRow(Algorithm.SHA256, 10, Place.MISSING),), False))
+
+    def test_required_register_may_differ(self):
+        verdict = ima_verify.verify(LOG, LONGER, EXPECTED, require="sha256:10")
+        self.assertEqual((verdict.matches, verdict.rows[10].state, verdict.compared), (False, State.DIFFER, 24))
+
+    def test_wrong_requirement_is_a_value_error(self):
+        for require in self.WRONG:
+            for function in (ima_verify.verify, ima_verify.locate):
+                with self.assertRaisesRegex(ValueError, "^not of its form: "):
+                    function(b"", b"", b"", require=require)
+
+    def test_inputs_are_refused_as_without_a_requirement(self):
+        for given in ((LOG, CHANGED, EXPECTED), (LOG[:-1], LIST, EXPECTED), (LOG, LIST[:-1], EXPECTED), (LOG, LIST, b"x")):
+            for function in (ima_verify.verify, ima_verify.locate):
+                with self.assertRaises(ima_verify.Refused) as wanted:
+                    function(*given)
+                with self.assertRaises(ima_verify.Refused) as found:
+                    function(*given, require="sha256:0-10")
+                self.assertEqual(found.exception.args, wanted.exception.args)
+
+    def test_requirement_is_text(self):
+        for wrong in (5, 0, False, ["sha256:10"]):
+            for function in (ima_verify.verify, ima_verify.locate):
+                self.assertRaises(TypeError, function, LOG, LIST, EXPECTED, require=wrong)
+        self.assertRaises(TypeError, ima_verify.verify, LOG, LIST, EXPECTED, "sha256:10")
+
+
+class ExpectedRegisters(unittest.TestCase):
+    """What tpm2_pcrread printed."""
+
+    def test_registers_are_those_of_the_sample(self):
+        self.assertEqual(ima_verify.expected(PRINTED), EXPECTED)
+        self.assertEqual(ima_verify.expected(PRINTED.decode(), ""), EXPECTED)
+
+    def test_registers_in_a_range(self):
+        lines = EXPECTED.splitlines(True)
+        self.assertEqual(ima_verify.expected(PRINTED, "0-10"), b"".join(lines[:11]))
+        self.assertEqual(ima_verify.expected(PRINTED, b"10"), lines[10])
+
+    def test_they_are_verified(self):
+        text = ima_verify.expected(PRINTED, registers="0-10")
+        self.assertEqual(ima_verify.verify(LOG, LIST, text, require="sha256:0-10").compared, 11)
+        self.assertTrue(ima_verify.verify(LOG, LIST, text, require="sha256:0-10"))
+        self.assertFalse(ima_verify.verify(LOG, LIST, text, require="sha256:0-11"))
+
+    def test_other_texts_are_refused(self):
+        for text in (EXPECTED, PRINTED + b"x", PRINTED + PRINTED):
+            with self.assertRaises(ima_verify.Refused) as caught:
+                ima_verify.expected(text)
+            self.assertEqual(caught.exception.kind, Kind.EXPECTED)
+
+    def test_wrong_range_is_a_value_error(self):
+        for wrong in ("24", "10-0", "0-", "-", " ", "sha256:0", "\u00e4"):
+            self.assertRaises(ValueError, ima_verify.expected, PRINTED, wrong)
+        for wrong in (10, 0, False):
+            self.assertRaises(TypeError, ima_verify.expected, PRINTED, wrong)
+        self.assertRaises(TypeError, ima_verify.expected, None)
 
 
 class Page(unittest.TestCase):

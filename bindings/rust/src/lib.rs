@@ -7,11 +7,15 @@
 //! ```
 //! # fn main() -> Result<(), Box<dyn std::error::Error>> {
 //! let sample = |name| std::fs::read(format!("../../samples/real-boot/{name}"));
-//! let verdict = ima_verify::verify(&sample("firmware.log")?, &sample("ima.list")?, &sample("expected.txt")?)?;
-//! assert!(verdict.matches && verdict.rows.len() == 24);
+//! let (log, list, expected) = (sample("firmware.log")?, sample("ima.list")?, sample("expected.txt")?);
+//! let verdict = ima_verify::verify_required(&log, &list, &expected, "sha256:0-10")?;
+//! assert!(verdict.matches && verdict.compared() == 24);
 //! # Ok(())
 //! # }
 //! ```
+//!
+//! Say which registers a verdict must cover: that of [`verify`] covers only those that `expected` names, and if it names none, nothing but
+//! the boot aggregate.
 //!
 //! Any number of threads may call at once.
 
@@ -77,9 +81,11 @@ pub enum State {
     Differ(Vec<u8>),
     /// The log has no such bank.
     Absent,
+    /// It is required, and not among the expected registers.
+    Missing,
 }
 
-/// An expected register, compared.
+/// An expected register, compared, or a required one that is missing.
 #[derive(Debug, Clone, PartialEq, Eq, Hash)]
 pub struct Row {
     pub algorithm: Algorithm,
@@ -95,13 +101,20 @@ pub struct Verdict {
     pub locality: u8,
     pub entries: u64,
     pub boot_aggregate: BootAggregate,
-    /// A row for each expected register, in their order.
+    /// A row for each expected register, in their order, and then one for each that is missing.
     pub rows: Vec<Row>,
-    /// The boot aggregate is good, and each expected register has its value: `rows` has which these are. Without expected
-    /// registers there are no rows, and the boot aggregate alone decides.
+    /// The boot aggregate is good, each expected register has its value, and no required one is missing. If none is required, nothing is
+    /// said of registers that have no row; without any row the boot aggregate alone decides.
     pub matches: bool,
     /// The report as `ima-agent` prints it.
     pub text: String,
+}
+
+impl Verdict {
+    /// How many expected registers were compared.
+    pub fn compared(&self) -> usize {
+        self.rows.iter().filter(|row| row.state != State::Missing).count()
+    }
 }
 
 /// The earliest point at which a register has its expected value.
@@ -116,9 +129,11 @@ pub enum Place {
     Nowhere,
     /// The log has no such bank.
     Absent,
+    /// It is required, and not among the expected registers.
+    Missing,
 }
 
-/// Where an expected register first has its value.
+/// Where an expected register first has its value, or that a required one is missing.
 #[derive(Debug, Clone, Copy, PartialEq, Eq, Hash)]
 pub struct PlaceRow {
     pub algorithm: Algorithm,
@@ -130,9 +145,9 @@ pub struct PlaceRow {
 #[derive(Debug, Clone, PartialEq, Eq, Hash)]
 #[must_use]
 pub struct Places {
-    /// A row for each expected register, in their order.
+    /// A row for each expected register, in their order, and then one for each that is missing.
     pub rows: Vec<PlaceRow>,
-    /// Each value was reached.
+    /// Each value was reached, and no required register is missing.
     pub located: bool,
     /// What `ima-agent` prints.
     pub text: String,
@@ -168,6 +183,8 @@ pub enum Error {
         /// The number of the event, the entry or the line, if the fault names one.
         place: Option<u64>,
     },
+    /// What is required, or the range of registers, is not of its form.
+    Malformed,
     /// There is no memory for the call.
     OutOfMemory,
     /// The library answered what its header does not describe, so nothing is known of the inputs.
@@ -180,6 +197,7 @@ impl fmt::Display for Error {
     fn fmt(&self, f: &mut fmt::Formatter<'_>) -> fmt::Result {
         match self {
             Self::Refused { line, .. } => f.write_str(line),
+            Self::Malformed => f.write_str("the text names no registers in its form, as sha256:0-10 or 0-10"),
             Self::OutOfMemory => f.write_str("no memory for libima_verify"),
             Self::Unexpected { status, needed, .. } => write!(f, "libima_verify answered status {status} and size {needed}"),
             Self::Version(found) => write!(f, "libima_verify has version {found} of the interface"),
@@ -195,13 +213,37 @@ pub fn version() -> u32 {
 }
 
 /// The verdict on a firmware event log, a measurement list and the expected registers that a text states.
+///
+/// It covers only these registers; with none, the boot aggregate alone decides. See [`verify_required`].
 pub fn verify(log: &[u8], list: &[u8], expected: &[u8]) -> Result<Verdict, Error> {
     library::ask(library::ROOM, |out| library::verify(log, list, expected, out))?.verdict()
+}
+
+/// The same, where `require` names the registers that must be among the expected ones, as `sha256:0-10` or `sha256:0-7,sha1:10`. Each
+/// that is not has a row whose state is [`State::Missing`], and then the verdict is no match.
+pub fn verify_required(log: &[u8], list: &[u8], expected: &[u8], require: &str) -> Result<Verdict, Error> {
+    let call = |out: &mut [u8]| library::verify_required(log, list, expected, require.as_bytes(), out);
+    library::ask_for(library::ROOM, call)?.required_verdict()
 }
 
 /// Where each expected register first has its value. Inputs and refusals are those of `verify`.
 pub fn locate(log: &[u8], list: &[u8], expected: &[u8]) -> Result<Places, Error> {
     library::ask(library::ROOM, |out| library::locate(log, list, expected, out))?.places()
+}
+
+/// The same, where `require` is as in `verify_required`.
+pub fn locate_required(log: &[u8], list: &[u8], expected: &[u8], require: &str) -> Result<Places, Error> {
+    let call = |out: &mut [u8]| library::locate_required(log, list, expected, require.as_bytes(), out);
+    library::ask_for(library::ROOM, call)?.required_places()
+}
+
+/// The lines of expected registers, for `verify` and `locate`, of what tpm2_pcrread printed: of the registers in a range, as `0-10` or
+/// `4`, or of all.
+///
+/// Who wrote the text is not known from it: take the values of a quote that was checked, or of a machine that is trusted.
+pub fn expected(printed: &[u8], registers: Option<&str>) -> Result<Vec<u8>, Error> {
+    let range = registers.unwrap_or_default().as_bytes();
+    library::ask_for(library::ROOM, |out| library::expected(printed, range, out))?.expected()
 }
 
 /// The registers that differ from their reset values after a firmware event log.

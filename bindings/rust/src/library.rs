@@ -3,13 +3,14 @@
 use crate::texts::Answer;
 use crate::Error;
 
-const VERSION: u32 = 1;
+const VERSION: u32 = 2;
 pub(crate) const DONE: i32 = 0;
 pub(crate) const DIFFERS: i32 = 1;
 pub(crate) const REFUSED: i32 = 2;
 pub(crate) const OUT_OF_MEMORY: i32 = 3;
 pub(crate) const TOO_SHORT: i32 = 4;
 const MEMORY_LINE: &[u8] = b"failed: memory\n";
+const MALFORMED_LINE: &[u8] = b"refused: command line\n";
 
 /// Room for any text but that of `show`: four banks have 96 registers, and no line has more than 146 bytes.
 pub(crate) const ROOM: usize = 16 * 1024;
@@ -40,6 +41,41 @@ mod c {
             list_size: usize,
             expected: *const u8,
             expected_size: usize,
+            out: *mut u8,
+            out_size: usize,
+            needed: *mut usize,
+        ) -> i32;
+        pub(super) fn ima_verify_required(
+            log: *const u8,
+            log_size: usize,
+            list: *const u8,
+            list_size: usize,
+            expected: *const u8,
+            expected_size: usize,
+            require: *const u8,
+            require_size: usize,
+            out: *mut u8,
+            out_size: usize,
+            needed: *mut usize,
+        ) -> i32;
+        pub(super) fn ima_locate_required(
+            log: *const u8,
+            log_size: usize,
+            list: *const u8,
+            list_size: usize,
+            expected: *const u8,
+            expected_size: usize,
+            require: *const u8,
+            require_size: usize,
+            out: *mut u8,
+            out_size: usize,
+            needed: *mut usize,
+        ) -> i32;
+        pub(super) fn ima_expected(
+            printed: *const u8,
+            printed_size: usize,
+            registers: *const u8,
+            registers_size: usize,
             out: *mut u8,
             out_size: usize,
             needed: *mut usize,
@@ -99,6 +135,68 @@ pub(crate) fn locate(log: &[u8], list: &[u8], expected: &[u8], out: &mut [u8]) -
 }
 
 /// The status, and how long the text is.
+pub(crate) fn verify_required(log: &[u8], list: &[u8], expected: &[u8], require: &[u8], out: &mut [u8]) -> (i32, usize) {
+    let mut needed = usize::MAX;
+    // SAFETY: as above.
+    let status = unsafe {
+        c::ima_verify_required(
+            log.as_ptr(),
+            log.len(),
+            list.as_ptr(),
+            list.len(),
+            expected.as_ptr(),
+            expected.len(),
+            require.as_ptr(),
+            require.len(),
+            out.as_mut_ptr(),
+            out.len(),
+            &mut needed,
+        )
+    };
+    (status, needed)
+}
+
+/// The status, and how long the text is.
+pub(crate) fn locate_required(log: &[u8], list: &[u8], expected: &[u8], require: &[u8], out: &mut [u8]) -> (i32, usize) {
+    let mut needed = usize::MAX;
+    // SAFETY: as above.
+    let status = unsafe {
+        c::ima_locate_required(
+            log.as_ptr(),
+            log.len(),
+            list.as_ptr(),
+            list.len(),
+            expected.as_ptr(),
+            expected.len(),
+            require.as_ptr(),
+            require.len(),
+            out.as_mut_ptr(),
+            out.len(),
+            &mut needed,
+        )
+    };
+    (status, needed)
+}
+
+/// The status, and how long the text is.
+pub(crate) fn expected(printed: &[u8], registers: &[u8], out: &mut [u8]) -> (i32, usize) {
+    let mut needed = usize::MAX;
+    // SAFETY: as above.
+    let status = unsafe {
+        c::ima_expected(
+            printed.as_ptr(),
+            printed.len(),
+            registers.as_ptr(),
+            registers.len(),
+            out.as_mut_ptr(),
+            out.len(),
+            &mut needed,
+        )
+    };
+    (status, needed)
+}
+
+/// The status, and how long the text is.
 pub(crate) fn registers(log: &[u8], out: &mut [u8]) -> (i32, usize) {
     let mut needed = usize::MAX;
     // SAFETY: as above.
@@ -136,6 +234,14 @@ pub(crate) fn ask(room: usize, mut call: impl FnMut(&mut [u8]) -> (i32, usize)) 
         OUT_OF_MEMORY if answer.text == MEMORY_LINE => Err(Error::OutOfMemory),
         _ => Err(answer.unexpected()),
     }
+}
+
+/// The same of a call with a text that names registers, which is `Malformed` if it is not of its form.
+pub(crate) fn ask_for(room: usize, call: impl FnMut(&mut [u8]) -> (i32, usize)) -> Result<Answer, Error> {
+    ask(room, call).map_err(|error| match error {
+        Error::Unexpected { status: REFUSED, text, .. } if text == MALFORMED_LINE => Error::Malformed,
+        error => error,
+    })
 }
 
 fn zeros(size: usize) -> Result<Vec<u8>, Error> {

@@ -14,11 +14,30 @@ pub(crate) struct Answer {
 
 impl Answer {
     pub(crate) fn verdict(self) -> Result<Verdict, Error> {
-        read_verdict(self.status, &self.text).ok_or_else(|| self.unexpected())
+        read_verdict(self.status, &self.text, false).ok_or_else(|| self.unexpected())
+    }
+
+    /// The verdict where registers are required.
+    pub(crate) fn required_verdict(self) -> Result<Verdict, Error> {
+        read_verdict(self.status, &self.text, true).ok_or_else(|| self.unexpected())
     }
 
     pub(crate) fn places(self) -> Result<Places, Error> {
-        read_places(self.status, &self.text).ok_or_else(|| self.unexpected())
+        read_places(self.status, &self.text, false).ok_or_else(|| self.unexpected())
+    }
+
+    /// The places where registers are required.
+    pub(crate) fn required_places(self) -> Result<Places, Error> {
+        read_places(self.status, &self.text, true).ok_or_else(|| self.unexpected())
+    }
+
+    /// The lines of expected registers, as they are.
+    pub(crate) fn expected(mut self) -> Result<Vec<u8>, Error> {
+        if read_registers(self.status, &self.text).is_none() {
+            return Err(self.unexpected());
+        }
+        self.text.shrink_to_fit();
+        Ok(self.text)
     }
 
     pub(crate) fn registers(self) -> Result<Vec<Register>, Error> {
@@ -43,9 +62,12 @@ impl Answer {
     }
 }
 
-fn read_verdict(status: i32, bytes: &[u8]) -> Option<Verdict> {
+/// Where registers are required, a report also says how many were compared.
+fn read_verdict(status: i32, bytes: &[u8], requires: bool) -> Option<Verdict> {
     let (text, lines) = lines_of(bytes)?;
-    let [head, entries, aggregate, rows @ .., verdict] = lines.as_slice() else { return None };
+    let [head, entries, lines @ ..] = lines.as_slice() else { return None };
+    let (compared, lines) = if requires { compared(lines)? } else { (None, lines) };
+    let [aggregate, rows @ .., verdict] = lines else { return None };
     let ["events", events, "locality", locality] = words_of(head)[..] else { return None };
     let entries = number(entries.strip_prefix("entries ")?)?;
     let boot_aggregate = match aggregate.strip_prefix("boot_aggregate ")? {
@@ -63,10 +85,27 @@ fn read_verdict(status: i32, bytes: &[u8]) -> Option<Verdict> {
     };
     let (events, locality) = (number(events)?, u8::try_from(number(locality)?).ok()?);
     let all = boot_aggregate == BootAggregate::Good && rows.iter().all(|row| row.state == State::Match);
-    (all == matches).then_some(Verdict { events, locality, entries, boot_aggregate, rows, matches, text })
+    let are_last = missing_are_last(rows.iter().map(|row| row.state == State::Missing), requires);
+    let verdict = Verdict { events, locality, entries, boot_aggregate, rows, matches, text };
+    let count = verdict.compared() as u64;
+    (all == matches && are_last && compared.unwrap_or(count) == count).then_some(verdict)
 }
 
-fn read_places(status: i32, bytes: &[u8]) -> Option<Places> {
+/// The number that the first of these lines states, and the lines after it.
+fn compared<'a, 'b>(lines: &'b [&'a str]) -> Option<(Option<u64>, &'b [&'a str])> {
+    let (line, rest) = lines.split_first()?;
+    Some((Some(number(line.strip_prefix("compared ")?)?), rest))
+}
+
+/// Whether the rows of missing registers come after the others; without registers that are required there are none.
+fn missing_are_last(mut rows: impl Iterator<Item = bool>, requires: bool) -> bool {
+    match rows.find(|is_missing| *is_missing) {
+        Some(_) => requires && rows.all(|is_missing| is_missing),
+        None => true,
+    }
+}
+
+fn read_places(status: i32, bytes: &[u8], requires: bool) -> Option<Places> {
     let (text, lines) = lines_of(bytes)?;
     let (last, rows) = lines.split_last()?;
     let rows = rows.iter().map(|line| place_row(line)).collect::<Option<Vec<_>>>()?;
@@ -75,8 +114,9 @@ fn read_places(status: i32, bytes: &[u8]) -> Option<Places> {
         (DIFFERS, "not located") => false,
         _ => return None,
     };
-    let all = rows.iter().all(|row| !matches!(row.place, Place::Nowhere | Place::Absent));
-    (all == located).then_some(Places { rows, located, text })
+    let all = rows.iter().all(|row| !matches!(row.place, Place::Nowhere | Place::Absent | Place::Missing));
+    let are_last = missing_are_last(rows.iter().map(|row| row.place == Place::Missing), requires);
+    (all == located && are_last).then_some(Places { rows, located, text })
 }
 
 fn read_registers(status: i32, bytes: &[u8]) -> Option<Vec<Register>> {
@@ -112,6 +152,7 @@ fn row(line: &str) -> Option<Row> {
         ["match"] => State::Match,
         ["differ", digits] => State::Differ(value(algorithm, digits)?),
         ["absent"] => State::Absent,
+        ["missing"] => State::Missing,
         _ => return None,
     };
     Some(Row { algorithm, register, state })
@@ -126,6 +167,7 @@ fn place_row(line: &str) -> Option<PlaceRow> {
         ["after", "entry", digits] => Place::Entry(number(digits)?),
         ["nowhere"] => Place::Nowhere,
         ["absent"] => Place::Absent,
+        ["missing"] => Place::Missing,
         _ => return None,
     };
     Some(PlaceRow { algorithm, register, place })

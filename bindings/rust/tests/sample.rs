@@ -1,7 +1,7 @@
 //! What the crate answers about the sample, one boot whose registers were read from the TPM after the list, and about changes
 //! of it.
 
-use ima_verify::{locate, registers, show, verify, version};
+use ima_verify::{expected as expected_from, locate, locate_required, registers, show, verify, verify_required, version};
 use ima_verify::{Algorithm, BootAggregate, Error, Kind, Place, PlaceRow, Register, Row, State, Verdict};
 use std::sync::Barrier;
 use std::thread;
@@ -117,6 +117,77 @@ fn expected_registers_may_be_absent_or_reached_nowhere() {
     assert_eq!(verdict.rows, [absent, differing]);
     let found: Vec<_> = places.rows.iter().map(|row| (row.algorithm, row.register, row.place)).collect();
     assert_eq!(found, [(Algorithm::Sha1, 10, Place::Absent), (Algorithm::Sha256, 10, Place::Nowhere)]);
+}
+
+#[test]
+fn all_required_registers_are_expected() {
+    for require in ["sha256:0-10", "sha256:0-23", "sha256:10,sha256:0-7"] {
+        let verdict = verify_required(&log(), &list(), &expected(), require).unwrap();
+        assert_eq!((verdict.matches, verdict.compared(), verdict.entries), (true, 24, 99));
+        assert_eq!(verdict.rows, verify(&log(), &list(), &expected()).unwrap().rows);
+        assert_eq!(verdict.text.lines().nth(2), Some("compared 24"));
+        assert_eq!(locate_required(&log(), &list(), &expected(), require), locate(&log(), &list(), &expected()));
+    }
+    let verdict = verify_required(&log(), &longer(), &expected(), "sha256:10").unwrap();
+    assert!(!verdict.matches && matches!(verdict.rows[10].state, State::Differ(_)));
+}
+
+#[test]
+fn required_register_that_is_not_expected_is_missing() {
+    let all = expected();
+    let text = &all[..all.len() - "sha256 23 \n".len() - 64];
+    assert!(verify_required(&log(), &list(), text, "sha256:0-22").unwrap().matches);
+    let missing = [(Algorithm::Sha1, 10), (Algorithm::Sha256, 23)];
+    let verdict = verify_required(&log(), &list(), text, "sha256:0-23,sha1:10").unwrap();
+    assert_eq!((verdict.matches, verdict.compared()), (false, 23));
+    assert_eq!(verdict.rows[..23], verify(&log(), &list(), text).unwrap().rows);
+    assert_eq!(verdict.rows[23..], missing.map(|(algorithm, register)| Row { algorithm, register, state: State::Missing }));
+    let places = locate_required(&log(), &list(), text, "sha256:0-23,sha1:10").unwrap();
+    assert!(!places.located);
+    assert_eq!(places.rows[..23], locate(&log(), &list(), text).unwrap().rows);
+    assert_eq!(places.rows[23..], missing.map(|(algorithm, register)| PlaceRow { algorithm, register, place: Place::Missing }));
+}
+
+#[test]
+fn nothing_expected_never_matches() {
+    for empty in [b"".as_slice(), b"\n"] {
+        let verdict = verify_required(&log(), &list(), empty, "sha256:10").unwrap();
+        assert_eq!((verdict.matches, verdict.compared(), verdict.rows.len()), (false, 0, 1));
+        let places = locate_required(&log(), &list(), empty, "sha256:10").unwrap();
+        assert_eq!((places.located, places.rows[0].place), (false, Place::Missing));
+    }
+}
+
+#[test]
+fn wrong_requirement_or_range_is_malformed() {
+    for require in ["", "sha256", "sha256:24", "sha256:10-0", "sha256:0-10,", "sha256: 0", "none", "0-10", "\u{e4}"] {
+        assert_eq!(verify_required(&[], &[], &[], require).unwrap_err(), Error::Malformed, "{require:?}");
+        assert_eq!(locate_required(&[], &[], &[], require).unwrap_err(), Error::Malformed, "{require:?}");
+    }
+    for range in ["24", "10-0", "0-", "-", " ", "sha256:0"] {
+        assert_eq!(expected_from(&sample("tpm2_pcrread.txt"), Some(range)).unwrap_err(), Error::Malformed, "{range:?}");
+    }
+}
+
+#[test]
+fn inputs_are_refused_as_without_a_requirement() {
+    let (log, list, expected) = (log(), list(), expected());
+    for (log, list, expected) in [(&log[..], &changed()[..], &expected[..]), (&log[..31], &list, &expected), (&log, &list, b"x")] {
+        assert_eq!(verify_required(log, list, expected, "sha256:0"), verify(log, list, expected));
+        assert_eq!(locate_required(log, list, expected, "sha256:0"), locate(log, list, expected));
+    }
+}
+
+#[test]
+fn expected_registers_are_those_that_were_printed() {
+    let printed = sample("tpm2_pcrread.txt");
+    assert_eq!(expected_from(&printed, None).unwrap(), expected());
+    let some = expected_from(&printed, Some("0-10")).unwrap();
+    assert_eq!(registers_in(&some), registers_in(&expected())[..11]);
+    assert!(verify_required(&log(), &list(), &some, "sha256:0-10").unwrap().matches);
+    assert!(!verify_required(&log(), &list(), &some, "sha256:0-11").unwrap().matches);
+    let wanted = refused("refused: expected fault 1 at line 1", Kind::Expected, 1, Some(1));
+    assert_eq!(expected_from(&expected(), None).unwrap_err(), wanted);
 }
 
 #[test]

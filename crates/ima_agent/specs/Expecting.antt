@@ -1,5 +1,5 @@
 -- Expected registers, as the program writes them from what tpm2_pcrread printed. All of this is this project's choice.
-use Rattle.std.specs.Prelude.{◌≡◌, ℕ, ◌⊎◌, nat_lt, List, Option, Some, None}
+use Rattle.std.specs.Prelude.{◌≡◌, ℕ, ◌⊎◌, ◌==◌, if◌then◌else◌, nat_lt, List, length, Option, Some, None}
 use Rattle.pcr_banks.specs.Registers.{register_count}
 use Rattle.boot_verdict.specs.declared.expected.Expected.{Expected}
 use Rattle.boot_verdict.specs.declared.expected.ExpectFault.{ExpectFault}
@@ -42,3 +42,14 @@ IsNotPrintedFor text fault = IsNotPrinted text fault ⊎ (fault ≡ runs.Memory)
 -- The range that is requested is none.
 abbrev pub IsRangeFault : Option (List ℕ) → RunFault → Type 0
 IsRangeFault registers fault = (fault ≡ runs.Usage) × SpellsNoRange registers
+
+-- ---- of bytes in memory
+
+-- The text of the range that is requested: none, if it is empty.
+abbrev pub range_text : List ℕ → Option (List ℕ)
+range_text text = if length text == 0 then None else Some text
+
+-- Why there are no expected registers from this text within the range that another spells: this spells none; or the text was not
+-- printed by tpm2_pcrread, or memory ran out.
+abbrev pub IsNotExpectedOn : List ℕ → List ℕ → RunFault → Type 0
+IsNotExpectedOn printed registers fault = IsRangeFault (range_text registers) fault ⊎ IsNotPrintedFor printed fault

@@ -1,7 +1,7 @@
 //! Expected registers, written from what tpm2_pcrread printed.
 
 ghost use Rattle.std.specs.Prelude.{◌⊎◌, List, ℕ, Option, Some, option_map, IfOk, IfErr};
-ghost use Rattle.ima_agent.specs.Expecting.{IsNotPrintedFor, IsRangeFault, IsRequested, ShowsExpected};
+ghost use Rattle.ima_agent.specs.Expecting.{IsNotExpectedOn, IsNotPrintedFor, IsRangeFault, IsRequested, ShowsExpected, range_text};
 ghost use Rattle.ima_agent.specs.Loading.{IsInputFault};
 ghost use Rattle.ima_agent.specs.Program.{OfInput};
 
@@ -29,6 +29,30 @@ pub(crate) fn expected_from<F: Files>(
     let range = range_of(registers)?;
     let text = loaded(alloc, files, Some(printed))?;
     expected_in(alloc, &text, range)
+}
+
+/// The lines of the registers that this text, which tpm2_pcrread printed, states within the range that `registers` spells, or of all if
+/// that is empty: what `expected` shows of a file with these bytes, here of any size.
+///
+/// Fails with [`RunFault::Usage`] if `registers` spells no range; else with [`RunFault::Expect`] if a line is wrong, and with
+/// [`RunFault::Memory`] if memory runs out.
+pub fn expected_on(alloc: Global, printed: &[u8], registers: &[u8]) -> Result<Vec<u8>, RunFault>
+    ensures shown { IfOk result (λ shown. ShowsExpected (range_text registers.now) printed.now shown.items) }
+    ensures fault { IfErr result (IsNotExpectedOn printed.now registers.now) }
+{
+    let range = range_in(registers)?;
+    expected_in(alloc, printed, range)
+}
+
+// The range that the text spells; all registers if it is empty.
+fn range_in(text: &[u8]) -> Result<RegisterRange, RunFault>
+    ensures range { IfOk result (IsRequested (range_text text.now)) }
+    ensures fault { IfErr result (IsRangeFault (range_text text.now)) }
+{
+    if text.is_empty() {
+        return Ok(RegisterRange::all());
+    }
+    RegisterRange::from_text(text).ok_or(RunFault::Usage)
 }
 
 // The range that the text spells; all registers without a text.

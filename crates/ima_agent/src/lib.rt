@@ -35,6 +35,7 @@ pub use boot_verdict::{
     write_required_places, write_required_report,
 };
 pub use command_line::{DataShown, NameEnd, Plan, Print, words_after_name};
+pub use expecting::expected_on;
 pub use fault::RunFault;
 pub use files::{Files, SharedFiles};
 pub use hashing::hash_from;

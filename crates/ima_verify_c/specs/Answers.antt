@@ -1,13 +1,15 @@
 -- What a caller in C finds after a call. All of this is this project's choice.
 use Rattle.std.specs.Prelude.{◌≡◌, ℕ, ℤ, pos, ◌<◌, ◌≤◌, ◌⊎◌, List, ◌++◌, length, drop}
 use Rattle.ima_agent.specs.declared.fault.RunFault.{RunFault}
+use Rattle.ima_agent.specs.Expecting.{IsNotExpectedOn, ShowsExpected, range_text}
 use Rattle.ima_agent.specs.FaultTexts.{fault_line, fault_status}
 use Rattle.ima_agent.specs.Showing.{IsNoListFor, IsNoLogFor, ShowsList, ShowsRegistersAfter}
 use Rattle.ima_agent.specs.Locating.{ShowsPlacesOn}
+use Rattle.ima_agent.specs.Requiring.{IsFaultWith, ShowsRequiredPlacesOn, ShowsRequiredReportOn}
 use Rattle.ima_agent.specs.Verifying.{IsNoReportOn, ShowsReportOn}
 
 abbrev pub interface_version : ℕ
-interface_version = 1
+interface_version = 2
 
 -- What a call returns if the buffer is too short.
 abbrev pub too_short : ℤ
@@ -47,10 +49,28 @@ abbrev pub IsReportAnswer : List ℕ → List ℕ → List ℕ → List ℕ → 
 IsReportAnswer log list expected text status =
     ShowsReportOn log list expected text status ⊎ IsRefusal (IsNoReportOn log list expected) text status
 
+-- The same where the text `required` requires registers.
+abbrev pub IsRequiredReportAnswer : List ℕ → List ℕ → List ℕ → List ℕ → List ℕ → ℕ → Type 0
+IsRequiredReportAnswer log list expected required text status =
+    ShowsRequiredReportOn log list expected required text status
+    ⊎ IsRefusal (IsFaultWith required (IsNoReportOn log list expected)) text status
+
 -- The places in this log and this list of the registers that the text `expected` states, with their status; or why there are none.
 abbrev pub IsPlacesAnswer : List ℕ → List ℕ → List ℕ → List ℕ → ℕ → Type 0
 IsPlacesAnswer log list expected text status =
     ShowsPlacesOn log list expected text status ⊎ IsRefusal (IsNoReportOn log list expected) text status
+
+-- The same where the text `required` requires registers.
+abbrev pub IsRequiredPlacesAnswer : List ℕ → List ℕ → List ℕ → List ℕ → List ℕ → ℕ → Type 0
+IsRequiredPlacesAnswer log list expected required text status =
+    ShowsRequiredPlacesOn log list expected required text status
+    ⊎ IsRefusal (IsFaultWith required (IsNoReportOn log list expected)) text status
+
+-- The expected registers that this text, which tpm2_pcrread printed, states within the range that the text `registers` spells, or all
+-- if that is empty; or why there are none.
+abbrev pub IsExpectedAnswer : List ℕ → List ℕ → List ℕ → ℕ → Type 0
+IsExpectedAnswer printed registers text status =
+    (ShowsExpected (range_text registers) printed text × (status ≡ 0)) ⊎ IsRefusal (IsNotExpectedOn printed registers) text status
 
 -- The registers after this log; or why there are none.
 abbrev pub IsRegistersAnswer : List ℕ → List ℕ → ℕ → Type 0

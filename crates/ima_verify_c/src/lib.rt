@@ -1,4 +1,4 @@
-//! The verifier for callers in C: verdicts, places, registers and entries, from bytes in the caller's memory to a text in the caller's
+//! The verifier for callers in C: verdicts, places, expected registers, registers and entries, from bytes in the caller's memory to a text in the caller's
 //! buffer. `include/ima_verify.h` says it to C.
 //!
 //! Each call returns a number: 0 or 1 as the command of the same name exits, with its output in the buffer; 2 if an input is refused,
@@ -9,18 +9,21 @@
 mod giving;
 
 ghost use Rattle.std.specs.Prelude.{◌≡◌};
-ghost use Rattle.ima_verify_c.specs.Answers.{Answers, IsPlacesAnswer, IsEntriesAnswer, IsRegistersAnswer, IsReportAnswer, interface_version};
+ghost use Rattle.ima_verify_c.specs.Answers.{Answers, IsPlacesAnswer, IsEntriesAnswer, IsExpectedAnswer, IsRegistersAnswer, IsReportAnswer, IsRequiredPlacesAnswer, IsRequiredReportAnswer, interface_version};
 
 use crate::giving::{give, give_text};
-use ima_agent::{entries_on, places_on, registers_on, report_on};
+use ima_agent::{
+    entries_on, expected_on, places_on, registers_on, report_on, required_places_on,
+    required_report_on,
+};
 use std::alloc::Global;
 
-/// The version of this interface: 1. A later version may have more functions; what these do stays as it is.
+/// The version of this interface: 2. A later version may have more functions; what these do stays as it is.
 #[unsafe(no_mangle)]
 pub extern "C" fn ima_verify_version() -> u32
     ensures { result ≡ interface_version }
 {
-    1
+    2
 }
 
 /// The verdict on a firmware event log, a measurement list and expected registers, as `verify` writes it: 0 if it is `match`, 1 if it
@@ -39,6 +42,24 @@ pub extern "C" fn ima_verify(
     give(alloc, report_on(alloc, log, list, expected), out, needed)
 }
 
+/// The same, where `require` names registers that must be among the expected ones, as `sha256:0-10`; else each is a row `missing`, and the
+/// verdict is `differ`.
+#[unsafe(no_mangle)]
+pub extern "C" fn ima_verify_required(
+    alloc: Global,
+    log: &[u8],
+    list: &[u8],
+    expected: &[u8],
+    require: &[u8],
+    out: &mut [u8],
+    needed: &mut usize,
+) -> i32
+    ensures { Answers (IsRequiredReportAnswer log.now list.now expected.now require.now) result needed.new out.old out.new }
+{
+    let asked = required_report_on(alloc, log, list, expected, require);
+    give(alloc, asked, out, needed)
+}
+
 /// Where expected registers first have their values in a firmware event log and a measurement list, as `locate` writes it: 0 if each
 /// was reached, else 1.
 #[unsafe(no_mangle)]
@@ -53,6 +74,38 @@ pub extern "C" fn ima_locate(
     ensures { Answers (IsPlacesAnswer log.now list.now expected.now) result needed.new out.old out.new }
 {
     give(alloc, places_on(alloc, log, list, expected), out, needed)
+}
+
+/// The same, where `require` names registers that must be among the expected ones: 0 also needs that none is missing.
+#[unsafe(no_mangle)]
+pub extern "C" fn ima_locate_required(
+    alloc: Global,
+    log: &[u8],
+    list: &[u8],
+    expected: &[u8],
+    require: &[u8],
+    out: &mut [u8],
+    needed: &mut usize,
+) -> i32
+    ensures { Answers (IsRequiredPlacesAnswer log.now list.now expected.now require.now) result needed.new out.old out.new }
+{
+    let asked = required_places_on(alloc, log, list, expected, require);
+    give(alloc, asked, out, needed)
+}
+
+/// The expected registers that a text which tpm2_pcrread printed states within a range, as `0-10`, or all if that is empty, as `expected`
+/// writes them.
+#[unsafe(no_mangle)]
+pub extern "C" fn ima_expected(
+    alloc: Global,
+    printed: &[u8],
+    registers: &[u8],
+    out: &mut [u8],
+    needed: &mut usize,
+) -> i32
+    ensures { Answers (IsExpectedAnswer printed.now registers.now) result needed.new out.old out.new }
+{
+    give_text(alloc, expected_on(alloc, printed, registers), out, needed)
 }
 
 /// The registers that differ from their reset values after a firmware event log, as `registers` writes them.

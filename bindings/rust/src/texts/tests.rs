@@ -1,15 +1,25 @@
 //! What a library may answer, and what not: texts of the forms that `docs/formats.md` shows, changes of them, and buffers.
 
 use super::Answer;
-use crate::library::{ask, registers, room_of_entries, show, DIFFERS, DONE, OUT_OF_MEMORY, REFUSED, TOO_SHORT};
-use crate::{Error, Kind};
+use crate::library::{ask, ask_for, registers, room_of_entries, show, DIFFERS, DONE, OUT_OF_MEMORY, REFUSED, TOO_SHORT};
+use crate::{Error, Kind, Place};
 
 const REPORT: &str = "events 1 locality 0\nentries 3\nboot_aggregate good\nsha256 10 match\nverdict match\n";
 const PLACES: &str = "sha256 8 at reset\nsha256 4 after event 18\nsha256 10 after entry 98\nlocated\n";
+const REQUIRED: &str = "events 1 locality 0\nentries 3\ncompared 1\nboot_aggregate good\nsha256 10 match\nverdict match\n";
 const NOT_LOCATED: &str = "sha256 8 at reset\nsha256 23 nowhere\nsha1 10 absent\nnot located\n";
 
 fn differing() -> String {
     format!("events 1 locality 0\nentries 3\nboot_aggregate good\nsha256 0 differ {}\nverdict differ\n", "0".repeat(64))
+}
+
+/// A report and places, each with rows of missing registers.
+fn lacking() -> String {
+    REQUIRED.replace("verdict match", "sha1 4 missing\nsha256 0 missing\nverdict differ")
+}
+
+fn lacking_places() -> String {
+    PLACES.replace("located", "sha256 0 missing\nnot located")
 }
 
 fn register() -> String {
@@ -43,6 +53,54 @@ fn right_answers_are_read() {
     assert!(answer(DONE, PLACES).places().unwrap().located);
     assert!(!answer(DIFFERS, NOT_LOCATED).places().unwrap().located);
     assert_eq!(answer(DONE, &register()).registers().unwrap()[0].value, [0xaa; 20]);
+    assert_eq!(answer(DONE, &register()).expected().unwrap(), register().as_bytes());
+    assert_eq!(answer(DONE, "").expected().unwrap(), b"");
+}
+
+#[test]
+fn right_answers_with_required_registers_are_read() {
+    assert_eq!(answer(DONE, REQUIRED).required_verdict().unwrap().compared(), 1);
+    let verdict = answer(DIFFERS, &lacking()).required_verdict().unwrap();
+    assert_eq!((verdict.matches, verdict.compared(), verdict.rows.len()), (false, 1, 3));
+    assert!(answer(DONE, PLACES).required_places().unwrap().located);
+    let places = answer(DIFFERS, &lacking_places()).required_places().unwrap();
+    assert_eq!((places.located, places.rows[3].place), (false, Place::Missing));
+}
+
+#[test]
+fn wrong_reports_with_required_registers_are_no_verdicts() {
+    for (old, new) in [
+        ("compared 1\n", ""),
+        ("compared 1", "compared 3"),
+        ("compared 1", "compared 0"),
+        ("compared 1", "compared 01"),
+        ("compared 1", "compared"),
+        ("compared 1\nboot_aggregate good", "boot_aggregate good\ncompared 1"),
+        ("sha256 10 match\nsha1 4 missing", "sha1 4 missing\nsha256 10 match"),
+        ("verdict differ", "verdict match"),
+        ("sha1 4 missing", "sha1 4 missing 0"),
+        ("sha1 4 missing", "sha1 24 missing"),
+    ] {
+        let text = lacking().replacen(old, new, 1);
+        assert!(is_unexpected(answer(DIFFERS, &text).required_verdict()), "{text:?}");
+    }
+    assert!(is_unexpected(answer(DONE, &lacking()).required_verdict()));
+    assert!(is_unexpected(answer(DONE, &lacking().replace("differ", "match")).required_verdict()));
+    assert!(is_unexpected(answer(DONE, REPORT).required_verdict()));
+    assert!(is_unexpected(answer(DONE, REQUIRED).verdict()));
+    assert!(is_unexpected(answer(DIFFERS, &lacking().replace("compared 1\n", "")).verdict()));
+    for text in ["", "events 1 locality 0\n", "events 1 locality 0\nentries 3\n", "events 1 locality 0\nentries 3\ncompared 0\n"] {
+        assert!(is_unexpected(answer(DIFFERS, text).required_verdict()), "{text:?}");
+    }
+}
+
+#[test]
+fn wrong_texts_with_required_registers_are_no_places() {
+    assert!(is_unexpected(answer(DIFFERS, &lacking_places()).places()));
+    assert!(is_unexpected(answer(DONE, &lacking_places()).required_places()));
+    assert!(is_unexpected(answer(DONE, &lacking_places().replace("not located", "located")).required_places()));
+    let first = format!("sha256 0 missing\n{}", PLACES.replace("located", "not located"));
+    assert!(is_unexpected(answer(DIFFERS, &first).required_places()));
 }
 
 #[test]
@@ -121,6 +179,7 @@ fn wrong_texts_are_no_registers_or_entries() {
     let texts = [right.trim_end().to_owned(), format!("{right}\n"), right.replacen("aa", "gg", 1), right.replacen("aa", "", 1)];
     for text in texts.iter().map(String::as_str).chain(["sha1 4 \n", "sha1 4\n", "sha1\n"]) {
         assert!(is_unexpected(answer(DONE, text).registers()), "{text:?}");
+        assert!(is_unexpected(answer(DONE, text).expected()), "{text:?}");
     }
     assert!(is_unexpected(answer(DIFFERS, &right).registers()));
     assert!(is_unexpected(answer(DIFFERS, "x\n").entries()));
@@ -139,6 +198,7 @@ fn wrong_refusals_are_no_refusals() {
         "refused: log fault  1\n",
         "refused: log fault 01\n",
         "refused: book fault 1\n",
+        "refused: command line\n",
         "failed: memory\n",
         "\n\n\n\n",
     ] {
@@ -147,6 +207,21 @@ fn wrong_refusals_are_no_refusals() {
     let line = "refused: log fault 2".to_owned();
     let refused = Error::Refused { line, kind: Kind::Log, number: 2, place: None };
     assert_eq!(answered(REFUSED, "refused: log fault 2\n", 21).unwrap_err(), refused);
+}
+
+#[test]
+fn text_that_names_no_registers_is_malformed() {
+    let line = "refused: command line\n";
+    let said = |status, text: &'static str| {
+        ask_for(1000, move |out| {
+            out[..text.len()].copy_from_slice(text.as_bytes());
+            (status, text.len())
+        })
+    };
+    assert_eq!(said(REFUSED, line).unwrap_err(), Error::Malformed);
+    for (status, text) in [(REFUSED, "refused: command line"), (5, line), (REFUSED, "refused: book fault 1\n")] {
+        assert!(is_unexpected(said(status, text)), "{status} {text:?}");
+    }
 }
 
 #[test]
