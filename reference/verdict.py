@@ -14,10 +14,10 @@ def verdict(log, entries, expected, required=None):
 
 
 def list_verdict(entries, expected, required=None):
-    """The same of a list alone, which never matches without an expected register ('A list alone')."""
+    """The same of a list alone, which never matches without an entry or an expected register ('A list alone')."""
     registers = Registers(ALGORITHMS)
     replay(registers, entries)
-    return report(counts(entries, expected, required), registers, expected, required, bool(expected))
+    return report(counts(entries, expected, required), registers, expected, required, bool(entries) and bool(expected))
 
 
 def counts(entries, expected, required):

@@ -18,6 +18,7 @@ call in the forked child of a process with threads.
 The shared library is the file that the environment variable IMA_VERIFY_LIBRARY names, else `libima_verify.so` in this package's
 folder, else what the system's loader finds as `libima_verify.so.1`. It is loaded when this module is imported."""
 
+from enum import Enum
 from typing import Optional, Sequence, Tuple, Union
 
 from . import _library, _texts
@@ -33,6 +34,13 @@ __all__ = [
 
 Text = Union[BytesLike, str]
 
+
+class _Default(Enum):
+    """What `require` is if it is not given. None is not: a setting that lacks it must not come to require nothing."""
+
+    NOTHING = "nothing"
+
+
 # 4 banks have 96 registers, and no line of any text but that of `show` has more than 146 bytes.
 _ROOM = 16 * 1024
 
@@ -44,21 +52,21 @@ def version() -> int:
     return _LIBRARY.ima_verify_version()
 
 
-def verify(log: BytesLike, list: BytesLike, expected: Text, *, require: Optional[Text] = None) -> Verdict:
+def verify(log: BytesLike, list: BytesLike, expected: Text, *, require: Union[Text, _Default] = _Default.NOTHING) -> Verdict:
     """The verdict on a firmware event log, a measurement list and the expected registers that a text states.
 
     `require` names the registers that must be among these, as `sha256:0-10` or `sha256:0-7,sha1:10`. Each that is not has a row whose
-    state is MISSING, and then the verdict is no match."""
+    state is MISSING, and then the verdict is no match. None is a TypeError."""
     given = (log, list, _bytes_of(expected))
-    if require is None:
+    if isinstance(require, _Default):
         return _texts.read_verdict(*_answer(_LIBRARY.ima_verify, given, _ROOM))
     return _texts.read_required_verdict(*_answer_to(require, _LIBRARY.ima_verify_required, given))
 
 
-def locate(log: BytesLike, list: BytesLike, expected: Text, *, require: Optional[Text] = None) -> Places:
+def locate(log: BytesLike, list: BytesLike, expected: Text, *, require: Union[Text, _Default] = _Default.NOTHING) -> Places:
     """Where each expected register first has its value. Inputs, `require` and refusals are those of `verify`."""
     given = (log, list, _bytes_of(expected))
-    if require is None:
+    if isinstance(require, _Default):
         return _texts.read_places(*_answer(_LIBRARY.ima_locate, given, _ROOM))
     return _texts.read_required_places(*_answer_to(require, _LIBRARY.ima_locate_required, given))
 

@@ -145,7 +145,7 @@ class Required(unittest.TestCase):
                 self.assertEqual(found.exception.args, wanted.exception.args)
 
     def test_requirement_is_text(self):
-        for wrong in (5, 0, False, ["sha256:10"]):
+        for wrong in (None, 5, 0, False, ["sha256:10"]):
             for function in (ima_verify.verify, ima_verify.locate):
                 self.assertRaises(TypeError, function, LOG, LIST, EXPECTED, require=wrong)
         self.assertRaises(TypeError, ima_verify.verify, LOG, LIST, EXPECTED, "sha256:10")

@@ -40,9 +40,9 @@ pub record ListVerdict : Type 0 where
 abbrev pub list_verdict_on : List ListEntry → List Expected → ListVerdict
 list_verdict_on entries expected = record { entries = length entries; rows = map (list_row_on entries) expected }
 
--- The verdict is 'match': some register is expected, and each expected register has its value.
+-- The verdict is 'match': the list has an entry, some register is expected, and each expected register has its value.
 abbrev pub list_matches : ListVerdict → Bool
-list_matches verdict = not (length verdict.rows == 0) && list_all is_match verdict.rows
+list_matches verdict = (not (verdict.entries == 0) && not (length verdict.rows == 0)) && list_all is_match verdict.rows
 
 -- The verdict is 'match', and no register is missing.
 abbrev pub required_list_matches : List BankRange → ListVerdict → Bool

@@ -32,11 +32,11 @@ pub struct ListReport {
 }
 
 impl ListReport {
-    /// Whether some register is expected, and each expected register has its value.
+    /// Whether the list has an entry, some register is expected, and each expected register has its value.
     pub fn matches(&self) -> bool
         ensures { result ≡ list_matches (list_verdict_of self.now) }
     {
-        !self.rows.is_empty() && all_match(&self.rows)
+        self.entries != 0 && !self.rows.is_empty() && all_match(&self.rows)
     }
 
     /// Whether the report matches, and has a row for each required register.
@@ -48,7 +48,8 @@ impl ListReport {
 }
 
 /// Replays a measurement list of at most `limit` bytes without a firmware event log, as [`crate::replay_from`] does, and compares the
-/// registers with the expected ones, in their order. Without an expected register there is a report, but it does not match.
+/// registers with the expected ones, in their order. Without an entry, or an expected register, there is a report, but it
+/// does not match.
 ///
 /// Fails as [`crate::replay_from`] does.
 pub fn verify_list_from<R: Source>(

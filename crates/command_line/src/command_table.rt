@@ -293,7 +293,7 @@ aggregate alone"
     },
     CommandRow {
         name: "expected",
-        about: "Prints expected registers from what tpm2_pcrread or tpm2_checkquote printed",
+        about: "Prints expected registers from what tpm2_pcrread printed",
         end: HelpEnd::Expected,
         arguments: &[
             ArgumentRow {
@@ -303,7 +303,7 @@ aggregate alone"
             },
             ArgumentRow {
                 id: "PCRREAD",
-                help: "Text that tpm2_pcrread or tpm2_checkquote printed, at most 64 MiB",
+                help: "Text that tpm2_pcrread printed, at most 64 MiB",
                 form: Form::Required,
             },
         ],
@@ -366,7 +366,7 @@ pub(crate) fn help_end_of<'a>(end: HelpEnd) -> &'a str {
         HelpEnd::Measure =>
             help_end!("ima-agent measure --print registers firmware.log /bin/sh /bin/ls"; log book gather),
         HelpEnd::Verify =>
-            help_end!("ima-agent verify firmware.log ima.list expected.txt"; log list replay expected),
+            help_end!("ima-agent verify --require sha256:0-10 firmware.log ima.list expected.txt"; log list replay expected),
         HelpEnd::Locate =>
             help_end!("ima-agent locate firmware.log ima.list expected.txt"; log list replay expected),
         HelpEnd::Expected =>
@@ -375,6 +375,6 @@ pub(crate) fn help_end_of<'a>(end: HelpEnd) -> &'a str {
         HelpEnd::Events => help_end!("ima-agent events --data firmware.log"; log),
         HelpEnd::Show => help_end!("ima-agent show ima.list"; list),
         HelpEnd::Replay =>
-            help_end!("ima-agent replay ima.list expected.txt"; list replay expected),
+            help_end!("ima-agent replay --require sha256:10 ima.list expected.txt"; list replay expected),
     }
 }
