@@ -86,6 +86,10 @@ class Verdicts:
                 rows = ((machine.name, *row) for row in answer.get("rows", ()))
                 self.connection.executemany("INSERT INTO registers VALUES (?, ?, ?, ?, ?)", rows)
 
+    def oldest(self):
+        """When the first of the verdicts was given."""
+        return self.connection.execute("SELECT min(time) FROM verdicts").fetchone()[0]
+
     def counts(self):
         """How many machines have each verdict."""
         counts = self.connection.execute("SELECT verdict, count(*) FROM verdicts GROUP BY verdict")

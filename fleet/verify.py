@@ -386,6 +386,8 @@ def main():
         recorded = table.recorded(machines)
     except (sqlite3.Error, BadVerdicts) as fault:
         return complain(f"refused: {options.table}: {fault}", 2)
+    if kept := sum(verdict not in options.again for verdict in recorded.values()):
+        complain(f"{kept} verdicts stand from earlier runs, the oldest since {table.oldest()}; --again gives new ones", 0)
     try:
         asyncio.run(run(options, table, machines, recorded))
     except CannotGoOn as fault:
