@@ -23,6 +23,7 @@ use Rattle.boot_verdict.specs.declared.requirement.RequirementFault.TheVariants.
 use Rattle.boot_verdict.specs.RegisterRanges.{IsRangeText, is_within}
 use Rattle.boot_verdict.specs.RegisterTexts.{all_registers}
 use Rattle.boot_verdict.specs.Requirements.{AreBankRanges, BeginsWithBankRange, HasMatch, IsBankRangeText, IsRequirementText, expected_of_rows, is_complete, is_complete_in, is_in, is_missing, is_of, names, required_matches, split_at_commas, states}
+use Rattle.boot_verdict.specs.ListVerdicts.{list_verdict_on, required_list_matches}
 use Rattle.boot_verdict.specs.Verdicts.{is_good, is_match, state_matches, verdict_on}
 use Rattle.boot_verdict.specs.parts.StatedLines.{IsSplitOnce}
 use Rattle.boot_verdict.specs.parts.RequirementParts.{SpellsRange, TakesPart, parts_left}
@@ -254,6 +255,16 @@ matched_among (row ∷ rows) alg register all some =
           }
     ]
 
+-- Rows that all match, and lack no register that a requirement names, have a match for each of these.
+rows_matched : (rows : List Row) (text : List ℕ) (ranges : List BankRange) (alg : Alg) (register : ℕ) → IsRequirementText text ranges
+    → list_all is_match rows ≡ true → is_complete ranges (expected_of_rows rows) ≡ true → names ranges alg register ≡ true
+    → HasMatch rows alg register
+rows_matched rows text ranges alg register is each complete named =
+    let bank = every_passes (is_complete_in ranges (expected_of_rows rows)) complete alg in
+    let lt = named_exists (split_at_commas text) ranges alg register is named in
+    let kept = passes_at (λ r. not (is_missing ranges (expected_of_rows rows) alg r)) register bank lt in
+    matched_among rows alg register each (stated (names ranges alg register) (states (expected_of_rows rows) alg register) named kept)
+
 -- Each register that a requirement names has a row that is a match, where the verdict meets it.
 pub required_matched : (algs : AlgSet) (events : List LogEvent) (entries : List ListEntry) (expected : List Expected) (text : List ℕ)
     (ranges : List BankRange) (alg : Alg) (register : ℕ) → IsRequirementText text ranges
@@ -261,10 +272,16 @@ pub required_matched : (algs : AlgSet) (events : List LogEvent) (entries : List 
     → HasMatch (verdict_on algs events entries expected).rows alg register
 required_matched algs events entries expected text ranges alg register is meets named =
     let verdict = verdict_on algs events entries expected in
-    let rows = verdict.rows in
-    let both = and_parts _ (is_complete ranges (expected_of_rows rows)) meets in
-    let each = (and_parts (is_good verdict.aggregate) (list_all is_match rows) both.0).1 in
-    let bank = every_passes (is_complete_in ranges (expected_of_rows rows)) both.1 alg in
-    let lt = named_exists (split_at_commas text) ranges alg register is named in
-    let kept = passes_at (λ r. not (is_missing ranges (expected_of_rows rows) alg r)) register bank lt in
-    matched_among rows alg register each (stated (names ranges alg register) (states (expected_of_rows rows) alg register) named kept)
+    let both = and_parts _ (is_complete ranges (expected_of_rows verdict.rows)) meets in
+    let each = (and_parts (is_good verdict.aggregate) (list_all is_match verdict.rows) both.0).1 in
+    rows_matched verdict.rows text ranges alg register is each both.1 named
+
+-- The same of a verdict on a list alone.
+pub required_list_matched : (entries : List ListEntry) (expected : List Expected) (text : List ℕ) (ranges : List BankRange) (alg : Alg)
+    (register : ℕ) → IsRequirementText text ranges → required_list_matches ranges (list_verdict_on entries expected) ≡ true
+    → names ranges alg register ≡ true → HasMatch (list_verdict_on entries expected).rows alg register
+required_list_matched entries expected text ranges alg register is meets named =
+    let verdict = list_verdict_on entries expected in
+    let both = and_parts _ (is_complete ranges (expected_of_rows verdict.rows)) meets in
+    let each = (and_parts _ (list_all is_match verdict.rows) both.0).1 in
+    rows_matched verdict.rows text ranges alg register is each both.1 named

@@ -15,6 +15,7 @@ ghost use Rattle.boot_verdict.specs.ExpectedTexts.{IsExpectedText};
 ghost use Rattle.boot_verdict.specs.PcrReadTexts.{IsPcrReadText};
 ghost use Rattle.boot_verdict.specs.RegisterRanges.{IsRangeText};
 ghost use Rattle.boot_verdict.specs.Requirements.{HasMatch, IsRequirementText, names, required_matches};
+ghost use Rattle.boot_verdict.specs.ListVerdicts.{list_verdict_on, required_list_matches};
 ghost use Rattle.boot_verdict.specs.WrittenTexts.{expected_text, those_within};
 ghost use Rattle.boot_verdict.specs.Verdicts.{pcr_after_log_and_list, row_on, verdict_on};
 
@@ -58,6 +59,13 @@ pub fn met_requirement_is_matched()
         (text : List ℕ) (ranges : List BankRange) (alg : Alg) (register : ℕ) → IsRequirementText text ranges
         → required_matches ranges (verdict_on algs events entries expected) ≡ true → names ranges alg register ≡ true
         → HasMatch (verdict_on algs events entries expected).rows alg register }
+{}
+
+/// The same of the verdict on a list alone.
+pub fn met_requirement_of_a_list_is_matched()
+    ensures { (entries : List ListEntry) (expected : List Expected) (text : List ℕ) (ranges : List BankRange) (alg : Alg)
+        (register : ℕ) → IsRequirementText text ranges → required_list_matches ranges (list_verdict_on entries expected) ≡ true
+        → names ranges alg register ≡ true → HasMatch (list_verdict_on entries expected).rows alg register }
 {}
 
 /// What [`crate::read_pcrread`] read and [`crate::write_expected`] wrote, [`crate::read_expected`] reads back: if a text that
