@@ -49,7 +49,9 @@ IsRangeFault registers fault = (fault ≡ runs.Usage) × SpellsNoRange registers
 abbrev pub range_text : List ℕ → Option (List ℕ)
 range_text text = if length text == 0 then None else Some text
 
--- Why there are no expected registers from this text within the range that another spells: this spells none; or the text was not
--- printed by tpm2_pcrread, or memory ran out.
+-- Why there are no expected registers from this text within the range that another spells: this spells none; or it spells one, and the
+-- text was not printed by tpm2_pcrread; or memory ran out.
 abbrev pub IsNotExpectedOn : List ℕ → List ℕ → RunFault → Type 0
-IsNotExpectedOn printed registers fault = IsRangeFault (range_text registers) fault ⊎ IsNotPrintedFor printed fault
+IsNotExpectedOn printed registers fault =
+    IsRangeFault (range_text registers) fault
+    ⊎ ((range : RegisterRange) × IsRequested (range_text registers) range × IsNotPrinted printed fault) ⊎ (fault ≡ runs.Memory)
