@@ -91,9 +91,10 @@ int32_t ima_locate_required(const uint8_t *log, size_t log_size, const uint8_t *
                             const uint8_t *expected, size_t expected_size, const uint8_t *require,
                             size_t require_size, uint8_t *out, size_t out_size, size_t *needed);
 
-/* The lines of expected registers that a text which tpm2_pcrread printed states, of the registers in a range, as
- * `0-10` or `4`, or of all if `registers_size` is 0. A wrong range is refused before the text. Nothing says
- * that a text states any register, nor who wrote it. (Version 2.) */
+/* The lines of expected registers that a text which tpm2_pcrread or tpm2_checkquote printed states, of the
+ * registers in a range, as `0-10` or `4`, or of all if `registers_size` is 0; at least one, else the text is
+ * refused. A wrong range is refused before the text. Nothing says who wrote the text, nor whether a quote
+ * holds: tpm2_checkquote prints the same of one that it refuses. (Version 2.) */
 int32_t ima_expected(const uint8_t *printed, size_t printed_size, const uint8_t *registers,
                      size_t registers_size, uint8_t *out, size_t out_size, size_t *needed);
 

@@ -47,9 +47,15 @@ class ReplayFault(IntEnum):
 class ExpectedFault(IntEnum):
     BAD_LINE = 1
     DOUBLE_LINE = 2
+    NOT_CHECKED = 4
+    NOT_SIGNED = 5
+    NO_REGISTER = 6
 
     def at(self, line):
         return Fault(f"refused: expected fault {self.value} at line {line}", number=self.value)
+
+    def of_text(self):
+        return Fault(f"refused: expected fault {self.value}", number=self.value)
 
 
 class BookFault(IntEnum):

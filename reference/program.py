@@ -3,11 +3,11 @@
 import os
 
 from .command_line import HelpAsked, read_words
-from .faults import NO_ARGUMENTS, USAGE, BookFault, Fault, ListFault, not_read, not_utf8, too_long
+from .faults import NO_ARGUMENTS, USAGE, BookFault, ExpectedFault, Fault, ListFault, not_read, not_utf8, too_long
 from .log import read_log
 from .measurement_list import BOOT_AGGREGATE, IMA, LONGEST_IMA_PATH, entry_of, list_spelling, list_text, read_list, replay
 from .registers import ALGORITHMS, BY_NAME, SHA1, Registers
-from .texts import read_expected, read_hexadecimal, read_names, read_pcrread, read_requirement
+from .texts import read_expected, read_hexadecimal, read_names, read_printed, read_requirement
 from .verdict import list_verdict, locate, verdict
 
 MOST_BYTES = 64 << 20
@@ -116,8 +116,10 @@ def required_by(values):
 
 
 def expected_command(inputs, values, text):
-    rows = read_pcrread(inputs.load(text))
-    return "".join(row.line() for row in rows if row.register in values["--registers"]), 0
+    rows = [row for row in read_printed(inputs.load(text)) if row.register in values["--registers"]]
+    if not rows:
+        raise ExpectedFault.NO_REGISTER.of_text()
+    return "".join(row.line() for row in rows), 0
 
 
 def judge(decide):

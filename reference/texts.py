@@ -1,4 +1,4 @@
-"""The texts that the program reads: expected registers, what tpm2_pcrread prints, names of files, a log in hexadecimal."""
+"""The texts that the program reads: expected registers, what tpm2-tools print, names of files, a log in hexadecimal."""
 
 import re
 from typing import NamedTuple
@@ -10,6 +10,7 @@ REGISTER = rb"(0|[1-9]|1[0-9]|2[0-3])"
 EXPECTED = re.compile(rb"(\w+) " + REGISTER + rb" ([0-9a-fA-F]+)")
 BANK = re.compile(rb"  ([A-Za-z0-9_]+):")
 VALUE = re.compile(rb"    (?:" + REGISTER + rb")( ?): 0x([0-9a-fA-F]+)")
+SIGNATURE = re.compile(rb"sig: [0-9a-fA-F]+")
 RANGE = re.compile(REGISTER.decode() + "(?:-" + REGISTER.decode() + ")?")
 WHITE_SPACE = b" \t\r\n"
 HEXADECIMAL = b"0123456789abcdefABCDEF"
@@ -61,12 +62,20 @@ def read_expected(text):
     return states.rows
 
 
-def read_pcrread(text):
-    """The registers that a text of tpm2_pcrread states ('What tpm2_pcrread prints')."""
-    states, bank = States(), None
+def read_printed(text):
+    """The registers that a text of tpm2_pcrread or tpm2_checkquote states ('What tpm2-tools print')."""
+    if text.startswith(b"quoted:"):
+        raise ExpectedFault.NOT_CHECKED.of_text()
+    states, bank, is_quote, is_signed = States(), None, False, False
     for number, line in lines_of(text):
         of_bank, of_value = BANK.fullmatch(line), VALUE.fullmatch(line)
-        if of_bank:
+        if is_signed:
+            raise ExpectedFault.BAD_LINE.at(number)
+        if line == b"pcrs:" and bank is None and not is_quote:
+            is_quote = True
+        elif is_quote and SIGNATURE.fullmatch(line):
+            is_signed = True
+        elif of_bank:
             bank = of_bank[1].decode()
         elif bank is not None and bank not in BY_NAME and line.startswith(b"    "):
             continue
@@ -74,6 +83,10 @@ def read_pcrread(text):
             states.add(BY_NAME[bank], of_value[1], of_value[3], number)
         else:
             raise ExpectedFault.BAD_LINE.at(number)
+    if is_quote and not is_signed:
+        raise ExpectedFault.NOT_SIGNED.of_text()
+    if not states.rows:
+        raise ExpectedFault.NO_REGISTER.of_text()
     return states.rows
 
 

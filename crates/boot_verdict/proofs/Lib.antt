@@ -10,6 +10,7 @@ pub mod ReplayLaws
 pub mod ListVerdictLaws
 pub mod EventTextLaws
 pub mod PcrReadLaws
+pub mod PrintedLaws
 pub mod RangeLaws
 pub mod WrittenLaws
 pub mod LineLaws

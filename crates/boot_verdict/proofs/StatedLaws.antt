@@ -11,7 +11,7 @@ use Rattle.hex.specs.Hex.{decode_of}
 use Rattle.hex.proofs.HexLemmas.{decode_of-same}
 use Rattle.boot_verdict.specs.declared.expected.Expected.{Expected}
 use Rattle.boot_verdict.specs.declared.expected.ExpectFault.{ExpectFault}
-use Rattle.boot_verdict.specs.declared.expected.ExpectFault.TheVariants.{BadLine, DoubleLine, Memory}
+use Rattle.boot_verdict.specs.declared.expected.ExpectFault.TheVariants.{BadLine, DoubleLine, Memory, NoRegister, NotChecked, NotSigned}
 use Rattle.boot_verdict.specs.StatedRegisters.{AreStated, BeginsWithStated, HasFaultOfFirst, IsFaultOfLine, SayAll, Saying, States, lines_of, same_register}
 use Rattle.boot_verdict.specs.parts.StatedLines.{AddsStated, IsAdded, SaysOnce, StatesAnother, lines_left}
 
@@ -136,6 +136,9 @@ module _ {Place : Type 0} (Says : Saying Place) where
       → SayAll Says place (line ∷ more) end back → IsDistinct same_register (earlier ++ back)
       → IsFaultOfLine Says earlier place line number fault → ⊥
   not_wrong one place end line more earlier back number Memory all distinct wrong = wrong
+  not_wrong one place end line more earlier back number NotChecked all distinct wrong = wrong
+  not_wrong one place end line more earlier back number NotSigned all distinct wrong = wrong
+  not_wrong one place end line more earlier back number NoRegister all distinct wrong = wrong
   not_wrong one place end line more earlier back number (BadLine at) all distinct wrong = wrong.1 all.0 all.1 all.3
   not_wrong one place end line more earlier back number (DoubleLine at) all distinct wrong =
       let e = wrong.1.1 in
@@ -145,13 +148,19 @@ module _ {Place : Type 0} (Says : Saying Place) where
       let bad : false ≡ true = sym apart ∙ wrong.1.3 in
       absurd cc
 
+  -- Lines lead to one end, and state one list of registers.
+  pub ends_once : SaysOnce Says → (start end other : Place) (lines : List (List ℕ)) (first second : List Expected)
+      → AreStated Says start lines end first → AreStated Says start lines other second → (end ≡ other) × (first ≡ second)
+  ends_once one start end other lines first second p q =
+      let all = subst (λ (l : List (List ℕ)). SayAll Says start l end first) (sym (append-nil lines)) p.say in
+      let two = say_parted one lines [] start other end first second all q.say in
+      (two.2.0, two.1 ∙ ap (λ (l : List Expected). second ++ l) two.2.1 ∙ append-nil second)
+
   -- A text has one reading.
   pub states_once : SaysOnce Says → (start : Place) (text : List ℕ) (first second : List Expected) → States Says start text first
       → States Says start text second → first ≡ second
   states_once one start text first second p q =
-      let all = subst (λ (l : List (List ℕ)). SayAll Says start l p.end first) (sym (append-nil (lines_of text))) p.stated.say in
-      let two = say_parted one (lines_of text) [] start q.end p.end first second all q.stated.say in
-      two.1 ∙ ap (λ (l : List Expected). second ++ l) two.2.1 ∙ append-nil second
+      (ends_once one start p.end q.end (lines_of text) first second p.stated q.stated).1
 
 -- ---- line by line
 

@@ -17,7 +17,10 @@ use Rattle.boot_verdict.specs.declared.expected.Expected.{Expected}
 use Rattle.boot_verdict.specs.declared.register_range.RegisterRange.{RegisterRange}
 use Rattle.boot_verdict.specs.StatedRegisters.{SayAll, lines_of, same_register, without_return}
 use Rattle.boot_verdict.specs.ExpectedTexts.{IsExpectedText, IsRegisterLine, Spells}
-use Rattle.boot_verdict.specs.PcrReadTexts.{GivesValue, IsPcrReadText, Place, Says}
+use Rattle.boot_verdict.specs.declared.printed.Part.{Part}
+use Rattle.boot_verdict.specs.declared.printed.Part.TheVariants.{Printed, Quoted, Signed}
+use Rattle.boot_verdict.specs.PcrReadTexts.{GivesValue, Place}
+use Rattle.boot_verdict.specs.PrintedTexts.{IsPrintedText, PrintedPlace, Prints, PrintsIn}
 use Rattle.boot_verdict.specs.RegisterRanges.{is_within}
 use Rattle.boot_verdict.specs.WrittenTexts.{expected_line, expected_text, those_within}
 use Rattle.boot_verdict.specs.parts.WrittenLines.{line_within}
@@ -77,12 +80,21 @@ value_proper (Some bank) line e gives = record {
   fits = (decode_of-ok gives.digits (bytes_of e.value) gives.value_is).3;
 }
 
-one_proper : (start next : Place) (line : List ℕ) (first : Option Expected) (others : List Expected)
-    → Says start line next first → AllByRecursion IsProper others → AllByRecursion IsProper (option_to_list first ++ others)
-one_proper start next line None others says all = all
-one_proper start next line (Some e) others says all = (value_proper start line e says.0, all)
+value_in : (part : Part) (bank : Place) (line : List ℕ) (next : PrintedPlace) (e : Expected) → PrintsIn part bank line next (Some e)
+    → GivesValue bank line e
+value_in Signed bank line next e says = absurd cc
+value_in Printed bank line next e (inl turns) = absurd cc
+value_in Printed bank line next e (inr says) = says.1.0
+value_in Quoted bank line next e (inl turns) = absurd cc
+value_in Quoted bank line next e (inr says) = says.1.0
 
-all_proper : (lines : List (List ℕ)) (start end : Place) (expected : List Expected) → SayAll Says start lines end expected
+one_proper : (start next : PrintedPlace) (line : List ℕ) (first : Option Expected) (others : List Expected)
+    → Prints start line next first → AllByRecursion IsProper others → AllByRecursion IsProper (option_to_list first ++ others)
+one_proper start next line None others says all = all
+one_proper start next line (Some e) others says all =
+    (value_proper start.1 line e (value_in start.0 start.1 line next e says), all)
+
+all_proper : (lines : List (List ℕ)) (start end : PrintedPlace) (expected : List Expected) → SayAll Prints start lines end expected
     → AllByRecursion IsProper expected
 all_proper [] start end expected say = rw say.1 tt
 all_proper (line ∷ lines) start end expected say =
@@ -197,10 +209,11 @@ written_states expected all distinct = record {
   };
 }
 
--- What is written of the registers that a text of tpm2_pcrread states, states them.
-pub reads_back : (text : List ℕ) (expected : List Expected) (range : RegisterRange) → IsPcrReadText text expected
+-- What is written of the registers that a text of tpm2-tools states, states them.
+pub reads_back : (text : List ℕ) (expected : List Expected) (range : RegisterRange) → IsPrintedText text expected
     → IsExpectedText (expected_text range expected) (those_within range expected)
-reads_back text expected range states =
-    let proper = all_proper (lines_of text) None states.end expected states.stated.say in
+reads_back text expected range is =
+    let stated = is.printed.1 in
+    let proper = all_proper (lines_of text) (Printed, None) (is.part, is.printed.0) expected stated.say in
     written_states (those_within range expected) (filter_all (λ e. is_within range e.register) IsProper expected proper)
-    (filter_distinct (λ e. is_within range e.register) expected states.stated.distinct)
+    (filter_distinct (λ e. is_within range e.register) expected stated.distinct)

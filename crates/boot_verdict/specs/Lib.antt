@@ -11,6 +11,7 @@ pub mod Replays
 pub mod parts
 pub mod EventTexts
 pub mod PcrReadTexts
+pub mod PrintedTexts
 pub mod RegisterRanges
 pub mod Requirements
 pub mod RequiredTexts

@@ -1,5 +1,5 @@
--- What tpm2_pcrread (tpm2-tools) prints: banks, and below each the values of its registers. Which lines are taken is this project's
--- choice.
+-- The lines that tpm2_pcrread (tpm2-tools) prints: banks, and below each the values of its registers. Which lines are taken is this
+-- project's choice.
 use Rattle.std.specs.Prelude.{◌≡◌, ◌⊎◌, ℕ, ◌-◌, ◌<◌, ◌||◌, ◌==◌, Bool, IsTrue, List, [], ◌++◌, length, codes, decimal, replicate, Option, Some, None, Ok}
 use Rattle.std.specs.Char.{is_ascii_alphanumeric}
 use Rattle.std.specs.List.{list_all}
@@ -9,8 +9,6 @@ use Rattle.pcr_banks.specs.Hashing.{name_of, size_of}
 use Rattle.pcr_banks.specs.Digests.{alg_of, bytes_of}
 use Rattle.pcr_banks.specs.Registers.{register_count}
 use Rattle.boot_verdict.specs.declared.expected.Expected.{Expected}
-use Rattle.boot_verdict.specs.declared.expected.ExpectFault.{ExpectFault}
-use Rattle.boot_verdict.specs.StatedRegisters.{BeginsWithStated, HasFaultOfFirst, States}
 
 -- ---- one line
 
@@ -71,19 +69,3 @@ Begins line (Some name) = IsBankLine line name
 abbrev pub Says : Place → List ℕ → Place → Option Expected → Type 0
 Says before line after None = (IsSkipped before line × (after ≡ before)) ⊎ Begins line after
 Says before line after (Some expected) = GivesValue before line expected × (after ≡ before)
-
--- ---- a whole text
-
--- The text states these registers: each line is skipped, begins a bank or gives a register its value, and no register of a bank
--- occurs twice.
-abbrev pub IsPcrReadText : List ℕ → List Expected → Type 0
-IsPcrReadText text expected = States Says None text expected
-
--- The text begins with lines that state at least one register.
-abbrev pub PrintsRegister : List ℕ → Type 0
-PrintsRegister text = BeginsWithStated Says None text
-
--- The fault is that of the first wrong line, which is neither skipped nor a bank line nor a value, or gives a value to a register
--- to which an earlier line gives one. Lines count from 1.
-abbrev pub HasFirstPrintedFault : List ℕ → ExpectFault → Type 0
-HasFirstPrintedFault text fault = HasFaultOfFirst Says None text fault

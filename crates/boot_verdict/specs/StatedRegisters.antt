@@ -4,7 +4,7 @@ use Rattle.std.specs.List.{IsDistinct, list_any}
 use Rattle.pcr_banks.specs.Hashing.{same_alg}
 use Rattle.boot_verdict.specs.declared.expected.Expected.{Expected}
 use Rattle.boot_verdict.specs.declared.expected.ExpectFault.{ExpectFault}
-use Rattle.boot_verdict.specs.declared.expected.ExpectFault.TheVariants.{BadLine, DoubleLine, Memory}
+use Rattle.boot_verdict.specs.declared.expected.ExpectFault.TheVariants.{BadLine, DoubleLine}
 
 -- ---- lines
 
@@ -75,7 +75,7 @@ IsFaultOfLine {Place} Says earlier place line number (BadLine at) =
     (at ≡ number) × ((next : Place) (stated : Option Expected) → Says place line next stated → ⊥)
 IsFaultOfLine {Place} Says earlier place line number (DoubleLine at) =
     (at ≡ number) × ((next : Place) × (e : Expected) × Says place line next (Some e) × IsTrue (list_any (λ x. same_register x e) earlier))
-IsFaultOfLine {Place} Says earlier place line number Memory = ⊥
+IsFaultOfLine {Place} Says earlier place line number fault = ⊥
 
 -- The fault is that of the first wrong line. Lines count from 1.
 pub record HasFaultOfFirst {Place : Type 0} (Says : Saying Place) (start : Place) (text : List ℕ) (fault : ExpectFault) : Type 0 where

@@ -23,10 +23,11 @@ pub struct Expected {
     pub value: Digest,
 }
 
-/// Why a text of expected registers was refused: the first wrong line, counted from 1, or out of memory.
+/// Why a text of expected registers was refused: the first wrong line, counted from 1, what it lacks, or out of memory. 4 to 6 are
+/// faults of what tpm2-tools print alone.
 #[derive(Clone, Copy, Debug, PartialEq, Eq, Error)]
 pub enum ExpectFault {
-    /// 1: the line is neither empty nor a register line; in what tpm2_pcrread prints, nor one of the others that it may have.
+    /// 1: the line is neither empty nor a register line; in what tpm2-tools print, nor one of the others that it may have.
     #[error("line {line} is not a register line")]
     BadLine { line: usize },
     /// 2: the line names a register of a bank that an earlier line names.
@@ -35,10 +36,19 @@ pub enum ExpectFault {
     /// 3: out of memory.
     #[error("out of memory")]
     Memory,
+    /// 4: the text is what tpm2_quote printed on the machine, which nobody has checked.
+    #[error("this is what tpm2_quote printed: its quote is not checked yet")]
+    NotChecked,
+    /// 5: the text begins as what tpm2_checkquote prints, and ends without the line of the signature.
+    #[error("the line of the signature is missing")]
+    NotSigned,
+    /// 6: the text states no register.
+    #[error("no register is stated")]
+    NoRegister,
 }
 
 impl ExpectFault {
-    /// The fault's number, from 1 to 3.
+    /// The fault's number, from 1 to 6.
     pub fn number(self) -> u32
         ensures { result ≡ expect_fault_number self }
     {
@@ -46,16 +56,19 @@ impl ExpectFault {
             ExpectFault::BadLine { .. } => 1,
             ExpectFault::DoubleLine { .. } => 2,
             ExpectFault::Memory => 3,
+            ExpectFault::NotChecked => 4,
+            ExpectFault::NotSigned => 5,
+            ExpectFault::NoRegister => 6,
         }
     }
 
-    /// The line at fault; `None` for `Memory`.
+    /// The line at fault, if the fault names one: those from 3 on name none.
     pub fn line(self) -> Option<usize>
         ensures { result ≡ expect_fault_line self }
     {
         match self {
             ExpectFault::BadLine { line } | ExpectFault::DoubleLine { line } => Some(line),
-            ExpectFault::Memory => None,
+            _ => None,
         }
     }
 }
@@ -86,7 +99,8 @@ pub fn read_expected(alloc: Global, text: &[u8]) -> Result<Vec<Expected>, Expect
     ensures fault { IfErr result (λ fault. (fault ≡ ExpectFault.Memory) ⊎ HasFirstFault text.now fault) }
     ensures memory { IsErrOf result ExpectFault.Memory → BeginsWithRegister text.now }
 {
-    read_lines(alloc, Anywhere, text)
+    let (expected, _) = read_lines(alloc, Anywhere, text)?;
+    Ok(expected)
 }
 
 // The only place of such a text: what a line says does not depend on the lines before it.

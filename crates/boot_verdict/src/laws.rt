@@ -12,7 +12,7 @@ ghost use Rattle.boot_verdict.specs.Places.{is_found, pcr_after, place_after, pl
 ghost use Rattle.boot_verdict.specs.declared.register_range.RegisterRange.{RegisterRange};
 ghost use Rattle.boot_verdict.specs.declared.requirement.BankRange.{BankRange};
 ghost use Rattle.boot_verdict.specs.ExpectedTexts.{IsExpectedText};
-ghost use Rattle.boot_verdict.specs.PcrReadTexts.{IsPcrReadText};
+ghost use Rattle.boot_verdict.specs.PrintedTexts.{IsPrintedText};
 ghost use Rattle.boot_verdict.specs.RegisterRanges.{IsRangeText};
 ghost use Rattle.boot_verdict.specs.Requirements.{HasMatch, IsRequirementText, names, required_matches};
 ghost use Rattle.boot_verdict.specs.ListVerdicts.{list_verdict_on, required_list_matches};
@@ -39,13 +39,13 @@ pub fn place_is_where_the_value_is_first()
 {}
 
 /// A text has one reading: it states one list of registers at most, whether it is one that [`crate::read_expected`] reads
-/// (`expected`) or one that tpm2_pcrread printed (`printed`); and it spells one range of registers (`range`) and one requirement
+/// (`expected`) or one that tpm2-tools printed (`printed`); and it spells one range of registers (`range`) and one requirement
 /// (`requirement`) at most.
 pub fn texts_have_one_reading()
     ensures expected { (text : List ℕ) (first second : List Expected)
         → IsExpectedText text first → IsExpectedText text second → first ≡ second }
     ensures printed { (text : List ℕ) (first second : List Expected)
-        → IsPcrReadText text first → IsPcrReadText text second → first ≡ second }
+        → IsPrintedText text first → IsPrintedText text second → first ≡ second }
     ensures range { (text : List ℕ) (first second : RegisterRange)
         → IsRangeText text first → IsRangeText text second → first ≡ second }
     ensures requirement { (text : List ℕ) (first second : List BankRange)
@@ -68,10 +68,10 @@ pub fn met_requirement_of_a_list_is_matched()
         → names ranges alg register ≡ true → HasMatch (list_verdict_on entries expected).rows alg register }
 {}
 
-/// What [`crate::read_pcrread`] read and [`crate::write_expected`] wrote, [`crate::read_expected`] reads back: if a text that
-/// tpm2_pcrread printed states some registers, then the text written of those within a range states these, in order, and no
+/// What [`crate::read_printed`] read and [`crate::write_expected`] wrote, [`crate::read_expected`] reads back: if a text that
+/// tpm2-tools printed states some registers, then the text written of those within a range states these, in order, and no
 /// others.
 pub fn expected_lines_read_back()
-    ensures { (text : List ℕ) (expected : List Expected) (range : RegisterRange) → IsPcrReadText text expected
+    ensures { (text : List ℕ) (expected : List Expected) (range : RegisterRange) → IsPrintedText text expected
         → IsExpectedText (expected_text range expected) (those_within range expected) }
 {}

@@ -1,46 +1,21 @@
-//! The registers that tpm2_pcrread prints, read from text.
+//! The lines that tpm2_pcrread prints.
 
-ghost use Rattle.std.specs.Prelude.{◌≡◌, ◌<◌, ◌⊎◌, ℕ, List, ◌++◌, option_map, IfSome, IfNone, IfOk, IfErr, IsErrOf};
+ghost use Rattle.std.specs.Prelude.{◌≡◌, ◌<◌, ℕ, List, ◌++◌, option_map, IfSome, IfNone};
 ghost use Rattle.std.specs.List.{list_all};
 ghost use Rattle.pcr_banks.specs.Hashing.{name_of};
 ghost use Rattle.pcr_banks.specs.Registers.{register_count};
 ghost use Rattle.boot_verdict.specs.declared.expected.Expected.{Expected};
-ghost use Rattle.boot_verdict.specs.PcrReadTexts.{HasFirstPrintedFault, IsBankLine, IsPcrReadText, IsValueLine, Place, PrintsRegister, Says, is_name_byte, two_columns};
+ghost use Rattle.boot_verdict.specs.PcrReadTexts.{IsBankLine, IsValueLine, Place, Says, is_name_byte, two_columns};
 
-use crate::expected::{ExpectFault, Expected};
+use crate::expected::Expected;
 use crate::lines::{after_prefix, before_suffix, register_named};
-use crate::stated::{LinePlace, read_lines};
+use crate::stated::LinePlace;
 use pcr_banks::{Alg, Digest};
-use std::alloc::Global;
 
-/// Reads what `tpm2_pcrread` of tpm2-tools prints: for each bank a line of two spaces, the bank's name and a colon, as in
-/// `  sha256:`, and below it a line for each register, as in `    4 : 0xF5A5..` or `    10: 0x15AC..`.
-///
-/// A bank's name has letters, digits and underscores. A register's line is four spaces, the register in decimal, a space if that
-/// is one digit, `: 0x`, and as many hexadecimal digits, of either case, as a value of the bank has. Banks of other algorithms are
-/// skipped: in these each line that begins with four spaces. A bank may have no registers. Empty lines are skipped, one carriage
-/// return at a line's end is dropped, and the last line feed may be missing.
-///
-/// Fails with the fault of the first wrong line: [`ExpectFault::BadLine`] if it is none of these lines, or stands before the first
-/// bank and is not empty; [`ExpectFault::DoubleLine`] if an earlier line gives a value to the same register of the same bank. Or
-/// with [`ExpectFault::Memory`], which is possible only if lines before the first wrong line state a register.
-pub fn read_pcrread(alloc: Global, text: &[u8]) -> Result<Vec<Expected>, ExpectFault>
-    // The result is what the text states.
-    ensures found { IfOk result (λ expected. IsPcrReadText text.now expected.items) }
-    // A text that states registers is read, unless memory runs out.
-    ensures only { (expected : List Expected) → IsPcrReadText text.now expected
-        → IfErr result (λ fault. fault ≡ ExpectFault.Memory) }
-    // Any other fault is that of the first wrong line.
-    ensures fault { IfErr result (λ fault. (fault ≡ ExpectFault.Memory) ⊎ HasFirstPrintedFault text.now fault) }
-    ensures memory { IsErrOf result ExpectFault.Memory → PrintsRegister text.now }
-{
-    read_lines(alloc, InBank { name: None }, text)
-}
-
-// A place between lines: in the bank of this name, or before the first bank line.
+/// A place between lines: in the bank of this name, or before the first bank line.
 #[derive(Clone, Copy)]
-struct InBank<'a> {
-    name: Option<&'a [u8]>,
+pub(crate) struct InBank<'a> {
+    pub(crate) name: Option<&'a [u8]>,
 }
 
 impl<'a> LinePlace<'a> for InBank<'a> {

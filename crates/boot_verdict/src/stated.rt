@@ -4,7 +4,7 @@ ghost use Rattle.std.specs.Prelude.{◌≡◌, ◌⊎◌, List, ℕ, false, ◌�
 ghost use Rattle.std.specs.List.{list_any};
 ghost use Rattle.boot_verdict.specs.declared.expected.Expected.{Expected};
 ghost use Rattle.boot_verdict.specs.declared.expected.ExpectFault.TheVariants.{DoubleLine, Memory};
-ghost use Rattle.boot_verdict.specs.StatedRegisters.{BeginsWithStated, HasFaultOfFirst, IsFaultOfLine, States, same_register};
+ghost use Rattle.boot_verdict.specs.StatedRegisters.{AreStated, BeginsWithStated, HasFaultOfFirst, IsFaultOfLine, States, lines_of, same_register};
 ghost use Rattle.boot_verdict.specs.parts.StatedLines.{AddsStated, SaysOnce, StatesAnother};
 
 use crate::expected::{ExpectFault, Expected};
@@ -27,13 +27,13 @@ pub(crate) trait LinePlace<'a>: Copy {
         ensures none { IfNone result ((next : Value) (stated : Option Expected) → says (value self) line.now next stated → ⊥) };
 }
 
-/// Reads the registers that the lines of this text state, from the place where it begins.
+/// Reads the registers that the lines of this text state, from the place where it begins to the one where it ends.
 pub(crate) fn read_lines<'a, P: LinePlace<'a>>(
     alloc: Global,
     start: P,
     text: &'a [u8],
-) -> Result<Vec<Expected>, ExpectFault>
-    ensures found { IfOk result (λ expected. States P.says (P.value start) text.now expected.items) }
+) -> Result<(Vec<Expected>, P), ExpectFault>
+    ensures found { IfOk result (λ stated. AreStated P.says (P.value start) (lines_of text.now) (P.value stated.1) stated.0.items) }
     ensures only { SaysOnce P.says → (expected : List Expected) → States P.says (P.value start) text.now expected
         → IfErr result (λ fault. fault ≡ ExpectFault.Memory) }
     ensures fault { IfErr result (λ fault. (fault ≡ ExpectFault.Memory) ⊎ HasFaultOfFirst P.says (P.value start) text.now fault) }
@@ -49,7 +49,7 @@ pub(crate) fn read_lines<'a, P: LinePlace<'a>>(
         place = take_line(&mut expected, place, number, line)?;
         rest = after;
     }
-    Ok(expected)
+    Ok((expected, place))
 }
 
 // Appends the register that this line at this place states, if it states one. `number` counts lines from 1. Returns the place after

@@ -293,7 +293,7 @@ aggregate alone"
     },
     CommandRow {
         name: "expected",
-        about: "Prints expected registers from what tpm2_pcrread printed",
+        about: "Prints expected registers from what tpm2_pcrread or tpm2_checkquote printed",
         end: HelpEnd::Expected,
         arguments: &[
             ArgumentRow {
@@ -303,7 +303,7 @@ aggregate alone"
             },
             ArgumentRow {
                 id: "PCRREAD",
-                help: "Text that tpm2_pcrread printed, at most 64 MiB",
+                help: "Text that tpm2_pcrread or tpm2_checkquote printed, at most 64 MiB; no text tells whether a quote holds",
                 form: Form::Required,
             },
         ],

@@ -36,12 +36,15 @@ Replay faults (refused: replay fault N at entry K; the first entry is 0):
   1  the template digest is not the SHA-1 of what it covers, and the entry is no violation
 " "\n"; $($more)*; $end)
     };
-    // The faults of expected registers, and of what tpm2_pcrread printed.
+    // The faults of expected registers, and of what tpm2-tools printed.
     ($($begun:literal)*; expected $($more:ident)*; $end:literal) => {
         with_fault_tables!($($begun)* "\
-Expected faults (refused: expected fault N at line K; the first line is 1):
+Expected faults (refused: expected fault N at line K; the first line is 1; 4 to 6, of the command expected, name no line):
   1  the line is not empty and has another form
   2  the line names a register of a bank that an earlier line names
+  4  the text is what tpm2_quote printed: nobody has checked its quote yet
+  5  the text begins as what tpm2_checkquote prints, and has no line of a signature
+  6  no register is stated, or none of those that --registers names
 " "\n"; $($more)*; $end)
     };
     // The faults of a book.

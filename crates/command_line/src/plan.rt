@@ -115,7 +115,7 @@ pub enum Plan {
         /// The text of the registers that have to be among them, as `sha256:0-10`. It is any text here.
         required: String,
     },
-    /// Write the text of expected registers from what `tpm2_pcrread` printed.
+    /// Write the text of expected registers from what `tpm2_pcrread` or `tpm2_checkquote` printed.
     Expected {
         /// The name of the text that one of them printed.
         printed: String,

@@ -1,12 +1,13 @@
--- Expected registers, as the program writes them from what tpm2_pcrread printed. All of this is this project's choice.
-use Rattle.std.specs.Prelude.{◌≡◌, ℕ, ◌⊎◌, ◌==◌, if◌then◌else◌, nat_lt, List, length, Option, Some, None}
+-- Expected registers, as the program writes them from what tpm2-tools printed. All of this is this project's choice.
+use Rattle.std.specs.Prelude.{◌≡◌, ℕ, ◌⊎◌, ◌==◌, ◌<◌, if◌then◌else◌, nat_lt, List, [], length, Option, Some, None}
 use Rattle.pcr_banks.specs.Registers.{register_count}
 use Rattle.boot_verdict.specs.declared.expected.Expected.{Expected}
 use Rattle.boot_verdict.specs.declared.expected.ExpectFault.{ExpectFault}
+use Rattle.boot_verdict.specs.declared.expected.ExpectFault.TheVariants.{NoRegister}
 use Rattle.boot_verdict.specs.declared.register_range.RegisterRange.{RegisterRange}
-use Rattle.boot_verdict.specs.PcrReadTexts.{HasFirstPrintedFault, IsPcrReadText}
+use Rattle.boot_verdict.specs.PrintedTexts.{HasPrintedFault, IsPrintedText}
 use Rattle.boot_verdict.specs.RegisterRanges.{IsRangeText, is_within}
-use Rattle.boot_verdict.specs.WrittenTexts.{expected_text}
+use Rattle.boot_verdict.specs.WrittenTexts.{expected_text, those_within}
 use Rattle.ima_agent.specs.declared.fault.RunFault.{RunFault}
 use Rattle.ima_agent.specs.declared.fault.RunFault.TheVariants as runs
 use Rattle.ima_agent.specs.Faults.{fault_of_expected}
@@ -21,23 +22,35 @@ abbrev pub SpellsNoRange : Option (List ℕ) → Type 0
 SpellsNoRange None = ⊥
 SpellsNoRange (Some text) = (range : RegisterRange) → IsRangeText text range → ⊥
 
--- The text was printed by tpm2_pcrread, and what is shown are the lines of the registers that it states within the requested range.
+-- The text was printed by tpm2-tools, and what is shown are the lines of the registers that it states within the requested range, at
+-- least one.
 pub record ShowsExpected (registers : Option (List ℕ)) (text shown : List ℕ) : Type 0 where
   pub range : RegisterRange
   pub expected : List Expected
   pub requested : IsRequested registers range
-  pub printed : IsPcrReadText text expected
+  pub printed : IsPrintedText text expected
+  pub some : 0 < length (those_within range expected)
   pub text_is : shown ≡ expected_text range expected
 
--- The text was not printed by tpm2_pcrread, and the fault is that of its first wrong line.
+-- The text was not printed by tpm2-tools, or states no register, and the fault is its own.
 pub record IsNotPrinted (text : List ℕ) (fault : RunFault) : Type 0 where
   pub first : ExpectFault
-  pub first_is : HasFirstPrintedFault text first
+  pub first_is : HasPrintedFault text first
   pub says : fault ≡ fault_of_expected first
 
--- Why no registers are written from a text: it was not printed by tpm2_pcrread, or memory ran out.
-abbrev pub IsNotPrintedFor : List ℕ → RunFault → Type 0
-IsNotPrintedFor text fault = IsNotPrinted text fault ⊎ (fault ≡ runs.Memory)
+-- The text was printed by tpm2-tools, and states no register within the requested range.
+pub record StatesNoneWithin (registers : Option (List ℕ)) (text : List ℕ) (fault : RunFault) : Type 0 where
+  pub range : RegisterRange
+  pub expected : List Expected
+  pub requested : IsRequested registers range
+  pub printed : IsPrintedText text expected
+  pub none : those_within range expected ≡ []
+  pub says : fault ≡ runs.Expect NoRegister
+
+-- Why no registers are written from a text: it was not printed by tpm2-tools, it states none within the requested range, or memory ran
+-- out.
+abbrev pub IsNotPrintedFor : Option (List ℕ) → List ℕ → RunFault → Type 0
+IsNotPrintedFor registers text fault = IsNotPrinted text fault ⊎ StatesNoneWithin registers text fault ⊎ (fault ≡ runs.Memory)
 
 -- The range that is requested is none.
 abbrev pub IsRangeFault : Option (List ℕ) → RunFault → Type 0
@@ -50,8 +63,8 @@ abbrev pub range_text : List ℕ → Option (List ℕ)
 range_text text = if length text == 0 then None else Some text
 
 -- Why there are no expected registers from this text within the range that another spells: this spells none; or it spells one, and the
--- text was not printed by tpm2_pcrread; or memory ran out.
+-- text was not printed by tpm2-tools, or states no register within the range; or memory ran out.
 abbrev pub IsNotExpectedOn : List ℕ → List ℕ → RunFault → Type 0
 IsNotExpectedOn printed registers fault =
     IsRangeFault (range_text registers) fault
-    ⊎ ((range : RegisterRange) × IsRequested (range_text registers) range × IsNotPrinted printed fault) ⊎ (fault ≡ runs.Memory)
+    ⊎ ((range : RegisterRange) × IsRequested (range_text registers) range × IsNotPrintedFor (range_text registers) printed fault)

@@ -92,7 +92,7 @@ IsFaultOf inputs (LocateRequired log list expected required) fault =
     IsFaultWith (string_bytes required) (IsReportFault inputs (string_bytes log) (string_bytes list) (string_bytes expected)) fault
 IsFaultOf inputs (Expected printed registers) fault =
     IsRangeFault (option_map string_bytes registers) fault ⊎ IsInputFault inputs (Some (string_bytes printed)) fault
-    ⊎ OfInput inputs (Some (string_bytes printed)) (λ text. IsNotPrintedFor text fault)
+    ⊎ OfInput inputs (Some (string_bytes printed)) (λ text. IsNotPrintedFor (option_map string_bytes registers) text fault)
 IsFaultOf inputs (RegistersAfter log) fault =
     IsInputFault inputs (Some (string_bytes log)) fault
     ⊎ OfInput inputs (Some (string_bytes log)) (λ bytes. IsNoLogFor bytes fault)

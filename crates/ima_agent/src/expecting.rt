@@ -1,6 +1,7 @@
-//! Expected registers, written from what tpm2_pcrread printed.
+//! Expected registers, written from what tpm2-tools printed.
 
-ghost use Rattle.std.specs.Prelude.{◌⊎◌, List, ℕ, Option, Some, option_map, IfOk, IfErr};
+ghost use Rattle.std.specs.Prelude.{◌≡◌, ◌<◌, ◌⊎◌, List, ℕ, [], length, true, false, Option, Some, option_map, IfOk, IfErr};
+ghost use Rattle.boot_verdict.specs.WrittenTexts.{those_within};
 ghost use Rattle.ima_agent.specs.Expecting.{IsNotExpectedOn, IsNotPrintedFor, IsRangeFault, IsRequested, ShowsExpected, range_text};
 ghost use Rattle.ima_agent.specs.Loading.{IsInputFault};
 ghost use Rattle.ima_agent.specs.Program.{OfInput};
@@ -8,7 +9,7 @@ ghost use Rattle.ima_agent.specs.Program.{OfInput};
 use crate::fault::RunFault;
 use crate::files::Files;
 use crate::inputs::loaded;
-use boot_verdict::{RegisterRange, read_pcrread, write_expected};
+use boot_verdict::{ExpectFault, Expected, RegisterRange, read_printed, write_expected};
 use byte_streams::{Failed, VecSink};
 use std::alloc::Global;
 
@@ -24,18 +25,18 @@ pub(crate) fn expected_from<F: Files>(
         (λ text. ShowsExpected (option_map (λ text. text.now) registers.entry) text shown.items)) }
     ensures fault { IfErr result (λ fault. IsRangeFault (option_map (λ text. text.now) registers.entry) fault
         ⊎ IsInputFault (F.told files.old) (Some printed.now) fault
-        ⊎ OfInput (F.told files.old) (Some printed.now) (λ text. IsNotPrintedFor text fault)) }
+        ⊎ OfInput (F.told files.old) (Some printed.now) (λ text. IsNotPrintedFor (option_map (λ text. text.now) registers.entry) text fault)) }
 {
     let range = range_of(registers)?;
     let text = loaded(alloc, files, Some(printed))?;
     expected_in(alloc, &text, range)
 }
 
-/// The lines of the registers that this text, which tpm2_pcrread printed, states within the range that `registers` spells, or of all if
-/// that is empty: what `expected` shows of a file with these bytes, here of any size.
+/// The lines of the registers that this text, which tpm2_pcrread or tpm2_checkquote printed, states within the range that `registers`
+/// spells, or of all if that is empty: what `expected` shows of a file with these bytes, here of any size.
 ///
-/// Fails with [`RunFault::Usage`] if `registers` spells no range; else with [`RunFault::Expect`] if a line is wrong, and with
-/// [`RunFault::Memory`] if memory runs out.
+/// Fails with [`RunFault::Usage`] if `registers` spells no range; else with [`RunFault::Expect`] if a line is wrong or missing, or no
+/// register is within the range, and with [`RunFault::Memory`] if memory runs out.
 pub fn expected_on(alloc: Global, printed: &[u8], registers: &[u8]) -> Result<Vec<u8>, RunFault>
     ensures shown { IfOk result (λ shown. ShowsExpected (range_text registers.now) printed.now shown.items) }
     ensures fault { IfErr result (IsNotExpectedOn printed.now registers.now) }
@@ -69,12 +70,23 @@ fn range_of(text: Option<&str>) -> Result<RegisterRange, RunFault>
 // The lines of the registers within the range that this text states.
 fn expected_in(alloc: Global, text: &[u8], range: RegisterRange) -> Result<Vec<u8>, RunFault>
     ensures shown { IfOk result (λ shown. (registers : Option (List ℕ)) → IsRequested registers range → ShowsExpected registers text.now shown.items) }
-    ensures fault { IfErr result (IsNotPrintedFor text.now) }
+    ensures fault { IfErr result (λ fault. (registers : Option (List ℕ)) → IsRequested registers range → IsNotPrintedFor registers text.now fault) }
 {
-    let expected = read_pcrread(alloc, text)?;
+    let expected = read_printed(alloc, text)?;
+    if !is_any_within(&expected, range) {
+        return Err(RunFault::Expect(ExpectFault::NoRegister));
+    }
     let mut lines = VecSink::new(Vec::new(alloc));
     match write_expected(&expected, range, &mut lines) {
         Ok(()) => Ok(lines.into_bytes()),
         Err(Failed) => Err(RunFault::Memory),
     }
+}
+
+// Whether one of the registers is within the range.
+fn is_any_within(expected: &[Expected], range: RegisterRange) -> bool
+    ensures some { result ≡ true → 0 < length (those_within range expected.now) }
+    ensures none { result ≡ false → those_within range expected.now ≡ [] }
+{
+    expected.iter().any(|register| range.contains(register.register))
 }

@@ -27,7 +27,7 @@ pub enum RunFault {
     List(ListFault),
     /// An entry of the list is not genuine.
     Replay(ReplayFault),
-    /// An input does not state expected registers, or was not printed by tpm2_pcrread.
+    /// An input does not state expected registers, or was not printed by tpm2-tools as one that states some.
     Expect(ExpectFault),
     /// The book could not be opened.
     Book(BookFault),

@@ -30,7 +30,7 @@ mod words;
 pub use boot_verdict::{
     Aggregate, BankRange, EventData, ExpectFault, Expected, Located, Place, RegisterRange, Report,
     Requirement, RequirementFault, Row, State, VerifyFault, all_found, list_start, locate,
-    locate_from, read_expected, read_pcrread, replay_from, required_found, verify, verify_from,
+    locate_from, read_expected, read_printed, replay_from, required_found, verify, verify_from,
     write_events, write_expected, write_places, write_registers, write_report,
     write_required_places, write_required_report,
 };

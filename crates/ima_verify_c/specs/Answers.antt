@@ -66,7 +66,7 @@ IsRequiredPlacesAnswer log list expected required text status =
     ShowsRequiredPlacesOn log list expected required text status
     ⊎ IsRefusal (IsFaultWith required (IsNoReportOn log list expected)) text status
 
--- The expected registers that this text, which tpm2_pcrread printed, states within the range that the text `registers` spells, or all
+-- The expected registers that this text, which tpm2-tools printed, states within the range that the text `registers` spells, or all
 -- if that is empty; or why there are none.
 abbrev pub IsExpectedAnswer : List ℕ → List ℕ → List ℕ → ℕ → Type 0
 IsExpectedAnswer printed registers text status =

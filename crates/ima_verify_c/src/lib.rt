@@ -93,7 +93,7 @@ pub extern "C" fn ima_locate_required(
     give(alloc, asked, out, needed)
 }
 
-/// The expected registers that a text which tpm2_pcrread printed states within a range, as `0-10`, or all if that is empty, as `expected`
+/// The expected registers that a text which tpm2_pcrread or tpm2_checkquote printed states within a range, as `0-10`, or all if that is empty, as `expected`
 /// writes them.
 #[unsafe(no_mangle)]
 pub extern "C" fn ima_expected(

@@ -12,7 +12,7 @@ use itoa::Buffer;
 use pcr_banks::MOST_DIGITS;
 
 /// Writes a line for each of these registers that is within the range, in order.
-/// [`crate::read_expected`] reads such lines, and from those of what [`crate::read_pcrread`] read, the same registers again
+/// [`crate::read_expected`] reads such lines, and from those of what [`crate::read_printed`] read, the same registers again
 /// ([`crate::laws`]).
 ///
 /// A line is the bank's algorithm by name, the register in decimal and the value in lower case hexadecimal, separated by spaces,

@@ -3,7 +3,7 @@
 
 use super::texts::{Text, expected, places, report};
 use boot_verdict::{
-    ExpectFault, VerifyFault, list_start, read_expected, read_pcrread, replay_from, verify_from,
+    ExpectFault, VerifyFault, list_start, read_expected, read_printed, replay_from, verify_from,
 };
 use byte_streams::SliceSource;
 use std::test::Fail;
@@ -29,15 +29,15 @@ sha1 4 0000000000000000000000000000000000000000";
 
 /// One register; and then a line that states none.
 #[test]
-fn each_allocation_refused_in_read_pcrread(rt: HostRuntime) -> Result<(), Fail> {
+fn each_allocation_refused_in_read_printed(rt: HostRuntime) -> Result<(), Fail> {
     let alloc = rt.alloc();
-    let one = once_more(ExpectFault::Memory, || read_pcrread(alloc, PRINTED))?;
+    let one = once_more(ExpectFault::Memory, || read_printed(alloc, PRINTED))?;
     assert_eq!(rt;
         Text::Expected(&one).written(alloc)?.as_slice(),
         PRINTED_LINE
     );
     const WRONG: &[u8] = b"  sha1:\n    4 : 0x0000000000000000000000000000000000000000\nx";
-    let fault = once_more(ExpectFault::Memory, || read_pcrread(alloc, WRONG)).err();
+    let fault = once_more(ExpectFault::Memory, || read_printed(alloc, WRONG)).err();
     assert_eq!(rt; fault, Some(ExpectFault::BadLine { line: 3 }));
     Ok(())
 }

@@ -1,8 +1,6 @@
-use Rattle.std.specs.Prelude.{None}
 use Rattle.boot_verdict.specs.ExpectedTexts.{Spells}
-use Rattle.boot_verdict.specs.PcrReadTexts.{Says}
 use Rattle.boot_verdict.proofs.ExpectedLaws.{spells_once}
-use Rattle.boot_verdict.proofs.PcrReadLaws.{says_once}
+use Rattle.boot_verdict.proofs.PrintedLaws.{printed_once}
 use Rattle.boot_verdict.proofs.RangeLaws.{range_once}
 use Rattle.boot_verdict.proofs.StatedLaws.{states_once}
 use Rattle.boot_verdict.proofs.RequirementLaws.{requirement_once}
@@ -12,7 +10,7 @@ pub returns-clause-expected : goal.returns-clause-expected
 returns-clause-expected c = states_once Spells spells_once tt
 
 pub returns-clause-printed : goal.returns-clause-printed
-returns-clause-printed c = states_once Says says_once None
+returns-clause-printed c = printed_once
 
 pub returns-clause-range : goal.returns-clause-range
 returns-clause-range c = range_once
