@@ -99,8 +99,10 @@ pub fn read_expected(alloc: Global, text: &[u8]) -> Result<Vec<Expected>, Expect
     ensures fault { IfErr result (λ fault. (fault ≡ ExpectFault.Memory) ⊎ HasFirstFault text.now fault) }
     ensures memory { IsErrOf result ExpectFault.Memory → BeginsWithRegister text.now }
 {
-    let (expected, _) = read_lines(alloc, Anywhere, text)?;
-    Ok(expected)
+    match read_lines(alloc, Anywhere, text) {
+        Ok((expected, _)) => Ok(expected),
+        Err(fault) => Err(fault),
+    }
 }
 
 // The only place of such a text: what a line says does not depend on the lines before it.

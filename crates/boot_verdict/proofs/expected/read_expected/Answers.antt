@@ -1,5 +1,5 @@
 use Rattle.boot_verdict.proofs.ExpectedLaws.{spells_once}
 use Rattle.boot_verdict.proofs.expected.read_expected.Goals as goal
 
-pub returns-clause-only : goal.returns-clause-only
-returns-clause-only c = c.read_lines.ensures.only spells_once
+pub returns-in-Err-clause-only : goal.returns-in-Err-clause-only
+returns-in-Err-clause-only c = c.in-Err.ensures.only spells_once
