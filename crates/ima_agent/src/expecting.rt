@@ -1,7 +1,9 @@
 //! Expected registers, written from what tpm2-tools printed.
 
-ghost use Rattle.std.specs.Prelude.{◌≡◌, ◌<◌, ◌⊎◌, List, ℕ, [], length, true, false, Option, Some, option_map, IfOk, IfErr};
-ghost use Rattle.boot_verdict.specs.WrittenTexts.{those_within};
+ghost use Rattle.std.specs.Prelude.{◌≡◌, ◌⊎◌, List, ℕ, Option, Some, option_map, IfOk, IfErr};
+ghost use Rattle.std.specs.List.{list_any};
+ghost use Rattle.boot_verdict.specs.RegisterRanges.{is_within};
+ghost use Rattle.boot_verdict.specs.WrittenTexts.{expected_text};
 ghost use Rattle.ima_agent.specs.Expecting.{IsNotExpectedOn, IsNotPrintedFor, IsRangeFault, IsRequested, ShowsExpected, range_text};
 ghost use Rattle.ima_agent.specs.Loading.{IsInputFault};
 ghost use Rattle.ima_agent.specs.Program.{OfInput};
@@ -11,7 +13,7 @@ use crate::files::Files;
 use crate::inputs::loaded;
 use boot_verdict::{ExpectFault, Expected, RegisterRange, read_printed, write_expected};
 use byte_streams::{Failed, VecSink};
-use std::alloc::Global;
+use std::alloc::{AllocError, Global};
 
 /// The lines of the registers that the text in the file of this name states within the range that `registers` spells, or of all
 /// without one.
@@ -76,17 +78,27 @@ fn expected_in(alloc: Global, text: &[u8], range: RegisterRange) -> Result<Vec<u
     if !is_any_within(&expected, range) {
         return Err(RunFault::Expect(ExpectFault::NoRegister));
     }
+    Ok(lines_within(alloc, &expected, range)?)
+}
+
+// The lines of those of the registers that are within the range.
+fn lines_within(
+    alloc: Global,
+    expected: &[Expected],
+    range: RegisterRange,
+) -> Result<Vec<u8>, AllocError>
+    ensures { IfOk result (λ shown. shown.items ≡ expected_text range expected.now) }
+{
     let mut lines = VecSink::new(Vec::new(alloc));
-    match write_expected(&expected, range, &mut lines) {
+    match write_expected(expected, range, &mut lines) {
         Ok(()) => Ok(lines.into_bytes()),
-        Err(Failed) => Err(RunFault::Memory),
+        Err(Failed) => Err(AllocError),
     }
 }
 
 // Whether one of the registers is within the range.
 fn is_any_within(expected: &[Expected], range: RegisterRange) -> bool
-    ensures some { result ≡ true → 0 < length (those_within range expected.now) }
-    ensures none { result ≡ false → those_within range expected.now ≡ [] }
+    ensures { result ≡ list_any (λ e. is_within range e.register) expected.now }
 {
     expected.iter().any(|register| range.contains(register.register))
 }
