@@ -1,14 +1,14 @@
 //! The report on a log, a list and expected registers, as text.
 
-ghost use Rattle.std.specs.Prelude.{◌≡◌, ℕ, List, IfOk, IfErr};
+ghost use Rattle.std.specs.Prelude.{◌≡◌, IfOk, IfErr};
 ghost use Rattle.boot_verdict.specs.RequiredTexts.{required_report_text};
-ghost use Rattle.boot_verdict.specs.Verdicts.{IsVerdictFrom, IsVerifyFault, verdict_of};
+ghost use Rattle.boot_verdict.specs.Verdicts.{IsVerdictFrom, verdict_of};
 ghost use Rattle.boot_verdict.specs.ReportTexts.{report_text};
 ghost use Rattle.ima_agent.specs.Faults.{IsFaultOfVerdict};
 ghost use Rattle.ima_agent.specs.Loading.{input_limit};
 ghost use Rattle.ima_agent.specs.parts.Verifying.{IsNoVerdictFrom};
 ghost use Rattle.ima_agent.specs.Requiring.{IsFaultWith, ShowsRequiredReport, ShowsRequiredReportOn, required_verdict_status};
-ghost use Rattle.ima_agent.specs.Verifying.{HasVerdict, IsFirstCause, IsNoReportOn, IsReportFault, IsVerdictOn, ShowsReport, ShowsReportOn, verdict_status};
+ghost use Rattle.ima_agent.specs.Verifying.{HasVerdict, IsNoReportOn, IsReportFault, IsVerdictOn, ShowsReport, ShowsReportOn, fault_of_verdict, verdict_status};
 
 use crate::evidence::{Evidence, opened};
 use crate::fault::RunFault;
@@ -128,7 +128,7 @@ fn judged_on(alloc: Global, log: &[u8], list: &[u8], expected: &[u8]) -> Result<
 
 /// The program's fault for a verifier's fault of bytes in memory: no source failed, and no list was too long.
 pub(crate) fn first_cause(fault: VerifyFault) -> RunFault
-    ensures { (log : List ℕ) (list : List ℕ) → IsVerifyFault log list fault → IsFirstCause fault result }
+    ensures { result ≡ fault_of_verdict fault }
 {
     match fault {
         VerifyFault::Log(fault) => fault.into(),
