@@ -10,7 +10,7 @@ ghost use Rattle.ima_agent.specs.parts.Replaying.{IsNoReplayFrom};
 use crate::fault::RunFault;
 use crate::files::Files;
 use crate::inputs::{INPUT_LIMIT, loaded, not_read};
-use crate::output::{DIFFERS, DONE, Output};
+use crate::output::Output;
 use crate::requiring::requirement_in;
 use crate::verifying::{first_cause, verdict_fault};
 use boot_verdict::{
@@ -157,14 +157,10 @@ fn list_output(alloc: Global, report: &ListReport) -> Result<Output, AllocError>
     ensures status { IfOk result (λ output. output.status ≡ list_verdict_status (list_verdict_of report.now)) }
 {
     let mut text = VecSink::new(Vec::new(alloc));
-    if write_list_report(report, &mut text).is_err() {
-        return Err(AllocError);
+    match write_list_report(report, &mut text) {
+        Ok(()) => Ok(Output::judged(text, report.matches())),
+        Err(Failed) => Err(AllocError),
     }
-    let status = if report.matches() { DONE } else { DIFFERS };
-    Ok(Output {
-        text: text.into_bytes(),
-        status,
-    })
 }
 
 // A report as text where these registers are required, and its status.
@@ -177,16 +173,8 @@ fn required_output(
     ensures status { IfOk result (λ output. output.status ≡ required_list_status requirement.now (list_verdict_of report.now)) }
 {
     let mut text = VecSink::new(Vec::new(alloc));
-    if write_required_list_report(report, requirement, &mut text).is_err() {
-        return Err(AllocError);
+    match write_required_list_report(report, requirement, &mut text) {
+        Ok(()) => Ok(Output::judged(text, report.meets(requirement))),
+        Err(Failed) => Err(AllocError),
     }
-    let status = if report.meets(requirement) {
-        DONE
-    } else {
-        DIFFERS
-    };
-    Ok(Output {
-        text: text.into_bytes(),
-        status,
-    })
 }
