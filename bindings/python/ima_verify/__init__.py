@@ -24,12 +24,12 @@ from typing import Optional, Sequence, Tuple, Union
 from . import _library, _texts
 from ._library import BytesLike
 from ._results import (
-    Algorithm, BootAggregate, Kind, LibraryError, Place, PlaceRow, Places, Refused, Register, Row, State, Verdict,
+    Algorithm, BootAggregate, Kind, LibraryError, ListVerdict, Place, PlaceRow, Places, Refused, Register, Row, State, Verdict,
 )
 
 __all__ = [
-    "Algorithm", "BootAggregate", "BytesLike", "Kind", "LibraryError", "Place", "PlaceRow", "Places", "Refused", "Register",
-    "Row", "State", "Verdict", "expected", "locate", "registers", "show", "verify", "version",
+    "Algorithm", "BootAggregate", "BytesLike", "Kind", "LibraryError", "ListVerdict", "Place", "PlaceRow", "Places", "Refused",
+    "Register", "Row", "State", "Verdict", "expected", "locate", "registers", "replay", "show", "verify", "version",
 ]
 
 Text = Union[BytesLike, str]
@@ -69,6 +69,14 @@ def locate(log: BytesLike, list: BytesLike, expected: Text, *, require: Union[Te
     if isinstance(require, _Default):
         return _texts.read_places(*_answer(_LIBRARY.ima_locate, given, _ROOM))
     return _texts.read_required_places(*_answer_to(require, _LIBRARY.ima_locate_required, given))
+
+
+def replay(list: BytesLike, expected: Text, *, require: Text) -> ListVerdict:
+    """The verdict on a measurement list without a log, and the expected registers that a text states.
+
+    The list is replayed from the registers' reset values, so a register that the firmware extends too differs. `require` is as in
+    `verify`, and has to be given. A list without entries is no match."""
+    return _texts.read_list_verdict(*_answer_to(require, _LIBRARY.ima_replay_required, (list, _bytes_of(expected))))
 
 
 def expected(printed: Text, registers: Optional[Text] = None) -> bytes:

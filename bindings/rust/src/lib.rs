@@ -113,8 +113,32 @@ pub struct Verdict {
 impl Verdict {
     /// How many expected registers were compared.
     pub fn compared(&self) -> usize {
-        self.rows.iter().filter(|row| row.state != State::Missing).count()
+        compared(&self.rows)
     }
+}
+
+/// The verdict on a list without a log, and expected registers.
+#[derive(Debug, Clone, PartialEq, Eq, Hash)]
+#[must_use]
+pub struct ListVerdict {
+    pub entries: u64,
+    /// A row for each expected register, in their order, and then one for each that is missing.
+    pub rows: Vec<Row>,
+    /// The list has an entry, each expected register has its value, and no required one is missing.
+    pub matches: bool,
+    /// The report as `ima-agent` prints it.
+    pub text: String,
+}
+
+impl ListVerdict {
+    /// How many expected registers were compared.
+    pub fn compared(&self) -> usize {
+        compared(&self.rows)
+    }
+}
+
+fn compared(rows: &[Row]) -> usize {
+    rows.iter().filter(|row| row.state != State::Missing).count()
 }
 
 /// The earliest point at which a register has its expected value.
@@ -235,6 +259,15 @@ pub fn locate(log: &[u8], list: &[u8], expected: &[u8]) -> Result<Places, Error>
 pub fn locate_required(log: &[u8], list: &[u8], expected: &[u8], require: &str) -> Result<Places, Error> {
     let call = |out: &mut [u8]| library::locate_required(log, list, expected, require.as_bytes(), out);
     library::ask_for(library::ROOM, call)?.required_places()
+}
+
+/// The verdict on a measurement list without a log, and the expected registers that a text states.
+///
+/// The list is replayed from the registers' reset values, so a register that the firmware extends too differs. `require` is as in
+/// [`verify_required`]. A list without entries is no match.
+pub fn replay_required(list: &[u8], expected: &[u8], require: &str) -> Result<ListVerdict, Error> {
+    let call = |out: &mut [u8]| library::replay_required(list, expected, require.as_bytes(), out);
+    library::ask_for(library::ROOM, call)?.list_verdict()
 }
 
 /// The lines of expected registers, for `verify` and `locate`, of what tpm2_pcrread printed: of the registers in a range, as `0-10` or
