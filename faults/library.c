@@ -161,8 +161,9 @@ static struct bytes load(const char *name) {
 
 /* How many inputs a function takes, or 0 if there is no such function. */
 static int inputs_of(const char *function) {
-    static const char *const names[] = {"show", "registers", "expected", "verify", "locate", "verify_required", "locate_required"};
-    static const int inputs[] = {1, 1, 2, 3, 3, 4, 4};
+    static const char *const names[] = {"show", "registers", "expected", "verify", "locate", "verify_required", "locate_required",
+                                        "replay_required"};
+    static const int inputs[] = {1, 1, 2, 3, 3, 4, 4, 3};
     for (size_t i = 0; i < sizeof inputs / sizeof inputs[0]; i++)
         if (strcmp(function, names[i]) == 0)
             return inputs[i];
@@ -179,6 +180,8 @@ static int32_t call(const char *function, const struct bytes *in, uint8_t *out, 
         return ima_locate(a.at, a.size, b.at, b.size, c.at, c.size, out, room, needed);
     if (strcmp(function, "locate_required") == 0)
         return ima_locate_required(a.at, a.size, b.at, b.size, c.at, c.size, d.at, d.size, out, room, needed);
+    if (strcmp(function, "replay_required") == 0)
+        return ima_replay_required(a.at, a.size, b.at, b.size, c.at, c.size, out, room, needed);
     if (strcmp(function, "expected") == 0)
         return ima_expected(a.at, a.size, b.at, b.size, out, room, needed);
     if (strcmp(function, "registers") == 0)

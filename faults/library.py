@@ -72,10 +72,12 @@ def made_files(folder):
         "changed list": listed.replace(b"/bin/helper", b"/bin/helpex"),
         "cut list": listed[:-1],
         "expected": expected,
+        "tenth": expected.splitlines(True)[10],
         "other bank": b"sha1 10 " + 40 * b"0",
         "wrong line": expected + b"sha256 24 00\n",
         "printed": (boot / "tpm2_pcrread.txt").read_bytes(),
         "all": b"sha256:0-23",
+        "ten": b"sha256:10",
         "more": b"sha1:10,sha256:0-10,sha512:0",
         "range": b"0-10",
         "no registers": b"none",
@@ -114,6 +116,18 @@ def cases(files):
             ("a list that is cut short", "log", "cut list", "expected", "more"),
         ):
             yield Case(function, title, [files[name] for name in names], "--require")
+    for title, *names in (
+        ("the real boot", "list", "tenth", "ten"),
+        ("a longer list", "longer list", "tenth", "ten"),
+        ("a changed list", "changed list", "tenth", "ten"),
+        ("registers that are missing", "list", "tenth", "more"),
+        ("an empty list", "empty", "tenth", "ten"),
+        ("no expected registers", "list", "empty", "ten"),
+        ("expected registers of which one is wrong", "list", "wrong line", "ten"),
+        ("a requirement that names none", "list", "tenth", "no registers"),
+        ("a list that is cut short", "cut list", "tenth", "ten"),
+    ):
+        yield Case("replay_required", title, [files[name] for name in names], "--require")
     for title, *names in (
         ("what was printed", "printed", "empty"),
         ("a range of it", "printed", "range"),

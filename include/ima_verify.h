@@ -91,6 +91,16 @@ int32_t ima_locate_required(const uint8_t *log, size_t log_size, const uint8_t *
                             const uint8_t *expected, size_t expected_size, const uint8_t *require,
                             size_t require_size, uint8_t *out, size_t out_size, size_t *needed);
 
+/* The verdict on a measurement list without a log, and the expected registers that a text states: the list is
+ * replayed into banks of all algorithms from their registers' reset values, so a register that the firmware
+ * extends too differs. `require` is as in ima_verify_required. IMA_DONE if the list has an entry, each expected
+ * register has its value and none is missing, else IMA_DIFFERS; `out` has the report that `replay` prints. The
+ * first fault is reported, in this order: `require`, the text of expected registers, the list, whether each entry
+ * is genuine. (Version 2.) */
+int32_t ima_replay_required(const uint8_t *list, size_t list_size, const uint8_t *expected,
+                            size_t expected_size, const uint8_t *require, size_t require_size, uint8_t *out,
+                            size_t out_size, size_t *needed);
+
 /* The lines of expected registers that a text which tpm2_pcrread or tpm2_checkquote printed states, of the
  * registers in a range, as `0-10` or `4`, or of all if `registers_size` is 0; at least one, else the text is
  * refused. A wrong range is refused before the text. Nothing says who wrote the text, nor whether a quote

@@ -13,7 +13,7 @@ const (
 	mostRoom      = 1 << 40
 )
 
-// An answer of the library, and the text that it gave. The methods read the text, and give an *Unexpected unless it has exactly
+// An answer of the library, and the text that it gave. The methods read the text, and give an *UnexpectedError unless it has exactly
 // the form that docs/formats.md gives.
 type answer struct {
 	status int32
@@ -32,7 +32,7 @@ func ask(room int, call func(out []byte, needed *uint64) int32) (answer, error) 
 		status = call(out, &needed)
 	}
 	if needed > uint64(len(out)) {
-		return answer{}, &Unexpected{status, needed, nil}
+		return answer{}, &UnexpectedError{status, needed, nil}
 	}
 	given := answer{status, out[:needed]}
 	switch {
@@ -49,7 +49,7 @@ func ask(room int, call func(out []byte, needed *uint64) int32) (answer, error) 
 // The same of a call with a text that names registers, which is ErrMalformed if it is not of its form.
 func askFor(room int, call func(out []byte, needed *uint64) int32) (answer, error) {
 	given, err := ask(room, call)
-	var wrong *Unexpected
+	var wrong *UnexpectedError
 	if errors.As(err, &wrong) && wrong.Status == refused && string(wrong.Text) == malformedLine {
 		return answer{}, ErrMalformed
 	}
@@ -57,7 +57,7 @@ func askFor(room int, call func(out []byte, needed *uint64) int32) (answer, erro
 }
 
 func (a answer) unexpected() error {
-	return &Unexpected{a.status, uint64(len(a.text)), a.text}
+	return &UnexpectedError{a.status, uint64(len(a.text)), a.text}
 }
 
 // Whether the status is the one of a text whose values are all as expected, or the other one.
@@ -76,17 +76,35 @@ func (a answer) verdict(requires bool) (Verdict, error) {
 		compared = t.number(t.line("compared", word)[0], math.MaxUint64)
 	}
 	v.BootAggregate = BootAggregate(t.line("boot_aggregate", word)[0])
-	t.require(v.BootAggregate == Good || v.BootAggregate == Wrong || v.BootAggregate == NoBank || v.BootAggregate == Missing)
-	v.Matches = v.BootAggregate == Good
-	for t.left() > 1 {
-		row := t.row()
-		t.require(row.State == Lacking && requires || row.State != Lacking && len(v.Rows) == v.Compared())
-		v.Rows, v.Matches = append(v.Rows, row), v.Matches && row.State == Match
+	switch v.BootAggregate {
+	case AggregateGood, AggregateWrong, AggregateNoBank, AggregateMissing:
+	default:
+		t.wrong = true
 	}
+	rows, match := t.rows(requires)
+	v.Rows, v.Matches = rows, match && v.BootAggregate == AggregateGood
 	t.require(!requires || compared == uint64(v.Compared()))
-	t.require(t.line("verdict", word)[0] == map[bool]string{true: "match", false: "differ"}[v.Matches] && a.says(v.Matches))
+	t.require(t.saysMatch() == v.Matches && a.says(v.Matches))
 	if t.wrong {
 		return Verdict{}, a.unexpected()
+	}
+	return v, nil
+}
+
+// The verdict on a list alone, where registers are required. A list has registers in all banks.
+func (a answer) listVerdict() (ListVerdict, error) {
+	t := textOf(a.text)
+	v := ListVerdict{Entries: t.number(t.line("entries", word)[0], math.MaxUint64), Text: string(a.text)}
+	compared := t.number(t.line("compared", word)[0], math.MaxUint64)
+	rows, match := t.rows(true)
+	v.Rows, v.Matches = rows, match && len(rows) > 0 && v.Entries > 0
+	for _, row := range rows {
+		t.require(row.State != StateAbsent)
+	}
+	t.require(compared == uint64(v.Compared()))
+	t.require(t.saysMatch() == v.Matches && a.says(v.Matches))
+	if t.wrong {
+		return ListVerdict{}, a.unexpected()
 	}
 	return v, nil
 }
@@ -96,9 +114,9 @@ func (a answer) places(requires bool) (Places, error) {
 	p, missing := Places{Located: true, Text: string(a.text)}, false
 	for t.left() > 1 {
 		row := t.placeRow()
-		t.require(row.Place.Kind == NotNamed && requires || row.Place.Kind != NotNamed && !missing)
-		missing = missing || row.Place.Kind == NotNamed
-		p.Rows, p.Located = append(p.Rows, row), p.Located && !missing && row.Place.Kind != Nowhere && row.Place.Kind != NotThere
+		t.require(row.Place.Kind == PlaceMissing && requires || row.Place.Kind != PlaceMissing && !missing)
+		missing = missing || row.Place.Kind == PlaceMissing
+		p.Rows, p.Located = append(p.Rows, row), p.Located && !missing && row.Place.Kind != PlaceNowhere && row.Place.Kind != PlaceAbsent
 	}
 	if p.Located {
 		t.line("located")
@@ -146,14 +164,14 @@ func (a answer) entries() ([]byte, error) {
 func (a answer) refusal() error {
 	t := textOf(a.text)
 	words := t.words()
-	r := &Refused{HasPlace: len(words) > 4}
+	r := &RefusedError{HasPlace: len(words) > 4}
 	t.require(len(words) == 4 || len(words) == 7)
 	if t.wrong || words[0] != "refused:" || words[2] != "fault" {
 		return a.unexpected()
 	}
 	r.Line, r.Kind, r.Number = string(a.text[:len(a.text)-1]), Kind(words[1]), t.number(words[3], math.MaxUint64)
-	point, known := map[Kind]string{Log: "event", List: "entry", Replay: "entry", Expected: "line"}[r.Kind]
-	t.require(known && t.left() == 0 && (r.HasPlace || r.Kind == Log))
+	point, known := map[Kind]string{KindLog: "event", KindList: "entry", KindReplay: "entry", KindExpected: "line"}[r.Kind]
+	t.require(known && t.left() == 0 && (r.HasPlace || r.Kind == KindLog || r.Kind == KindExpected))
 	if r.HasPlace {
 		t.require(words[4] == "at" && words[5] == point)
 		r.Place = t.number(words[6], math.MaxUint64)

@@ -22,6 +22,7 @@ var (
 	required      = strings.Replace(report, "entries 3\n", "entries 3\ncompared 1\n", 1)
 	lacking       = strings.Replace(required, "verdict match", "sha1 4 missing\nsha256 0 missing\nverdict differ", 1)
 	lackingPlaces = strings.Replace(placesText, "located", "sha256 0 missing\nnot located", 1)
+	listReport    = "entries 3\ncompared 1\nsha256 10 match\nverdict match\n"
 )
 
 // What is read from a status and a text.
@@ -32,6 +33,11 @@ func readVerdict(status int32, text string) error {
 
 func readRequiredVerdict(status int32, text string) error {
 	_, err := answer{status, []byte(text)}.verdict(true)
+	return err
+}
+
+func readListVerdict(status int32, text string) error {
+	_, err := answer{status, []byte(text)}.listVerdict()
 	return err
 }
 
@@ -72,7 +78,7 @@ func answered(status int32, text string, needed uint64) error {
 
 func checkUnexpected(t *testing.T, err error, text string) {
 	t.Helper()
-	var found *Unexpected
+	var found *UnexpectedError
 	if !errors.As(err, &found) {
 		t.Errorf("found %v for %q", err, text)
 	}
@@ -85,7 +91,6 @@ func TestRightAnswersAreRead(t *testing.T) {
 	equal(t, readPlaces(differs, notLocated), nil)
 	equal(t, readRegisters(done, register), nil)
 	equal(t, readExpected(done, register), nil)
-	equal(t, readExpected(done, ""), nil)
 }
 
 func TestRightAnswersWithRequiredRegistersAreRead(t *testing.T) {
@@ -112,6 +117,41 @@ func TestWrongReportsWithRequiredRegistersAreNoVerdicts(t *testing.T) {
 	checkUnexpected(t, readRequiredVerdict(done, report), report)
 	checkUnexpected(t, readVerdict(done, required), required)
 	checkUnexpected(t, readVerdict(differs, strings.Replace(lacking, "compared 1\n", "", 1)), lacking)
+}
+
+func TestRightReportsOnAListAloneAreRead(t *testing.T) {
+	verdict, err := answer{done, []byte(listReport)}.listVerdict()
+	equal(t, err, nil)
+	equal(t, []interface{}{verdict.Matches, verdict.Entries, verdict.Compared()}, []interface{}{true, uint64(3), 1})
+	for _, change := range [][2]string{
+		{"entries 3", "entries 0"}, {"match\n", "differ " + strings.Repeat("0", 64) + "\n"},
+		{"1\nsha256 10 match", "0\nsha256 10 missing"}, {"match\n", "match\nsha1 4 missing\n"},
+	} {
+		matching := strings.Replace(listReport, change[0], change[1], 1)
+		text := strings.Replace(matching, "verdict match", "verdict differ", 1)
+		verdict, err := answer{differs, []byte(text)}.listVerdict()
+		equal(t, []interface{}{verdict.Matches, err}, []interface{}{false, nil})
+		checkUnexpected(t, readListVerdict(done, text), text)
+		checkUnexpected(t, readListVerdict(done, matching), matching)
+	}
+}
+
+func TestWrongReportsOnAListAloneAreNoVerdicts(t *testing.T) {
+	for _, change := range [][2]string{
+		{"", " "}, {"entries 3\n", ""}, {"entries 3", "entries 03"}, {"compared 1\n", ""}, {"compared 1", "compared 2"},
+		{"compared 1", "compared 01"}, {"sha256 10 match", "sha256 24 match"}, {"sha256 10 match", "sha256 10 absent"},
+		{"compared 1\nsha256 10 match\n", "compared 0\n"}, {"sha256 10", "sha1 4 missing\nsha256 10"},
+		{"verdict match", "verdict differ"}, {"verdict match", "verdict fine"}, {"verdict match\n", "verdict match"},
+		{"verdict match\n", ""}, {"compared 1\n", "compared 1\nboot_aggregate good\n"}, {listReport, ""}, {listReport, "entries 3\n"},
+	} {
+		text := strings.Replace(listReport, change[0], change[1], 1)
+		checkUnexpected(t, readListVerdict(done, text), text)
+	}
+	checkUnexpected(t, readListVerdict(differs, listReport), listReport)
+	absent := strings.NewReplacer("10 match", "10 absent", "verdict match", "verdict differ").Replace(listReport)
+	checkUnexpected(t, readListVerdict(differs, absent), absent)
+	checkUnexpected(t, readListVerdict(done, report), report)
+	checkUnexpected(t, readListVerdict(done, required), required)
 }
 
 func TestWrongTextsWithRequiredRegistersAreNoPlaces(t *testing.T) {
@@ -176,6 +216,7 @@ func TestWrongTextsAreNoRegistersOrEntries(t *testing.T) {
 		checkUnexpected(t, readExpected(done, text), text)
 	}
 	checkUnexpected(t, readRegisters(differs, register), register)
+	checkUnexpected(t, readExpected(done, ""), "")
 	checkUnexpected(t, readEntries(differs, "x\n"), "x")
 	checkUnexpected(t, readEntries(done, "x"), "x")
 }
@@ -187,7 +228,7 @@ func TestWrongRefusalsAreNoRefusals(t *testing.T) {
 		"refused: log fault 01\n", "refused: book fault 1\n", "refused: log fault 1 of event 0\n", "\n\n\n\n"} {
 		checkUnexpected(t, answered(refused, text, uint64(len(text))), text)
 	}
-	var found *Refused
+	var found *RefusedError
 	equal(t, errors.As(answered(refused, "refused: log fault 2\n", 21), &found), true)
 }
 

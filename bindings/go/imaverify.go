@@ -7,9 +7,9 @@
 // Say which registers a verdict must cover: VerifyRequired(log, list, expected, "sha256:0-10"). That of Verify covers only those that
 // expected names, and if it names none, nothing but the boot aggregate.
 //
-// A refused input gives an error of the type *Refused, and a requirement or a range that is not of its form ErrMalformed; if memory runs
-// out, it is ErrOutOfMemory; what the library's header does not describe gives an *Unexpected. With any error the result is the zero value, whose Matches and Located
-// are false.
+// A refused input gives an error of the type *RefusedError, and a requirement or a range that is not of its form ErrMalformed; if memory
+// runs out, it is ErrOutOfMemory; what the library's header does not describe gives an *UnexpectedError. With any error the result is
+// the zero value, whose Matches and Located are false.
 //
 // Any number of goroutines may call at once. No input may change during a call.
 package imaverify
@@ -33,23 +33,24 @@ const (
 type BootAggregate string
 
 const (
-	Good    BootAggregate = "good"    // it is the boot aggregate of these registers
-	Wrong   BootAggregate = "wrong"   // it is a boot aggregate, of other values
-	NoBank  BootAggregate = "nobank"  // it is one of a bank that the log lacks
-	Missing BootAggregate = "missing" // the list is empty, or its first entry is something else
+	AggregateGood    BootAggregate = "good"    // it is the boot aggregate of these registers
+	AggregateWrong   BootAggregate = "wrong"   // it is a boot aggregate, of other values
+	AggregateNoBank  BootAggregate = "nobank"  // it is one of a bank that the log lacks
+	AggregateMissing BootAggregate = "missing" // the list is empty, or its first entry is something else
 )
 
 // State says how a register compares with its expected value.
 type State string
 
 const (
-	Match   State = "match"
-	Differ  State = "differ"
-	Absent  State = "absent"  // the log has no such bank
-	Lacking State = "missing" // it is required, and not among the expected registers
+	StateMatch   State = "match"
+	StateDiffer  State = "differ"
+	StateAbsent  State = "absent"  // the log has no such bank
+	StateMissing State = "missing" // it is required, and not among the expected registers
 )
 
-// Row is an expected register, compared, or a required one that is missing. Value is what the register has instead, if the state is Differ, else nil.
+// Row is an expected register, compared, or a required one that is missing. Value is what the register has instead, if the state is
+// StateDiffer, else nil.
 type Row struct {
 	Algorithm Algorithm
 	Register  int
@@ -74,9 +75,29 @@ type Verdict struct {
 
 // Compared is how many expected registers were compared.
 func (v Verdict) Compared() int {
+	return compared(v.Rows)
+}
+
+// ListVerdict is that on a list without a log, and expected registers.
+//
+// Matches says that the list has an entry, that each expected register has its value, and that no required one is missing. Text is the
+// report as ima-agent prints it.
+type ListVerdict struct {
+	Entries uint64
+	Rows    []Row
+	Matches bool
+	Text    string
+}
+
+// Compared is how many expected registers were compared.
+func (v ListVerdict) Compared() int {
+	return compared(v.Rows)
+}
+
+func compared(rows []Row) int {
 	count := 0
-	for _, row := range v.Rows {
-		if row.State != Lacking {
+	for _, row := range rows {
+		if row.State != StateMissing {
 			count++
 		}
 	}
@@ -87,12 +108,12 @@ func (v Verdict) Compared() int {
 type PlaceKind string
 
 const (
-	AtReset    PlaceKind = "reset" // before the events
-	AfterEvent PlaceKind = "event" // after an event of the log; events count from 1
-	AfterEntry PlaceKind = "entry" // after an entry of the list; entries count from 0
-	Nowhere    PlaceKind = "nowhere"
-	NotThere   PlaceKind = "absent"  // the log has no such bank
-	NotNamed   PlaceKind = "missing" // it is required, and not among the expected registers
+	PlaceReset   PlaceKind = "reset" // before the events
+	PlaceEvent   PlaceKind = "event" // after an event of the log; events count from 1
+	PlaceEntry   PlaceKind = "entry" // after an entry of the list; entries count from 0
+	PlaceNowhere PlaceKind = "nowhere"
+	PlaceAbsent  PlaceKind = "absent"  // the log has no such bank
+	PlaceMissing PlaceKind = "missing" // it is required, and not among the expected registers
 )
 
 // Place is such a point. Number is that of the event or the entry, else 0.
@@ -127,16 +148,16 @@ type Register struct {
 type Kind string
 
 const (
-	Log      Kind = "log"
-	List     Kind = "list"
-	Replay   Kind = "replay" // an entry of the list is not genuine
-	Expected Kind = "expected"
+	KindLog      Kind = "log"
+	KindList     Kind = "list"
+	KindReplay   Kind = "replay" // an entry of the list is not genuine
+	KindExpected Kind = "expected"
 )
 
-// Refused is the error of an input that is refused. Line says why, as "refused: replay fault 1 at entry 5"; Kind and Number are
+// RefusedError is the error of an input that is refused. Line says why, as "refused: replay fault 1 at entry 5"; Kind and Number are
 // those of the fault. Place is the number of the event, the entry or the line, if HasPlace. docs/formats.md says what each
 // fault means.
-type Refused struct {
+type RefusedError struct {
 	Line     string
 	Kind     Kind
 	Number   uint64
@@ -144,7 +165,7 @@ type Refused struct {
 	HasPlace bool
 }
 
-func (r *Refused) Error() string {
+func (r *RefusedError) Error() string {
 	return r.Line
 }
 
@@ -154,14 +175,14 @@ var ErrOutOfMemory = errors.New("libima_verify got no memory")
 // ErrMalformed says that what is required, or the range of registers, is not of its form.
 var ErrMalformed = errors.New("the text names no registers in its form, as sha256:0-10 or 0-10")
 
-// Unexpected is the error of an answer that the library's header does not describe, so nothing is known of the inputs.
-type Unexpected struct {
+// UnexpectedError is the error of an answer that the library's header does not describe, so nothing is known of the inputs.
+type UnexpectedError struct {
 	Status int32
 	Needed uint64
 	Text   []byte
 }
 
-func (u *Unexpected) Error() string {
+func (u *UnexpectedError) Error() string {
 	return fmt.Sprintf("libima_verify answered status %d and size %d, with a text that begins %.200q", u.Status, u.Needed, u.Text)
 }
 
@@ -184,7 +205,7 @@ func Verify(log, list, expected []byte) (Verdict, error) {
 }
 
 // VerifyRequired does the same, where require names the registers that must be among the expected ones, as "sha256:0-10" or
-// "sha256:0-7,sha1:10". Each that is not has a row whose state is Lacking, and then the verdict is no match.
+// "sha256:0-7,sha1:10". Each that is not has a row whose state is StateMissing, and then the verdict is no match.
 func VerifyRequired(log, list, expected []byte, require string) (Verdict, error) {
 	answer, err := askFor(room, func(out []byte, needed *uint64) int32 {
 		return callVerifyRequired(log, list, expected, []byte(require), out, needed)
@@ -215,9 +236,22 @@ func LocateRequired(log, list, expected []byte, require string) (Places, error) 
 	return answer.places(true)
 }
 
-// ExpectedFrom gives the lines of expected registers, for Verify and Locate, of what tpm2_pcrread printed: of the registers in a range,
-// as "0-10" or "4", or of all, if that is empty. Who wrote the text is not known from it: take the values of a quote that was checked,
-// or of a machine that is trusted.
+// ReplayRequired gives the verdict on a measurement list without a log, and the expected registers that a text states. The list is replayed
+// from the registers' reset values, so a register that the firmware extends too differs. require is as in VerifyRequired. A list without
+// entries is no match.
+func ReplayRequired(list, expected []byte, require string) (ListVerdict, error) {
+	answer, err := askFor(room, func(out []byte, needed *uint64) int32 {
+		return callReplayRequired(list, expected, []byte(require), out, needed)
+	})
+	if err != nil {
+		return ListVerdict{}, err
+	}
+	return answer.listVerdict()
+}
+
+// ExpectedFrom gives the lines of expected registers, for Verify and Locate, of what tpm2_pcrread or tpm2_checkquote printed: of the
+// registers in a range, as "0-10" or "4", or of all, if that is empty; at least one, else the text is refused. Neither who wrote the text
+// nor whether a quote holds is known from it: take the values of a quote that was checked, or of a machine that is trusted.
 func ExpectedFrom(printed []byte, registers string) ([]byte, error) {
 	answer, err := askFor(room, func(out []byte, needed *uint64) int32 {
 		return callExpected(printed, []byte(registers), out, needed)

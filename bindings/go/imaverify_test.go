@@ -75,10 +75,10 @@ func locate(t *testing.T, log, list, expected []byte) Places {
 }
 
 func TestVerdictOnTheSampleIsAMatch(t *testing.T) {
-	wanted := Verdict{Events: 24, Entries: 99, BootAggregate: Good, Matches: true}
+	wanted := Verdict{Events: 24, Entries: 99, BootAggregate: AggregateGood, Matches: true}
 	wanted.Text = "events 24 locality 0\nentries 99\nboot_aggregate good\n"
 	for k := 0; k < 24; k++ {
-		wanted.Rows = append(wanted.Rows, Row{SHA256, k, Match, nil})
+		wanted.Rows = append(wanted.Rows, Row{SHA256, k, StateMatch, nil})
 		wanted.Text += fmt.Sprintf("sha256 %d match\n", k)
 	}
 	wanted.Text += "verdict match\n"
@@ -100,12 +100,12 @@ func TestEntriesAreTheKernelsText(t *testing.T) {
 func TestListThatWentOnDiffersInRegister10(t *testing.T) {
 	verdict := verify(t, bootLog, longer, bootTPM)
 	equal(t, []interface{}{verdict.Matches, verdict.Entries, verdict.BootAggregate, len(verdict.Rows)},
-		[]interface{}{false, uint64(100), Good, 24})
+		[]interface{}{false, uint64(100), AggregateGood, 24})
 	for k, row := range verdict.Rows {
 		if k == 10 {
 			equal(t, fmt.Sprintf("%s %d %s %x", row.Algorithm, row.Register, row.State, row.Value), "sha256 10 differ "+afterLonger)
 		} else {
-			equal(t, row, Row{SHA256, k, Match, nil})
+			equal(t, row, Row{SHA256, k, StateMatch, nil})
 		}
 	}
 }
@@ -114,12 +114,12 @@ func TestListThatWentOnIsLocatedBeforeItsEnd(t *testing.T) {
 	places := locate(t, bootLog, longer, bootTPM)
 	equal(t, places.Located, true)
 	equal(t, len(places.Rows), 24)
-	equal(t, places.Rows[10], PlaceRow{SHA256, 10, Place{AfterEntry, 98}})
+	equal(t, places.Rows[10], PlaceRow{SHA256, 10, Place{PlaceEntry, 98}})
 	for _, k := range []int{8, 11, 12, 13, 14, 15, 16, 17, 18, 19, 20, 21, 22, 23} {
-		equal(t, places.Rows[k], PlaceRow{SHA256, k, Place{Kind: AtReset}})
+		equal(t, places.Rows[k], PlaceRow{SHA256, k, Place{Kind: PlaceReset}})
 	}
 	for _, register := range registersIn(t, sample("registers.txt")) {
-		equal(t, places.Rows[register.Register].Place.Kind, AfterEvent)
+		equal(t, places.Rows[register.Register].Place.Kind, PlaceEvent)
 	}
 }
 
@@ -127,9 +127,9 @@ func TestExpectedRegistersMayBeAbsentOrReachedNowhere(t *testing.T) {
 	text := []byte("sha1 10 " + strings.Repeat("0", 40) + "\nsha256 10 " + strings.Repeat("1", 64))
 	verdict, places := verify(t, bootLog, longer, text), locate(t, bootLog, longer, text)
 	equal(t, verdict.Matches || places.Located, false)
-	equal(t, verdict.Rows[0], Row{SHA1, 10, Absent, nil})
+	equal(t, verdict.Rows[0], Row{SHA1, 10, StateAbsent, nil})
 	equal(t, fmt.Sprintf("%s %x", verdict.Rows[1].State, verdict.Rows[1].Value), "differ "+afterLonger)
-	equal(t, places.Rows, []PlaceRow{{SHA1, 10, Place{Kind: NotThere}}, {SHA256, 10, Place{Kind: Nowhere}}})
+	equal(t, places.Rows, []PlaceRow{{SHA1, 10, Place{Kind: PlaceAbsent}}, {SHA256, 10, Place{Kind: PlaceNowhere}}})
 }
 
 func verifyRequired(t *testing.T, log, list, expected []byte, require string) Verdict {
@@ -159,7 +159,7 @@ func TestAllRequiredRegistersAreExpected(t *testing.T) {
 		equal(t, locateRequired(t, bootLog, bootList, bootTPM, require), locate(t, bootLog, bootList, bootTPM))
 	}
 	verdict := verifyRequired(t, bootLog, longer, bootTPM, "sha256:10")
-	equal(t, []interface{}{verdict.Matches, verdict.Rows[10].State}, []interface{}{false, Differ})
+	equal(t, []interface{}{verdict.Matches, verdict.Rows[10].State}, []interface{}{false, StateDiffer})
 }
 
 func TestRequiredRegisterThatIsNotExpectedIsMissing(t *testing.T) {
@@ -168,21 +168,76 @@ func TestRequiredRegisterThatIsNotExpectedIsMissing(t *testing.T) {
 	verdict := verifyRequired(t, bootLog, bootList, text, "sha256:0-23,sha1:10")
 	equal(t, []interface{}{verdict.Matches, verdict.Compared()}, []interface{}{false, 23})
 	equal(t, verdict.Rows[:23], verify(t, bootLog, bootList, text).Rows)
-	equal(t, verdict.Rows[23:], []Row{{SHA1, 10, Lacking, nil}, {SHA256, 23, Lacking, nil}})
+	equal(t, verdict.Rows[23:], []Row{{SHA1, 10, StateMissing, nil}, {SHA256, 23, StateMissing, nil}})
 	places := locateRequired(t, bootLog, bootList, text, "sha256:0-23,sha1:10")
 	equal(t, places.Located, false)
 	equal(t, places.Rows[:23], locate(t, bootLog, bootList, text).Rows)
-	equal(t, places.Rows[23:], []PlaceRow{{SHA1, 10, Place{Kind: NotNamed}}, {SHA256, 23, Place{Kind: NotNamed}}})
+	equal(t, places.Rows[23:], []PlaceRow{{SHA1, 10, Place{Kind: PlaceMissing}}, {SHA256, 23, Place{Kind: PlaceMissing}}})
 }
 
 func TestNothingExpectedNeverMatches(t *testing.T) {
 	for _, empty := range [][]byte{nil, {}, []byte("\n")} {
 		verdict := verifyRequired(t, bootLog, bootList, empty, "sha256:10")
 		equal(t, []interface{}{verdict.Matches, verdict.Compared()}, []interface{}{false, 0})
-		equal(t, verdict.Rows, []Row{{SHA256, 10, Lacking, nil}})
+		equal(t, verdict.Rows, []Row{{SHA256, 10, StateMissing, nil}})
 		places := locateRequired(t, bootLog, bootList, empty, "sha256:10")
-		equal(t, []interface{}{places.Located, places.Rows}, []interface{}{false, []PlaceRow{{SHA256, 10, Place{Kind: NotNamed}}}})
+		equal(t, []interface{}{places.Located, places.Rows}, []interface{}{false, []PlaceRow{{SHA256, 10, Place{Kind: PlaceMissing}}}})
 	}
+}
+
+func replayRequired(t *testing.T, list, expected []byte, require string) ListVerdict {
+	t.Helper()
+	verdict, err := ReplayRequired(list, expected, require)
+	if err != nil {
+		t.Fatal(err)
+	}
+	return verdict
+}
+
+// The line of register 10, which the sample's list alone extends.
+var tenth = bootTPM[bytes.Index(bootTPM, []byte("sha256 10 ")):bytes.Index(bootTPM, []byte("sha256 11 "))]
+
+func TestRegisterOfTheListAloneMatches(t *testing.T) {
+	rows := []Row{{SHA256, 10, StateMatch, nil}}
+	equal(t, replayRequired(t, bootList, tenth, "sha256:10"),
+		ListVerdict{99, rows, true, "entries 99\ncompared 1\nsha256 10 match\nverdict match\n"})
+	verdict := replayRequired(t, longer, tenth, "sha256:10")
+	equal(t, []interface{}{verdict.Matches, verdict.Entries, fmt.Sprintf("%x", verdict.Rows[0].Value)},
+		[]interface{}{false, uint64(100), afterLonger})
+}
+
+func TestRegistersOfTheFirmwareDifferAfterTheListAlone(t *testing.T) {
+	verdict := replayRequired(t, bootList, bootTPM, "sha256:0-23")
+	equal(t, []interface{}{verdict.Matches, verdict.Compared()}, []interface{}{false, 24})
+	equal(t, verdict.Rows[0], Row{SHA256, 0, StateDiffer, make([]byte, 32)})
+	differing := map[int]bool{}
+	for _, register := range registersIn(t, sample("registers.txt")) {
+		differing[register.Register] = true
+	}
+	for k, row := range verdict.Rows {
+		equal(t, row.State, map[bool]State{true: StateDiffer, false: StateMatch}[differing[k]])
+	}
+}
+
+func TestListAloneNeverMatchesWithoutItsRegistersOrEntries(t *testing.T) {
+	verdict := replayRequired(t, bootList, tenth, "sha1:10,sha256:10")
+	equal(t, []interface{}{verdict.Matches, verdict.Compared()}, []interface{}{false, 1})
+	equal(t, verdict.Rows, []Row{{SHA256, 10, StateMatch, nil}, {SHA1, 10, StateMissing, nil}})
+	verdict = replayRequired(t, bootList, nil, "sha1:10")
+	equal(t, []interface{}{verdict.Matches, verdict.Rows}, []interface{}{false, []Row{{SHA1, 10, StateMissing, nil}}})
+	verdict = replayRequired(t, nil, []byte("sha256 10 "+strings.Repeat("0", 64)), "sha256:10")
+	equal(t, []interface{}{verdict.Matches, verdict.Entries, verdict.Rows},
+		[]interface{}{false, uint64(0), []Row{{SHA256, 10, StateMatch, nil}}})
+}
+
+func TestListAloneIsRefused(t *testing.T) {
+	verdict, err := ReplayRequired(changed, tenth, "sha256:10")
+	checkRefused(t, err, RefusedError{"refused: replay fault 1 at entry 5", KindReplay, 1, 5, true})
+	equal(t, verdict, ListVerdict{})
+	_, err = ReplayRequired(bootList[:len(bootList)-1], tenth, "sha256:10")
+	checkRefused(t, err, RefusedError{"refused: list fault 1 at entry 98", KindList, 1, 98, true})
+	_, err = ReplayRequired(bootList[:1], []byte("x"), "sha256:10")
+	checkRefused(t, err, RefusedError{"refused: expected fault 1 at line 1", KindExpected, 1, 1, true})
 }
 
 func TestWrongRequirementOrRangeIsMalformed(t *testing.T) {
@@ -191,6 +246,8 @@ func TestWrongRequirementOrRangeIsMalformed(t *testing.T) {
 		equal(t, []interface{}{verdict, err}, []interface{}{Verdict{}, ErrMalformed})
 		places, err := LocateRequired(nil, nil, nil, require)
 		equal(t, []interface{}{places, err}, []interface{}{Places{}, ErrMalformed})
+		alone, err := ReplayRequired(nil, nil, require)
+		equal(t, []interface{}{alone, err}, []interface{}{ListVerdict{}, ErrMalformed})
 	}
 	for _, registers := range []string{"24", "10-0", "0-", "-", " ", "sha256:0"} {
 		_, err := ExpectedFrom(sample("tpm2_pcrread.txt"), registers)
@@ -200,9 +257,9 @@ func TestWrongRequirementOrRangeIsMalformed(t *testing.T) {
 
 func TestInputsAreRefusedAsWithoutARequirement(t *testing.T) {
 	_, err := VerifyRequired(bootLog, changed, bootTPM, "sha256:0")
-	checkRefused(t, err, Refused{"refused: replay fault 1 at entry 5", Replay, 1, 5, true})
+	checkRefused(t, err, RefusedError{"refused: replay fault 1 at entry 5", KindReplay, 1, 5, true})
 	_, err = LocateRequired(bootLog[:31], bootList, bootTPM, "sha256:0")
-	checkRefused(t, err, Refused{"refused: log fault 1 at event 0", Log, 1, 0, true})
+	checkRefused(t, err, RefusedError{"refused: log fault 1 at event 0", KindLog, 1, 0, true})
 }
 
 func TestExpectedRegistersAreThoseThatWerePrinted(t *testing.T) {
@@ -215,7 +272,9 @@ func TestExpectedRegistersAreThoseThatWerePrinted(t *testing.T) {
 	equal(t, verifyRequired(t, bootLog, bootList, some, "sha256:0-10").Matches, true)
 	equal(t, verifyRequired(t, bootLog, bootList, some, "sha256:0-11").Matches, false)
 	_, err = ExpectedFrom(bootTPM, "")
-	checkRefused(t, err, Refused{"refused: expected fault 1 at line 1", Expected, 1, 1, true})
+	checkRefused(t, err, RefusedError{"refused: expected fault 1 at line 1", KindExpected, 1, 1, true})
+	_, err = ExpectedFrom(nil, "")
+	checkRefused(t, err, RefusedError{"refused: expected fault 6", KindExpected, 6, 0, false})
 }
 
 func TestVersionIsThatOfTheHeader(t *testing.T) {
@@ -225,9 +284,9 @@ func TestVersionIsThatOfTheHeader(t *testing.T) {
 	equal(t, Version() >= headerVersion, true)
 }
 
-func checkRefused(t *testing.T, err error, wanted Refused) {
+func checkRefused(t *testing.T, err error, wanted RefusedError) {
 	t.Helper()
-	var found *Refused
+	var found *RefusedError
 	if !errors.As(err, &found) {
 		t.Fatalf("found %v, wanted %v", err, wanted.Line)
 	}
@@ -236,7 +295,7 @@ func checkRefused(t *testing.T, err error, wanted Refused) {
 }
 
 func TestChangedEntryIsNotGenuine(t *testing.T) {
-	wanted := Refused{"refused: replay fault 1 at entry 5", Replay, 1, 5, true}
+	wanted := RefusedError{"refused: replay fault 1 at entry 5", KindReplay, 1, 5, true}
 	verdict, err := Verify(bootLog, changed, bootTPM)
 	checkRefused(t, err, wanted)
 	equal(t, verdict, Verdict{})
@@ -247,42 +306,42 @@ func TestChangedEntryIsNotGenuine(t *testing.T) {
 
 func TestLogThatIsCutIsRefused(t *testing.T) {
 	_, err := Verify(bootLog[:31], bootList, bootTPM)
-	checkRefused(t, err, Refused{"refused: log fault 1 at event 0", Log, 1, 0, true})
+	checkRefused(t, err, RefusedError{"refused: log fault 1 at event 0", KindLog, 1, 0, true})
 	_, err = Registers(bootLog[:len(bootLog)-1])
-	checkRefused(t, err, Refused{"refused: log fault 1 at event 24", Log, 1, 24, true})
+	checkRefused(t, err, RefusedError{"refused: log fault 1 at event 24", KindLog, 1, 24, true})
 }
 
 func TestLogOfAnotherFormHasNoPlace(t *testing.T) {
 	_, err := Registers(make([]byte, 32))
-	checkRefused(t, err, Refused{Line: "refused: log fault 2", Kind: Log, Number: 2})
+	checkRefused(t, err, RefusedError{Line: "refused: log fault 2", Kind: KindLog, Number: 2})
 }
 
 func TestListThatIsCutIsRefused(t *testing.T) {
 	_, err := Show(bootList[:len(bootList)-1])
-	checkRefused(t, err, Refused{"refused: list fault 1 at entry 98", List, 1, 98, true})
+	checkRefused(t, err, RefusedError{"refused: list fault 1 at entry 98", KindList, 1, 98, true})
 }
 
 func TestExpectedRegistersOfAnotherFormAreRefused(t *testing.T) {
 	text := append(append([]byte(nil), bootTPM...), "sha256 24 "+strings.Repeat("0", 64)...)
 	_, err := Verify(bootLog, bootList, text)
-	checkRefused(t, err, Refused{"refused: expected fault 1 at line 25", Expected, 1, 25, true})
+	checkRefused(t, err, RefusedError{"refused: expected fault 1 at line 25", KindExpected, 1, 25, true})
 	text = append(append([]byte(nil), bootTPM...), bootTPM[:75]...)
 	_, err = Locate(bootLog, bootList, text)
-	checkRefused(t, err, Refused{"refused: expected fault 2 at line 25", Expected, 2, 25, true})
+	checkRefused(t, err, RefusedError{"refused: expected fault 2 at line 25", KindExpected, 2, 25, true})
 }
 
 func TestInputsWithoutBytes(t *testing.T) {
 	for _, empty := range [][]byte{nil, {}, bootLog[:0]} {
 		_, err := Registers(empty)
-		checkRefused(t, err, Refused{"refused: log fault 1 at event 0", Log, 1, 0, true})
+		checkRefused(t, err, RefusedError{"refused: log fault 1 at event 0", KindLog, 1, 0, true})
 		_, err = Verify(empty, empty, empty)
-		checkRefused(t, err, Refused{"refused: log fault 1 at event 0", Log, 1, 0, true})
+		checkRefused(t, err, RefusedError{"refused: log fault 1 at event 0", KindLog, 1, 0, true})
 		shown, err := Show(empty)
 		equal(t, err, nil)
 		equal(t, len(shown), 0)
-		equal(t, verify(t, bootLog, empty, empty), Verdict{24, 0, 0, Missing, nil, false,
+		equal(t, verify(t, bootLog, empty, empty), Verdict{24, 0, 0, AggregateMissing, nil, false,
 			"events 24 locality 0\nentries 0\nboot_aggregate missing\nverdict differ\n"})
-		equal(t, verify(t, bootLog, bootList, empty), Verdict{24, 0, 99, Good, nil, true,
+		equal(t, verify(t, bootLog, bootList, empty), Verdict{24, 0, 99, AggregateGood, nil, true,
 			"events 24 locality 0\nentries 99\nboot_aggregate good\nverdict match\n"})
 		equal(t, locate(t, bootLog, bootList, empty), Places{nil, true, "located\n"})
 	}
@@ -303,7 +362,7 @@ func TestTextLongerThanTheBufferTakesASecondCall(t *testing.T) {
 
 func TestLineOfAFaultLongerThanTheBuffer(t *testing.T) {
 	_, err := ask(5, func(out []byte, needed *uint64) int32 { return callRegisters(nil, out, needed) })
-	checkRefused(t, err, Refused{"refused: log fault 1 at event 0", Log, 1, 0, true})
+	checkRefused(t, err, RefusedError{"refused: log fault 1 at event 0", KindLog, 1, 0, true})
 }
 
 func TestFirstBufferIsLargeEnough(t *testing.T) {
@@ -339,7 +398,7 @@ func TestCallsAtOnceGiveWhatTheyGiveAlone(t *testing.T) {
 					{called(Registers(bootLog)), called(registers, nil)},
 					{called(Show(bootList)), called(ascii, nil)},
 					{called(Verify(bootLog, changed, bootTPM)),
-						called(Verdict{}, &Refused{"refused: replay fault 1 at entry 5", Replay, 1, 5, true})},
+						called(Verdict{}, &RefusedError{"refused: replay fault 1 at entry 5", KindReplay, 1, 5, true})},
 				} {
 					if !reflect.DeepEqual(found.found, found.wanted) {
 						t.Errorf("found %+v, wanted %+v", found.found, found.wanted)

@@ -77,6 +77,14 @@ func callLocateRequired(log, list, expected, require, out []byte, needed *uint64
 	return int32(status)
 }
 
+func callReplayRequired(list, expected, require, out []byte, needed *uint64) int32 {
+	length := C.size_t(*needed)
+	status := C.ima_replay_required(start(list), size(list), start(expected), size(expected), start(require), size(require),
+		start(out), size(out), &length)
+	*needed = uint64(length)
+	return int32(status)
+}
+
 func callExpected(printed, registers, out []byte, needed *uint64) int32 {
 	length := C.size_t(*needed)
 	status := C.ima_expected(start(printed), size(printed), start(registers), size(registers), start(out), size(out), &length)

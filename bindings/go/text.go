@@ -96,12 +96,32 @@ func (t *text) row() Row {
 	algorithm, register := t.register(words)
 	row := Row{Algorithm: algorithm, Register: register, State: State(words[2])}
 	switch {
-	case row.State == Differ && len(words) == 4:
+	case row.State == StateDiffer && len(words) == 4:
 		row.Value = t.value(algorithm, words[3])
 	default:
-		t.require((row.State == Match || row.State == Absent || row.State == Lacking) && len(words) == 3)
+		t.require((row.State == StateMatch || row.State == StateAbsent || row.State == StateMissing) && len(words) == 3)
 	}
 	return row
+}
+
+// The rows of a verdict, which are all lines but the last, and whether each matches. Those of missing registers come after the others,
+// where registers are required.
+func (t *text) rows(requires bool) ([]Row, bool) {
+	var rows []Row
+	match := true
+	for t.left() > 1 {
+		row := t.row()
+		t.require(row.State == StateMissing && requires || row.State != StateMissing && len(rows) == compared(rows))
+		rows, match = append(rows, row), match && row.State == StateMatch
+	}
+	return rows, match
+}
+
+// Whether the next line says that the verdict is a match.
+func (t *text) saysMatch() bool {
+	said := t.line("verdict", word)[0]
+	t.require(said == "match" || said == "differ")
+	return said == "match"
 }
 
 // The next line, as the row of places.

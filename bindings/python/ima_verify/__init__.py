@@ -24,12 +24,12 @@ from typing import Optional, Sequence, Tuple, Union
 from . import _library, _texts
 from ._library import BytesLike
 from ._results import (
-    Algorithm, BootAggregate, Kind, LibraryError, Place, PlaceRow, Places, Refused, Register, Row, State, Verdict,
+    Algorithm, BootAggregate, Kind, LibraryError, ListVerdict, Place, PlaceRow, Places, Refused, Register, Row, State, Verdict,
 )
 
 __all__ = [
-    "Algorithm", "BootAggregate", "BytesLike", "Kind", "LibraryError", "Place", "PlaceRow", "Places", "Refused", "Register",
-    "Row", "State", "Verdict", "expected", "locate", "registers", "show", "verify", "version",
+    "Algorithm", "BootAggregate", "BytesLike", "Kind", "LibraryError", "ListVerdict", "Place", "PlaceRow", "Places", "Refused",
+    "Register", "Row", "State", "Verdict", "expected", "locate", "registers", "replay", "show", "verify", "version",
 ]
 
 Text = Union[BytesLike, str]
@@ -71,11 +71,19 @@ def locate(log: BytesLike, list: BytesLike, expected: Text, *, require: Union[Te
     return _texts.read_required_places(*_answer_to(require, _LIBRARY.ima_locate_required, given))
 
 
-def expected(printed: Text, registers: Optional[Text] = None) -> bytes:
-    """The lines of expected registers, for `verify` and `locate`, of what tpm2_pcrread printed.
+def replay(list: BytesLike, expected: Text, *, require: Text) -> ListVerdict:
+    """The verdict on a measurement list without a log, and the expected registers that a text states.
 
-    `registers` is a range, as `0-10` or `4`, whose registers are written; else all are. Who wrote the text is not known from it: take the
-    values of a quote that was checked, or of a machine that is trusted."""
+    The list is replayed from the registers' reset values, so a register that the firmware extends too differs. `require` is as in
+    `verify`, and has to be given. A list without entries is no match."""
+    return _texts.read_list_verdict(*_answer_to(require, _LIBRARY.ima_replay_required, (list, _bytes_of(expected))))
+
+
+def expected(printed: Text, registers: Optional[Text] = None) -> bytes:
+    """The lines of expected registers, for `verify` and `locate`, of what tpm2_pcrread or tpm2_checkquote printed.
+
+    `registers` is a range, as `0-10` or `4`, whose registers are written; else all are. A text without any is refused. Neither who wrote
+    the text nor whether a quote holds is known from it: take the values of a quote that was checked, or of a machine that is trusted."""
     range = b"" if registers is None else registers
     return _texts.read_expected(*_answer_to(range, _LIBRARY.ima_expected, (_bytes_of(printed),)))
 

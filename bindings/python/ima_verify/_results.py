@@ -80,8 +80,23 @@ class Row:
     value: Optional[bytes] = None
 
 
+class _Judged:
+    """What each verdict has."""
+
+    rows: Tuple[Row, ...]
+    matches: bool
+
+    @property
+    def compared(self) -> int:
+        """How many expected registers were compared."""
+        return sum(row.state is not State.MISSING for row in self.rows)
+
+    def __bool__(self) -> bool:
+        return self.matches
+
+
 @dataclass(frozen=True)
-class Verdict:
+class Verdict(_Judged):
     """The verdict on a log, a list and expected registers; as a condition, it is true exactly if it is a match.
 
     `matches` says that the boot aggregate is good, that each expected register has its value, and that no required one is missing. If
@@ -96,13 +111,18 @@ class Verdict:
     matches: bool
     text: str
 
-    @property
-    def compared(self) -> int:
-        """How many expected registers were compared."""
-        return sum(row.state is not State.MISSING for row in self.rows)
 
-    def __bool__(self) -> bool:
-        return self.matches
+@dataclass(frozen=True)
+class ListVerdict(_Judged):
+    """The verdict on a list without a log, and expected registers; as a condition, it is true exactly if it is a match.
+
+    `matches` says that the list has an entry, that each expected register has its value, and that no required one is missing. `text` is
+    the report as `ima-agent` prints it."""
+
+    entries: int
+    rows: Tuple[Row, ...]
+    matches: bool
+    text: str
 
 
 @dataclass(frozen=True)

@@ -4,7 +4,7 @@ import re
 from typing import List, NoReturn, Tuple
 
 from ._results import (
-    Algorithm, BootAggregate, Kind, LibraryError, Place, PlaceRow, Places, Refused, Register, Row, State, Verdict,
+    Algorithm, BootAggregate, Kind, LibraryError, ListVerdict, Place, PlaceRow, Places, Refused, Register, Row, State, Verdict,
 )
 
 DONE, DIFFERS, REFUSED, OUT_OF_MEMORY = range(4)
@@ -24,7 +24,7 @@ _REGISTER_LINE = re.compile(f"{_REGISTER} {_VALUE}")
 _FAULT = re.compile(
     f"refused: (?:(log) fault {_NUMBER}(?: at event {_NUMBER})?"
     f"|(list|replay) fault {_NUMBER} at entry {_NUMBER}"
-    f"|(expected) fault {_NUMBER} at line {_NUMBER})"
+    f"|(expected) fault {_NUMBER}(?: at line {_NUMBER})?)"
 )
 
 
@@ -49,14 +49,27 @@ def _verdict_of(status: int, text: bytes, requires: bool) -> Verdict:
         events, locality = map(int, _fields(_EVENTS, lines[0]))
         (entries,) = map(int, _fields(_ENTRIES, lines[1]))
         (aggregate,) = map(BootAggregate, _fields(_BOOT_AGGREGATE, lines[heading - 1]))
-        rows = tuple(map(_row_of, lines[heading:-1]))
-        _require_missing_last([row.state is State.MISSING for row in rows], requires)
+        rows = _rows_of(lines[heading:-1], requires)
         matches = aggregate is BootAggregate.GOOD and all(row.state is State.MATCH for row in rows)
-        _require(locality < 256 and len(lines) > heading and lines[-1] == ("verdict match" if matches else "verdict differ"))
-        _require(status == (DONE if matches else DIFFERS))
+        _require(locality < 256 and len(lines) > heading and _says(status, lines[-1], matches))
         verdict = Verdict(events, locality, entries, aggregate, rows, matches, decoded)
         _require(not requires or lines[2] == f"compared {verdict.compared}")
     except (ValueError, IndexError):
+        unexpected(status, text)
+    return verdict
+
+
+def read_list_verdict(status: int, text: bytes) -> ListVerdict:
+    """The verdict on a list alone that a report states where registers are required. A list has registers in all banks."""
+    try:
+        decoded, (first, second, *lines, last) = _lines_of(text)
+        (entries,) = map(int, _fields(_ENTRIES, first))
+        rows = _rows_of(lines, True)
+        matches = entries > 0 and len(rows) > 0 and all(row.state is State.MATCH for row in rows)
+        _require(_says(status, last, matches) and all(row.state is not State.ABSENT for row in rows))
+        verdict = ListVerdict(entries, rows, matches, decoded)
+        _require(second == f"compared {verdict.compared}")
+    except ValueError:
         unexpected(status, text)
     return verdict
 
@@ -84,14 +97,26 @@ def _places_of(status: int, text: bytes, requires: bool) -> Places:
     return Places(rows, located, decoded)
 
 
+def _rows_of(lines: List[str], requires: bool) -> Tuple[Row, ...]:
+    rows = tuple(map(_row_of, lines))
+    _require_missing_last([row.state is State.MISSING for row in rows], requires)
+    return rows
+
+
+def _says(status: int, line: str, matches: bool) -> bool:
+    """Whether a report's status and last line say this."""
+    return (status, line) == ((DONE, "verdict match") if matches else (DIFFERS, "verdict differ"))
+
+
 def _require_missing_last(are_missing: List[bool], requires: bool) -> None:
     """Rows of missing registers come after the others, where registers are required."""
     _require(are_missing == sorted(are_missing) and (requires or not any(are_missing)))
 
 
 def read_expected(status: int, text: bytes) -> bytes:
-    """Lines of expected registers, as they are."""
-    read_registers(status, text)
+    """Lines of expected registers, at least one, as they are."""
+    if not read_registers(status, text):
+        unexpected(status, text)
     return text
 
 

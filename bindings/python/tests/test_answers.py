@@ -27,6 +27,7 @@ DIFFERING = b"events 1 locality 0\nentries 3\nboot_aggregate good\nsha256 0 diff
 PLACES = b"sha256 8 at reset\nsha256 4 after event 18\nsha256 10 after entry 98\nlocated\n"
 NOT_LOCATED = b"sha256 8 at reset\nsha256 23 nowhere\nsha1 10 absent\nnot located\n"
 REQUIRED = REPORT.replace(b"entries 3\n", b"entries 3\ncompared 1\n")
+LIST_REPORT = b"entries 3\ncompared 1\nsha256 10 match\nverdict match\n"
 LACKING = REQUIRED.replace(b"verdict match", b"sha1 4 missing\nsha256 0 missing\nverdict differ")
 REGISTER = b"sha1 4 " + 40 * b"a" + b"\n"
 
@@ -103,7 +104,6 @@ class Answers(unittest.TestCase):
         self.assertFalse(_texts.read_places(1, NOT_LOCATED).located)
         self.assertEqual(_texts.read_registers(0, REGISTER)[0].value, 20 * b"\xaa")
         self.assertEqual(_texts.read_expected(0, REGISTER), REGISTER)
-        self.assertEqual(_texts.read_expected(0, b""), b"")
 
     def test_right_answers_with_required_registers_are_read(self):
         self.assertEqual(_texts.read_required_verdict(0, REQUIRED).compared, 1)
@@ -148,6 +148,33 @@ class Answers(unittest.TestCase):
         self.check_wrong(_texts.read_required_verdict, 0, LACKING)
         self.check_wrong(_texts.read_required_verdict, 0, LACKING.replace(b"verdict differ", b"verdict match"))
 
+    def test_right_reports_on_a_list_alone_are_read(self):
+        verdict = _texts.read_list_verdict(0, LIST_REPORT)
+        self.assertEqual((verdict.matches, verdict.entries, verdict.compared), (True, 3, 1))
+        for old, new in (
+            (b"entries 3", b"entries 0"), (b"match\n", b"differ " + 64 * b"0" + b"\n"),
+            (b"1\nsha256 10 match", b"0\nsha256 10 missing"), (b"match\n", b"match\nsha1 4 missing\n"),
+        ):
+            text = LIST_REPORT.replace(old, new, 1).replace(b"verdict match", b"verdict differ")
+            self.assertFalse(_texts.read_list_verdict(1, text).matches)
+            self.check_wrong(_texts.read_list_verdict, 0, text)
+            self.check_wrong(_texts.read_list_verdict, 0, text.replace(b"verdict differ", b"verdict match"))
+
+    def test_wrong_reports_on_a_list_alone_are_no_verdicts(self):
+        for old, new in (
+            (b"", b" "), (b"entries 3\n", b""), (b"entries 3", b"entries 03"), (b"compared 1\n", b""), (b"compared 1", b"compared 2"),
+            (b"compared 1", b"compared 01"), (b"sha256 10 match", b"sha256 24 match"), (b"sha256 10 match", b"sha256 10 absent"),
+            (b"compared 1\nsha256 10 match\n", b"compared 0\n"), (b"sha256 10", b"sha1 4 missing\nsha256 10"),
+            (b"verdict match", b"verdict differ"), (b"verdict match\n", b"verdict match"), (b"verdict match\n", b""),
+            (b"compared 1\n", b"compared 1\nboot_aggregate good\n"), (LIST_REPORT, b""), (LIST_REPORT, b"entries 3\n"),
+        ):
+            self.check_wrong(_texts.read_list_verdict, 0, LIST_REPORT.replace(old, new, 1))
+        self.check_wrong(_texts.read_list_verdict, 1, LIST_REPORT)
+        absent = LIST_REPORT.replace(b"10 match", b"10 absent").replace(b"verdict match", b"verdict differ")
+        self.check_wrong(_texts.read_list_verdict, 1, absent)
+        for text in (REPORT, REQUIRED):
+            self.check_wrong(_texts.read_list_verdict, 0, text)
+
     def test_wrong_texts_with_required_registers_are_no_places(self):
         missing = PLACES.replace(b"located", b"sha256 0 missing\nnot located")
         self.check_wrong(_texts.read_places, 1, missing)
@@ -171,6 +198,7 @@ class Answers(unittest.TestCase):
             self.check_wrong(_texts.read_registers, 0, text)
             self.check_wrong(_texts.read_expected, 0, text)
         self.check_wrong(_texts.read_registers, 1, REGISTER)
+        self.check_wrong(_texts.read_expected, 0, b"")
         self.check_wrong(_texts.read_entries, 1, ASCII)
         self.check_wrong(_texts.read_entries, 0, ASCII[:-1])
 

@@ -26,6 +26,7 @@ LOG, LIST, EXPECTED, ASCII, REGISTERS, PRINTED = (
     (SAMPLE / name).read_bytes()
     for name in ("firmware.log", "ima.list", "expected.txt", "ima.ascii", "registers.txt", "tpm2_pcrread.txt")
 )
+QUOTED = (ROOT / "samples/quoted/sha256.txt").read_bytes()
 LAST_ENTRY_SIZE = 95
 LONGER = LIST + LIST[-LAST_ENTRY_SIZE:]
 CHANGED = LIST.replace(b"/bin/helper", b"/bin/helpex")
@@ -151,8 +152,67 @@ class Required(unittest.TestCase):
         self.assertRaises(TypeError, ima_verify.verify, LOG, LIST, EXPECTED, "sha256:10")
 
 
+class ListAlone(unittest.TestCase):
+    """A list that is compared without a log. Register 10 of the sample is the list's alone."""
+
+    TENTH = EXPECTED.splitlines(True)[10]
+
+    def test_register_of_the_list_matches(self):
+        row = Row(Algorithm.SHA256, 10, State.MATCH)
+        wanted = ima_verify.ListVerdict(99, (row,), True, "entries 99\ncompared 1\nsha256 10 match\nverdict match\n")
+        for listed, expected, require in ((LIST, self.TENTH, "sha256:10"), (bytearray(LIST), self.TENTH.decode(), b"sha256:10")):
+            verdict = ima_verify.replay(listed, expected, require=require)
+            self.assertEqual((verdict, bool(verdict), verdict.compared), (wanted, True, 1))
+
+    def test_registers_of_the_firmware_differ(self):
+        verdict = ima_verify.replay(LIST, EXPECTED, require="sha256:0-23")
+        after_log = {register.register for register in registers_in(REGISTERS)}
+        states = {row.register: row.state for row in verdict.rows}
+        self.assertEqual(states, {number: State.DIFFER if number in after_log else State.MATCH for number in range(24)})
+        self.assertEqual(verdict.rows[0], Row(Algorithm.SHA256, 0, State.DIFFER, bytes(32)))
+        self.assertEqual((verdict.matches, bool(verdict), verdict.compared), (False, False, 24))
+
+    def test_list_that_went_on_differs(self):
+        verdict = ima_verify.replay(LONGER, self.TENTH, require="sha256:10")
+        self.assertEqual(verdict.rows, (Row(Algorithm.SHA256, 10, State.DIFFER, AFTER_LONGER),))
+        self.assertEqual((verdict.matches, verdict.entries), (False, 100))
+
+    def test_required_register_that_is_not_expected_is_missing(self):
+        verdict = ima_verify.replay(LIST, self.TENTH, require="sha1:10,sha256:10")
+        missing = Row(Algorithm.SHA1, 10, State.MISSING)
+        self.assertEqual(verdict.rows, (Row(Algorithm.SHA256, 10, State.MATCH), missing))
+        self.assertEqual((verdict.matches, verdict.compared), (False, 1))
+        for empty in (b"", "\n"):
+            verdict = ima_verify.replay(LIST, empty, require="sha1:10")
+            self.assertEqual((verdict.rows, verdict.matches, verdict.compared), ((missing,), False, 0))
+
+    def test_list_without_entries_never_matches(self):
+        for empty in (b"", bytearray()):
+            verdict = ima_verify.replay(empty, f"sha256 10 {ZERO[Algorithm.SHA256]}", require="sha256:10")
+            self.assertEqual(verdict.rows, (Row(Algorithm.SHA256, 10, State.MATCH),))
+            self.assertEqual((verdict.matches, bool(verdict), verdict.entries), (False, False, 0))
+
+    def test_requirement_is_given_and_of_its_form(self):
+        self.assertRaises(TypeError, ima_verify.replay, LIST, self.TENTH)
+        self.assertRaises(TypeError, ima_verify.replay, LIST, self.TENTH, "sha256:10")
+        for wrong in (None, 5, 0, False, ["sha256:10"]):
+            self.assertRaises(TypeError, ima_verify.replay, LIST, self.TENTH, require=wrong)
+        for wrong in Required.WRONG:
+            self.assertRaisesRegex(ValueError, "^not of its form: ", ima_verify.replay, b"", b"", require=wrong)
+
+    def test_inputs_are_refused(self):
+        for listed, expected, line in (
+            (CHANGED, self.TENTH, "refused: replay fault 1 at entry 5"),
+            (LIST[:-1], self.TENTH, "refused: list fault 1 at entry 98"),
+            (LIST[:-1], b"x", "refused: expected fault 1 at line 1"),
+        ):
+            with self.assertRaises(ima_verify.Refused) as caught:
+                ima_verify.replay(listed, expected, require="sha256:10")
+            self.assertEqual(caught.exception.line, line)
+
+
 class ExpectedRegisters(unittest.TestCase):
-    """What tpm2_pcrread printed."""
+    """What tpm2-tools printed."""
 
     def test_registers_are_those_of_the_sample(self):
         self.assertEqual(ima_verify.expected(PRINTED), EXPECTED)
@@ -174,6 +234,17 @@ class ExpectedRegisters(unittest.TestCase):
             with self.assertRaises(ima_verify.Refused) as caught:
                 ima_verify.expected(text)
             self.assertEqual(caught.exception.kind, Kind.EXPECTED)
+
+    def test_quoted_registers_are_read(self):
+        self.assertEqual(ima_verify.expected(QUOTED), ima_verify.expected(PRINTED, "0-10"))
+
+    def test_what_no_register_follows_from_is_refused(self):
+        printed_by_quote = (ROOT / "samples/quoted/tpm2_quote.txt").read_bytes()
+        for text, range, number in ((printed_by_quote, None, 4), (QUOTED[:QUOTED.index(b"sig:")], None, 5), (b"", None, 6), (QUOTED, "11", 6)):
+            with self.assertRaises(ima_verify.Refused) as caught:
+                ima_verify.expected(text, range)
+            found = caught.exception
+            self.assertEqual((found.line, found.number, found.place), (f"refused: expected fault {number}", number, None))
 
     def test_wrong_range_is_a_value_error(self):
         for wrong in ("24", "10-0", "0-", "-", " ", "sha256:0", "\u00e4"):

@@ -113,8 +113,32 @@ pub struct Verdict {
 impl Verdict {
     /// How many expected registers were compared.
     pub fn compared(&self) -> usize {
-        self.rows.iter().filter(|row| row.state != State::Missing).count()
+        compared(&self.rows)
     }
+}
+
+/// The verdict on a list without a log, and expected registers.
+#[derive(Debug, Clone, PartialEq, Eq, Hash)]
+#[must_use]
+pub struct ListVerdict {
+    pub entries: u64,
+    /// A row for each expected register, in their order, and then one for each that is missing.
+    pub rows: Vec<Row>,
+    /// The list has an entry, each expected register has its value, and no required one is missing.
+    pub matches: bool,
+    /// The report as `ima-agent` prints it.
+    pub text: String,
+}
+
+impl ListVerdict {
+    /// How many expected registers were compared.
+    pub fn compared(&self) -> usize {
+        compared(&self.rows)
+    }
+}
+
+fn compared(rows: &[Row]) -> usize {
+    rows.iter().filter(|row| row.state != State::Missing).count()
 }
 
 /// The earliest point at which a register has its expected value.
@@ -237,10 +261,20 @@ pub fn locate_required(log: &[u8], list: &[u8], expected: &[u8], require: &str) 
     library::ask_for(library::ROOM, call)?.required_places()
 }
 
-/// The lines of expected registers, for `verify` and `locate`, of what tpm2_pcrread printed: of the registers in a range, as `0-10` or
-/// `4`, or of all.
+/// The verdict on a measurement list without a log, and the expected registers that a text states.
 ///
-/// Who wrote the text is not known from it: take the values of a quote that was checked, or of a machine that is trusted.
+/// The list is replayed from the registers' reset values, so a register that the firmware extends too differs. `require` is as in
+/// [`verify_required`]. A list without entries is no match.
+pub fn replay_required(list: &[u8], expected: &[u8], require: &str) -> Result<ListVerdict, Error> {
+    let call = |out: &mut [u8]| library::replay_required(list, expected, require.as_bytes(), out);
+    library::ask_for(library::ROOM, call)?.list_verdict()
+}
+
+/// The lines of expected registers, for `verify` and `locate`, of what tpm2_pcrread or tpm2_checkquote printed: of the registers in a
+/// range, as `0-10` or `4`, or of all; at least one, else the text is refused.
+///
+/// Neither who wrote the text nor whether a quote holds is known from it: take the values of a quote that was checked, or of a machine
+/// that is trusted.
 pub fn expected(printed: &[u8], registers: Option<&str>) -> Result<Vec<u8>, Error> {
     let range = registers.unwrap_or_default().as_bytes();
     library::ask_for(library::ROOM, |out| library::expected(printed, range, out))?.expected()

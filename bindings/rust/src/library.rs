@@ -71,6 +71,17 @@ mod c {
             out_size: usize,
             needed: *mut usize,
         ) -> i32;
+        pub(super) fn ima_replay_required(
+            list: *const u8,
+            list_size: usize,
+            expected: *const u8,
+            expected_size: usize,
+            require: *const u8,
+            require_size: usize,
+            out: *mut u8,
+            out_size: usize,
+            needed: *mut usize,
+        ) -> i32;
         pub(super) fn ima_expected(
             printed: *const u8,
             printed_size: usize,
@@ -164,6 +175,26 @@ pub(crate) fn locate_required(log: &[u8], list: &[u8], expected: &[u8], require:
         c::ima_locate_required(
             log.as_ptr(),
             log.len(),
+            list.as_ptr(),
+            list.len(),
+            expected.as_ptr(),
+            expected.len(),
+            require.as_ptr(),
+            require.len(),
+            out.as_mut_ptr(),
+            out.len(),
+            &mut needed,
+        )
+    };
+    (status, needed)
+}
+
+/// The status, and how long the text is.
+pub(crate) fn replay_required(list: &[u8], expected: &[u8], require: &[u8], out: &mut [u8]) -> (i32, usize) {
+    let mut needed = usize::MAX;
+    // SAFETY: as above.
+    let status = unsafe {
+        c::ima_replay_required(
             list.as_ptr(),
             list.len(),
             expected.as_ptr(),

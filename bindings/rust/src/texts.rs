@@ -1,7 +1,7 @@
 //! Reads the library's texts. What has not exactly the form that `docs/formats.md` gives is an `Unexpected`.
 
 use crate::library::{DIFFERS, DONE};
-use crate::{Algorithm, BootAggregate, Error, Kind, Place, PlaceRow, Places, Register, Row, State, Verdict};
+use crate::{Algorithm, BootAggregate, Error, Kind, ListVerdict, Place, PlaceRow, Places, Register, Row, State, Verdict};
 
 const REGISTERS: u8 = 24;
 
@@ -22,6 +22,11 @@ impl Answer {
         read_verdict(self.status, &self.text, true).ok_or_else(|| self.unexpected())
     }
 
+    /// The verdict on a list alone, where registers are required.
+    pub(crate) fn list_verdict(self) -> Result<ListVerdict, Error> {
+        read_list_verdict(self.status, &self.text).ok_or_else(|| self.unexpected())
+    }
+
     pub(crate) fn places(self) -> Result<Places, Error> {
         read_places(self.status, &self.text, false).ok_or_else(|| self.unexpected())
     }
@@ -33,8 +38,9 @@ impl Answer {
 
     /// The lines of expected registers, as they are.
     pub(crate) fn expected(mut self) -> Result<Vec<u8>, Error> {
-        if read_registers(self.status, &self.text).is_none() {
-            return Err(self.unexpected());
+        match read_registers(self.status, &self.text) {
+            Some(registers) if !registers.is_empty() => {}
+            _ => return Err(self.unexpected()),
         }
         self.text.shrink_to_fit();
         Ok(self.text)
@@ -77,24 +83,47 @@ fn read_verdict(status: i32, bytes: &[u8], requires: bool) -> Option<Verdict> {
         "missing" => BootAggregate::Missing,
         _ => return None,
     };
-    let rows = rows.iter().map(|line| row(line)).collect::<Option<Vec<_>>>()?;
-    let matches = match (status, *verdict) {
-        (DONE, "verdict match") => true,
-        (DIFFERS, "verdict differ") => false,
-        _ => return None,
-    };
+    let (rows, matches) = (rows_of(rows, requires)?, says_match(status, verdict)?);
     let (events, locality) = (number(events)?, u8::try_from(number(locality)?).ok()?);
     let all = boot_aggregate == BootAggregate::Good && rows.iter().all(|row| row.state == State::Match);
-    let are_last = missing_are_last(rows.iter().map(|row| row.state == State::Missing), requires);
     let verdict = Verdict { events, locality, entries, boot_aggregate, rows, matches, text };
     let count = verdict.compared() as u64;
-    (all == matches && are_last && compared.unwrap_or(count) == count).then_some(verdict)
+    (all == matches && compared.unwrap_or(count) == count).then_some(verdict)
+}
+
+/// A list has registers in all banks.
+fn read_list_verdict(status: i32, bytes: &[u8]) -> Option<ListVerdict> {
+    let (text, lines) = lines_of(bytes)?;
+    let [entries, lines @ ..] = lines.as_slice() else { return None };
+    let (compared, lines) = compared(lines)?;
+    let [rows @ .., verdict] = lines else { return None };
+    let entries = number(entries.strip_prefix("entries ")?)?;
+    let (rows, matches) = (rows_of(rows, true)?, says_match(status, verdict)?);
+    let all = entries > 0 && !rows.is_empty() && rows.iter().all(|row| row.state == State::Match);
+    let has_absent = rows.iter().any(|row| row.state == State::Absent);
+    let verdict = ListVerdict { entries, rows, matches, text };
+    (all == matches && !has_absent && compared == Some(verdict.compared() as u64)).then_some(verdict)
 }
 
 /// The number that the first of these lines states, and the lines after it.
 fn compared<'a, 'b>(lines: &'b [&'a str]) -> Option<(Option<u64>, &'b [&'a str])> {
     let (line, rest) = lines.split_first()?;
     Some((Some(number(line.strip_prefix("compared ")?)?), rest))
+}
+
+/// The rows of a verdict.
+fn rows_of(lines: &[&str], requires: bool) -> Option<Vec<Row>> {
+    let rows = lines.iter().map(|line| row(line)).collect::<Option<Vec<_>>>()?;
+    missing_are_last(rows.iter().map(|row| row.state == State::Missing), requires).then_some(rows)
+}
+
+/// Whether the status and the last line of a report say that the verdict is a match.
+fn says_match(status: i32, line: &str) -> Option<bool> {
+    match (status, line) {
+        (DONE, "verdict match") => Some(true),
+        (DIFFERS, "verdict differ") => Some(false),
+        _ => None,
+    }
 }
 
 /// Whether the rows of missing registers come after the others; without registers that are required there are none.
@@ -135,6 +164,7 @@ fn read_refusal(bytes: &[u8]) -> Option<Error> {
         ["refused:", "log", "fault", digits, "at", "event", place] => (Kind::Log, digits, Some(place)),
         ["refused:", "list", "fault", digits, "at", "entry", place] => (Kind::List, digits, Some(place)),
         ["refused:", "replay", "fault", digits, "at", "entry", place] => (Kind::Replay, digits, Some(place)),
+        ["refused:", "expected", "fault", digits] => (Kind::Expected, digits, None),
         ["refused:", "expected", "fault", digits, "at", "line", place] => (Kind::Expected, digits, Some(place)),
         _ => return None,
     };

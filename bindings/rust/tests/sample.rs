@@ -1,7 +1,8 @@
 //! What the crate answers about the sample, one boot whose registers were read from the TPM after the list, and about changes
 //! of it.
 
-use ima_verify::{expected as expected_from, locate, locate_required, registers, show, verify, verify_required, version};
+use ima_verify::{expected as expected_from, locate, locate_required, registers, replay_required, show};
+use ima_verify::{verify, verify_required, version};
 use ima_verify::{Algorithm, BootAggregate, Error, Kind, Place, PlaceRow, Register, Row, State, Verdict};
 use std::sync::Barrier;
 use std::thread;
@@ -158,11 +159,59 @@ fn nothing_expected_never_matches() {
     }
 }
 
+/// The line of register 10, which the sample's list alone extends.
+fn tenth() -> Vec<u8> {
+    expected().split_inclusive(|byte| *byte == b'\n').nth(10).unwrap().to_vec()
+}
+
+#[test]
+fn register_of_the_list_alone_matches() {
+    let verdict = replay_required(&list(), &tenth(), "sha256:10").unwrap();
+    assert_eq!((verdict.matches, verdict.entries, verdict.compared()), (true, 99, 1));
+    let text = "entries 99\ncompared 1\nsha256 10 match\nverdict match\n";
+    assert_eq!((verdict.rows, verdict.text.as_str()), (vec![matching(10)], text));
+    let verdict = replay_required(&longer(), &tenth(), "sha256:10").unwrap();
+    assert_eq!((verdict.matches, verdict.entries, &verdict.rows[0].state), (false, 100, &State::Differ(from_hex(AFTER_LONGER))));
+}
+
+#[test]
+fn registers_of_the_firmware_differ_after_the_list_alone() {
+    let verdict = replay_required(&list(), &expected(), "sha256:0-23").unwrap();
+    assert_eq!((verdict.matches, verdict.compared()), (false, 24));
+    assert_eq!(verdict.rows[0].state, State::Differ(vec![0; 32]));
+    let differing: Vec<_> = verdict.rows.iter().filter(|row| row.state != State::Match).map(|row| row.register).collect();
+    let after_log: Vec<_> = registers_in(&sample("registers.txt")).iter().map(|register| register.register).collect();
+    assert_eq!(differing, after_log);
+}
+
+#[test]
+fn list_alone_never_matches_without_its_registers_or_entries() {
+    let missing = Row { algorithm: Algorithm::Sha1, register: 10, state: State::Missing };
+    let verdict = replay_required(&list(), &tenth(), "sha1:10,sha256:10").unwrap();
+    assert_eq!((verdict.matches, verdict.compared(), verdict.rows), (false, 1, vec![matching(10), missing.clone()]));
+    let verdict = replay_required(&list(), &[], "sha1:10").unwrap();
+    assert_eq!((verdict.matches, verdict.compared(), verdict.rows), (false, 0, vec![missing]));
+    let verdict = replay_required(&[], format!("sha256 10 {}", "0".repeat(64)).as_bytes(), "sha256:10").unwrap();
+    assert_eq!((verdict.matches, verdict.entries, verdict.rows), (false, 0, vec![matching(10)]));
+}
+
+#[test]
+fn list_alone_is_refused() {
+    let list = list();
+    let wanted = refused("refused: replay fault 1 at entry 5", Kind::Replay, 1, Some(5));
+    assert_eq!(replay_required(&changed(), &tenth(), "sha256:10").unwrap_err(), wanted);
+    let wanted = refused("refused: list fault 1 at entry 98", Kind::List, 1, Some(98));
+    assert_eq!(replay_required(&list[..list.len() - 1], &tenth(), "sha256:10").unwrap_err(), wanted);
+    let wanted = refused("refused: expected fault 1 at line 1", Kind::Expected, 1, Some(1));
+    assert_eq!(replay_required(&list[..1], b"x", "sha256:10").unwrap_err(), wanted);
+}
+
 #[test]
 fn wrong_requirement_or_range_is_malformed() {
     for require in ["", "sha256", "sha256:24", "sha256:10-0", "sha256:0-10,", "sha256: 0", "none", "0-10", "\u{e4}"] {
         assert_eq!(verify_required(&[], &[], &[], require).unwrap_err(), Error::Malformed, "{require:?}");
         assert_eq!(locate_required(&[], &[], &[], require).unwrap_err(), Error::Malformed, "{require:?}");
+        assert_eq!(replay_required(&[], &[], require).unwrap_err(), Error::Malformed, "{require:?}");
     }
     for range in ["24", "10-0", "0-", "-", " ", "sha256:0"] {
         assert_eq!(expected_from(&sample("tpm2_pcrread.txt"), Some(range)).unwrap_err(), Error::Malformed, "{range:?}");
@@ -188,6 +237,8 @@ fn expected_registers_are_those_that_were_printed() {
     assert!(!verify_required(&log(), &list(), &some, "sha256:0-11").unwrap().matches);
     let wanted = refused("refused: expected fault 1 at line 1", Kind::Expected, 1, Some(1));
     assert_eq!(expected_from(&expected(), None).unwrap_err(), wanted);
+    let wanted = refused("refused: expected fault 6", Kind::Expected, 6, None);
+    assert_eq!(expected_from(b"", None).unwrap_err(), wanted);
 }
 
 #[test]

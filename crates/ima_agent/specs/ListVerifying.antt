@@ -6,10 +6,11 @@ use Rattle.boot_verdict.specs.ExpectedTexts.{IsExpectedText}
 use Rattle.boot_verdict.specs.ListVerdicts.{IsListVerdict, ListVerdict, list_matches, list_report_text, required_list_matches, required_list_report_text}
 use Rattle.boot_verdict.specs.Requirements.{IsRequirementText}
 use Rattle.ima_agent.specs.declared.fault.RunFault.{RunFault}
+use Rattle.ima_agent.specs.declared.fault.RunFault.TheVariants as runs
 use Rattle.ima_agent.specs.Loading.{Inputs, Holds, IsInputFault}
-use Rattle.ima_agent.specs.Replaying.{IsReplayFaultOf}
+use Rattle.ima_agent.specs.Replaying.{IsRefusedList, IsReplayFaultOf}
 use Rattle.ima_agent.specs.Requiring.{IsFaultWith}
-use Rattle.ima_agent.specs.Verifying.{IsNotExpected}
+use Rattle.ima_agent.specs.Verifying.{IsNoExpectedText, IsNotExpected}
 
 -- The exit status of the verdict on a list alone: 0 if all matches, else 1.
 abbrev pub list_verdict_status : ListVerdict → ℕ
@@ -57,3 +58,27 @@ IsListReportFault inputs list text fault =
 abbrev pub IsListReportFaultWith : Inputs → List ℕ → List ℕ → Option (List ℕ) → RunFault → Type 0
 IsListReportFaultWith inputs list text None fault = IsListReportFault inputs list text fault
 IsListReportFaultWith inputs list text (Some required) fault = IsFaultWith required (IsListReportFault inputs list text) fault
+
+-- ---- of bytes in memory
+
+-- This is the verdict on this list and the registers that the text states.
+pub record IsListVerdictOn (list text : List ℕ) (verdict : ListVerdict) : Type 0 where
+  pub expected : List Expected
+  pub expected_is : IsExpectedText text expected
+  pub verdict_is : IsListVerdict list expected verdict
+
+-- What is shown is the report on this list and the registers that the text states; where another text is given, it requires registers.
+abbrev pub ShowsListReportOn : List ℕ → List ℕ → Option (List ℕ) → List ℕ → ℕ → Type 0
+ShowsListReportOn list text required shown status =
+    (verdict : ListVerdict) × IsListVerdictOn list text verdict × IsListReport required verdict shown status
+
+-- The text states registers, and the list is refused.
+pub record IsRefusedListVerdict (list text : List ℕ) (fault : RunFault) : Type 0 where
+  pub expected : List Expected
+  pub expected_is : IsExpectedText text expected
+  pub cause : IsRefusedList list fault
+
+-- Why there is no report on this list and the registers that this text states: it does not state registers, the list is refused, or
+-- memory ran out.
+abbrev pub IsNoListReportOn : List ℕ → List ℕ → RunFault → Type 0
+IsNoListReportOn list text fault = IsNoExpectedText text fault ⊎ IsRefusedListVerdict list text fault ⊎ (fault ≡ runs.Memory)

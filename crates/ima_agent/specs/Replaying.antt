@@ -31,11 +31,15 @@ pub record IsForgedFor (list : List ℕ) (fault : RunFault) : Type 0 where
   pub first_is : IsForged list first
   pub says : fault ≡ runs.Replay first
 
--- The list of this name is refused: it is no list, or an entry is not genuine.
+-- The list is refused: it is no list, or an entry is not genuine.
+abbrev pub IsRefusedList : List ℕ → RunFault → Type 0
+IsRefusedList list fault = IsNoList list fault ⊎ IsForgedFor list fault
+
+-- The list of this name is refused.
 pub record IsListRefused (inputs : Inputs) (name : List ℕ) (fault : RunFault) : Type 0 where
   pub list : List ℕ
   pub held : Holds inputs (Some name) list
-  pub cause : IsNoList list fault ⊎ IsForgedFor list fault
+  pub cause : IsRefusedList list fault
 
 -- Why no registers of the list of this name are shown: it is too long, and no entry within the limit is refused; it could not be
 -- opened or read; it is refused; or memory ran out.

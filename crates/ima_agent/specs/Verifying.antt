@@ -116,14 +116,12 @@ pub record IsNoExpectedText (text : List ℕ) (fault : RunFault) : Type 0 where
   pub first_is : HasFirstFault text first
   pub says : fault ≡ fault_of_expected first
 
--- The program's fault for a verifier's fault of bytes in memory: no source failed, and no list is too long.
-abbrev pub IsFirstCause : VerifyFault → RunFault → Type 0
-IsFirstCause (verdicts.Log first) fault = fault ≡ fault_of_log first
-IsFirstCause (verdicts.List first) fault = fault ≡ fault_of_list first
-IsFirstCause (verdicts.Replay first) fault = fault ≡ runs.Replay first
-IsFirstCause verdicts.Source fault = ⊥
-IsFirstCause verdicts.TooLong fault = ⊥
-IsFirstCause verdicts.Memory fault = fault ≡ runs.Memory
+-- The program's fault for a verifier's fault of bytes in memory, of which no source fails and no list is too long.
+abbrev pub fault_of_verdict : VerifyFault → RunFault
+fault_of_verdict (verdicts.Log first) = fault_of_log first
+fault_of_verdict (verdicts.List first) = fault_of_list first
+fault_of_verdict (verdicts.Replay first) = runs.Replay first
+fault_of_verdict first = runs.Memory
 
 -- The text states registers, there is no verdict on this log and this list, and the fault is the first cause.
 pub record IsRefusedVerdict (log list text : List ℕ) (fault : RunFault) : Type 0 where
@@ -131,7 +129,7 @@ pub record IsRefusedVerdict (log list text : List ℕ) (fault : RunFault) : Type
   pub first : VerifyFault
   pub expected_is : IsExpectedText text expected
   pub first_is : IsVerifyFault log list first
-  pub says : IsFirstCause first fault
+  pub says : fault ≡ fault_of_verdict first
 
 -- Why there is no report on this log, this list and the registers that this text states: it does not state registers, there is no
 -- verdict, or memory ran out.

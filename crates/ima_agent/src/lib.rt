@@ -39,6 +39,7 @@ pub use expecting::expected_on;
 pub use fault::RunFault;
 pub use files::{Files, SharedFiles};
 pub use hashing::hash_from;
+pub use list_verifying::{list_report_on, required_list_report_on};
 pub use loading::{LoadFault, load};
 pub use locating::{places_on, required_places_on};
 pub use output::Output;

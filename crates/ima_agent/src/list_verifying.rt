@@ -2,7 +2,7 @@
 
 ghost use Rattle.std.specs.Prelude.{◌≡◌, None, Some, option_map, IfOk, IfErr};
 ghost use Rattle.boot_verdict.specs.ListVerdicts.{IsListVerdictFrom, list_report_text, list_verdict_of, required_list_report_text};
-ghost use Rattle.ima_agent.specs.ListVerifying.{HasListVerdict, IsListReportFault, IsListReportFaultWith, ShowsListReport, list_verdict_status, required_list_status};
+ghost use Rattle.ima_agent.specs.ListVerifying.{HasListVerdict, IsListReportFault, IsListReportFaultWith, IsListVerdictOn, IsNoListReportOn, ShowsListReport, ShowsListReportOn, list_verdict_status, required_list_status};
 ghost use Rattle.ima_agent.specs.Loading.{input_limit};
 ghost use Rattle.ima_agent.specs.Requiring.{IsFaultWith};
 ghost use Rattle.ima_agent.specs.parts.Replaying.{IsNoReplayFrom};
@@ -10,14 +10,14 @@ ghost use Rattle.ima_agent.specs.parts.Replaying.{IsNoReplayFrom};
 use crate::fault::RunFault;
 use crate::files::Files;
 use crate::inputs::{INPUT_LIMIT, loaded, not_read};
-use crate::output::{DIFFERS, DONE, Output};
+use crate::output::Output;
 use crate::requiring::requirement_in;
-use crate::verifying::verdict_fault;
+use crate::verifying::{first_cause, verdict_fault};
 use boot_verdict::{
     Expected, ListReport, Requirement, read_expected, verify_list_from, write_list_report,
     write_required_list_report,
 };
-use byte_streams::{Failed, Source, VecSink};
+use byte_streams::{Failed, SliceSource, Source, VecSink};
 use std::alloc::{AllocError, Global};
 
 /// The report on the list and the expected registers in the files of these names; where the text `required` is given, it spells which
@@ -72,6 +72,37 @@ fn with_required<F: Files>(
     Ok(required_output(alloc, &report, &requirement)?)
 }
 
+/// The report on this list alone and the registers that the text `expected` states, with the status of its verdict: what `replay`
+/// shows of files with these bytes, here of bytes in memory and of any size. The text `expected` is read first.
+///
+/// Fails with [`RunFault::Expect`] if the text does not state expected registers; else with [`RunFault::List`] if the list is refused,
+/// with [`RunFault::Replay`] if an entry is not genuine, and with [`RunFault::Memory`] if memory runs out.
+pub fn list_report_on(alloc: Global, list: &[u8], expected: &[u8]) -> Result<Output, RunFault>
+    ensures shown { IfOk result (λ output. ShowsListReportOn list.now expected.now None output.text.items output.status) }
+    ensures fault { IfErr result (IsNoListReportOn list.now expected.now) }
+{
+    let report = list_judged_on(alloc, list, expected)?;
+    Ok(list_output(alloc, &report)?)
+}
+
+/// The same, where the text `required` spells which registers are required, as in `sha256:10`: what `replay --require` shows. It is
+/// read first.
+///
+/// Fails with [`RunFault::Usage`] if `required` spells no registers; else as [`list_report_on`].
+pub fn required_list_report_on(
+    alloc: Global,
+    list: &[u8],
+    expected: &[u8],
+    required: &[u8],
+) -> Result<Output, RunFault>
+    ensures shown { IfOk result (λ output. ShowsListReportOn list.now expected.now (Some required.now) output.text.items output.status) }
+    ensures fault { IfErr result (IsFaultWith required.now (IsNoListReportOn list.now expected.now)) }
+{
+    let requirement = requirement_in(alloc, required)?;
+    let report = list_judged_on(alloc, list, expected)?;
+    Ok(required_output(alloc, &report, &requirement)?)
+}
+
 // The report on these files, before it is written.
 fn list_judged<F: Files>(
     alloc: Global,
@@ -87,6 +118,19 @@ fn list_judged<F: Files>(
     match files.source(Some(list)) {
         Ok(mut source) => list_judged_from(alloc, &mut source, list, &expected),
         Err(Failed) => Err(not_read(alloc, list)),
+    }
+}
+
+// The report on this list and the registers that the text states, before it is written.
+fn list_judged_on(alloc: Global, list: &[u8], expected: &[u8]) -> Result<ListReport, RunFault>
+    ensures report { IfOk result (λ report. IsListVerdictOn list.now expected.now (list_verdict_of report)) }
+    ensures fault { IfErr result (IsNoListReportOn list.now expected.now) }
+{
+    let expected = read_expected(alloc, expected)?;
+    let mut source = SliceSource::new(list);
+    match verify_list_from(alloc, &mut source, u64::MAX, &expected) {
+        Ok(report) => Ok(report),
+        Err(fault) => Err(first_cause(fault)),
     }
 }
 
@@ -113,14 +157,10 @@ fn list_output(alloc: Global, report: &ListReport) -> Result<Output, AllocError>
     ensures status { IfOk result (λ output. output.status ≡ list_verdict_status (list_verdict_of report.now)) }
 {
     let mut text = VecSink::new(Vec::new(alloc));
-    if write_list_report(report, &mut text).is_err() {
-        return Err(AllocError);
+    match write_list_report(report, &mut text) {
+        Ok(()) => Ok(Output::judged(text, report.matches())),
+        Err(Failed) => Err(AllocError),
     }
-    let status = if report.matches() { DONE } else { DIFFERS };
-    Ok(Output {
-        text: text.into_bytes(),
-        status,
-    })
 }
 
 // A report as text where these registers are required, and its status.
@@ -133,16 +173,8 @@ fn required_output(
     ensures status { IfOk result (λ output. output.status ≡ required_list_status requirement.now (list_verdict_of report.now)) }
 {
     let mut text = VecSink::new(Vec::new(alloc));
-    if write_required_list_report(report, requirement, &mut text).is_err() {
-        return Err(AllocError);
+    match write_required_list_report(report, requirement, &mut text) {
+        Ok(()) => Ok(Output::judged(text, report.meets(requirement))),
+        Err(Failed) => Err(AllocError),
     }
-    let status = if report.meets(requirement) {
-        DONE
-    } else {
-        DIFFERS
-    };
-    Ok(Output {
-        text: text.into_bytes(),
-        status,
-    })
 }

@@ -14,14 +14,14 @@ use crate::evidence::{Evidence, opened};
 use crate::fault::RunFault;
 use crate::files::Files;
 use crate::inputs::INPUT_LIMIT;
-use crate::output::{DIFFERS, DONE, Output};
+use crate::output::Output;
 use crate::requiring::requirement_in;
 use crate::verifying::{first_cause, verdict_fault};
 use boot_verdict::{
     Expected, Located, Requirement, all_found, locate, locate_from, read_expected, required_found,
     write_places, write_required_places,
 };
-use byte_streams::{Source, VecSink};
+use byte_streams::{Failed, Source, VecSink};
 use std::alloc::{AllocError, Global};
 
 /// The places of the expected registers in the log and the list, in the files of these names. The list is searched as it is read,
@@ -153,14 +153,10 @@ fn places_output(alloc: Global, places: &[Located]) -> Result<Output, AllocError
     ensures status { IfOk result (λ output. output.status ≡ places_status places.now) }
 {
     let mut text = VecSink::new(Vec::new(alloc));
-    if write_places(places, &mut text).is_err() {
-        return Err(AllocError);
+    match write_places(places, &mut text) {
+        Ok(()) => Ok(Output::judged(text, all_found(places))),
+        Err(Failed) => Err(AllocError),
     }
-    let status = if all_found(places) { DONE } else { DIFFERS };
-    Ok(Output {
-        text: text.into_bytes(),
-        status,
-    })
 }
 
 // Places as text where these registers are required, and their status.
@@ -173,16 +169,8 @@ fn required_output(
     ensures status { IfOk result (λ output. output.status ≡ required_places_status requirement.now places.now) }
 {
     let mut text = VecSink::new(Vec::new(alloc));
-    if write_required_places(places, requirement, &mut text).is_err() {
-        return Err(AllocError);
+    match write_required_places(places, requirement, &mut text) {
+        Ok(()) => Ok(Output::judged(text, required_found(places, requirement))),
+        Err(Failed) => Err(AllocError),
     }
-    let status = if required_found(places, requirement) {
-        DONE
-    } else {
-        DIFFERS
-    };
-    Ok(Output {
-        text: text.into_bytes(),
-        status,
-    })
 }

@@ -1,6 +1,9 @@
 //! What the program writes if nothing is refused.
 
-ghost use Rattle.std.specs.Prelude.{◌≡◌};
+ghost use Rattle.std.specs.Prelude.{◌≡◌, if◌then◌else◌};
+ghost use Rattle.byte_streams.specs.Memory.{vec_sink_bytes};
+
+use byte_streams::VecSink;
 
 /// A whole output, before its first byte is written.
 #[derive(Drop)]
@@ -18,13 +21,24 @@ impl Output {
     {
         Output { text, status: DONE }
     }
+
+    /// The output of a command that judges, with the text in this sink: its status says whether all is well.
+    pub(crate) fn judged(text: VecSink, is_well: bool) -> Self
+        ensures text { result.text.items ≡ vec_sink_bytes text }
+        ensures status { result.status ≡ (if is_well then 0 else 1) }
+    {
+        Output {
+            text: text.into_bytes(),
+            status: if is_well { DONE } else { DIFFERS },
+        }
+    }
 }
 
-/// The exit status of success.
-pub(crate) const DONE: u8 = 0;
+// The exit status of success.
+const DONE: u8 = 0;
 
-/// The exit status of a report that does not match.
-pub(crate) const DIFFERS: u8 = 1;
+// The exit status of a report that does not match.
+const DIFFERS: u8 = 1;
 
 /// The exit status if the sink failed.
 pub(crate) const FAILED: u8 = 3;

@@ -1,26 +1,26 @@
 //! The report on a log, a list and expected registers, as text.
 
-ghost use Rattle.std.specs.Prelude.{◌≡◌, ℕ, List, IfOk, IfErr};
+ghost use Rattle.std.specs.Prelude.{◌≡◌, IfOk, IfErr};
 ghost use Rattle.boot_verdict.specs.RequiredTexts.{required_report_text};
-ghost use Rattle.boot_verdict.specs.Verdicts.{IsVerdictFrom, IsVerifyFault, verdict_of};
+ghost use Rattle.boot_verdict.specs.Verdicts.{IsVerdictFrom, verdict_of};
 ghost use Rattle.boot_verdict.specs.ReportTexts.{report_text};
 ghost use Rattle.ima_agent.specs.Faults.{IsFaultOfVerdict};
 ghost use Rattle.ima_agent.specs.Loading.{input_limit};
 ghost use Rattle.ima_agent.specs.parts.Verifying.{IsNoVerdictFrom};
 ghost use Rattle.ima_agent.specs.Requiring.{IsFaultWith, ShowsRequiredReport, ShowsRequiredReportOn, required_verdict_status};
-ghost use Rattle.ima_agent.specs.Verifying.{HasVerdict, IsFirstCause, IsNoReportOn, IsReportFault, IsVerdictOn, ShowsReport, ShowsReportOn, verdict_status};
+ghost use Rattle.ima_agent.specs.Verifying.{HasVerdict, IsNoReportOn, IsReportFault, IsVerdictOn, ShowsReport, ShowsReportOn, fault_of_verdict, verdict_status};
 
 use crate::evidence::{Evidence, opened};
 use crate::fault::RunFault;
 use crate::files::Files;
 use crate::inputs::{INPUT_LIMIT, not_read, too_long};
-use crate::output::{DIFFERS, DONE, Output};
+use crate::output::Output;
 use crate::requiring::requirement_in;
 use boot_verdict::{
     Expected, Report, Requirement, VerifyFault, read_expected, verify, verify_from, write_report,
     write_required_report,
 };
-use byte_streams::{Source, VecSink};
+use byte_streams::{Failed, Source, VecSink};
 use std::alloc::{AllocError, Global};
 
 /// The report on the log, the list and the expected registers in the files of these names. The list is verified as it is read, without
@@ -128,7 +128,7 @@ fn judged_on(alloc: Global, log: &[u8], list: &[u8], expected: &[u8]) -> Result<
 
 /// The program's fault for a verifier's fault of bytes in memory: no source failed, and no list was too long.
 pub(crate) fn first_cause(fault: VerifyFault) -> RunFault
-    ensures { (log : List ℕ) (list : List ℕ) → IsVerifyFault log list fault → IsFirstCause fault result }
+    ensures { result ≡ fault_of_verdict fault }
 {
     match fault {
         VerifyFault::Log(fault) => fault.into(),
@@ -176,14 +176,10 @@ fn report_output(alloc: Global, report: &Report) -> Result<Output, AllocError>
     ensures status { IfOk result (λ output. output.status ≡ verdict_status (verdict_of report.now)) }
 {
     let mut text = VecSink::new(Vec::new(alloc));
-    if write_report(report, &mut text).is_err() {
-        return Err(AllocError);
+    match write_report(report, &mut text) {
+        Ok(()) => Ok(Output::judged(text, report.matches())),
+        Err(Failed) => Err(AllocError),
     }
-    let status = if report.matches() { DONE } else { DIFFERS };
-    Ok(Output {
-        text: text.into_bytes(),
-        status,
-    })
 }
 
 // A report as text where these registers are required, and its status.
@@ -196,16 +192,8 @@ fn required_output(
     ensures status { IfOk result (λ output. output.status ≡ required_verdict_status requirement.now (verdict_of report.now)) }
 {
     let mut text = VecSink::new(Vec::new(alloc));
-    if write_required_report(report, requirement, &mut text).is_err() {
-        return Err(AllocError);
+    match write_required_report(report, requirement, &mut text) {
+        Ok(()) => Ok(Output::judged(text, report.meets(requirement))),
+        Err(Failed) => Err(AllocError),
     }
-    let status = if report.meets(requirement) {
-        DONE
-    } else {
-        DIFFERS
-    };
-    Ok(Output {
-        text: text.into_bytes(),
-        status,
-    })
 }

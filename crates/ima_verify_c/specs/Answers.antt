@@ -1,8 +1,9 @@
 -- What a caller in C finds after a call. All of this is this project's choice.
-use Rattle.std.specs.Prelude.{◌≡◌, ℕ, ℤ, pos, ◌<◌, ◌≤◌, ◌⊎◌, List, ◌++◌, length, drop}
+use Rattle.std.specs.Prelude.{◌≡◌, ℕ, ℤ, pos, ◌<◌, ◌≤◌, ◌⊎◌, List, ◌++◌, length, drop, Some}
 use Rattle.ima_agent.specs.declared.fault.RunFault.{RunFault}
 use Rattle.ima_agent.specs.Expecting.{IsNotExpectedOn, ShowsExpected, range_text}
 use Rattle.ima_agent.specs.FaultTexts.{fault_line, fault_status}
+use Rattle.ima_agent.specs.ListVerifying.{IsNoListReportOn, ShowsListReportOn}
 use Rattle.ima_agent.specs.Showing.{IsNoListFor, IsNoLogFor, ShowsList, ShowsRegistersAfter}
 use Rattle.ima_agent.specs.Locating.{ShowsPlacesOn}
 use Rattle.ima_agent.specs.Requiring.{IsFaultWith, ShowsRequiredPlacesOn, ShowsRequiredReportOn}
@@ -65,6 +66,13 @@ abbrev pub IsRequiredPlacesAnswer : List ℕ → List ℕ → List ℕ → List 
 IsRequiredPlacesAnswer log list expected required text status =
     ShowsRequiredPlacesOn log list expected required text status
     ⊎ IsRefusal (IsFaultWith required (IsNoReportOn log list expected)) text status
+
+-- The report on this list alone and the registers that the text `expected` states, where the text `required` requires registers, with the
+-- status of its verdict; or why there is none.
+abbrev pub IsRequiredListReportAnswer : List ℕ → List ℕ → List ℕ → List ℕ → ℕ → Type 0
+IsRequiredListReportAnswer list expected required text status =
+    ShowsListReportOn list expected (Some required) text status
+    ⊎ IsRefusal (IsFaultWith required (IsNoListReportOn list expected)) text status
 
 -- The expected registers that this text, which tpm2-tools printed, states within the range that the text `registers` spells, or all
 -- if that is empty; or why there are none.

@@ -9,12 +9,12 @@
 mod giving;
 
 ghost use Rattle.std.specs.Prelude.{◌≡◌};
-ghost use Rattle.ima_verify_c.specs.Answers.{Answers, IsPlacesAnswer, IsEntriesAnswer, IsExpectedAnswer, IsRegistersAnswer, IsReportAnswer, IsRequiredPlacesAnswer, IsRequiredReportAnswer, interface_version};
+ghost use Rattle.ima_verify_c.specs.Answers.{Answers, IsPlacesAnswer, IsEntriesAnswer, IsExpectedAnswer, IsRegistersAnswer, IsReportAnswer, IsRequiredListReportAnswer, IsRequiredPlacesAnswer, IsRequiredReportAnswer, interface_version};
 
 use crate::giving::{give, give_text};
 use ima_agent::{
-    entries_on, expected_on, places_on, registers_on, report_on, required_places_on,
-    required_report_on,
+    entries_on, expected_on, places_on, registers_on, report_on, required_list_report_on,
+    required_places_on, required_report_on,
 };
 use std::alloc::Global;
 
@@ -93,8 +93,25 @@ pub extern "C" fn ima_locate_required(
     give(alloc, asked, out, needed)
 }
 
-/// The expected registers that a text which tpm2_pcrread or tpm2_checkquote printed states within a range, as `0-10`, or all if that is empty, as `expected`
-/// writes them.
+/// The verdict on a measurement list without a log and expected registers, as `replay` writes it, where `require` is as in
+/// [`ima_verify_required`]: 0 if it is `match`, 1 if it is `differ`.
+#[unsafe(no_mangle)]
+pub extern "C" fn ima_replay_required(
+    alloc: Global,
+    list: &[u8],
+    expected: &[u8],
+    require: &[u8],
+    out: &mut [u8],
+    needed: &mut usize,
+) -> i32
+    ensures { Answers (IsRequiredListReportAnswer list.now expected.now require.now) result needed.new out.old out.new }
+{
+    let asked = required_list_report_on(alloc, list, expected, require);
+    give(alloc, asked, out, needed)
+}
+
+/// The expected registers that a text which tpm2_pcrread or tpm2_checkquote printed states within a range, as `0-10`, or all if that is
+/// empty, as `expected` writes them.
 #[unsafe(no_mangle)]
 pub extern "C" fn ima_expected(
     alloc: Global,

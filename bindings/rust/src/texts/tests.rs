@@ -7,6 +7,7 @@ use crate::{Error, Kind, Place};
 const REPORT: &str = "events 1 locality 0\nentries 3\nboot_aggregate good\nsha256 10 match\nverdict match\n";
 const PLACES: &str = "sha256 8 at reset\nsha256 4 after event 18\nsha256 10 after entry 98\nlocated\n";
 const REQUIRED: &str = "events 1 locality 0\nentries 3\ncompared 1\nboot_aggregate good\nsha256 10 match\nverdict match\n";
+const LIST_REPORT: &str = "entries 3\ncompared 1\nsha256 10 match\nverdict match\n";
 const NOT_LOCATED: &str = "sha256 8 at reset\nsha256 23 nowhere\nsha1 10 absent\nnot located\n";
 
 fn differing() -> String {
@@ -91,6 +92,56 @@ fn wrong_reports_with_required_registers_are_no_verdicts() {
     assert!(is_unexpected(answer(DIFFERS, &lacking().replace("compared 1\n", "")).verdict()));
     for text in ["", "events 1 locality 0\n", "events 1 locality 0\nentries 3\n", "events 1 locality 0\nentries 3\ncompared 0\n"] {
         assert!(is_unexpected(answer(DIFFERS, text).required_verdict()), "{text:?}");
+    }
+}
+
+#[test]
+fn right_reports_on_a_list_alone_are_read() {
+    let verdict = answer(DONE, LIST_REPORT).list_verdict().unwrap();
+    assert_eq!((verdict.matches, verdict.entries, verdict.compared()), (true, 3, 1));
+    let differing = format!("differ {}\n", "0".repeat(64));
+    for (old, new) in [
+        ("entries 3", "entries 0"),
+        ("match\n", &differing),
+        ("1\nsha256 10 match", "0\nsha256 10 missing"),
+        ("match\n", "match\nsha1 4 missing\n"),
+    ] {
+        let matching = LIST_REPORT.replacen(old, new, 1);
+        let text = matching.replace("verdict match", "verdict differ");
+        assert!(!answer(DIFFERS, &text).list_verdict().unwrap().matches);
+        assert!(is_unexpected(answer(DONE, &text).list_verdict()), "{text:?}");
+        assert!(is_unexpected(answer(DONE, &matching).list_verdict()), "{matching:?}");
+    }
+}
+
+#[test]
+fn wrong_reports_on_a_list_alone_are_no_verdicts() {
+    for (old, new) in [
+        ("", " "),
+        ("entries 3\n", ""),
+        ("entries 3", "entries 03"),
+        ("compared 1\n", ""),
+        ("compared 1", "compared 2"),
+        ("compared 1", "compared 01"),
+        ("compared 1\n", "compared 1\nboot_aggregate good\n"),
+        ("compared 1\nsha256 10 match\n", "compared 0\n"),
+        ("sha256 10 match", "sha256 24 match"),
+        ("sha256 10 match", "sha256 10 absent"),
+        ("sha256 10", "sha1 4 missing\nsha256 10"),
+        ("verdict match", "verdict differ"),
+        ("verdict match\n", "verdict match"),
+        ("verdict match\n", ""),
+        (LIST_REPORT, ""),
+        (LIST_REPORT, "entries 3\n"),
+    ] {
+        let text = LIST_REPORT.replacen(old, new, 1);
+        assert!(is_unexpected(answer(DONE, &text).list_verdict()), "{text:?}");
+    }
+    assert!(is_unexpected(answer(DIFFERS, LIST_REPORT).list_verdict()));
+    let absent = LIST_REPORT.replace("10 match", "10 absent").replace("verdict match", "verdict differ");
+    assert!(is_unexpected(answer(DIFFERS, &absent).list_verdict()));
+    for text in [REPORT, REQUIRED] {
+        assert!(is_unexpected(answer(DONE, text).list_verdict()), "{text:?}");
     }
 }
 

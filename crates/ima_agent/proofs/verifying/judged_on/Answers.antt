@@ -7,5 +7,5 @@ returns-clause-fault c = inr (inl (record {
   first = c.in-Err.fault;
   expected_is = c.in_ok-expected.ensures.found;
   first_is = c.in-Err.ensures.fault;
-  says = c.first_cause.ensures c.args.log.now c.args.list.now c.in-Err.ensures.fault;
+  says = c.first_cause.ensures;
 }))
