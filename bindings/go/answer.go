@@ -147,8 +147,12 @@ func (a answer) registers() ([]Register, error) {
 
 // The lines of expected registers, as they are.
 func (a answer) expected() ([]byte, error) {
-	if _, err := a.registers(); err != nil {
+	registers, err := a.registers()
+	if err != nil {
 		return nil, err
+	}
+	if len(registers) == 0 {
+		return nil, a.unexpected()
 	}
 	return append(make([]byte, 0, len(a.text)), a.text...), nil
 }
