@@ -7,3 +7,4 @@ pub mod ShowingLaws
 pub mod ReplayingLaws
 pub mod LocatingLaws
 pub mod ListVerifyingLaws
+pub mod EscapingLaws
