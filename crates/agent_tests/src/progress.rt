@@ -3,7 +3,8 @@
 use crate::commands::FILES;
 use crate::devices::{PieceFiles, words_of};
 use byte_streams::VecSink;
-use ima_agent::{Progress, run_with_progress};
+use ima_agent::{Failure, Progress, run_with_progress};
+use std::alloc::Global;
 use std::sync::Wait;
 use std::sync::atomic::{AtomicU32, Ordering};
 use std::test::Fail;
@@ -30,6 +31,8 @@ impl Progress for Notes {
     fn ended(&self) {
         self.ends.fetch_add(1, Ordering::SeqCst);
     }
+
+    fn explain(&self, _alloc: Global, _failure: Failure<'_>) {}
 }
 
 /// How often somebody was told of these words, of which numbers, and how often that it has ended.

@@ -10,4 +10,4 @@ mod words;
 
 pub use fault::WordsFault;
 pub use plan::{DataShown, NameEnd, Plan, Print};
-pub use words::{read_words, words_after_name};
+pub use words::{read_words, refusal_of, words_after_name};

@@ -1,6 +1,6 @@
 //! Reads the command line.
 
-ghost use Rattle.std.specs.Prelude.{◌≡◌, ◌<◌, ◌≤◌, ◌^◌, ◌⊎◌, [], Ok, Some, codes, drop, map, string_bytes, unwrap_or, vec_len, IfOk};
+ghost use Rattle.std.specs.Prelude.{◌≡◌, ◌<◌, ◌≤◌, ◌^◌, ◌⊎◌, [], None, Ok, Some, codes, drop, map, string_bytes, unwrap_or, vec_len, IfOk};
 ghost use Rattle.clap.specs.Words.{all_of, first_of, found_of, rows_of, subcommand_rows_of};
 ghost use Rattle.command_line.specs.parts.Commands.{IsCommand};
 ghost use Rattle.command_line.specs.Commands.{HasEvidence, HasMeasure, HasNumber, HasValues, HasValuesIn, IsGivenAs, IsMatched, Parsers, commands, data_value, null_value, print_name};
@@ -36,6 +36,44 @@ pub fn read_words(alloc: Global, words: &[String]) -> Result<Plan, WordsFault>
     match words.first() {
         None => Ok(Plan::Registers),
         Some(command) => plan_in(alloc, words, command),
+    }
+}
+
+/// What `clap` says of arguments that it refuses: lines for a person, which may have any bytes of the arguments. `None` if it takes
+/// them, as it does all whose values only [`read_words`] refuses.
+pub fn refusal_of(alloc: Global, words: &[String]) -> Result<Option<String>, AllocError>
+    // Without arguments nothing is refused.
+    ensures none { words.now ≡ [] → result ≡ Ok None }
+{
+    if words.is_empty() {
+        return Ok(None);
+    }
+    let algs = Alg::ALL.map(Alg::name);
+    let templates = Template::ALL.map(Template::name);
+    let known = KnownNames {
+        algs: &algs,
+        templates: &templates,
+    };
+    refusal_by(alloc, words, all_commands(alloc, known)?)
+}
+
+// The same, by this definition of all commands.
+fn refusal_by<'a>(
+    alloc: Global,
+    words: &'a [String],
+    program: Command<'a>,
+) -> Result<Option<String>, AllocError> {
+    match program.try_get_matches_from(words) {
+        Ok(_) => Ok(None),
+        Err(error) => refusal_text(alloc, &error),
+    }
+}
+
+// The text of an error of clap's, unless memory ran out.
+fn refusal_text(alloc: Global, error: &Error) -> Result<Option<String>, AllocError> {
+    match error.kind() {
+        ErrorKind::OutOfMemory => Err(AllocError),
+        _ => Ok(Some(format!(in alloc; "{error}")?)),
     }
 }
 

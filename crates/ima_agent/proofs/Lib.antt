@@ -8,3 +8,4 @@ pub mod ReplayingLaws
 pub mod LocatingLaws
 pub mod ListVerifyingLaws
 pub mod ExpectingLaws
+pub mod EscapingLaws

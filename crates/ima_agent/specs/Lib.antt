@@ -4,6 +4,7 @@ pub mod Hashing
 pub mod Names
 pub mod Faults
 pub mod FaultTexts
+pub mod Escaping
 pub mod Showing
 pub mod Verifying
 pub mod Locating

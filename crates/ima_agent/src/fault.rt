@@ -4,6 +4,7 @@ ghost use Rattle.std.specs.Prelude.{◌≡◌};
 ghost use Rattle.ima_agent.specs.Faults.{fault_of_agent, fault_of_expected, fault_of_list, fault_of_log, fault_of_words};
 ghost use Rattle.ima_agent.specs.declared.fault.RunFault.TheVariants.{Memory};
 
+use crate::causes::{book_cause, list_cause, log_cause, replay_cause};
 use boot_log::LogFault;
 use boot_verdict::ExpectFault;
 use command_line::WordsFault;
@@ -50,44 +51,61 @@ pub enum RunFault {
     Memory,
 }
 
+/// What is wrong, in words: of a fault of a part by the tables of docs/formats.md. `TooLong`, `Read` and `NotUtf8` name their input.
 impl fmt::Display for RunFault {
     fn fmt<W: fmt::Write>(&self, f: &mut fmt::Formatter<W>) -> fmt::Result {
         match self {
             RunFault::Usage => f.write_str("the arguments are not those of a command"),
             RunFault::NotHex => f.write_str("the text is not hexadecimal"),
-            RunFault::Log(fault) => say_cause("not a firmware event log", fault, f),
-            RunFault::List(fault) => say_cause("not a measurement list", fault, f),
-            RunFault::Replay(fault) => say_cause("the list is not genuine", fault, f),
-            RunFault::Expect(fault) => say_cause("not expected registers", fault, f),
-            RunFault::Book(fault) => say_cause("the book cannot be opened", fault, f),
-            RunFault::Outcome { job, fault } => say_outcome(*job, fault, f),
+            RunFault::Log(fault) => say_cause("event", fault.event(), log_cause(*fault), f),
+            RunFault::List(fault) => say_cause("entry", fault.entry(), list_cause(*fault), f),
+            RunFault::Replay(fault) => {
+                say_cause("entry", Some(fault.entry()), replay_cause(*fault), f)
+            }
+            RunFault::Expect(fault) => say_fault("", fault, f),
+            RunFault::Book(fault) => f.write_str(book_cause(*fault)),
+            RunFault::Outcome { job, fault } => say_outcome(*job, *fault, f),
             RunFault::TooLong(name) => say_name("", name, " is longer than 64 MiB", f),
             RunFault::Read(name) => say_name("cannot read ", name, "", f),
             RunFault::NotUtf8(name) => say_name("", name, " is not UTF-8", f),
             RunFault::Gather(fault) => {
-                say_cause("the outcomes do not account for the book", fault, f)
+                say_fault("the outcomes do not account for the book: ", fault, f)
             }
             RunFault::Memory => f.write_str("out of memory"),
         }
     }
 }
 
+// The place of a fault, if it names one, and its cause.
+fn say_cause<W: fmt::Write>(
+    kind: &str,
+    place: Option<usize>,
+    cause: &str,
+    f: &mut fmt::Formatter<W>,
+) -> fmt::Result {
+    match place {
+        Some(place) => write!(f, "{kind} {place}: {cause}"),
+        None => f.write_str(cause),
+    }
+}
+
 // Words, and the fault that is their cause.
-fn say_cause<D: fmt::Display, W: fmt::Write>(
+fn say_fault<D: fmt::Display, W: fmt::Write>(
     words: &str,
     fault: &D,
     f: &mut fmt::Formatter<W>,
 ) -> fmt::Result {
-    write!(f, "{words}: {fault}")
+    write!(f, "{words}{fault}")
 }
 
 // That the file of this number is refused, and why.
 fn say_outcome<W: fmt::Write>(
     job: u32,
-    fault: &BookFault,
+    fault: BookFault,
     f: &mut fmt::Formatter<W>,
 ) -> fmt::Result {
-    write!(f, "file {job} is refused: {fault}")
+    let cause = book_cause(fault);
+    write!(f, "file {job} is refused: {cause}")
 }
 
 // A name between words.

@@ -2,8 +2,11 @@
 //! streams. Re-exports what `command_line` reads from arguments, and the verdict and its texts from `boot_verdict`.
 #![tactic(auto)]
 
+mod causes;
+mod escaping;
 mod evidence;
 mod expecting;
+mod explaining;
 mod fault;
 mod files;
 mod hashing;
@@ -35,7 +38,9 @@ pub use boot_verdict::{
     write_required_places, write_required_report,
 };
 pub use command_line::{DataShown, NameEnd, Plan, Print, words_after_name};
+pub use escaping::escaped;
 pub use expecting::expected_on;
+pub use explaining::{Failure, explanation};
 pub use fault::RunFault;
 pub use files::{Files, SharedFiles};
 pub use hashing::hash_from;

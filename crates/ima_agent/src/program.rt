@@ -9,6 +9,7 @@ ghost use Rattle.ima_agent.specs.Program.{Answers, IsFaultFor, IsFaultOf, IsOutp
 ghost use Rattle.ima_agent.specs.parts.Program.{ShowsInputs, ShowsText};
 
 use crate::expecting::expected_from;
+use crate::explaining::Failure;
 use crate::fault::RunFault;
 use crate::files::Files;
 use crate::list_verifying::list_verified;
@@ -44,7 +45,11 @@ pub fn exit_code<R: Threads + Wait + Sync, F: Files, S: Sink, P: Progress>(
 {
     match words {
         Ok(words) => exits_with(run_with_progress(rt, alloc, &words, files, sink, progress)),
-        Err(_) => exits_with(failed(&RunFault::Memory, sink)),
+        Err(cause) => {
+            let status = failed(&RunFault::Memory, sink);
+            progress.explain(alloc, Failure::Words { cause: &cause });
+            exits_with(status)
+        }
     }
 }
 
@@ -80,7 +85,7 @@ pub fn run<R: Threads + Wait + Sync, F: Files, S: Sink>(
     run_with_progress(rt, alloc, words, files, sink, &NoProgress)
 }
 
-/// As [`run`]; also reports to `progress` how many files of a measurement are done. The output is the same.
+/// As [`run`]; also reports to `progress` how many files of a measurement are done, and why the run failed. The output is the same.
 pub fn run_with_progress<R: Threads + Wait + Sync, F: Files, S: Sink, P: Progress>(
     rt: &R,
     alloc: Global,
@@ -92,8 +97,29 @@ pub fn run_with_progress<R: Threads + Wait + Sync, F: Files, S: Sink, P: Progres
     ensures { Answers (IsOutput (F.told files.old) words.now) result (S.state sink.old) (S.state sink.new) }
 {
     match output_of(rt, alloc, words, files, progress) {
-        Ok(output) => status_after(send(&output.text, sink), output.status),
-        Err(fault) => failed(&fault, sink),
+        Ok(output) => {
+            let sent = send(&output.text, sink);
+            explain_unsent(alloc, &sent, progress);
+            status_after(sent, output.status)
+        }
+        Err(fault) => {
+            let status = failed(&fault, sink);
+            progress.explain(
+                alloc,
+                Failure::Fault {
+                    fault: &fault,
+                    words,
+                },
+            );
+            status
+        }
+    }
+}
+
+// Tells that the output was not written, if it was not.
+fn explain_unsent<P: Progress>(alloc: Global, sent: &Result<(), Failed>, progress: &P) {
+    if sent.is_err() {
+        progress.explain(alloc, Failure::Output);
     }
 }
 

@@ -1,19 +1,25 @@
-//! The progress of a measurement.
+//! What is told beside the output: the progress of a measurement, and why a run failed.
 
-use std::rt::Clock;
+use crate::explaining::{Failure, explanation};
+use std::alloc::Global;
+use std::io;
+use std::rt::{Clock, Files as FileSystem};
 use std::sync::atomic::{AtomicU64, Ordering};
 use std::time::Instant;
 
-/// Receives the progress of a measurement, from several threads.
+/// Receives the progress of a measurement, from several threads, and why the run failed.
 pub trait Progress: Sync {
     /// `files` of `all` files are done. Called by several threads at once, so a smaller number may come after a greater one.
     fn done(&self, files: u32, all: u32);
 
     /// The measurement has ended.
     fn ended(&self);
+
+    /// The run failed. The fault's line, if there is one, was sent before.
+    fn explain(&self, alloc: Global, failure: Failure<'_>);
 }
 
-/// Ignores the progress.
+/// Ignores it.
 #[derive(Clone, Copy)]
 pub struct NoProgress;
 
@@ -21,6 +27,8 @@ impl Progress for NoProgress {
     fn done(&self, _files: u32, _all: u32) {}
 
     fn ended(&self) {}
+
+    fn explain(&self, _alloc: Global, _failure: Failure<'_>) {}
 }
 
 /// How many milliseconds pass before the first number is shown.
@@ -29,12 +37,14 @@ const DELAY: u64 = 1_000;
 const INTERVAL: u64 = 100;
 
 /// Shows the progress on standard error, if that is a terminal: `123 of 10000 files`, after more than a second and at most ten
-/// times a second, written over what was shown before. The line is erased when the measurement ends. If the clock or the terminal
-/// fails, the number is not shown; this is no fault.
+/// times a second, written over what was shown before. The line is erased when the measurement ends. Of a run that failed it shows
+/// the [`explanation`] there. If the clock or the terminal fails, nothing is shown; this is no fault.
 #[derive(Drop)]
 pub struct SystemProgress<'a, R> {
     runtime: &'a R,
-    /// When the measurement began; `None` if standard error is no terminal, or the clock failed. Then nothing is shown.
+    /// Whether standard error is a terminal. Else nothing is shown.
+    is_terminal: bool,
+    /// When the measurement began; `None` if no number is to be shown, or the clock failed.
     began: Option<Instant>,
     /// After how many milliseconds the next number may be shown; greater than `DELAY` once one was shown.
     due: AtomicU64,
@@ -50,6 +60,7 @@ impl<'a, R: Eprint + Clock> SystemProgress<'a, R> {
         };
         SystemProgress {
             runtime,
+            is_terminal,
             began,
             due: AtomicU64::new(DELAY),
         }
@@ -74,7 +85,7 @@ impl<'a, R: Eprint + Clock> SystemProgress<'a, R> {
     }
 }
 
-impl<R: Eprint + Clock + Sync> Progress for SystemProgress<'_, R> {
+impl<R: Eprint + Clock + FileSystem + io::Input + Sync> Progress for SystemProgress<'_, R> {
     fn done(&self, files: u32, all: u32) {
         if self.takes_turn() {
             // A shorter line may follow a longer one.
@@ -86,5 +97,15 @@ impl<R: Eprint + Clock + Sync> Progress for SystemProgress<'_, R> {
         if self.due.load(Ordering::SeqCst) != DELAY {
             let _ = eprint!(self.runtime; "\r\x1b[K");
         }
+    }
+
+    fn explain(&self, alloc: Global, failure: Failure<'_>) {
+        if !self.is_terminal {
+            return;
+        }
+        let _ = match explanation(self.runtime, alloc, failure) {
+            Ok(text) => eprint!(self.runtime; "{text}"),
+            Err(_) => eprint!(self.runtime; "out of memory\n"),
+        };
     }
 }

@@ -15,7 +15,7 @@ returns-in-Ok g c =
 
 pub returns-in-Err : goal.returns-in-Err
 returns-in-Err g c =
-    let said = c.failed.ensures in
+    let said = c.failed-status.ensures in
     record {
       text = said.text;
       status = said.status;

@@ -5,15 +5,15 @@ pub returns-in-Ok : goal.returns-in-Ok
 returns-in-Ok g c = record {
   text = c.in-Ok.output.text.items;
   status = c.in-Ok.output.status;
-  sent = c.send.result;
+  sent = c.send-sent.result;
   output = inl c.in-Ok.ensures.shown;
-  sends = rw (← c.deref.ensures.value) c.send.ensures;
+  sends = rw (← c.deref.ensures.value) c.send-sent.ensures;
   answer_is = c.status_after.ensures;
 }
 
 pub returns-in-Err : goal.returns-in-Err
 returns-in-Err g c =
-    let said = c.failed.ensures in
+    let said = c.failed-status.ensures in
     record {
       text = said.text;
       status = said.status;

@@ -1,0 +1,257 @@
+//! What a person is told of a run that failed.
+
+ghost use Rattle.std.specs.Prelude.{◌≡◌, true, string_bytes, IfOk};
+ghost use Rattle.std.specs.List.{list_all};
+ghost use Rattle.ima_agent.specs.Escaping.{is_shown};
+
+use crate::escaping::{escaped_each, shown_line, shown_lines};
+use crate::fault::RunFault;
+use crate::words::read_words;
+use command_line::{Plan, refusal_of};
+use measure_book::BookFault;
+use std::alloc::{AllocError, Global};
+use std::fs::File;
+use std::io;
+use std::io::Read;
+use std::rt::Files as FileSystem;
+
+/// What standard input is called.
+const STANDARD_INPUT: &str = "standard input";
+
+/// What came of a run that failed.
+#[derive(Clone, Copy)]
+pub enum Failure<'a> {
+    /// The line of a fault.
+    Fault {
+        /// The fault.
+        fault: &'a RunFault,
+        /// The program's arguments, without its name.
+        words: &'a [String],
+    },
+    /// The line of a program that is out of memory: its arguments could not be obtained, for this cause.
+    Words {
+        /// The cause.
+        cause: &'a io::Error,
+    },
+    /// A part of the output, or nothing.
+    Output,
+}
+
+/// Why the run failed, in lines for a person: the input that is at fault, and what is wrong with it; for wrong arguments what `clap`
+/// says of them. Of an input that could not be read it asks once more, to learn the system's cause.
+///
+/// Fails if memory runs out, and if the run failed because it did.
+pub fn explanation<R: FileSystem + io::Input>(
+    rt: &R,
+    alloc: Global,
+    failure: Failure<'_>,
+) -> Result<String, AllocError>
+    ensures { IfOk result (λ text. list_all is_shown (string_bytes text) ≡ true) }
+{
+    match failure {
+        Failure::Fault { fault, words } => of_fault(rt, alloc, fault, words),
+        Failure::Words { cause } => of_words(alloc, cause),
+        Failure::Output => shown_line(alloc, "the output could not be written"),
+    }
+}
+
+// Why there are no arguments.
+fn of_words(alloc: Global, cause: &io::Error) -> Result<String, AllocError>
+    ensures { IfOk result (λ text. list_all is_shown (string_bytes text) ≡ true) }
+{
+    match cause.kind() {
+        io::ErrorKind::InvalidData => shown_line(alloc, "an argument is not UTF-8"),
+        _ => Err(AllocError),
+    }
+}
+
+// Why a run with these arguments has this fault.
+fn of_fault<R: FileSystem + io::Input>(
+    rt: &R,
+    alloc: Global,
+    fault: &RunFault,
+    words: &[String],
+) -> Result<String, AllocError>
+    ensures { IfOk result (λ text. list_all is_shown (string_bytes text) ≡ true) }
+{
+    match fault {
+        RunFault::Memory => Err(AllocError),
+        RunFault::Usage => of_usage(alloc, words),
+        RunFault::Read(name) => of_unread(rt, alloc, name, words),
+        _ => of_input(alloc, fault, words),
+    }
+}
+
+// Why these arguments are refused. They are escaped before `clap` has them, so each line feed that comes of it is its own.
+fn of_usage(alloc: Global, words: &[String]) -> Result<String, AllocError>
+    ensures { IfOk result (λ text. list_all is_shown (string_bytes text) ≡ true) }
+{
+    let words = escaped_each(alloc, words)?;
+    match refusal_of(alloc, &words)? {
+        Some(text) => shown_lines(alloc, &text),
+        None => of_argument(alloc, &words),
+    }
+}
+
+// Why these arguments are refused, which `clap` takes.
+fn of_argument(alloc: Global, words: &[String]) -> Result<String, AllocError>
+    ensures { IfOk result (λ text. list_all is_shown (string_bytes text) ≡ true) }
+{
+    let plan = plan_of(alloc, words)?;
+    match &plan {
+        Plan::VerifyRequired { required, .. }
+        | Plan::LocateRequired { required, .. }
+        | Plan::ReplayExpected {
+            required: Some(required),
+            ..
+        } => of_value(alloc, required, "--require <BANK:A-B[,BANK:C-D..]>"),
+        Plan::Expected {
+            registers: Some(registers),
+            ..
+        } => of_value(alloc, registers, "--registers <A-B>"),
+        _ => shown_line(alloc, "error: 2^32 files or more"),
+    }
+}
+
+// That this value of an option is refused.
+fn of_value(alloc: Global, value: &str, option: &str) -> Result<String, AllocError>
+    ensures { IfOk result (λ text. list_all is_shown (string_bytes text) ≡ true) }
+{
+    let text = format!(in alloc; "error: invalid value '{value}' for '{option}'")?;
+    shown_line(alloc, &text)
+}
+
+// What these arguments request. They were read before, so that it fails only for want of memory.
+fn plan_of(alloc: Global, words: &[String]) -> Result<Plan, AllocError> {
+    match read_words(alloc, words) {
+        Ok(plan) => Ok(plan),
+        Err(_) => Err(AllocError),
+    }
+}
+
+// Why the input of this name, or else standard input, could not be read.
+fn of_unread<R: FileSystem + io::Input>(
+    rt: &R,
+    alloc: Global,
+    name: &str,
+    words: &[String],
+) -> Result<String, AllocError>
+    ensures { IfOk result (λ text. list_all is_shown (string_bytes text) ≡ true) }
+{
+    if words.is_empty() {
+        of_cause(alloc, STANDARD_INPUT, read_cause(&mut rt.reader()))
+    } else {
+        of_cause(alloc, name, open_cause(rt, name))
+    }
+}
+
+// That the input could not be read, and the system's cause, if it is known.
+fn of_cause(alloc: Global, input: &str, cause: Option<io::Error>) -> Result<String, AllocError>
+    ensures { IfOk result (λ text. list_all is_shown (string_bytes text) ≡ true) }
+{
+    let Some(cause) = cause else {
+        return shown_line(alloc, &format!(in alloc; "cannot read {input}")?);
+    };
+    let cause = format!(in alloc; "{cause}")?;
+    let cause = without_number(&cause);
+    shown_line(alloc, &format!(in alloc; "cannot read {input}: {cause}")?)
+}
+
+// The system's words for an error, without its number.
+fn without_number(cause: &str) -> &str {
+    match cause.split_once(" (os error ") {
+        Some((words, _)) => words,
+        None => cause,
+    }
+}
+
+// Why the file of this name cannot be opened or read, if that fails now.
+fn open_cause<R: FileSystem>(rt: &R, name: &str) -> Option<io::Error> {
+    match File::open(rt, name) {
+        Ok(mut file) => read_cause(&mut file),
+        Err(cause) => Some(cause),
+    }
+}
+
+// Why nothing can be read, if that fails now.
+fn read_cause<R: Read>(reader: &mut R) -> Option<io::Error> {
+    let mut byte = [0];
+    reader.read(&mut byte).err()
+}
+
+// Which input of these arguments has the fault, and what is wrong with it.
+fn of_input(alloc: Global, fault: &RunFault, words: &[String]) -> Result<String, AllocError>
+    ensures { IfOk result (λ text. list_all is_shown (string_bytes text) ≡ true) }
+{
+    let plan = plan_of(alloc, words)?;
+    match input_of(&plan, fault) {
+        Some(input) => shown_line(alloc, &format!(in alloc; "{input}: {fault}")?),
+        None => shown_line(alloc, &format!(in alloc; "{fault}")?),
+    }
+}
+
+// The input that has the fault, unless the fault names it itself or is of none.
+fn input_of<'a>(plan: &'a Plan, fault: &RunFault) -> Option<&'a str> {
+    match fault {
+        RunFault::NotHex => Some(STANDARD_INPUT),
+        RunFault::Log(_) | RunFault::Book(BookFault::NoBank) => log_of(plan),
+        RunFault::List(_) | RunFault::Replay(_) => list_of(plan),
+        RunFault::Expect(_) => expected_of(plan),
+        RunFault::Outcome { job, .. } => file_of(plan, *job),
+        _ => None,
+    }
+}
+
+// The log of a plan.
+fn log_of(plan: &Plan) -> Option<&str> {
+    match plan {
+        Plan::Registers => Some(STANDARD_INPUT),
+        Plan::Measure { log, .. }
+        | Plan::MeasureListed { log, .. }
+        | Plan::Verify { log, .. }
+        | Plan::VerifyRequired { log, .. }
+        | Plan::Locate { log, .. }
+        | Plan::LocateRequired { log, .. }
+        | Plan::RegistersAfter { log }
+        | Plan::Events { log, .. } => Some(log.as_str()),
+        _ => None,
+    }
+}
+
+// The measurement list of a plan.
+fn list_of(plan: &Plan) -> Option<&str> {
+    match plan {
+        Plan::Verify { list, .. }
+        | Plan::VerifyRequired { list, .. }
+        | Plan::Locate { list, .. }
+        | Plan::LocateRequired { list, .. }
+        | Plan::Show { list }
+        | Plan::Replay { list }
+        | Plan::ReplayExpected { list, .. } => Some(list.as_str()),
+        _ => None,
+    }
+}
+
+// The text of expected registers of a plan, or that from which it makes them.
+fn expected_of(plan: &Plan) -> Option<&str> {
+    match plan {
+        Plan::Verify { expected, .. }
+        | Plan::VerifyRequired { expected, .. }
+        | Plan::Locate { expected, .. }
+        | Plan::LocateRequired { expected, .. }
+        | Plan::ReplayExpected { expected, .. } => Some(expected.as_str()),
+        Plan::Expected { printed, .. } => Some(printed.as_str()),
+        _ => None,
+    }
+}
+
+// The file of this number, if the arguments name it.
+fn file_of(plan: &Plan, job: u32) -> Option<&str> {
+    match plan {
+        Plan::Measure { files, .. } | Plan::MeasureListed { files, .. } => {
+            let name = files.get(job as usize)?;
+            Some(name.as_str())
+        }
+        _ => None,
+    }
+}
