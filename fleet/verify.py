@@ -50,7 +50,7 @@ TICK_SECONDS = 0.2
 NONE = "none"
 
 # Why a machine is refused whose inputs the library takes. Its own lines begin with `refused:`.
-NOTHING_EXPECTED = "nothing to compare: the text of expected registers states no register"
+NOTHING_EXPECTED = "nothing to compare: no register is expected"
 
 # What may come of a machine besides a verdict: its workers died, its worker lacks the library or a driver, or there is no answer.
 SUSPECT, UNFIT, LOST = "suspect", "unfit", "lost"
