@@ -8,9 +8,11 @@ import time
 from contextlib import contextmanager
 from dataclasses import dataclass, field
 from pathlib import Path
+from typing import Optional, Tuple
 
 ROOT = Path(__file__).resolve().parent.parent
 SECONDS = 60
+REQUIRE = "sha256:0-10"  # of all runs that ask for nothing else
 
 
 def python_with_dask():
@@ -58,13 +60,14 @@ class Processes:
         return process
 
     def client(self, *words):
-        return self.start([ROOT / "fleet/verify.py", "--progress", "1", *words])
+        return self.start([ROOT / "fleet/verify.py", "--require", REQUIRE, "--progress", "1", *words])
 
-    def verify(self, *words, seconds=SECONDS):
-        """The status of a run, and what it printed on both streams."""
+    def verify(self, *words, require: Optional[str] = REQUIRE, seconds: float = SECONDS, **given: str) -> Tuple[int, str, str]:
+        """The status of a run, and what it printed on both streams. It has no `--require` if that is None."""
+        words = [*words, *([] if require is None else [f"--require={require}"])]
         ended = subprocess.run(
             [self.python, ROOT / "fleet/verify.py", "--progress", "1", *map(str, words)],
-            env=self.environment, cwd=self.folder, text=True, capture_output=True, timeout=seconds,
+            env={**self.environment, **given}, cwd=self.folder, text=True, capture_output=True, timeout=seconds,
         )
         return ended.returncode, ended.stdout, ended.stderr
 

@@ -17,7 +17,7 @@ from pathlib import Path
 
 sys.dont_write_bytecode = True  # (beside the programs nothing is written)
 
-from cluster import ROOT, Processes, environment_of, python_with_dask, until
+from cluster import REQUIRE, ROOT, Processes, environment_of, python_with_dask, until
 
 sys.path.append(str(ROOT / "bench"))
 import inputs  # noqa: E402
@@ -32,10 +32,11 @@ SECONDS = 600
 # Reads and verifies the machines of a table in this process alone, and prints the seconds that it took.
 ALONE = """
 import sys, time, ima_verify
-paths = [line.rstrip("\\n").split("\\t")[1:] for line in open(sys.argv[1])]
+machines, require = sys.argv[1:]
+paths = [line.rstrip("\\n").split("\\t")[1:] for line in open(machines)]
 start = time.perf_counter()
 for log, measurements, expected in paths:
-    assert ima_verify.verify(*(open(path, "rb").read() for path in (log, measurements, expected)))
+    assert ima_verify.verify(*(open(path, "rb").read() for path in (log, measurements, expected)), require=require)
 print(time.perf_counter() - start)
 """
 
@@ -93,7 +94,7 @@ def rate_by(processes, workers, table, first, count):
 
 def rate_alone(processes, table, count):
     """The verdicts a second of one process without Dask."""
-    words = [processes.python, "-c", ALONE, table]
+    words = [processes.python, "-c", ALONE, table, REQUIRE]
     told = subprocess.run(words, env=processes.environment, capture_output=True, text=True, check=True, timeout=SECONDS).stdout
     return count / float(told)
 

@@ -1,16 +1,18 @@
 #!/usr/bin/env python3
 """Verifies the boot logs and measurement lists of many machines on many computers, by Dask's `distributed`.
 
-fleet/verify.py --scheduler ADDRESS [OPTION].. MACHINES TABLE
-fleet/verify.py --workers N [OPTION].. MACHINES TABLE
+fleet/verify.py --scheduler ADDRESS --require REGISTERS [OPTION].. MACHINES TABLE
+fleet/verify.py --workers N --require REGISTERS [OPTION].. MACHINES TABLE
 
 MACHINES is the table of machines (machines.py has its form), TABLE the table of verdicts, a file of SQLite (verdicts.py), which
 is made if it is not there. The workers are those of the scheduler, or N processes of this computer. They read the files
 themselves, and need the Python package `ima_verify` and the library below it.
 
+REGISTERS is what each machine's expected registers must name, as sha256:0-10, or `none`.
+
 The same command goes on after a stop, with the machines that TABLE lacks. Progress goes to standard error; at the end the number
 of machines with each verdict goes to standard output. Exit status: 0 if every machine matches; 1 if one does not; 2 if the
-arguments or the table of machines are refused; 3 if the run could not go on. docs/fleet.md has more."""
+arguments or one of the tables are refused; 3 if the run could not go on. docs/fleet.md has more."""
 
 import argparse
 import asyncio
@@ -28,10 +30,11 @@ from dataclasses import dataclass, field
 from datetime import datetime, timezone
 from pathlib import Path
 from tempfile import TemporaryDirectory
+from typing import Any, Dict, List, Sequence, Tuple
 
 sys.dont_write_bytecode = True  # (beside the programs nothing is written)
 
-from machines import BadTable, read_machines
+from machines import BadTable, Machine, read_machines
 from progress import Progress
 from verdicts import VERDICTS, BadVerdicts, Verdicts
 
@@ -42,6 +45,12 @@ MOST_CAUSE = 1000
 RETRIES = 2
 LEAST_IN_FLIGHT = 64
 TICK_SECONDS = 0.2
+
+# What `--require` and `--again` say if they name nothing.
+NONE = "none"
+
+# Why a machine is refused whose inputs the library takes. Its own lines begin with `refused:`.
+NOTHING_EXPECTED = "nothing to compare: no register is expected"
 
 # What may come of a machine besides a verdict: its workers died, its worker lacks the library or a driver, or there is no answer.
 SUSPECT, UNFIT, LOST = "suspect", "unfit", "lost"
@@ -56,6 +65,10 @@ class CannotGoOn(Exception):
     """The run cannot go on; the text says why."""
 
 
+class NotStarted(Exception):
+    """What is required, or one of the tables, is refused; the text says why."""
+
+
 # The functions from here on run on the workers, which get them from Dask: they need no file of this folder.
 
 
@@ -68,13 +81,27 @@ def cause_of(fault):
     return f"{type(fault).__name__}: {fault}".encode(errors="replace").decode()[:MOST_CAUSE]
 
 
-def library_fault():
-    """Why this process cannot verify; None if it can."""
+def required_verdict(log: bytes, measurements: bytes, expected: bytes, require: str):
+    """The library's verdict where these registers are required."""
+    import ima_verify
+
+    if require == NONE:
+        return ima_verify.verify(log, measurements, expected)
+    return ima_verify.verify(log, measurements, expected, require=require)
+
+
+def require_fitness(require: str) -> None:
+    """Makes sure that this process has the library, and that it takes this text for what is required.
+
+    Else there is an ImportError, or a ValueError. The library reads that text before the inputs."""
+    import ima_verify
+
     try:
-        import ima_verify  # noqa: F401
-    except ImportError as fault:
-        return cause_of(fault)
-    return None
+        required_verdict(b"", b"", b"", require)
+    except ValueError:
+        raise ValueError(f"--require {require!r} is neither BANK:A-B[,BANK:C-D..], as sha256:0-10, nor {NONE}") from None
+    except ima_verify.Refused:  # (no log is empty)
+        pass
 
 
 def read_input(path):
@@ -103,7 +130,7 @@ def verdict_fields(verdict):
     }
 
 
-def verdict_on(paths):
+def verdict_on(paths: Sequence[str], require: str) -> Dict[str, Any]:
     """The fields of the row of a machine with these paths."""
     import ima_verify
 
@@ -120,17 +147,20 @@ def verdict_on(paths):
         fields[f"{part}_sha256"] = hashlib.sha256(data).hexdigest()
         inputs.append(data)
     try:
-        return {**fields, **verdict_fields(ima_verify.verify(*inputs))}
+        verdict = required_verdict(*inputs, require)
     except ima_verify.Refused as fault:
         return {**fields, "verdict": "refused", "cause": fault.line}
+    if not verdict.compared:
+        return {**fields, "verdict": "refused", "cause": NOTHING_EXPECTED}
+    return {**fields, **verdict_fields(verdict)}
 
 
-def verify_machine(paths):
+def verify_machine(paths: Sequence[str], require: str) -> str:
     """A worker's answer on the machine with these paths, in JSON. If it raises an exception, Dask tries again."""
     from distributed import get_worker
 
     try:
-        fields = verdict_on(paths)
+        fields = verdict_on(paths, require)
     except ImportError as fault:  # of the package, the library, or the driver of an object store: no verdict on the machine
         fields = {"verdict": UNFIT, "cause": cause_of(fault)}
     except Exception as fault:  # as one that any client has, and that is no deeper than this
@@ -193,7 +223,7 @@ class Run:
             return
         keys = list(itertools.islice(self.keys, len(machines)))
         paths = [machine.paths for machine in machines]
-        futures = self.client.map(verify_machine, paths, key=keys, retries=RETRIES, pure=False)
+        futures = self.client.map(verify_machine, paths, key=keys, retries=RETRIES, pure=False, require=self.options.require)
         for machine, future in zip(machines, futures):
             task = asyncio.create_task(self._follow(machine, future, is_alone))
             self.following.add(task)
@@ -265,7 +295,6 @@ async def connection(options):
         async with Client(options.scheduler, asynchronous=True) as client:
             yield client
         return
-    sys.path.append(str(BINDING))  # (which the workers take over)
     with TemporaryDirectory() as folder:
         cluster = LocalCluster(
             n_workers=options.workers, threads_per_worker=1, processes=True, asynchronous=True,
@@ -275,15 +304,17 @@ async def connection(options):
             yield client
 
 
-async def require_fit_workers(client, patience):
-    """Waits for a worker, and makes sure that those that are there can verify."""
+async def require_fit_workers(client, options: argparse.Namespace) -> None:
+    """Waits for a worker, and makes sure that those that are there can verify, and take what is required."""
     if not workers_of(client)[0]:
         print("waiting for a worker", file=sys.stderr, flush=True)
-    await client.wait_for_workers(1, timeout=patience)
-    faults = await client.run(library_fault, on_error="return")
+    await client.wait_for_workers(1, timeout=options.patience)
+    faults = await client.run(require_fitness, options.require, on_error="return")
     for worker, fault in faults.items():
-        if fault is not None:  # the cause, or what Dask raised
-            raise CannotGoOn(f"worker {worker} cannot verify: {fault if isinstance(fault, str) else cause_of(fault)}")
+        if isinstance(fault, ValueError):
+            raise NotStarted(fault)
+        if fault is not None:  # of the worker, or of Dask
+            raise CannotGoOn(f"worker {worker} cannot verify: {cause_of(fault)}")
 
 
 def stop_at_signals():
@@ -303,14 +334,14 @@ def stop_at_signals():
 
 async def run(options, table, machines, recorded):
     """Verifies the machines that the table lacks, and those that are to be verified anew."""
-    before = {name: verdict for name, verdict in recorded.items() if verdict in options.again}
+    before = {name: verdict for name, verdict in recorded.items() if verdict in (options.again or ())}
     missing = [machine for machine in machines if machine.name not in recorded or machine.name in before]
     if not missing:
         return
     stop_at_signals()
     try:
         async with connection(options) as client:
-            await require_fit_workers(client, options.patience)
+            await require_fit_workers(client, options)
             progress = Progress(len(machines), recorded.values(), VERDICTS, sys.stderr, options.progress)
             whole = Run(client, table, progress, options, before, len(missing))
             try:
@@ -321,10 +352,19 @@ async def run(options, table, machines, recorded):
         raise CannotGoOn("a signal came") from None
 
 
-def verdict_kinds(text):
-    kinds = text.split(",")
+class Once(argparse.Action):
+    """An option that may be given once: no second one takes the place of the first."""
+
+    def __call__(self, parser, namespace, values, option_string=None):
+        if getattr(namespace, self.dest) is not None:
+            parser.error(f"{option_string} is given twice")
+        setattr(namespace, self.dest, values)
+
+
+def verdict_kinds(text: str) -> List[str]:
+    kinds = [] if text == NONE else text.split(",")
     if not set(kinds) <= set(VERDICTS):
-        raise argparse.ArgumentTypeError(f"{text!r} is not a list of {', '.join(VERDICTS)}, with commas between")
+        raise argparse.ArgumentTypeError(f"{text!r} is not a list of {', '.join(VERDICTS)}, with commas between, nor {NONE}")
     return kinds
 
 
@@ -349,8 +389,12 @@ def options_of(words):
     workers.add_argument("--scheduler", metavar="ADDRESS", type=address, help="the scheduler, as tcp://computer:8786")
     workers.add_argument("--workers", metavar="N", type=positive, help="start N workers on this computer")
     parser.add_argument(
-        "--again", metavar="KINDS", type=verdict_kinds, default=[],
-        help="verify anew the machines with these verdicts, as refused,unreadable,failed",
+        "--require", metavar="REGISTERS", action=Once,
+        help=f"what the expected registers of each machine must name, as sha256:0-10 or sha256:0-7,sha1:10; or {NONE}",
+    )
+    parser.add_argument(
+        "--again", metavar="KINDS", action=Once, type=verdict_kinds,
+        help=f"verify anew the machines with these verdicts, as refused,unreadable,failed; {NONE}: all verdicts stand",
     )
     parser.add_argument(
         "--in-flight", metavar="N", type=positive,
@@ -366,7 +410,13 @@ def options_of(words):
     )
     parser.add_argument("machines", metavar="MACHINES", help="the table of machines")
     parser.add_argument("table", metavar="TABLE", help="the table of verdicts")
-    return parser.parse_args(words)
+    options = parser.parse_args(words)
+    if options.require is None:
+        parser.error(
+            "--require is missing: write which registers each machine's expected registers must name, as --require sha256:0-10, "
+            f"or --require {NONE} if they may name any"
+        )
+    return options
 
 
 def complain(text, status):
@@ -375,28 +425,57 @@ def complain(text, status):
     return status
 
 
-def main():
-    options = options_of(sys.argv[1:])
+def judge(require: str) -> None:
+    """Refuses a wrong `--require`. Where this computer lacks the library, the workers do, by theirs."""
+    sys.path.append(str(BINDING))  # (which workers of this computer take over)
+    try:
+        require_fitness(require)
+    except ImportError:
+        pass
+    except ValueError as fault:
+        raise NotStarted(fault) from None
+
+
+def open_tables(options: argparse.Namespace) -> Tuple[List[Machine], Verdicts, Dict[str, str]]:
+    """The machines, the table of verdicts, and by name the verdict of each machine that has one."""
     try:
         machines = read_machines(options.machines)
     except (OSError, BadTable) as fault:
-        return complain(f"refused: {options.machines}: {fault}", 2)
+        raise NotStarted(f"{options.machines}: {fault}") from None
     try:
-        table = Verdicts(options.table)
+        table = Verdicts(options.table, options.require)
         recorded = table.recorded(machines)
+        if options.again is None:
+            table.require_no_end()
     except (sqlite3.Error, BadVerdicts) as fault:
-        return complain(f"refused: {options.table}: {fault}", 2)
-    if kept := sum(verdict not in options.again for verdict in recorded.values()):
-        complain(f"{kept} verdicts stand from earlier runs, the oldest since {table.oldest()}; --again gives new ones", 0)
+        raise NotStarted(f"{options.table}: {fault}") from None
+    return machines, table, recorded
+
+
+def verify_fleet(options: argparse.Namespace) -> int:
+    """Verifies what is to be verified, prints how many machines have each verdict, and gives the exit status."""
+    judge(options.require)
+    machines, table, recorded = open_tables(options)
+    standing, since = table.standing(options.again or [])
+    if standing:
+        complain(f"verdicts that stand from earlier runs: {standing}, the oldest since {since}; --again gives new ones", 0)
+    asyncio.run(run(options, table, machines, recorded))
+    counts = table.counts()
+    print("".join(f"{kind} {counts[kind]}\n" for kind in VERDICTS), end="", flush=True)
+    table.end(now())  # (not before, so that the same command goes on until the counts are told)
+    return 0 if counts["match"] == len(machines) else 1
+
+
+def main():
+    options = options_of(sys.argv[1:])
     try:
-        asyncio.run(run(options, table, machines, recorded))
+        return verify_fleet(options)
+    except NotStarted as fault:
+        return complain(f"refused: {fault}", 2)
     except CannotGoOn as fault:
         return complain(f"stopped: {fault}; the same command goes on", 3)
     except Exception as fault:  # of Dask, of the network, of SQLite, or none that was foreseen
         return complain(f"stopped: {cause_of(fault)}; the same command goes on", 3)
-    counts = table.counts()
-    print("".join(f"{kind} {counts[kind]}\n" for kind in VERDICTS), end="")
-    return 0 if counts["match"] == len(machines) else 1
 
 
 if __name__ == "__main__":
