@@ -100,5 +100,7 @@ fn lines_within(
 fn is_any_within(expected: &[Expected], range: RegisterRange) -> bool
     ensures { result ≡ list_any (λ e. is_within range e.register) expected.now }
 {
-    expected.iter().any(|register| range.contains(register.register))
+    expected
+        .iter()
+        .any(|register| range.contains(register.register))
 }
