@@ -69,6 +69,11 @@ LIST = {
 }
 REPLAY = {1: "its template digest is not the SHA-1 of what it covers, and it is no violation"}
 EXPECTED = {1: "is not a register line", 2: "names a register a second time"}
+PRINTED = {
+    4: "this is what tpm2_quote printed: its quote is not checked yet",
+    5: "the line of the signature is missing",
+    6: "no register is stated, or none of those that are wanted",
+}
 BOOK = {
     1: "the template does not take digests of the algorithm of --alg",
     2: "the log has no bank of the algorithm of --alg",
@@ -185,6 +190,8 @@ def fault_in_words(line, words, folder):
         return inputs["log"], (f"event {found[2]}: " if found[2] else "") + LOG[int(found[1])]
     if found := re.fullmatch(r"refused: (list|replay) fault (\d+) at entry (\d+)", line):
         return inputs["list"], f"entry {found[3]}: {(LIST if found[1] == 'list' else REPLAY)[int(found[2])]}"
+    if found := re.fullmatch(r"refused: expected fault ([4-6])", line):
+        return inputs["expected"], PRINTED[int(found[1])]
     if found := re.fullmatch(r"refused: expected fault (\d+) at line (\d+)", line):
         return inputs["expected"], f"line {found[2]} {EXPECTED[int(found[1])]}"
     if found := re.fullmatch(r"refused: book fault (\d+)", line):

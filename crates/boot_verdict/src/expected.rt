@@ -43,7 +43,7 @@ pub enum ExpectFault {
     #[error("the line of the signature is missing")]
     NotSigned,
     /// 6: the text states no register.
-    #[error("no register is stated")]
+    #[error("no register is stated, or none of those that are wanted")]
     NoRegister,
 }
 
