@@ -245,7 +245,10 @@ def case_fault(program, command, folder, output):
     fault = fault_of(command, Answer(status, output, b""), folder)
     if fault is not None:
         return f"the answer is another one:\n    {fault}"
-    wanted = sentence_of(command.words, text[:-1], folder) if is_refused else b""
+    try:
+        wanted = sentence_of(command.words, text[:-1], folder) if is_refused else b""
+    except (KeyError, ValueError) as error:
+        return f"no table has the words of {text!r}: {error!r}"
     if is_of_usage(said) if wanted is None else said == wanted:
         return None
     return f"the terminal got {said!r}, and not {'a text of clap' if wanted is None else wanted!r}"
