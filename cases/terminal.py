@@ -176,9 +176,9 @@ def sentence_of(words, line, folder):
 def fault_in_words(line, words, folder):
     """The name of the input that a fault is of, or None, and what is wrong with it."""
     if found := re.fullmatch(r"failed: read (.*)", line, re.DOTALL):
-        return None, unread(found[1], words, folder)
+        return None, unread(found[1], folder)
     if found := re.fullmatch(r"refused: too long (.*)", line, re.DOTALL):
-        return None, f"{found[1] if words else 'standard input'} is longer than 64 MiB"
+        return None, f"{found[1]} is longer than 64 MiB"
     if found := re.fullmatch(r"refused: not UTF-8 (.*)", line, re.DOTALL):
         return None, f"{found[1]} is not UTF-8"
     if line == "refused: not hexadecimal":
@@ -211,17 +211,21 @@ def names_of(words):
     return dict(zip(kinds, asked.names)), asked.names[len(kinds):]
 
 
-def unread(name, words, folder):
-    """That this input cannot be read, and what the system says why, if it still says so."""
-    if not words:
-        return "cannot read standard input: Is a directory"
+def unread(name, folder):
+    """That the file of this name cannot be read, and what the system says why, if it still says so."""
+    place = os.open(folder, os.O_RDONLY)
     try:
-        with open(folder / name, "rb", buffering=0) as file:
-            file.read(1)
+        file = os.open(name, os.O_RDONLY, dir_fd=place)
+        try:
+            os.read(file, 1)
+        finally:
+            os.close(file)
     except OSError as error:
         return f"cannot read {name}: {os.strerror(error.errno)}"
     except ValueError:  # a NUL in the name, which no call of the system can be given
         return f"cannot read {name}: file name contained an unexpected NUL byte"
+    finally:
+        os.close(place)
     return f"cannot read {name}"
 
 
@@ -248,7 +252,10 @@ def case_fault(program, command, folder, output):
     fault = fault_of(command, Answer(status, output, b""), folder)
     if fault is not None:
         return f"the answer is another one:\n    {fault}"
-    wanted = sentence_of(command.words, text[:-1], folder) if is_refused else b""
+    try:
+        wanted = sentence_of(command.words, text[:-1], folder) if is_refused else b""
+    except (KeyError, ValueError) as error:
+        return f"no table has the words of {text!r}: {error!r}"
     if is_of_usage(said) if wanted is None else said == wanted:
         return None
     return f"the terminal got {said!r}, and not {'a text of clap' if wanted is None else wanted!r}"
@@ -280,15 +287,23 @@ def further_commands():
         empty = f"{name} is empty"
         said = f"{escaped} is empty: event 0: its bytes are not all there\n".encode()
         yield Command(f"an empty log: {escaped}", ["events", empty], Ended(2, b"refused: log fault 1 at event 0\n", said))
-    no_words = b"failed: memory\n"
-    yield Command("an argument that is not UTF-8", ["show", b"\xff"], Ended(3, no_words, b"an argument is not UTF-8\n"))
-    yield Command("little memory", ["show", "large 0"], Ended(3, b"failed: memory\n", b"out of memory\n"), limit_memory)
+    memory = b"failed: memory\n"
+    yield Command("an argument that is not UTF-8", ["show", b"\xff"], Ended(3, memory, b"an argument is not UTF-8\n"))
+    yield Command("little memory", ["show", "large 0"], Ended(3, memory, b"out of memory\n"), limit_memory)
+    yield Command("a folder as standard input", [], Ended(3, b"failed: read -\n", b"cannot read standard input: Is a directory\n"),
+                  lambda: give("."))
+    yield Command("standard input without an end", [], Ended(2, b"refused: too long -\n", b"standard input is longer than 64 MiB\n"),
+                  lambda: give("/dev/zero"))
     yield Command("a folder", ["show", "."], Ended(3, b"failed: read .\n", b"cannot read .: Is a directory\n"))
     yield Command("a full device", ["registers", "L"], Ended(3, b"", b"the output could not be written\n"), fill_output)
 
 
 def limit_memory():
     resource.setrlimit(resource.RLIMIT_AS, (ADDRESS_SPACE, ADDRESS_SPACE))
+
+
+def give(file):
+    os.dup2(os.open(file, os.O_RDONLY), 0)
 
 
 def fill_output():

@@ -1,6 +1,6 @@
 //! Texts for a terminal.
 
-ghost use Rattle.std.specs.Prelude.{◌≡◌, ◌<◌, ◌++◌, true, slice_index, string_bytes, IfOk, OnOk};
+ghost use Rattle.std.specs.Prelude.{◌≡◌, ◌<◌, ◌++◌, true, map, slice_index, string_bytes, IfOk, OnOk};
 ghost use Rattle.std.specs.List.{list_all};
 ghost use Rattle.hex.specs.Hex.{lower_digits};
 ghost use Rattle.ima_agent.specs.Escaping.{escaped, escaped_byte, is_printable, is_shown};
@@ -76,7 +76,9 @@ pub(crate) fn shown_lines(alloc: Global, text: &str) -> Result<String, AllocErro
 }
 
 /// The texts, escaped.
-pub(crate) fn escaped_each(alloc: Global, texts: &[String]) -> Result<Vec<String>, AllocError> {
+pub(crate) fn escaped_each(alloc: Global, texts: &[String]) -> Result<Vec<String>, AllocError>
+    ensures { IfOk result (λ shown. map string_bytes shown.items ≡ map (λ text. escaped (string_bytes text)) texts.now) }
+{
     let mut shown = Vec::with_capacity(alloc, texts.len())?;
     for text in texts {
         shown.push(escaped(alloc, text)?)?;

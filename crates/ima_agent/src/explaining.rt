@@ -78,6 +78,7 @@ fn of_fault<R: FileSystem + io::Input>(
         RunFault::Memory => Err(AllocError),
         RunFault::Usage => of_usage(alloc, words),
         RunFault::Read(name) => of_unread(rt, alloc, name, words),
+        RunFault::TooLong(_) if words.is_empty() => of_long_input(alloc),
         _ => of_input(alloc, fault, words),
     }
 }
@@ -119,6 +120,14 @@ fn of_value(alloc: Global, value: &str, option: &str) -> Result<String, AllocErr
 {
     let text = format!(in alloc; "error: invalid value '{value}' for '{option}'")?;
     shown_line(alloc, &text)
+}
+
+// That standard input is too long. The fault has no name to tell it by.
+fn of_long_input(alloc: Global) -> Result<String, AllocError>
+    ensures { IfOk result (λ text. list_all is_shown (string_bytes text) ≡ true) }
+{
+    let fault = RunFault::TooLong(String::from_str(alloc, STANDARD_INPUT)?);
+    shown_line(alloc, &format!(in alloc; "{fault}")?)
 }
 
 // What these arguments request. They were read before, so that it fails only for want of memory.
