@@ -37,9 +37,10 @@ UNKNOWN_PAYLOAD = measured(UNKNOWN).payload
 
 PASSED_OVER = {
     "a known digest": measured(KNOWN),
-    "a known digest in register 1": measured(KNOWN)._replace(register=1),
 }
 SHOWN = {
+    "a known digest in register 1": measured(KNOWN)._replace(register=1),
+    "a known digest in register 11": measured(KNOWN)._replace(register=11),
     "an unknown digest": measured(UNKNOWN),
     "a known digest in a template's name, the payload of another file": of_template(SAYS_KNOWN + b" /usr/bin/ls", UNKNOWN_PAYLOAD),
     "a known digest in a template's name, no payload": of_template(SAYS_KNOWN + b" /usr/bin/ls", b""),

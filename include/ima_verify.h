@@ -41,7 +41,8 @@
 extern "C" {
 #endif
 
-/* The version of the interface that this header describes. */
+/* The version of the interface that this header describes. (Version 2 is not released yet: until then its
+ * functions may change.) */
 #define IMA_VERIFY_VERSION 2
 
 /* What a function returns. */

@@ -68,3 +68,4 @@ abbrev pub IsNotExpectedOn : List ℕ → List ℕ → RunFault → Type 0
 IsNotExpectedOn printed registers fault =
     IsRangeFault (range_text registers) fault
     ⊎ ((range : RegisterRange) × IsRequested (range_text registers) range × IsNotPrintedFor (range_text registers) printed fault)
+    ⊎ (fault ≡ runs.Memory)
