@@ -9,9 +9,11 @@ from typing import Optional
 ROOT = Path(__file__).resolve().parent.parent
 FOLDER = ROOT / "cases"
 SAMPLES = "samples/"
+TABLES = "faults/"
 REFERENCE = "By the reference."
 HEADER = re.compile(r"-- (.+?)( hex)? --")
 STATUS = re.compile(r"\[([1-9]\d*)\]")
+FAULTS = re.compile(r"^```text faults\n(.*?)^```$", re.MULTILINE | re.DOTALL)
 PART = re.compile(
     r"#.*"
     r"|(?:\"(?P<text>[^\"]*)\""
@@ -113,12 +115,23 @@ class Case:
 
 
 def named(name, files, line):
-    """The bytes of a file of the case, of the shared ones, or of the samples."""
+    """The bytes of a file of the case, of the shared ones, or of the samples, or of a table of faults."""
     if name in files:
         return files[name]
+    if name.startswith(TABLES):
+        return fault_table(name, line)
     if name.startswith(SAMPLES) and (ROOT / name).is_file():
         return (ROOT / name).read_bytes()
     raise Malformed(line, f"no file above has this name, nor a shared one or a sample: {name}")
+
+
+def fault_table(name, line):
+    """The table of faults of docs/formats.md that begins with this word."""
+    tables = {text.split()[0]: text for text in FAULTS.findall((ROOT / "docs/formats.md").read_text())}
+    table = tables.get(name.removeprefix(TABLES))
+    if table is None:
+        raise Malformed(line, f"docs/formats.md has no such table of faults: {name}")
+    return table.encode()
 
 
 def slice_of(data, start, end, line):

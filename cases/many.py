@@ -3,9 +3,11 @@
 
 cases/many.py [PROGRAM]: by default the program that was built in this tree.
 
-Every file holds its own name, which is short or long. What the program is to answer is what `reference/` answers to the same words in the
-same folder; of several workers, these lines in any order, but for the first. The last line is 'N passed, M failed', of commands."""
+Every file holds its own name, which is short or long, or another one's with `.new` after it; one is as long as the system takes. What the
+program is to answer is what `reference/` answers to the same words in the same folder; of several workers, these lines in any order, but
+for the first. The last line is 'N passed, M failed', of commands."""
 
+import os
 import subprocess
 import sys
 import tempfile
@@ -22,6 +24,8 @@ PROGRAM = ROOT / "crates/ima_agent_program/out/ima_agent_program"
 SECONDS = 60
 FILES = 10_000
 LONG = "usr/lib/modules/6.12.38-generic/kernel/drivers/measured/boot/agent"
+# (4,095 bytes, in folders whose names are as long as the system takes)
+LONGEST = "/".join(["n" * 255] * 16)
 
 
 @dataclass(frozen=True)
@@ -34,7 +38,7 @@ class Measurement:
 
 
 def names_of(first, end):
-    return [f"{LONG}/module_{number}.ko" if number % 2 else f"f{number}" for number in range(first, end)]
+    return [(f"f{number}", f"f{number - 1}.new", f"{LONG}/module_{number}.ko")[number % 3] for number in range(first, end)]
 
 
 def make_files(folder):
@@ -42,6 +46,21 @@ def make_files(folder):
     (folder / "L").write_bytes(Log({SHA256.identifier: SHA256.size}, []).spelling())
     for name in names_of(0, FILES):
         (folder / name).write_text(name)
+    make_longest(folder)
+
+
+def make_longest(folder):
+    """Makes the file whose path is as long as the system takes, folder by folder."""
+    *parents, name = LONGEST.split("/")
+    place = os.open(folder, os.O_RDONLY)
+    for parent in parents:
+        os.mkdir(parent, dir_fd=place)
+        inner = os.open(parent, os.O_RDONLY, dir_fd=place)
+        os.close(place)
+        place = inner
+    with open(name, "w", opener=lambda path, flags: os.open(path, flags, dir_fd=place)) as file:
+        file.write(LONGEST)
+    os.close(place)
 
 
 def measurements():
@@ -49,8 +68,8 @@ def measurements():
     the last: line feeds or NULs, one of them or several, and none after the last."""
     registers = ["--print", "registers", "L"]
     yield Measurement("995 files, 1,001 words", [*registers, *names_of(0, 995)])
-    yield Measurement("1,200 files by words", [*registers, *names_of(0, 1_200)])
-    yield Measurement("the lines of 10,000 files", ["L", "--files-from", "names"], "\n".join(names_of(0, FILES)) + "\n")
+    yield Measurement("the lines of 4,996 files, 5,000 words", ["L", *names_of(0, 4_996)])
+    yield Measurement("the lines of 10,001 files", ["L", LONGEST, "--files-from", "names"], "\n".join([*names_of(0, FILES), LONGEST]))
     for named, options, between, end in (
         (0, ["--files-from", "names"], "\n", "\n"),
         (0, ["--files-from", "names"], "\n", ""),

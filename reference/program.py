@@ -19,11 +19,11 @@ class Unanswered(Exception):
 
 
 class Inputs:
-    """Files by name, below a folder, and standard input."""
+    """Files by name, below a folder, and standard input, of which so many bytes are taken."""
 
-    def __init__(self, folder, standard_input):
+    def __init__(self, folder, standard_input, most_bytes):
         self.folder = os.open(folder, os.O_RDONLY | os.O_DIRECTORY)
-        self.standard_input = standard_input
+        self.standard_input, self.most_bytes = standard_input, most_bytes
 
     def close(self):
         os.close(self.folder)
@@ -31,7 +31,7 @@ class Inputs:
     def opened(self, name):
         """A call that reads the input, or the fault of one that cannot be opened."""
         if name == "/dev/stdin":
-            return lambda: limited(name, self.standard_input)
+            return lambda: self.limited(name, self.standard_input)
         try:
             file = open(name, "rb", opener=lambda path, flags: os.open(path, flags, dir_fd=self.folder))
         except IsADirectoryError:
@@ -39,27 +39,25 @@ class Inputs:
             return lambda: (b"", not_read(name))
         except (OSError, ValueError):
             raise not_read(name) from None
-        return lambda: read(name, file)
+        return lambda: self.read(name, file)
 
     def load(self, name):
         """The bytes of an input that is loaded whole."""
         return whole(*self.opened(name)())
 
     def load_standard_input(self):
-        return whole(*limited("-", self.standard_input))
+        return whole(*self.limited("-", self.standard_input))
 
+    def read(self, name, file):
+        """The bytes that are taken of a file, and the fault that ends them, or None."""
+        with file:
+            try:
+                return self.limited(name, file.read(self.most_bytes + 1))
+            except OSError:
+                return b"", not_read(name)
 
-def read(name, file):
-    """The bytes that are taken of a file, and the fault that ends them, or None."""
-    with file:
-        try:
-            return limited(name, file.read(MOST_BYTES + 1))
-        except OSError:
-            return b"", not_read(name)
-
-
-def limited(name, data):
-    return data[:MOST_BYTES], too_long(name) if len(data) > MOST_BYTES else None
+    def limited(self, name, data):
+        return data[: self.most_bytes], too_long(name) if len(data) > self.most_bytes else None
 
 
 def whole(data, fault):
@@ -194,9 +192,10 @@ COMMANDS = {
 }
 
 
-def answer(words, folder=".", standard_input=b""):
-    """The program's status and output for arguments, where names are those of files below the folder; or `Unanswered`."""
-    inputs = Inputs(folder, standard_input)
+def answer(words, folder=".", standard_input=b"", most_bytes=MOST_BYTES):
+    """The program's status and output for arguments, where names are those of files below the folder; or `Unanswered`. With another
+    `most_bytes`, what they would be if inputs had that limit."""
+    inputs = Inputs(folder, standard_input, most_bytes)
     try:
         if any("\udc80" <= letter <= "\udcff" for letter in "".join(words)):
             raise NO_ARGUMENTS
