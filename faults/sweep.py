@@ -6,11 +6,15 @@ faults/sweep.py [ROOT]: the tree with the test binaries and the program that `rt
 Each test whose name contains `each_allocation_refused`, and a command of each kind that the cases have, runs again and again. In the
 Nth run its Nth allocation is refused (faults/refuse.c), until a run ends with none refused. A test must pass each time; a command must
 answer as its case wants, or with `failed: memory` and status 3. A test or command without a refused allocation fails, and so does a
-run that crashes or takes longer than a minute.
+run that crashes or takes longer than a minute. Allocations of a test's binary that runs no test do not count: as many as that makes, a
+test makes before it begins. (What a test allocates to prepare its call does count: nothing outside tells where that begins.)
+
+Each crate of crates.txt that has such tests in its sources must have its binary, which must list just these. The help of the program and
+of each command must be among the commands, with a file of its case that it has to be.
 
 Commands are of one kind if they have the same word, options and status, as many names (three or more are alike), the same fault where
-they are refused, and both or neither name a sample, or have a text with more names. Of each kind the first runs, in the order of the cases, that names no file of the system, in a case whose files have at
-most 64 KiB.
+they are refused, and both or neither ask for help, name a sample, or have a text with more names. Of each kind the first runs, in the
+order of the cases, that names no file of the system, in a case whose files have at most 64 KiB.
 
 Before that, the program measures 50 files of 40 MiB within 64 MiB of address space. The last line, 'N passed, M failed', counts
 both."""
@@ -30,7 +34,7 @@ sys.path[:0] = [str(HERE.parent), str(HERE.parent / "cases")]
 
 import form  # noqa: E402
 from answers import answer_of, fault_of  # noqa: E402
-from reference.command_line import COMMANDS, HelpAsked, read_arguments  # noqa: E402
+from reference.command_line import COMMANDS, HelpAsked, asks_for_help, read_arguments  # noqa: E402
 from reference.faults import Fault  # noqa: E402
 from reference.log import read_log  # noqa: E402
 from reference.measurement_list import BOOT_AGGREGATE, IMA_NG, entry_of, list_text  # noqa: E402
@@ -40,6 +44,9 @@ SECONDS = 60
 MOST_REFUSALS = 100_000
 MOST_BYTES = 64 * 1024
 TESTS = "each_allocation_refused"
+NO_TEST = "no test has this name"
+TEST = re.compile(r"^ *#\[test\]\n(?: *#\[.*\]\n)* *(?:pub )?fn (\w+)", re.MULTILINE)
+CRATE = re.compile(r"^(\w+)[^:#\n]*:", re.MULTILINE)
 OUT_OF_MEMORY = (3, b"failed: memory\n", b"")
 FAULT = re.compile(r"(?:refused|failed): (?:job \d+ )?(?:(.* fault \d+)|(read|too long|not UTF-8|[a-z ]+))")
 MEBIBYTE = 1 << 20
@@ -51,10 +58,11 @@ LARGE_SECONDS = 600
 
 @dataclass(frozen=True)
 class TestRun:
-    """A test that is made for refused allocations."""
+    """A test that is made for refused allocations, and how many its binary makes before it runs one."""
 
     binary: Path
     name: str
+    before: int = 0
 
     def title(self):
         return f"{self.binary.name}: {self.name}"
@@ -77,6 +85,7 @@ class CommandRun:
     case: form.Case
     command: form.Command
     folder: Path
+    before = 0  # (that it cannot obtain its arguments is an answer of the program, too)
 
     def title(self):
         return f"{self.case.name}:{self.command.line}: {self.command.text}"
@@ -105,7 +114,7 @@ def kind_of(command, folder):
     word = command.words[0] if command.words else ""
     names_sample = any(it and it.startswith(form.SAMPLES) for it in (*command.words, command.input))
     try:
-        request = request_of(command, folder) if word in COMMANDS else None
+        request = request_of(command, folder) if word in COMMANDS else asks_for_help(word)
     except (Fault, HelpAsked) as cause:
         request = type(cause)
     fault = FAULT.match(command.wanted[0]) if command.status > 1 and command.wanted else None
@@ -133,29 +142,70 @@ def command_runs(program, folder):
     return list(runs.values()), faults
 
 
-def test_runs(root):
-    """The tests of every crate that are made for refused allocations."""
-    for crate in sorted(root.glob("crates/*_tests")):
-        binary = crate / "out" / f"{crate.name}_tests"
-        listing = subprocess.run([binary, "--list"], capture_output=True, timeout=SECONDS, check=True)
-        for line in listing.stdout.decode().splitlines():
-            name = line.removesuffix(": test").strip()
-            if TESTS in name:
-                yield TestRun(binary, name)
+def help_faults(runs):
+    """What is wrong if not each help is among the runs, with a file that it has to be."""
+    asked = {run.command.words[0] if run.command.words[1:] else "" for run in runs if run.command.output and
+             any(map(asks_for_help, run.command.words))}
+    return [f"no case has the help of {word or 'the program'} as a file" for word in ("", *COMMANDS) if word not in asked]
+
+
+def tests_in(crate):
+    """The names of the tests in a crate's sources that are made for refused allocations, without their modules."""
+    for file in sorted(crate.glob("src/**/*.rt")):
+        is_named = TESTS in file.relative_to(crate).as_posix()
+        yield from (name for name in TEST.findall(file.read_text()) if is_named or TESTS in name)
+
+
+def tests_of(binary):
+    """The tests that a binary lists and that are made for refused allocations."""
+    listing = subprocess.run([binary, "--list"], capture_output=True, timeout=SECONDS, check=True)
+    names = (line.removesuffix(": test").strip() for line in listing.stdout.decode().splitlines())
+    return [name for name in names if TESTS in name]
+
+
+def test_runs(root, library, folder):
+    """The tests of every crate that are made for refused allocations; and what is wrong with crates."""
+    runs, faults = [], []
+    for name in CRATE.findall((root / "crates.txt").read_text()):
+        crate = root / "crates" / name
+        binary, wanted = crate / "out" / f"{name}_tests", sorted(tests_in(crate))
+        if not wanted:
+            continue
+        try:
+            found = tests_of(binary)
+            before = allocations_of(TestRun(binary, NO_TEST), library, folder)
+            runs += [TestRun(binary, test, before) for test in found]
+            if sorted(test.split("::")[-1] for test in found) != wanted:
+                faults.append(f"{name}: of the tests {wanted} the binary has {found}")
+        except (OSError, subprocess.SubprocessError) as error:
+            faults.append(f"{name}: {error}")
+    return runs, faults
+
+
+def faults_of(run, library, folder):
+    """What is wrong with a run in which allocation 1 is refused, then 2, and so on as long as one is refused; then of one with none."""
+    for number in range(1, MOST_REFUSALS):
+        met = folder / f"met-{os.urandom(8).hex()}"
+        yield run.fault({"LD_PRELOAD": str(library), "REFUSED_ALLOCATION": str(number), "REFUSAL_MET": str(met)}, met)
+        if not met.exists():
+            return
+        met.unlink()
+    yield "there is no end to it"
+
+
+def allocations_of(run, library, folder):
+    """How many allocations can be refused in a run, whatever comes of it."""
+    return sum(1 for _ in faults_of(run, library, folder)) - 1
 
 
 def sweep(run, library, folder):
-    """How many allocations were refused, and what was wrong with the first wrong run, or None."""
-    for number in range(1, MOST_REFUSALS):
-        met = folder / f"met-{os.urandom(8).hex()}"
-        settings = {"LD_PRELOAD": str(library), "REFUSED_ALLOCATION": str(number), "REFUSAL_MET": str(met)}
-        fault = run.fault(settings, met)
+    """How many allocations were refused, but for those before it begins, and what was wrong with the first wrong run, or None."""
+    number = 0
+    for number, fault in enumerate(faults_of(run, library, folder), 1):
         if fault is not None:
             return number, f"allocation {number}: {fault}"
-        if not met.exists():
-            return number - 1, None if number > 1 else "no allocation was refused"
-        met.unlink()
-    return MOST_REFUSALS, "there is no end to it"
+    refusals = number - 1 - run.before
+    return refusals, None if refusals > 0 else "no allocation was refused"
 
 
 def large_files_fault(root, program, folder):
@@ -192,7 +242,8 @@ def main():
         print(f"{large_fault or 'ok'}: {LARGE_FILES} files of 40 MiB measured within 64 MiB of address space", flush=True)
         library = folder / "refuse.so"
         subprocess.run(["cc", "-O2", "-shared", "-fPIC", "-o", library, HERE / "refuse.c", "-ldl"], check=True)
-        tests, (commands, faults) = list(test_runs(root)), command_runs(program, folder)
+        (tests, faults), (commands, wrong_cases) = test_runs(root, library, folder), command_runs(program, folder)
+        faults += wrong_cases + help_faults(commands)
         faults += [f"no {what} is made to have an allocation refused" for what, runs in (("test", tests), ("case", commands)) if not runs]
         failed = len(faults) + (large_fault is not None)
         total, passed = 0, large_fault is None
