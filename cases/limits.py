@@ -32,6 +32,8 @@ PROGRAM = ROOT / "crates/ima_agent_program/out/ima_agent_program"
 SECONDS = 60
 MEBIBYTE = 1 << 20
 SIZES = (63 * MEBIBYTE, MOST_BYTES, MOST_BYTES + 1, 65 * MEBIBYTE)
+# (the two in the middle are of no concern to the library)
+LIBRARY_SIZES = (SIZES[0], SIZES[-1])
 FILES = 250_000
 BANKS = {algorithm.identifier: algorithm.size for algorithm in ALGORITHMS}
 BANK = {SHA256.identifier: SHA256.size}
@@ -167,7 +169,7 @@ INPUTS = (
 
 
 def ask_of_sizes(asker, folder):
-    """Each input by each command, of sizes up to the limit and above it."""
+    """Each input by each command, of sizes up to the limit and just above it; a longer one by one command alone."""
     given, short = folder / "given", folder / "short"
     for each in (given, short):
         each.mkdir()
@@ -179,15 +181,15 @@ def ask_of_sizes(asker, folder):
             (given / "input").write_bytes(it.of_size(size))
             if it.short is not None:
                 (short / "input").write_bytes(it.short)
-            for command in it.commands:
+            for command in it.commands if size <= MOST_BYTES + 1 else it.commands[:1]:
                 ask_of_size(asker, f"{it.title}, {size} bytes", command.split(), given, given if it.short is None else short)
 
 
 def ask_of_size(asker, title, words, folder, short):
     """One command, which the reference answers in the folder `short`."""
-    is_taken = (folder / "input").stat().st_size <= MOST_BYTES
+    size = (folder / "input").stat().st_size
     name = "input" if words else "-"
-    has_function = asker.has_function(words, folder)
+    is_taken, has_function = size <= MOST_BYTES, size in LIBRARY_SIZES and asker.has_function(words, folder)
     if is_taken or has_function:
         unlimited = reference.answer(words, short, b"" if words else (short / "input").read_bytes(), 2 * MOST_BYTES)
     asker.ask(title, words, folder, unlimited if is_taken else (2, f"refused: too long {name}\n"), None if words else "input")
@@ -201,8 +203,8 @@ def ask_of_size(asker, title, words, folder, short):
 def ask_of_events(asker, folder):
     """Logs with an event again and again: the shortest, which is not extended, and one that is, also in hexadecimal."""
     (folder / "list").write_bytes(b"")
-    for event in (Event(0, 3, {}, b""), separator_of(4, BANK)):
-        log, spelling = many_events(60 * MEBIBYTE, event)
+    for size, event in ((60 * MEBIBYTE, Event(0, 3, {}, b"")), (24 * MEBIBYTE, separator_of(4, BANK))):
+        log, spelling = many_events(size, event)
         (folder / "log").write_bytes(spelling)
         registers = log.registers()
         rows = [Expected(SHA256, 4, registers.value(SHA256, 4)), Expected(SHA256, 0, registers.value(SHA256, 0))]
@@ -226,11 +228,11 @@ def many_events(size, event):
 
 
 def ask_of_entries(asker, folder):
-    """Lists with an entry again and again: one with a payload of a MiB, a measurement, and the shortest violation, which is shown alone."""
+    """Lists with an entry again and again: one with a payload of a MiB, a measurement, and the shortest violation, which is shown only."""
     log = Log(BANK, [])
     (folder / "L").write_bytes(log.spelling())
-    for entry in (payload_of(MEBIBYTE - 100), ENTRIES[1]):
-        entries, registers = many_entries(entry, folder / "list"), Registers(ALGORITHMS)
+    for size, entry in ((63 * MEBIBYTE, payload_of(MEBIBYTE - 100)), (24 * MEBIBYTE, ENTRIES[1])):
+        entries, registers = many_entries(size, entry, folder / "list"), Registers(ALGORITHMS)
         replay(registers, entries)
         rows = [Expected(SHA256, 10, registers.value(SHA256, 10)), Expected(SHA256, 23, registers.value(SHA256, 23))]
         (folder / "expected").write_text("".join(row.line() for row in rows))
@@ -241,13 +243,13 @@ def ask_of_entries(asker, folder):
             "locate L list expected": answer_of(locate(log, entries, rows)),
         })
     violation = Entry(10, bytes(20), b"", b"")
-    entries = many_entries(violation, folder / "list")
+    entries = many_entries(63 * MEBIBYTE, violation, folder / "list")
     ask_of_parts(asker, f"{len(entries)} entries", folder, {"show list": (0, violation.line() * len(entries))})
 
 
-def many_entries(entry, file):
-    """An entry again and again, and a file of these, nearly as long as the program takes."""
-    count = 63 * MEBIBYTE // len(entry.spelling())
+def many_entries(size, entry, file):
+    """An entry again and again, with at most so many bytes, which the file gets."""
+    count = size // len(entry.spelling())
     file.write_bytes(entry.spelling() * count)
     return [entry] * count
 
