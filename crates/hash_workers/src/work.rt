@@ -1,12 +1,14 @@
 //! One worker: it draws jobs, makes their operations and records them.
 
-ghost use Rattle.std.specs.Prelude.{◌≡◌, ◌≢◌, ◌<◌, None, Some, map, IfOk, IfSome, OnErr, OnOk, MatchResult, option_map};
+ghost use Rattle.std.specs.Prelude.{◌≡◌, ◌≢◌, ◌<◌, ℕ, None, Some, map, IfOk, IfSome, OnErr, OnOk, MatchResult, option_map};
 ghost use Rattle.std.specs.Option.{option_copied};
 ghost use Rattle.measure_book.specs.Operations.{book_op_of, book_outcome_of};
 ghost use Rattle.hash_workers.specs.parts.Taking.{NumbersRise};
 ghost use Rattle.hash_workers.specs.parts.Working.{IsWorked};
-ghost use Rattle.hash_workers.specs.declared.work.Turn.TheVariants.{Last};
-ghost use Rattle.hash_workers.specs.parts.Ending.{AreHad, IsEnd, IsLack, IsLackAfter, IsNoted, KeepsOne, StopsFor, TakesOne, TellsAll};
+ghost use Rattle.hash_workers.specs.declared.fault.JobFault.TheVariants.{Memory};
+ghost use Rattle.hash_workers.specs.declared.work.End.TheVariants.{NoOperation};
+ghost use Rattle.hash_workers.specs.declared.work.Turn.TheVariants.{Next, Last};
+ghost use Rattle.hash_workers.specs.parts.Ending.{AreHad, AreMadeOrWant, IsEnd, IsLack, IsLackAfter, IsNoted, IsStopped, IsTurnAfter, KeepsOne, StopsFor, TakesOne, TellsAll};
 ghost use Rattle.hash_workers.specs.parts.Seats.{IsNewSeat, IsSinglePlace};
 
 mod all;
@@ -100,6 +102,9 @@ pub(crate) fn take_jobs<B: Recorder, J: Jobs, G: Gate>(
     ensures had { AreHad (J.makes jobs.now origin.now.alg) result.taken.items result.lack }
     ensures lack { IfSome result.lack (IsLack (J.total jobs.now) (J.lacks jobs.now) result.taken.items) }
     ensures end { IsEnd origin.now result.seat result.taken.items result.lack result.end }
+    // It stops for a job exactly if the operation of that could not be made for a cause other than memory.
+    ensures wants { result.end ≢ NoOperation → AreMadeOrWant (J.makes jobs.now origin.now.alg) (J.lacks jobs.now) result.taken.items }
+    ensures stopped { result.end ≡ NoOperation → (job : ℕ) × IsStopped (J.lacks jobs.now) job }
     ensures told { TellsAll origin.now (J.makes jobs.now origin.now.alg) (B.told recorder.old) (B.told recorder.new)
         result.taken.items (map book_outcome_of result.outcomes.items) result.end }
 {
@@ -147,6 +152,7 @@ impl Work {
             (λ end. StopsFor origin.now (B.told recorder.old) (B.told recorder.new) end) }
         ensures lack { OnOk result (IsLackAfter (J.total jobs.now) (J.makes jobs.now origin.now.alg) (J.lacks jobs.now) number
             self.old.taken.items self.new.taken.items self.old.lack self.new.lack) }
+        ensures turn { IfOk result (IsTurnAfter (J.makes jobs.now origin.now.alg) (J.lacks jobs.now) number) }
         ensures last { IfOk result (λ turn. turn ≡ Last → self.new.lack ≢ None) }
         ensures refused { OnErr result ((self.new.taken.items ≡ self.old.taken.items) × (self.new.outcomes.items ≡ self.old.outcomes.items)
             × (self.new.lack ≡ self.old.lack)) }
@@ -167,6 +173,8 @@ impl Work {
     // Notes the job as the one whose operation could not be made, if it is the first such. Returns whether the worker goes on.
     fn note(&mut self, job: u32, fault: JobFault) -> Turn
         ensures noted { IsNoted job fault self.old.lack self.new.lack }
+        ensures next { result ≡ Next → fault ≡ Memory }
+        ensures last { result ≡ Last → fault ≢ Memory }
         ensures same { (self.new.seat ≡ self.old.seat) × (self.new.end ≡ self.old.end) × (self.new.taken ≡ self.old.taken)
             × (self.new.outcomes ≡ self.old.outcomes) }
     {

@@ -9,6 +9,9 @@ use Rattle.hash_workers.specs.declared.work.End.{End}
 use Rattle.hash_workers.specs.declared.work.End.TheVariants.{NoneLeft, OutOfMemory, ForeignBook, NoOperation}
 use Rattle.hash_workers.specs.declared.work.Lack.{Lack}
 use Rattle.hash_workers.specs.declared.fault.JobFault.{JobFault}
+use Rattle.hash_workers.specs.declared.fault.JobFault.TheVariants as lacks
+use Rattle.hash_workers.specs.declared.work.Turn.{Turn}
+use Rattle.hash_workers.specs.declared.work.Turn.TheVariants.{Next, Last}
 use Rattle.hash_workers.specs.Claims.{SeatState}
 use Rattle.hash_workers.specs.Outcomes.{MayBecome, IsOutcomeOf}
 use Rattle.hash_workers.specs.parts.Working.{IsEntered, IsForeign, IsDoneAfter, AreDoneInOrder}
@@ -93,6 +96,24 @@ pub record IsLack (count : ℕ) (Lacks : ℕ → JobFault → Type 0) (taken : L
 abbrev pub IsNoted : ℕ → JobFault → Option Lack → Option Lack → Type 0
 IsNoted job fault None new = new ≡ Some (record { job = job; fault = fault })
 IsNoted job fault (Some lack) new = new ≡ Some lack
+
+-- The job's operation was made, or memory lacked for it.
+abbrev pub IsMadeOrWants : (ℕ → BookOp → Type 0) → (ℕ → JobFault → Type 0) → ℕ → Type 0
+IsMadeOrWants Makes Lacks job = ((op : BookOp) × Makes job op) ⊎ Lacks job lacks.Memory
+
+pub record AreMadeOrWant (Makes : ℕ → BookOp → Type 0) (Lacks : ℕ → JobFault → Type 0) (taken : List ℕ) : Type 0 where
+  pub each : (index job : ℕ) → slice_get taken index ≡ Some job → IsMadeOrWants Makes Lacks job
+
+-- The job's operation could not be made, for a cause other than memory.
+pub record IsStopped (Lacks : ℕ → JobFault → Type 0) (job : ℕ) : Type 0 where
+  pub fault : JobFault
+  pub cause : Lacks job fault
+  pub other : fault ≢ lacks.Memory
+
+-- Whether a worker takes another job after this one: exactly if its operation was made, or memory lacked for it.
+abbrev pub IsTurnAfter : (ℕ → BookOp → Type 0) → (ℕ → JobFault → Type 0) → ℕ → Turn → Type 0
+IsTurnAfter Makes Lacks job Next = IsMadeOrWants Makes Lacks job
+IsTurnAfter Makes Lacks job Last = IsStopped Lacks job
 
 -- Any cause.
 abbrev pub AnyCause : ℕ → JobFault → Type 0

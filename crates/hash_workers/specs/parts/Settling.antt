@@ -74,9 +74,11 @@ abbrev pub IsFirstCause : Bool → BookState → Origin → List (List BookOutco
 IsFirstCause true book origin groups cause = cause ≡ gathers.ForeignBook
 IsFirstCause false book origin groups cause = IsFirstFault book origin groups cause
 
--- The fault is that of the first cause against the book and the workers' outcomes.
-pub record IsUnaccounted (foreign : Bool) (book : BookState) (origin : Origin) (groups : List (List BookOutcome)) (fault : JobsFault) :
-    Type 0 where
+-- The fault is that of the first cause against the book and the workers' outcomes. It comes after that of a lack, unless a worker found
+-- a book of another origin.
+pub record IsUnaccounted (foreign : Bool) (first_lack : Option Lack) (book : BookState) (origin : Origin) (groups : List (List BookOutcome))
+    (fault : JobsFault) : Type 0 where
+  pub made : foreign ≡ false → first_lack ≡ None
   pub cause : GatherFault
   pub first : IsFirstCause foreign book origin groups cause
   pub fault_is : fault ≡ jobs_fault_of_gather cause
@@ -90,4 +92,4 @@ pub record IsUnmade (foreign : Bool) (first : Option Lack) (fault : JobsFault) :
 
 abbrev pub IsUnsettled : AllWork → BookState → Origin → JobsFault → Type 0
 IsUnsettled all book origin fault =
-    IsUnaccounted all.foreign book origin (outcomes_by_worker all) fault ⊎ IsUnmade all.foreign all.lack fault
+    IsUnaccounted all.foreign all.lack book origin (outcomes_by_worker all) fault ⊎ IsUnmade all.foreign all.lack fault

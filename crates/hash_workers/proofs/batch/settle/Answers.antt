@@ -1,4 +1,5 @@
-use Rattle.std.proofs.Common.{refl, inl, ◌∙◌, arith}
+use Rattle.std.proofs.Common.{refl, sym, inl, ◌∙◌, arith}
+use Rattle.std.proofs.lemmas.Bool.{true≢false}
 use Rattle.std.proofs.lemmas.List.{length-map}
 use Rattle.measure_book.specs.declared.gathers.GatherFault.TheVariants.{ForeignBook}
 use Rattle.hash_workers.specs.parts.Scattering.{items_of}
@@ -8,7 +9,12 @@ use Rattle.hash_workers.proofs.TakingLaws.{take_each}
 use Rattle.hash_workers.proofs.batch.settle.Goals as goal
 
 pub returns-then-all-clause-fault : goal.returns-then-all-clause-fault
-returns-then-all-clause-fault g c = inl (record { cause = ForeignBook; first = rw c.if-all.true; fault_is = refl })
+returns-then-all-clause-fault g c = inl (record {
+      made = λ same. absurd (true≢false (sym c.if-all.true ∙ same));
+      cause = ForeignBook;
+      first = rw c.if-all.true;
+      fault_is = refl;
+    })
 
 pub returns-clause-batch : goal.returns-clause-batch
 returns-clause-batch g c =

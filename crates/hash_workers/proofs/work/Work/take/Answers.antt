@@ -1,4 +1,5 @@
-use Rattle.hash_workers.proofs.WorkLaws.{takes_made, takes_none, lack_made, lack_noted}
+use Rattle.std.proofs.Common.{inl}
+use Rattle.hash_workers.proofs.WorkLaws.{takes_made, takes_none, lack_made, lack_noted, turn_after}
 use Rattle.hash_workers.proofs.work.Work.take.Goals as goal
 
 pub returns-in_ok-pass-in-Ok-clause-takes : goal.returns-in_ok-pass-in-Ok-clause-takes
@@ -20,3 +21,10 @@ returns-in_ok-pass-in-Err-clause-lack g c =
     let passed = c.in_ok-pass-in-Err.ensures in
     rw c.note.ensures.same.2 (lack_noted _ _ _ c.args.number _ _ passed.keeps.takes _ _ _ c.requires c.in-Err.ensures
     (rw passed.same.2 at c.note.ensures.noted))
+
+pub returns-in_ok-pass-in-Ok-clause-turn : goal.returns-in_ok-pass-in-Ok-clause-turn
+returns-in_ok-pass-in-Ok-clause-turn g c = inl (_, c.in-Ok.ensures)
+
+pub returns-in_ok-pass-in-Err-clause-turn : goal.returns-in_ok-pass-in-Err-clause-turn
+returns-in_ok-pass-in-Err-clause-turn g c =
+    turn_after _ _ c.args.number _ c.note.result c.in-Err.ensures c.note.ensures.next c.note.ensures.last
