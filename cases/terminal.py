@@ -239,11 +239,17 @@ def is_of_usage(said):
     return said.startswith(b"error: ") and said.endswith(b"\n") and all(0x20 <= each <= 0x7E or each == 0x0A for each in said)
 
 
+def without_progress(said):
+    """The same without the progress of a measurement, which a busy machine may show, if that is erased at the end."""
+    return re.sub(rb"(?:\r\d+ of \d+ files\x1b\[K)+\r\x1b\[K", b"", said)
+
+
 def case_fault(program, command, folder, output):
     """What is wrong with what a command of a case leaves on a terminal, or None."""
     try:
         with open(folder / command.input if command.input else os.devnull, "rb") as given, open(output, "wb") as sink:
             status, said = run_on_terminal(program, command.words, folder, given, sink)
+        said = without_progress(said)
         text = output.read_bytes()
     except (OSError, subprocess.TimeoutExpired) as error:
         return str(error)

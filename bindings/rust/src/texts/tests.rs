@@ -55,7 +55,6 @@ fn right_answers_are_read() {
     assert!(!answer(DIFFERS, NOT_LOCATED).places().unwrap().located);
     assert_eq!(answer(DONE, &register()).registers().unwrap()[0].value, [0xaa; 20]);
     assert_eq!(answer(DONE, &register()).expected().unwrap(), register().as_bytes());
-    assert_eq!(answer(DONE, "").expected().unwrap(), b"");
 }
 
 #[test]
@@ -233,6 +232,7 @@ fn wrong_texts_are_no_registers_or_entries() {
         assert!(is_unexpected(answer(DONE, text).expected()), "{text:?}");
     }
     assert!(is_unexpected(answer(DIFFERS, &right).registers()));
+    assert!(is_unexpected(answer(DONE, "").expected()));
     assert!(is_unexpected(answer(DIFFERS, "x\n").entries()));
     assert!(is_unexpected(answer(DONE, "x").entries()));
 }
