@@ -29,11 +29,11 @@ loop-number-preserved g c =
       lack = after.right kept.lack;
       tells = turn_tells number _ _ _ _ _ _ _ _ _ one _ kept.tells;
       end = stays.1 ∙ kept.end;
-      want = want_more _ _ _ _ number kept.want one.takes c.in-Ok-Next.ensures.turn;
+      want = want_more _ _ _ _ number kept.want one.takes (rw c.in-Ok-Next.field-0-is at c.in-Ok-Next.ensures.turn);
     }
 
 pub returns-in-Ok-Last-clause-stopped : goal.returns-in-Ok-Last-clause-stopped
-returns-in-Ok-Last-clause-stopped g c = λ is. (c.in-Some.number, c.in-Ok-Last.ensures.turn)
+returns-in-Ok-Last-clause-stopped g c = λ is. (c.in-Some.number, rw c.in-Ok-Last.field-0-is at c.in-Ok-Last.ensures.turn)
 
 pub returns-in-Err-clause-told : goal.returns-in-Err-clause-told
 returns-in-Err-clause-told g c =

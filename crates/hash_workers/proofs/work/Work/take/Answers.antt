@@ -27,4 +27,4 @@ returns-in_ok-pass-in-Ok-clause-turn g c = inl (_, c.in-Ok.ensures)
 
 pub returns-in_ok-pass-in-Err-clause-turn : goal.returns-in_ok-pass-in-Err-clause-turn
 returns-in_ok-pass-in-Err-clause-turn g c =
-    turn_after _ _ c.args.number _ c.note.result c.in-Err.ensures c.note.ensures.next c.note.ensures.last
+    turn_after (g.J.Jobs.makes c.args.jobs.now c.args.origin.now.alg) (g.J.Jobs.lacks c.args.jobs.now) c.args.number _ c.note.result c.in-Err.ensures c.note.ensures.next c.note.ensures.last
