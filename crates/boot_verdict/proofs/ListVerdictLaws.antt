@@ -1,5 +1,5 @@
 -- The verdict on a list alone.
-use Rattle.std.proofs.Common.{◌≡◌, ◌⊎◌, ℕ, Bool, true, false, List, length, map, Option, Some, None, option_map, Result, Ok, Err, refl, sym, ap, ◌∙◌, inl, inr}
+use Rattle.std.proofs.Common.{◌≡◌, ℕ, Bool, true, false, List, length, map, Option, Some, None, option_map, Result, Ok, Err, refl, sym, ap, ◌∙◌, inl, inr}
 use Rattle.std.specs.Prelude.{◌&&◌, nat_lt, if◌then◌else◌, IfOk, IfErr}
 use Rattle.byte_fields.specs.Reading.{ReadsInMemory}
 use Rattle.pcr_banks.specs.declared.alg.Alg.{Alg}

@@ -1,6 +1,6 @@
 -- What tpm2-tools print: a line says one thing at most, and a text has one reading and one end.
-use Rattle.std.proofs.Common.{◌≡◌, ℕ, List, [], slice_index, codes, Option, None, Some, refl, sym, ap, subst, ◌∙◌, inl, inr, arith}
-use Rattle.std.specs.Prelude.{◌⊎◌, ◌<◌, length, IfErr, Result, Ok, Err}
+use Rattle.std.proofs.Common.{◌≡◌, ℕ, List, [], slice_index, Option, None, Some, refl, sym, ap, subst, ◌∙◌, inl, inr, arith}
+use Rattle.std.specs.Prelude.{◌⊎◌, length, IfErr, Result, Ok, Err}
 use Rattle.boot_verdict.specs.declared.expected.Expected.{Expected}
 use Rattle.boot_verdict.specs.declared.expected.ExpectFault.{ExpectFault}
 use Rattle.boot_verdict.specs.declared.expected.ExpectFault.TheVariants.{Memory, NoRegister, NotSigned}

@@ -1,6 +1,6 @@
 -- The verdict on a measurement list alone and expected registers, and its text. All of this is this project's choice. How entries
 -- change the registers is defined in ima_list.
-use Rattle.std.specs.Prelude.{◌≡◌, ℕ, ◌&&◌, ◌==◌, nat_lt, not, Bool, if◌then◌else◌, List, ◌++◌, length, map, codes, decimal, flat_map, Option, Some, None, Ok, Err}
+use Rattle.std.specs.Prelude.{◌≡◌, ℕ, ◌&&◌, ◌==◌, nat_lt, not, Bool, if◌then◌else◌, List, ◌++◌, length, map, codes, decimal, flat_map, Option, Some, None, Ok}
 use Rattle.std.specs.List.{list_all}
 use Rattle.pcr_banks.specs.declared.alg.Alg.{Alg}
 use Rattle.pcr_banks.specs.Registers.{register_count, extended_by_all, reset_value}

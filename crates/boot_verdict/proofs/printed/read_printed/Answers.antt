@@ -1,4 +1,4 @@
-use Rattle.std.proofs.Common.{Bor, Option, List, ℕ, ap, sym, ◌∙◌, inl, inr}
+use Rattle.std.proofs.Common.{Bor, List, ℕ, sym, ◌∙◌, inl, inr}
 use Rattle.std.specs.Prelude.{option_map}
 use Rattle.boot_verdict.proofs.PrintedLaws.{lacks_nothing, memory_alone, prints_once}
 use Rattle.boot_verdict.proofs.printed.read_printed.Goals as goal

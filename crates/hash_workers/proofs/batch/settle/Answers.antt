@@ -10,11 +10,11 @@ use Rattle.hash_workers.proofs.batch.settle.Goals as goal
 
 pub returns-then-all-clause-fault : goal.returns-then-all-clause-fault
 returns-then-all-clause-fault g c = inl (record {
-      made = λ same. absurd (true≢false (sym c.if-all.true ∙ same));
-      cause = ForeignBook;
-      first = rw c.if-all.true;
-      fault_is = refl;
-    })
+  made = λ same. absurd (true≢false (sym c.if-all.true ∙ same));
+  cause = ForeignBook;
+  first = rw c.if-all.true;
+  fault_is = refl;
+})
 
 pub returns-clause-batch : goal.returns-clause-batch
 returns-clause-batch g c =

@@ -1,4 +1,4 @@
-use Rattle.std.proofs.Common.{rules, Bor, List, ℕ, sym, ◌∙◌}
+use Rattle.std.proofs.Common.{rules, Bor, List, ℕ}
 use Rattle.std.specs.Prelude.{option_map}
 use Rattle.boot_verdict.proofs.LineLaws.{if_none}
 use Rattle.boot_verdict.proofs.PrintedLaws.{says_nothing}
