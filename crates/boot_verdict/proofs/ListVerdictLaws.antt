@@ -20,7 +20,7 @@ use Rattle.boot_verdict.specs.ListSources.{failures_after_list}
 use Rattle.boot_verdict.specs.ListVerdicts.{IsListVerdictFrom, ListVerdict, list_row_on, list_verdict_of, list_verdict_on, pcr_after_list}
 use Rattle.boot_verdict.specs.Replays.{IsListReplayFault, IsListStart, every_alg}
 use Rattle.boot_verdict.specs.Verdicts.{row_state}
-use Rattle.boot_verdict.specs.parts.ListReplays.{IsReportFault, Replays, ReplaysSource}
+use Rattle.boot_verdict.specs.parts.ListReplays.{IsFaultOfEntries, Replays, ReplaysSource}
 use Rattle.boot_verdict.specs.parts.Rows.{row_of}
 use Rattle.boot_verdict.proofs.ReplayLaws.{only_memory}
 
@@ -97,7 +97,7 @@ module _ (start : Watch) (replay : ListReplay) (expected : List Expected) (reset
       → AreGenuine entries
       → IfOk result (λ report. (from : Watch) (entries : List ListEntry) → IsListStart from.banks → Replays from entries replay
       → AreGenuine entries × (list_verdict_of report ≡ list_verdict_on entries expected))
-      → IfErr result (λ fault. (from : Watch) (entries : List ListEntry) → Replays from entries replay → IsReportFault entries fault)
+      → IfErr result (λ fault. (from : Watch) (entries : List ListEntry) → Replays from entries replay → IsFaultOfEntries entries fault)
       → other ≡ entries → ReadsInMemory faults.Memory list_verdict_of result (Ok (list_verdict_on other expected))
   list_report_read entries other (Ok report) replays are ok err same =
       ap (λ (v : ListVerdict). Ok v)
@@ -107,14 +107,14 @@ module _ (start : Watch) (replay : ListReplay) (expected : List Expected) (reset
 -- ---- why there is none
 
 no_list_report : (start : Watch) (replay : ListReplay) (old new : Option (List ℕ)) (limit : ℕ) (fault : VerifyFault)
-    → (source : ReplaysSource start old new limit replay) → IsReportFault source.all.entries fault → IsListReplayFault old new limit fault
+    → (source : ReplaysSource start old new limit replay) → IsFaultOfEntries source.all.entries fault → IsListReplayFault old new limit fault
 no_list_report start replay old new limit fault source (inl memory) = rw memory.0 tt
 no_list_report start replay old new limit fault source (inr (first, says, forged)) =
     rw says (source.list, source.came, record { entries = source.all.entries; list_is = source.all.reading; first = forged })
 
 pub list_report_fault : (start : Watch) (replay : ListReplay) (old new : Option (List ℕ)) (limit : ℕ)
     (result : Result ListReport VerifyFault) → ReplaysSource start old new limit replay
-    → IfErr result (λ fault. (from : Watch) (entries : List ListEntry) → Replays from entries replay → IsReportFault entries fault)
+    → IfErr result (λ fault. (from : Watch) (entries : List ListEntry) → Replays from entries replay → IsFaultOfEntries entries fault)
     → IfErr result (IsListReplayFault old new limit)
 list_report_fault start replay old new limit (Ok report) source err = tt
 list_report_fault start replay old new limit (Err fault) source err =
@@ -123,7 +123,7 @@ list_report_fault start replay old new limit (Err fault) source err =
 -- The source did not fail.
 pub list_report_counts : (start : Watch) (replay : ListReplay) (entries : List ListEntry) (result : Result ListReport VerifyFault)
     (failures : ℕ) → Replays start entries replay
-    → IfErr result (λ fault. (from : Watch) (entries : List ListEntry) → Replays from entries replay → IsReportFault entries fault)
+    → IfErr result (λ fault. (from : Watch) (entries : List ListEntry) → Replays from entries replay → IsFaultOfEntries entries fault)
     → failures_after_list result failures ≡ failures
 list_report_counts start replay entries (Ok report) failures replays err = refl
 list_report_counts start replay entries (Err fault) failures replays err =

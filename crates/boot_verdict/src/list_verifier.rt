@@ -9,7 +9,7 @@ ghost use Rattle.boot_verdict.specs.declared.places.Watch.{Watch};
 ghost use Rattle.boot_verdict.specs.ListSources.{HoldsGenuineList, failures_after_list};
 ghost use Rattle.boot_verdict.specs.ListVerdicts.{IsListVerdictFrom, list_matches, list_verdict_of, list_verdict_on, required_list_matches};
 ghost use Rattle.boot_verdict.specs.Replays.{IsListReplayFault, IsListStart};
-ghost use Rattle.boot_verdict.specs.parts.ListReplays.{IsReportFault, Replays};
+ghost use Rattle.boot_verdict.specs.parts.ListReplays.{IsFaultOfEntries, Replays};
 
 use crate::expected::Expected;
 use crate::list_replay::ListReplay;
@@ -87,7 +87,7 @@ fn report_on(
     ensures report { IfOk result (λ report. (start : Watch) (entries : List ListEntry) → IsListStart start.banks → Replays start entries replay
         → AreGenuine entries × (list_verdict_of report ≡ list_verdict_on entries expected.now)) }
     ensures fault { IfErr result (λ fault. (start : Watch) (entries : List ListEntry) → Replays start entries replay
-        → IsReportFault entries fault) }
+        → IsFaultOfEntries entries fault) }
 {
     let entries = replay.entries;
     let watch = replay.genuine()?;

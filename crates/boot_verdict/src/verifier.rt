@@ -17,7 +17,7 @@ ghost use Rattle.boot_verdict.specs.declared.verifier.VerifyFault.TheVariants.{M
 ghost use Rattle.boot_verdict.specs.Verdicts.{HasSomethingToKeep, IsSomeLog, IsVerdict, IsVerdictFrom, IsVerifyFault, IsVerifyFaultFrom, aggregate_of, aggregate_state, fault_of_list, fault_of_log, fault_of_reading, row_state, verdict_of, verdict_on};
 ghost use Rattle.boot_verdict.specs.parts.Rows.{row_of};
 ghost use Rattle.boot_verdict.specs.ListSources.{HoldsGenuineList, failures_after_list};
-ghost use Rattle.boot_verdict.specs.parts.ListReplays.{IsReportFault, Replays};
+ghost use Rattle.boot_verdict.specs.parts.ListReplays.{IsFaultOfEntries, Replays};
 
 use crate::expected::Expected;
 use crate::list_replay::ListReplay;
@@ -46,10 +46,10 @@ pub enum VerifyFault {
     /// The source of the list failed.
     #[error("the source of the list failed")]
     Source,
-    /// 5: the list has more than `limit` bytes.
+    /// The list has more than `limit` bytes.
     #[error("the list is too long")]
     TooLong,
-    /// 6: out of memory.
+    /// Out of memory.
     #[error("out of memory")]
     Memory,
 }
@@ -128,7 +128,7 @@ pub fn verify(
     let log = read_log(alloc, log)?;
     let start = log.registers();
     let replay = ListReplay::of_list(Watch::of_none(alloc, start), list)?;
-    report_on(alloc, &log, &start, &replay, expected)
+    report_on(alloc, &log, &start, replay, expected)
 }
 
 /// As [`verify`], for a list of at most `limit` bytes that is read from a source. Each entry is replayed as its bytes arrive;
@@ -164,7 +164,7 @@ pub fn verify_from<R: Source>(
     let firmware = read_log(alloc, log)?;
     let start = firmware.registers();
     let replay = ListReplay::of_source(alloc, Watch::of_none(alloc, start), list, limit)?;
-    report_on(alloc, &firmware, &start, &replay, expected)
+    report_on(alloc, &firmware, &start, replay, expected)
 }
 
 // The report on a log that leaves the registers `start`, a list replayed from them, and expected registers.
@@ -172,23 +172,23 @@ fn report_on(
     alloc: Global,
     log: &BootLog<'_>,
     start: &Banks,
-    replay: &ListReplay,
+    replay: ListReplay,
     expected: &[Expected],
 ) -> Result<Report, VerifyFault>
     requires { IsFirmware (algs_of log.now) (events_of log.now) start.now }
-    ensures report { IfOk result (λ report. (from : Watch) (entries : List ListEntry) → from.banks ≡ start.now → Replays from entries replay.now
+    ensures report { IfOk result (λ report. (from : Watch) (entries : List ListEntry) → from.banks ≡ start.now → Replays from entries replay
         → AreGenuine entries × (verdict_of report ≡ verdict_on (algs_of log.now) (events_of log.now) entries expected.now)) }
-    ensures fault { IfErr result (λ fault. (from : Watch) (entries : List ListEntry) → Replays from entries replay.now → IsReportFault entries fault) }
+    ensures fault { IfErr result (λ fault. (from : Watch) (entries : List ListEntry) → Replays from entries replay → IsFaultOfEntries entries fault) }
 {
-    if let Some(entry) = replay.forged {
-        return Err(ReplayFault::BadTemplateDigest { entry }.into());
-    }
+    let entries = replay.entries;
+    let stated = replay.stated;
+    let watch = replay.genuine()?;
     Ok(Report {
         events: log.events().len(),
         locality: log.locality(),
-        entries: replay.entries,
-        aggregate: aggregate_of(start, replay.stated),
-        rows: rows_on(alloc, &replay.watch.banks, expected)?,
+        entries,
+        aggregate: aggregate_of(start, stated),
+        rows: rows_on(alloc, &watch.banks, expected)?,
     })
 }
 

@@ -89,11 +89,11 @@ fn assert_log_fronts(rt: &impl Abort, alloc: Global) -> Result<(), Fail> {
 
 /// The lengths of a template's name, of a payload and of a path. No entry stands before them, so a refused allocation is no answer.
 fn assert_list_lies(rt: &impl Abort, alloc: Global) -> Result<(), Fail> {
-    let torn = ListFault::Truncated { entry: 0 };
+    let truncated = ListFault::Truncated { entry: 0 };
     let long = ListFault::NameTooLong { entry: 0 };
     for (front, rest, fault) in [
-        (&MEASUREMENT[..24], &MEASUREMENT[28..], torn),
-        (&MEASUREMENT[..34], &MEASUREMENT[38..], torn),
+        (&MEASUREMENT[..24], &MEASUREMENT[28..], truncated),
+        (&MEASUREMENT[..34], &MEASUREMENT[38..], truncated),
         (IMA_HEAD, b"".as_slice(), long),
     ] {
         let bytes = joined(alloc, &[front, LYING, rest])?;

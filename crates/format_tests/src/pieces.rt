@@ -120,13 +120,13 @@ fn assert_fault_at_the_end(
     }
     assert_eq!(rt; feed(&mut reader, last), Err(fault));
     assert_eq!(rt; reader.entries().len(), 1);
-    let torn = ListFault::Truncated { entry: 1 };
-    assert_eq!(rt; reader.finish().err(), Some(torn));
+    let truncated = ListFault::Truncated { entry: 1 };
+    assert_eq!(rt; reader.finish().err(), Some(truncated));
     Ok(())
 }
 
 #[test]
-fn faults_within_a_torn_entry(rt: HostRuntime) -> Result<(), ListFault> {
+fn faults_within_a_truncated_entry(rt: HostRuntime) -> Result<(), ListFault> {
     let fault = ListFault::BadRegister { entry: 1 };
     assert_fault_at_the_end(&rt, rt.alloc(), b"\x18\0\0", b"\0", fault)?;
     assert_fault_at_the_end(&rt, rt.alloc(), b"\x18\0\0", b"\0and more", fault)?;

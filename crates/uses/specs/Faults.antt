@@ -1,7 +1,7 @@
 -- Why a use of the libraries fails. All of this is this project's choice.
 use Rattle.std.specs.Prelude.{◌≡◌, ◌⊎◌, ℕ, List}
 use Rattle.boot_log.specs.declared.fault.LogFault.TheVariants as logs
-use Rattle.boot_log.specs.Spelling.{FailsWith}
+use Rattle.boot_log.specs.Spelling.{HasLogFault}
 use Rattle.boot_verdict.specs.declared.expected.ExpectFault.TheVariants as expectations
 use Rattle.boot_verdict.specs.ExpectedTexts.{HasFirstFault}
 use Rattle.boot_verdict.specs.Verdicts.{IsSomeLog, IsVerifyFault}
@@ -18,7 +18,7 @@ IsNoVerdict log list text fault = ⊥
 -- Why nothing is recorded on the registers of a log: the bytes are no log, or memory ran out while they were read; or they are a log,
 -- and there is another cause.
 abbrev pub IsNotRecorded : List ℕ → UseFault → Type 0
-IsNotRecorded log (faults.Log fault) = (fault ≡ logs.Memory) ⊎ FailsWith log fault
+IsNotRecorded log (faults.Log fault) = (fault ≡ logs.Memory) ⊎ HasLogFault log fault
 IsNotRecorded log (faults.Expected fault) = ⊥
 IsNotRecorded log (faults.Verdict fault) = ⊥
 IsNotRecorded log fault = IsSomeLog log

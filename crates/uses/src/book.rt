@@ -1,7 +1,7 @@
 //! A book of measurements, and receipts that account for it.
 
 ghost use Rattle.std.specs.Prelude.{◌≡◌, ◌⊎◌, map, IfOk, IfErr};
-ghost use Rattle.boot_log.specs.Spelling.{FailsWith};
+ghost use Rattle.boot_log.specs.Spelling.{HasLogFault};
 ghost use Rattle.measure_book.specs.Operations.{book_op_of};
 ghost use Rattle.measure_book.specs.Groups.{groups_of};
 ghost use Rattle.uses.specs.Faults.{IsNotRecorded};
@@ -17,7 +17,7 @@ use std::alloc::{AllocError, Global};
 /// Where a book starts that goes on from the registers of a firmware event log.
 pub fn origin_after(alloc: Global, log: &[u8]) -> Result<Origin, LogFault>
     ensures origin { IfOk result (IsOriginAfter log.now) }
-    ensures fault { IfErr result (λ fault. (fault ≡ LogFault.Memory) ⊎ FailsWith log.now fault) }
+    ensures fault { IfErr result (λ fault. (fault ≡ LogFault.Memory) ⊎ HasLogFault log.now fault) }
 {
     Ok(Origin {
         start: read_log(alloc, log)?.registers(),

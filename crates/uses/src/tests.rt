@@ -51,8 +51,8 @@ fn ample_memory_reads_the_boot_manager_register(rt: HostRuntime) -> Result<(), F
     let alloc = rt.alloc();
     let log = bytes_of(alloc, LOG)?;
     assert_eq!(rt; boot_manager_register(alloc, &log), Ok(sha256_of(PCR_4)));
-    let torn = boot_manager_register(alloc, &log[..log.len() / 2]);
-    assert_eq!(rt; torn, Err(LogFault::Truncated { event: 0 }));
+    let truncated = boot_manager_register(alloc, &log[..log.len() / 2]);
+    assert_eq!(rt; truncated, Err(LogFault::Truncated { event: 0 }));
     Ok(())
 }
 
@@ -69,8 +69,8 @@ fn ample_memory_compares_registers(rt: HostRuntime) -> Result<(), Fail> {
         wrong,
         Err(UseFault::Expected(ExpectFault::BadLine { line: 1 }))
     );
-    let torn = match_on(list.get(1..).unwrap_or_default(), EXPECTED);
-    assert!(rt; matches!(torn, Err(UseFault::Verdict(VerifyFault::List(_)))));
+    let truncated = match_on(list.get(1..).unwrap_or_default(), EXPECTED);
+    assert!(rt; matches!(truncated, Err(UseFault::Verdict(VerifyFault::List(_)))));
     Ok(())
 }
 

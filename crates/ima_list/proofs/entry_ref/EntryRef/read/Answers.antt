@@ -3,7 +3,7 @@ use Rattle.std.proofs.lemmas.Result.{err_from_is_err_and}
 use Rattle.byte_fields.proofs.Steps.{IsBytes, fault_is}
 use Rattle.ima_list.specs.declared.fault.ListFault.TheVariants.{Memory}
 use Rattle.ima_list.specs.parts.Reading.{list_entry_in}
-use Rattle.ima_list.proofs.EntryLaws.{entry_takes, entry_fault_is, nothing_torn}
+use Rattle.ima_list.proofs.EntryLaws.{entry_takes, entry_fault_is, nothing_truncated}
 use Rattle.ima_list.proofs.ListLaws.{entry_shortens, never_memory}
 use Rattle.ima_list.proofs.PieceLaws.{read_goes_on, read_fails, fault_number}
 use Rattle.ima_list.proofs.entry_ref.EntryRef.read.Goals as goal
@@ -24,12 +24,12 @@ returns-in_err-raw-clause-number c =
 pub returns-in_err-raw-clause-empty : goal.returns-in_err-raw-clause-empty
 returns-in_err-raw-clause-empty c =
     let p = err_from_is_err_and c.from_residual.result c.from_residual.ensures.1 in
-    let torn = (nothing_torn c.args.number).1 in
+    let truncated = (nothing_truncated c.args.number).1 in
     λ none. let read = rw none at c.in_err-raw.ensures in cc
 
 pub returns-clause-empty : goal.returns-clause-empty
 returns-clause-empty c =
-    let torn = (nothing_torn c.args.number).1 in
+    let truncated = (nothing_truncated c.args.number).1 in
     λ none. let read = rw none at c.in_ok-raw.ensures in absurd cc
 
 pub returns-in_err-raw-clause-memory : goal.returns-in_err-raw-clause-memory
