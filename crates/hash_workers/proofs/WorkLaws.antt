@@ -21,13 +21,14 @@ use Rattle.hash_workers.specs.declared.job.Job.{Job}
 use Rattle.hash_workers.specs.Jobs.{operation_of, operations_of}
 use Rattle.hash_workers.specs.parts.Taking.{NumbersRise}
 use Rattle.hash_workers.specs.Outcomes.{MayBecome}
+use Rattle.hash_workers.specs.Causes.{IsMadeUnlessMemory}
 use Rattle.hash_workers.specs.parts.Working.{IsWorked, IsEntered, Records, IsDoneAfter, AreDoneInOrder}
 use Rattle.hash_workers.specs.declared.fault.JobFault.{JobFault}
 use Rattle.hash_workers.specs.declared.fault.JobFault.TheVariants as lacks
 use Rattle.hash_workers.specs.declared.work.Turn.{Turn}
 use Rattle.hash_workers.specs.declared.work.Turn.TheVariants.{Next, Last}
 use Rattle.hash_workers.specs.declared.work.Lack.{Lack}
-use Rattle.hash_workers.specs.parts.Ending.{AreHad, AreMadeOrWant, Becomes, IsHad, IsLack, IsLackAfter, IsMadeOrWants, IsTurnAfter, IsNoted, TellsOp, KeepsOne, TakesOne, TellsAll, StopsFor, TurnsPrivateBook}
+use Rattle.hash_workers.specs.parts.Ending.{AreHad, AreMadeUnlessMemory, Becomes, IsHad, IsLack, IsLackAfter, IsTurnAfter, IsNoted, TellsOp, KeepsOne, TakesOne, TellsAll, StopsFor, TurnsPrivateBook}
 use Rattle.hash_workers.proofs.ListLaws.{at_last, at_longer, slice_get_snoc, length_snoc, within_at}
 
 -- ---- one operation
@@ -161,10 +162,10 @@ pub turn_after : (Makes : ℕ → BookOp → Type 0) (Lacks : ℕ → JobFault �
 turn_after Makes Lacks job fault Next cause next last = inr (rw (next refl) at cause)
 turn_after Makes Lacks job fault Last cause next last = record { fault = fault; cause = cause; other = last refl }
 
--- After one more job whose operation was made, or for which memory lacked, all are such.
-pub want_more : (Makes : ℕ → BookOp → Type 0) (Lacks : ℕ → JobFault → Type 0) (taken now_taken : List ℕ) (job : ℕ)
-    → AreMadeOrWant Makes Lacks taken → now_taken ≡ taken ++ job ∷ [] → IsMadeOrWants Makes Lacks job → AreMadeOrWant Makes Lacks now_taken
-want_more Makes Lacks taken now_taken job are is one = rw is (record {
+-- After one more job whose operation was made unless memory ran out, all are such.
+pub made_more : (Makes : ℕ → BookOp → Type 0) (Lacks : ℕ → JobFault → Type 0) (taken now_taken : List ℕ) (job : ℕ)
+    → AreMadeUnlessMemory Makes Lacks taken → now_taken ≡ taken ++ job ∷ [] → IsMadeUnlessMemory Makes Lacks job → AreMadeUnlessMemory Makes Lacks now_taken
+made_more Makes Lacks taken now_taken job are is one = rw is (record {
   each = λ index other has. elim (slice_get_snoc taken job other index has) [
     | inl old ↦ are.each index other old
     | inr new ↦ rw new.1 one

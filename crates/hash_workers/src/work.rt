@@ -8,7 +8,7 @@ ghost use Rattle.hash_workers.specs.parts.Working.{IsWorked};
 ghost use Rattle.hash_workers.specs.declared.fault.JobFault.TheVariants.{Memory};
 ghost use Rattle.hash_workers.specs.declared.work.End.TheVariants.{NoOperation};
 ghost use Rattle.hash_workers.specs.declared.work.Turn.TheVariants.{Next, Last};
-ghost use Rattle.hash_workers.specs.parts.Ending.{AreHad, AreMadeOrWant, IsEnd, IsLack, IsLackAfter, IsNoted, IsStopped, IsTurnAfter, KeepsOne, StopsFor, TakesOne, TellsAll};
+ghost use Rattle.hash_workers.specs.parts.Ending.{AreHad, AreMadeUnlessMemory, IsEnd, IsLack, IsLackAfter, IsNoted, IsStopped, IsTurnAfter, KeepsOne, StopsFor, TakesOne, TellsAll};
 ghost use Rattle.hash_workers.specs.parts.Seats.{IsNewSeat, IsSinglePlace};
 
 mod all;
@@ -103,7 +103,7 @@ pub(crate) fn take_jobs<B: Recorder, J: Jobs, G: Gate>(
     ensures lack { IfSome result.lack (IsLack (J.total jobs.now) (J.lacks jobs.now) result.taken.items) }
     ensures end { IsEnd origin.now result.seat result.taken.items result.lack result.end }
     // It stops for a job exactly if the operation of that could not be made for a cause other than memory.
-    ensures wants { result.end ≢ NoOperation → AreMadeOrWant (J.makes jobs.now origin.now.alg) (J.lacks jobs.now) result.taken.items }
+    ensures made { result.end ≢ NoOperation → AreMadeUnlessMemory (J.makes jobs.now origin.now.alg) (J.lacks jobs.now) result.taken.items }
     ensures stopped { result.end ≡ NoOperation → (job : ℕ) × IsStopped (J.lacks jobs.now) job }
     ensures told { TellsAll origin.now (J.makes jobs.now origin.now.alg) (B.told recorder.old) (B.told recorder.new)
         result.taken.items (map book_outcome_of result.outcomes.items) result.end }

@@ -4,7 +4,7 @@ use Rattle.measure_book.specs.declared.origin.Origin.{Origin}
 use Rattle.measure_book.specs.declared.fault.BookFault.TheVariants.{Memory}
 use Rattle.measure_book.specs.Operations.{BookOp, BookOutcome, refused}
 use Rattle.measure_book.specs.Runs.{records_after}
-use Rattle.measure_book.specs.Books.{BookState}
+use Rattle.measure_book.specs.Books.{BookState, IsBook}
 use Rattle.hash_workers.specs.declared.work.End.{End}
 use Rattle.hash_workers.specs.declared.work.End.TheVariants.{NoneLeft, OutOfMemory, ForeignBook, NoOperation}
 use Rattle.hash_workers.specs.declared.work.Lack.{Lack}
@@ -12,6 +12,7 @@ use Rattle.hash_workers.specs.declared.fault.JobFault.{JobFault}
 use Rattle.hash_workers.specs.declared.fault.JobFault.TheVariants as lacks
 use Rattle.hash_workers.specs.declared.work.Turn.{Turn}
 use Rattle.hash_workers.specs.declared.work.Turn.TheVariants.{Next, Last}
+use Rattle.hash_workers.specs.Causes.{IsMadeUnlessMemory}
 use Rattle.hash_workers.specs.Claims.{SeatState}
 use Rattle.hash_workers.specs.Outcomes.{MayBecome, IsOutcomeOf}
 use Rattle.hash_workers.specs.parts.Working.{IsEntered, IsForeign, IsDoneAfter, AreDoneInOrder}
@@ -97,12 +98,9 @@ abbrev pub IsNoted : ℕ → JobFault → Option Lack → Option Lack → Type 0
 IsNoted job fault None new = new ≡ Some (record { job = job; fault = fault })
 IsNoted job fault (Some lack) new = new ≡ Some lack
 
--- The job's operation was made, or memory lacked for it.
-abbrev pub IsMadeOrWants : (ℕ → BookOp → Type 0) → (ℕ → JobFault → Type 0) → ℕ → Type 0
-IsMadeOrWants Makes Lacks job = ((op : BookOp) × Makes job op) ⊎ Lacks job lacks.Memory
-
-pub record AreMadeOrWant (Makes : ℕ → BookOp → Type 0) (Lacks : ℕ → JobFault → Type 0) (taken : List ℕ) : Type 0 where
-  pub each : (index job : ℕ) → slice_get taken index ≡ Some job → IsMadeOrWants Makes Lacks job
+-- The operation of each of these jobs was made, unless memory ran out for it.
+pub record AreMadeUnlessMemory (Makes : ℕ → BookOp → Type 0) (Lacks : ℕ → JobFault → Type 0) (taken : List ℕ) : Type 0 where
+  pub each : (index job : ℕ) → slice_get taken index ≡ Some job → IsMadeUnlessMemory Makes Lacks job
 
 -- The job's operation could not be made, for a cause other than memory.
 pub record IsStopped (Lacks : ℕ → JobFault → Type 0) (job : ℕ) : Type 0 where
@@ -110,9 +108,9 @@ pub record IsStopped (Lacks : ℕ → JobFault → Type 0) (job : ℕ) : Type 0 
   pub cause : Lacks job fault
   pub other : fault ≢ lacks.Memory
 
--- Whether a worker takes another job after this one: exactly if its operation was made, or memory lacked for it.
+-- Whether a worker takes another job after this one: exactly if its operation was made, unless memory ran out for it.
 abbrev pub IsTurnAfter : (ℕ → BookOp → Type 0) → (ℕ → JobFault → Type 0) → ℕ → Turn → Type 0
-IsTurnAfter Makes Lacks job Next = IsMadeOrWants Makes Lacks job
+IsTurnAfter Makes Lacks job Next = IsMadeUnlessMemory Makes Lacks job
 IsTurnAfter Makes Lacks job Last = IsStopped Lacks job
 
 -- Any cause.
@@ -155,6 +153,7 @@ StopsFor origin told now_told NoOperation = ⊥
 -- There is a book of another origin.
 pub record IsFound (origin : Origin) : Type 0 where
   pub book : BookState
+  pub is_book : IsBook book
   pub other : book.origin ≢ origin
 
 -- Why a worker takes no more jobs. `NoneLeft`: its seat is ended, and drew what the worker took. `NoOperation`: there is a first

@@ -12,7 +12,7 @@ use Rattle.hash_workers.specs.declared.work.Work.{Work}
 use Rattle.hash_workers.specs.Claims.{ClaimsState, SeatState, IsSeat}
 use Rattle.hash_workers.specs.parts.Taking.{NumbersRise}
 use Rattle.hash_workers.specs.parts.Working.{IsWorked}
-use Rattle.hash_workers.specs.parts.Ending.{AnyCause, AreHad, DrewBeyond, IsEnd, IsFrom, IsLack}
+use Rattle.hash_workers.specs.parts.Ending.{AnyCause, AreHad, AreMadeUnlessMemory, DrewBeyond, IsEnd, IsFrom, IsLack}
 
 -- ---- seats
 
@@ -55,14 +55,15 @@ pub record AreJoined (claims : ClaimsState) (seats : List SeatState) (all : Opti
 
 -- ---- what workers hand back
 
--- What a worker did: its jobs rise; each has one outcome; each before the first lack has an operation; its seat is still one of
--- these claims; and this is why it took no more.
+-- What a worker did: its jobs rise; each has one outcome; each before the first lack has an operation, and so has each, unless memory
+-- ran out for it or the worker stopped for one; its seat is still one of these claims; and this is why it took no more.
 pub record IsWorkOf (origin : Origin) (Makes : ℕ → BookOp → Type 0) (Lacks : ℕ → JobFault → Type 0) (claims : ClaimsState) (work : Work) :
     Type 0 where
   pub rises : NumbersRise work.taken.items
   pub worked : IsWorked origin claims.jobs Makes work.taken.items (map book_outcome_of work.outcomes.items)
   pub had : AreHad Makes work.taken.items work.lack
   pub lack : IfSome work.lack (IsLack claims.jobs Lacks work.taken.items)
+  pub made : work.end ≢ NoOperation → AreMadeUnlessMemory Makes Lacks work.taken.items
   pub seat : IsSinglePlace claims work.seat
   pub ends : IsEnd origin work.seat work.taken.items work.lack work.end
 

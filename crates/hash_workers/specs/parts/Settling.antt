@@ -6,7 +6,7 @@ use Rattle.measure_book.specs.declared.gathers.GatherFault.{GatherFault}
 use Rattle.measure_book.specs.declared.gathers.GatherFault.TheVariants as gathers
 use Rattle.measure_book.specs.Operations.{BookOp, BookOutcome}
 use Rattle.measure_book.specs.Groups.{outcome_at, groups_of, IsFirstFault}
-use Rattle.measure_book.specs.Books.{BookState}
+use Rattle.measure_book.specs.Books.{BookState, IsBook}
 use Rattle.hash_workers.specs.declared.fault.JobFault.{JobFault}
 use Rattle.hash_workers.specs.declared.fault.JobsFault.{JobsFault}
 use Rattle.hash_workers.specs.declared.work.End.TheVariants.{OutOfMemory, ForeignBook, NoOperation}
@@ -21,7 +21,7 @@ use Rattle.hash_workers.specs.Outcomes.{IsOutcomeOf}
 use Rattle.hash_workers.specs.parts.Ending.{IsFound}
 use Rattle.hash_workers.specs.parts.Scattering.{ArePairs, items_of}
 use Rattle.hash_workers.specs.parts.Seats.{HasEnd, HasNoEnd, IsLeastLack, outcomes_of, taken_of}
-use Rattle.hash_workers.specs.Causes.{IsFirstLack}
+use Rattle.hash_workers.specs.Causes.{AllMadeUnlessMemory, IsFirstLack}
 
 -- ---- what all workers did
 
@@ -53,7 +53,8 @@ pub record IsMadeOf (works : List Work) (count : ℕ) (all : AllWork) : Type 0 w
   pub places_by : vec_len all.by ≡ count
 
 -- What all of this number of workers did: their jobs rise, and each has an outcome of its own. Each of the `count` jobs was taken
--- once, unless a worker stopped for a book of another origin, which it found, or for the first job without an operation.
+-- once, and its operation made unless memory ran out for it; or a worker stopped for a book of another origin, which it found, or for
+-- the first job without an operation.
 pub record IsAllWork (origin : Origin) (count : ℕ) (Makes : ℕ → BookOp → Type 0) (Lacks : ℕ → JobFault → Type 0) (workers : ℕ)
     (all : AllWork) : Type 0 where
   pub one_each : length all.takings.items ≡ workers
@@ -62,6 +63,7 @@ pub record IsAllWork (origin : Origin) (count : ℕ) (Makes : ℕ → BookOp →
       → outcome_at (outcomes_by_worker all) worker index ≡ Some outcome → IsOutcomeOf origin count Makes job outcome
   pub rise : NumbersRiseForEach (takings_of all)
   pub each : all.foreign ≡ false → all.lack ≡ None → HandsOutEach count (concat (takings_of all))
+  pub made : all.foreign ≡ false → all.lack ≡ None → AllMadeUnlessMemory count Makes Lacks
   pub found : all.foreign ≡ true → IsFound origin
   pub lack : all.foreign ≡ false → IfSome all.lack (λ lack. IsFirstLack count Makes Lacks lack.job lack.fault)
   pub places : vec_len all.outcomes ≡ count
@@ -72,7 +74,7 @@ pub record IsAllWork (origin : Origin) (count : ℕ) (Makes : ℕ → BookOp →
 -- The first cause against a book and the workers' outcomes: a worker found a book of another origin; else what `gather` says.
 abbrev pub IsFirstCause : Bool → BookState → Origin → List (List BookOutcome) → GatherFault → Type 0
 IsFirstCause true book origin groups cause = cause ≡ gathers.ForeignBook
-IsFirstCause false book origin groups cause = IsFirstFault book origin groups cause
+IsFirstCause false book origin groups cause = IsBook book × IsFirstFault book origin groups cause
 
 -- The fault is that of the first cause against the book and the workers' outcomes. It comes after that of a lack, unless a worker found
 -- a book of another origin.

@@ -1,6 +1,6 @@
 use Rattle.std.proofs.Common.{ℕ, List, [], ◌∷◌, ◌++◌, refl, sym, ap, ◌∙◌}
 use Rattle.hash_workers.specs.declared.work.End.TheVariants.{NoOperation}
-use Rattle.hash_workers.proofs.WorkLaws.{had_more, want_more, lack_below, rise_more, tells_end, tells_stop, turn_smaller, turn_worked, turn_tells}
+use Rattle.hash_workers.proofs.WorkLaws.{had_more, made_more, lack_below, rise_more, tells_end, tells_stop, turn_smaller, turn_worked, turn_tells}
 use Rattle.hash_workers.proofs.work.take_jobs.Goals as goal
 
 -- The job is above all that the worker took, which is what its seat drew.
@@ -29,7 +29,7 @@ loop-number-preserved g c =
       lack = after.right kept.lack;
       tells = turn_tells number _ _ _ _ _ _ _ _ _ one _ kept.tells;
       end = stays.1 ∙ kept.end;
-      want = want_more _ _ _ _ number kept.want one.takes (rw c.in-Ok-Next.field-0-is at c.in-Ok-Next.ensures.turn);
+      made = made_more _ _ _ _ number kept.made one.takes (rw c.in-Ok-Next.field-0-is at c.in-Ok-Next.ensures.turn);
     }
 
 pub returns-in-Ok-Last-clause-stopped : goal.returns-in-Ok-Last-clause-stopped
@@ -61,8 +61,8 @@ returns-in-Ok-Last-clause-told g c =
     tells_end _ _ _ _ _ _ _ NoOperation (λ is. cc) refl
     (turn_tells c.in-Some.number _ _ _ _ _ _ _ _ _ c.in-Ok-Last.ensures.takes _ c.loop-number.invariant.tells)
 
-pub returns-in-Err-clause-wants : goal.returns-in-Err-clause-wants
-returns-in-Err-clause-wants g c = λ other. rw c.in-Err.ensures.refused.0 c.loop-number.invariant.want
+pub returns-in-Err-clause-made : goal.returns-in-Err-clause-made
+returns-in-Err-clause-made g c = λ other. rw c.in-Err.ensures.refused.0 c.loop-number.invariant.made
 
 pub returns-in-Err-clause-stopped : goal.returns-in-Err-clause-stopped
 returns-in-Err-clause-stopped g c = λ is. absurd (rw is at c.in-Err.ensures.takes)
