@@ -15,14 +15,14 @@ use Rattle.hash_workers.specs.declared.batch.Batch.{Batch}
 use Rattle.hash_workers.specs.declared.fault.AgentFault.{AgentFault}
 use Rattle.hash_workers.specs.declared.fault.AgentFault.TheVariants as agents
 use Rattle.hash_workers.specs.declared.fault.JobFault.{JobFault}
-use Rattle.hash_workers.specs.declared.fault.JobFault.TheVariants as lacks
+use Rattle.hash_workers.specs.declared.fault.JobFault.TheVariants as causes
 use Rattle.hash_workers.specs.declared.fault.JobsFault.{JobsFault}
 use Rattle.hash_workers.specs.declared.fault.JobsFault.TheVariants as jobs
 use Rattle.hash_workers.specs.declared.work.End.TheVariants.{NoOperation}
-use Rattle.hash_workers.specs.declared.work.Lack.{Lack}
+use Rattle.hash_workers.specs.declared.work.Unmade.{Unmade}
 use Rattle.hash_workers.specs.declared.work.Work.{Work}
 use Rattle.hash_workers.specs.declared.work.all.AllWork.{AllWork}
-use Rattle.hash_workers.specs.parts.Faults.{fault_for, fault_of_lack}
+use Rattle.hash_workers.specs.parts.Faults.{fault_for, fault_of_unmade}
 use Rattle.hash_workers.specs.Faults.{fault_of_gather, MayBegin, IsFaultOf, IsJobsFaultOf}
 use Rattle.std.specs.List.{concat}
 use Rattle.hash_workers.specs.Claims.{ClaimsState, HandsOutEach}
@@ -30,9 +30,9 @@ use Rattle.hash_workers.specs.parts.Taking.{Took, job_at}
 use Rattle.hash_workers.specs.Outcomes.{IsOutcomeOf}
 use Rattle.hash_workers.specs.parts.Ending.{IsFound, IsHad}
 use Rattle.hash_workers.specs.parts.Scattering.{items_of}
-use Rattle.hash_workers.specs.parts.Seats.{AreWorksOf, HasNoEnd, IsLeastLack, outcomes_of, taken_of}
-use Rattle.hash_workers.specs.parts.Settling.{AreTakenBefore, IsAllWork, IsFirstCause, IsLackOf, IsMadeOf, IsUnsettled, outcomes_by_worker, takings_of}
-use Rattle.hash_workers.specs.Causes.{AllMadeUnlessMemory, IsCauseOf, IsFirstLack, IsMadeUnlessMemory}
+use Rattle.hash_workers.specs.parts.Seats.{AreWorksOf, HasNoEnd, IsLeastUnmade, outcomes_of, taken_of}
+use Rattle.hash_workers.specs.parts.Settling.{AreTakenBefore, IsAllWork, IsFirstCause, IsUnmadeOf, IsMadeOf, IsUnsettled, outcomes_by_worker, takings_of}
+use Rattle.hash_workers.specs.Causes.{AllMadeUnlessMemory, IsCauseOf, IsFirstUnmade, IsMadeUnlessMemory}
 use Rattle.hash_workers.proofs.ListLaws.{at_map, in_mapped}
 use Rattle.hash_workers.proofs.SeatLaws.{rises_of, pairs_of}
 use Rattle.hash_workers.proofs.BatchLaws.{from_groups, job_for}
@@ -40,17 +40,17 @@ use Rattle.hash_workers.proofs.TakingLaws.{take_each}
 
 -- ---- what all workers did
 
--- Each job that was taken and is before the first lack has an operation.
-made_at : (Makes : ℕ → BookOp → Type 0) (works : List Work) (worker : ℕ) (work : Work) (job : ℕ) (first : Lack) (lack : Option Lack)
-    → work.lack ≡ lack → IsLeastLack works (length works) (Some first) → slice_get works worker ≡ Some work → job < first.job
-    → IsHad Makes lack job → (op : BookOp) × Makes job op
-made_at Makes works worker work job first lack is least stands before (inl made) = made
+-- Each job that was taken and is before the first unmade job has an operation.
+made_at : (Makes : ℕ → BookOp → Type 0) (works : List Work) (worker : ℕ) (work : Work) (job : ℕ) (first : Unmade) (unmade : Option Unmade)
+    → work.unmade ≡ unmade → IsLeastUnmade works (length works) (Some first) → slice_get works worker ≡ Some work → job < first.job
+    → IsHad Makes unmade job → (op : BookOp) × Makes job op
+made_at Makes works worker work job first unmade is least stands before (inl made) = made
 made_at Makes works worker work job first None is least stands before (inr never) = absurd never
 made_at Makes works worker work job first (Some other) is least stands before (inr from) =
     let earlier = least.none_before worker work other (slice_get_within works worker work stands) stands is in absurd (omega arith)
 
-module _ (origin : Origin) (Makes : ℕ → BookOp → Type 0) (Lacks : ℕ → JobFault → Type 0) (claims : ClaimsState) (works : List Work)
-    (are : AreWorksOf origin Makes Lacks claims works) where
+module _ (origin : Origin) (Makes : ℕ → BookOp → Type 0) (Fails : ℕ → JobFault → Type 0) (claims : ClaimsState) (works : List Work)
+    (are : AreWorksOf origin Makes Fails claims works) where
   of_job : (takings : List (List ℕ)) (gs : List (Vec Outcome Global)) (worker i job : ℕ) (outcome : BookOutcome)
       → takings ≡ map taken_of works → map items_of gs ≡ map outcomes_of works → Took takings worker i job
       → outcome_at (groups_of gs) worker i ≡ Some outcome → IsOutcomeOf origin claims.jobs Makes job outcome
@@ -62,34 +62,34 @@ module _ (origin : Origin) (Makes : ℕ → BookOp → Type 0) (Lacks : ℕ → 
       (are.each worker taken.0 taken.1).worked.each i job outcome taken.2
       (at_map book_outcome_of taken.0.outcomes.items i got.0 (rw same at group.2) ∙ ap (λ (b : BookOutcome). Some b) got.2)
 
-  first_lack : (takings : List (List ℕ)) (lack : Option Lack) → IsLackOf works lack → takings ≡ map taken_of works
-      → IfSome lack (AreTakenBefore takings) → IfSome lack (λ first. IsFirstLack claims.jobs Makes Lacks first.job first.fault)
-  first_lack takings None of is before = tt
-  first_lack takings (Some first) of is before =
+  first_unmade : (takings : List (List ℕ)) (unmade : Option Unmade) → IsUnmadeOf works unmade → takings ≡ map taken_of works
+      → IfSome unmade (AreTakenBefore takings) → IfSome unmade (λ first. IsFirstUnmade claims.jobs Makes Fails first.job first.fault)
+  first_unmade takings None of is before = tt
+  first_unmade takings (Some first) of is before =
       let least = of.some (λ none. absurd (none-some first (sym none))) in
       let has = least.some in
-      let right = rw has.has at (are.each has.worker has.work has.stands).lack in
+      let right = rw has.has at (are.each has.worker has.work has.stands).unmade in
       record {
         within = right.within;
         cause = right.cause;
         before = λ job earlier.
             let taken = before job earlier in
             let one = in_mapped taken_of works taken.worker taken.index job (rw is at taken.took) in
-            made_at Makes works taken.worker one.0 job first one.0.lack refl least one.1 earlier
+            made_at Makes works taken.worker one.0 job first one.0.unmade refl least one.1 earlier
             ((are.each taken.worker one.0 one.1).had.each taken.index job one.2);
       }
 
   -- If no worker stopped for a job, the operation of each that was taken was made, unless memory ran out for it; and so it is of all
   -- jobs if each was taken.
   made_or_memory : (takings : List (List ℕ)) (worker index job : ℕ) → takings ≡ map taken_of works
-      → HasNoEnd works NoOperation (length works) → Took takings worker index job → IsMadeUnlessMemory Makes Lacks job
+      → HasNoEnd works NoOperation (length works) → Took takings worker index job → IsMadeUnlessMemory Makes Fails job
   made_or_memory takings worker index job is goes_on took =
       let one = in_mapped taken_of works worker index job (rw is at took) in
       let within = slice_get_within works worker one.0 one.1 in
       ((are.each worker one.0 one.1).made (goes_on.each worker one.0 within one.1)).each index job one.2
 
   all_made : (takings : List (List ℕ)) → takings ≡ map taken_of works → HasNoEnd works NoOperation (length works)
-      → HandsOutEach claims.jobs (concat takings) → AllMadeUnlessMemory claims.jobs Makes Lacks
+      → HandsOutEach claims.jobs (concat takings) → AllMadeUnlessMemory claims.jobs Makes Fails
   all_made takings is goes_on hands = record {
     each = λ job below.
         let taken = (take_each claims.jobs takings hands).each job below in
@@ -97,18 +97,18 @@ module _ (origin : Origin) (Makes : ℕ → BookOp → Type 0) (Lacks : ℕ → 
   }
 
   pub all_work : (all : AllWork) → IsMadeOf works claims.jobs all
-      → (all.foreign ≡ false → all.lack ≡ None → HandsOutEach claims.jobs (concat (takings_of all)))
-      → (all.foreign ≡ false → IfSome all.lack (AreTakenBefore (takings_of all)))
-      → IsAllWork origin claims.jobs Makes Lacks claims.seats all
+      → (all.foreign ≡ false → all.unmade ≡ None → HandsOutEach claims.jobs (concat (takings_of all)))
+      → (all.foreign ≡ false → IfSome all.unmade (AreTakenBefore (takings_of all)))
+      → IsAllWork origin claims.jobs Makes Fails claims.seats all
   all_work all made each before = record {
     one_each = sym (length-map all.takings.items items_of) ∙ ap length made.takings ∙ length-map works taken_of ∙ are.one_each;
-    pairs = pairs_of origin Makes Lacks claims works are (takings_of all) (map items_of all.groups.items) made.takings made.groups;
+    pairs = pairs_of origin Makes Fails claims works are (takings_of all) (map items_of all.groups.items) made.takings made.groups;
     of_jobs = λ worker index job outcome took has.
         of_job (takings_of all) all.groups.items worker index job outcome made.takings made.groups took has;
-    rise = rises_of origin Makes Lacks claims works are (takings_of all) made.takings;
+    rise = rises_of origin Makes Fails claims works are (takings_of all) made.takings;
     each = each;
-    made = λ same none. all_made (takings_of all) made.takings (made.lack.none none) (each same none);
-    lack = λ same. first_lack (takings_of all) all.lack made.lack made.takings (before same);
+    made = λ same none. all_made (takings_of all) made.takings (made.unmade.none none) (each same none);
+    unmade = λ same. first_unmade (takings_of all) all.unmade made.unmade made.takings (before same);
     found = λ foreign. let has = made.foreign foreign in rw has.ends at (are.each has.worker has.work has.stands).ends;
     places = made.places;
     places_by = made.places_by;
@@ -121,10 +121,10 @@ gather_fault : (workers : ℕ) (origin : Origin) (cause : GatherFault) → MayBe
 gather_fault workers origin gathers.Memory may = may
 gather_fault workers origin cause may = (may, λ same. cc)
 
-lack_fault : (workers : ℕ) (origin : Origin) (job : ℕ) (fault : JobFault) → MayBegin workers origin
+fault_for_unmade : (workers : ℕ) (origin : Origin) (job : ℕ) (fault : JobFault) → MayBegin workers origin
     → IsJobsFaultOf workers origin (fault_for job fault)
-lack_fault workers origin job lacks.Memory may = may
-lack_fault workers origin job fault may = may
+fault_for_unmade workers origin job causes.Memory may = may
+fault_for_unmade workers origin job fault may = may
 
 pub settled_fault : (workers : ℕ) (origin : Origin) (all : AllWork) (book : BookState) (result : Result Batch JobsFault)
     → MayBegin workers origin → IfErr result (IsUnsettled all book origin)
@@ -132,7 +132,7 @@ pub settled_fault : (workers : ℕ) (origin : Origin) (all : AllWork) (book : Bo
 settled_fault workers origin all book (Ok batch) may known = may
 settled_fault workers origin all book (Err fault) may (inl known) = rw known.fault_is (gather_fault workers origin known.cause may)
 settled_fault workers origin all book (Err fault) may (inr known) =
-    rw known.fault_is (lack_fault workers origin known.lack.job known.lack.fault may)
+    rw known.fault_is (fault_for_unmade workers origin known.unmade.job known.unmade.fault may)
 
 -- ---- what a fault tells
 
@@ -166,10 +166,10 @@ foreign_cause workers origin count Makes cause found is = rw is (record {
   first = found.other;
 })
 
--- The fault of a lack is neither one of `gather` nor a wrong number of workers.
-lack_no_agent : (job : ℕ) (fault : JobFault) (agent : AgentFault) → agent ≢ agents.Memory → jobs.Agent agent ≡ fault_for job fault → ⊥
-lack_no_agent job lacks.Memory agent other is = other cc
-lack_no_agent job fault agent other is = absurd cc
+-- The fault of an unmade job is neither one of `gather` nor a wrong number of workers.
+unmade_no_agent : (job : ℕ) (fault : JobFault) (agent : AgentFault) → agent ≢ agents.Memory → jobs.Agent agent ≡ fault_for job fault → ⊥
+unmade_no_agent job causes.Memory agent other is = other cc
+unmade_no_agent job fault agent other is = absurd cc
 
 -- A fault of `gather` is not a wrong number of workers.
 no_number : (cause : GatherFault) → agents.Workers ≡ fault_of_gather cause → ⊥
@@ -182,17 +182,17 @@ settled_number origin all book (Ok batch) known is = absurd cc
 settled_number origin all book (Err fault) (inl known) is =
     let same : agents.Workers ≡ fault_of_gather known.cause = cc known.fault_is in no_number known.cause same
 settled_number origin all book (Err fault) (inr known) is =
-    let same : jobs.Agent agents.Workers ≡ fault_of_lack known.lack = cc known.fault_is in
-    lack_no_agent known.lack.job known.lack.fault agents.Workers (λ memory. cc) same
+    let same : jobs.Agent agents.Workers ≡ fault_of_unmade known.unmade = cc known.fault_is in
+    unmade_no_agent known.unmade.job known.unmade.fault agents.Workers (λ memory. cc) same
 
--- The job that the fault names is the first lack.
-job_of_lack : (job other : ℕ) (fault : JobFault) (cause : JobFault) → jobs.Job job fault ≡ fault_for other cause
-    → (job ≡ other) × (fault ≡ cause) × (fault ≢ lacks.Memory)
-job_of_lack job other fault lacks.Memory is = absurd cc
-job_of_lack job other fault cause is = (cc, cc, λ memory. cc)
+-- The job that the fault names is the first unmade job.
+job_of_unmade : (job other : ℕ) (fault : JobFault) (cause : JobFault) → jobs.Job job fault ≡ fault_for other cause
+    → (job ≡ other) × (fault ≡ cause) × (fault ≢ causes.Memory)
+job_of_unmade job other fault causes.Memory is = absurd cc
+job_of_unmade job other fault cause is = (cc, cc, λ memory. cc)
 
-module _ (workers : ℕ) (origin : Origin) (count : ℕ) (Makes : ℕ → BookOp → Type 0) (Lacks : ℕ → JobFault → Type 0) (all : AllWork)
-    (are : IsAllWork origin count Makes Lacks workers all) (book : BookState) where
+module _ (workers : ℕ) (origin : Origin) (count : ℕ) (Makes : ℕ → BookOp → Type 0) (Fails : ℕ → JobFault → Type 0) (all : AllWork)
+    (are : IsAllWork origin count Makes Fails workers all) (book : BookState) where
   -- Each of the workers' outcomes is one of the job that the worker took at its index.
   of_some_job : (worker index : ℕ) (outcome : BookOutcome) → outcome_at (outcomes_by_worker all) worker index ≡ Some outcome
       → (job : ℕ) × Took (takings_of all) worker index job × IsOutcomeOf origin count Makes job outcome
@@ -238,7 +238,7 @@ module _ (workers : ℕ) (origin : Origin) (count : ℕ) (Makes : ℕ → BookOp
         first = first;
       }
 
-  cause_of : (cause : GatherFault) (foreign : Bool) → all.foreign ≡ foreign → (foreign ≡ false → all.lack ≡ None)
+  cause_of : (cause : GatherFault) (foreign : Bool) → all.foreign ≡ foreign → (foreign ≡ false → all.unmade ≡ None)
       → IsFirstCause foreign book origin (outcomes_by_worker all) cause → IsCauseOf workers origin count Makes cause
   cause_of cause true is made first = foreign_cause workers origin count Makes cause (are.found is) first
   cause_of cause false is made first = cause_against cause (are.each is (made refl)) first.0 first.1
@@ -250,15 +250,15 @@ module _ (workers : ℕ) (origin : Origin) (count : ℕ) (Makes : ℕ → BookOp
       let same : agents.Gather cause ≡ fault_of_gather known.cause = cc known.fault_is in
       cause_of cause all.foreign refl known.made (rw (same_cause cause known.cause same) known.first)
   settled_cause cause (Err fault) (inr known) is =
-      let same : jobs.Agent (agents.Gather cause) ≡ fault_of_lack known.lack = cc known.fault_is in
-      absurd (lack_no_agent known.lack.job known.lack.fault (agents.Gather cause) (λ memory. cc) same)
+      let same : jobs.Agent (agents.Gather cause) ≡ fault_of_unmade known.unmade = cc known.fault_is in
+      absurd (unmade_no_agent known.unmade.job known.unmade.fault (agents.Gather cause) (λ memory. cc) same)
 
   pub settled_job : (job : ℕ) (fault : JobFault) (result : Result Batch JobsFault) → IfErr result (IsUnsettled all book origin)
-      → result ≡ Err (jobs.Job job fault) → IsFirstLack count Makes Lacks job fault × (fault ≢ lacks.Memory)
+      → result ≡ Err (jobs.Job job fault) → IsFirstUnmade count Makes Fails job fault × (fault ≢ causes.Memory)
   settled_job job fault (Ok batch) known is = absurd cc
   settled_job job fault (Err told) (inl known) is =
       let same : jobs.Job job fault ≡ jobs.Agent (fault_of_gather known.cause) = cc known.fault_is in absurd cc
   settled_job job fault (Err told) (inr known) is =
-      let told_is : jobs.Job job fault ≡ fault_of_lack known.lack = cc known.fault_is in
-      let same = job_of_lack job known.lack.job fault known.lack.fault told_is in
-      (rw (same.0, same.1) (rw known.first_is at (are.lack known.same)), same.2)
+      let told_is : jobs.Job job fault ≡ fault_of_unmade known.unmade = cc known.fault_is in
+      let same = job_of_unmade job known.unmade.job fault known.unmade.fault told_is in
+      (rw (same.0, same.1) (rw known.first_is at (are.unmade known.same)), same.2)

@@ -12,16 +12,16 @@ use Rattle.hash_workers.specs.Outcomes.{IsAt, IsOutcomeOf}
 
 -- The job's operation was made, unless memory ran out for it.
 abbrev pub IsMadeUnlessMemory : (ℕ → BookOp → Type 0) → (ℕ → JobFault → Type 0) → ℕ → Type 0
-IsMadeUnlessMemory Makes Lacks job = ((op : BookOp) × Makes job op) ⊎ Lacks job Memory
+IsMadeUnlessMemory Makes Fails job = ((op : BookOp) × Makes job op) ⊎ Fails job Memory
 
 -- The same of each of `count` jobs.
-pub record AllMadeUnlessMemory (count : ℕ) (Makes : ℕ → BookOp → Type 0) (Lacks : ℕ → JobFault → Type 0) : Type 0 where
-  pub each : (job : ℕ) → job < count → IsMadeUnlessMemory Makes Lacks job
+pub record AllMadeUnlessMemory (count : ℕ) (Makes : ℕ → BookOp → Type 0) (Fails : ℕ → JobFault → Type 0) : Type 0 where
+  pub each : (job : ℕ) → job < count → IsMadeUnlessMemory Makes Fails job
 
 -- This job, one of `count`, has no operation, for this cause, and each job before it has one.
-pub record IsFirstLack (count : ℕ) (Makes : ℕ → BookOp → Type 0) (Lacks : ℕ → JobFault → Type 0) (job : ℕ) (fault : JobFault) : Type 0 where
+pub record IsFirstUnmade (count : ℕ) (Makes : ℕ → BookOp → Type 0) (Fails : ℕ → JobFault → Type 0) (job : ℕ) (fault : JobFault) : Type 0 where
   pub within : job < count
-  pub cause : Lacks job fault
+  pub cause : Fails job fault
   pub before : (earlier : ℕ) → earlier < job → (op : BookOp) × Makes earlier op
 
 -- This is the first cause against some book and a group for each of these workers, of outcomes of distinct jobs: `job_of` has the

@@ -11,9 +11,9 @@ ghost use Rattle.hash_workers.specs.Jobs.{operations_of};
 ghost use Rattle.hash_workers.specs.declared.fault.JobFault.{JobFault};
 ghost use Rattle.hash_workers.specs.declared.fault.JobFault.TheVariants.{Memory};
 ghost use Rattle.hash_workers.specs.Faults.{IsFaultOf, IsJobsFaultOf, IsNumberOfWorkers, MayBegin};
-ghost use Rattle.hash_workers.specs.parts.Faults.{fault_of_lack};
+ghost use Rattle.hash_workers.specs.parts.Faults.{fault_of_unmade};
 ghost use Rattle.hash_workers.specs.parts.Settling.{IsAllWork, IsUnsettled};
-ghost use Rattle.hash_workers.specs.Causes.{AllMadeUnlessMemory, IsCauseAmong, IsCauseOf, IsFirstLack};
+ghost use Rattle.hash_workers.specs.Causes.{AllMadeUnlessMemory, IsCauseAmong, IsCauseOf, IsFirstUnmade};
 ghost use Rattle.hash_workers.specs.Batches.{IsBatch, IsBatchOf};
 
 use crate::claims::Claims;
@@ -23,7 +23,7 @@ use crate::gate::Gate;
 use crate::job::Job;
 use crate::jobs::{Jobs, Listed};
 use crate::scatter::scatter;
-use crate::work::{AllWork, Lack};
+use crate::work::{AllWork, Unmade};
 use measure_book::{Book, BookFault, GatherFault, Origin, Outcome, gather};
 use std::alloc::{AllocError, Global};
 use std::sync::Wait;
@@ -105,7 +105,7 @@ pub fn record_jobs<R: Threads + Wait + Sync, J: Jobs + Sync, G: Gate + Sync>(
     ensures batch { IfOk result (λ batch. IsBatchOf origin (J.total jobs.now) (J.makes jobs.now origin.alg) workers
         batch.book (map book_outcome_of batch.outcomes.items) batch.by.items) }
     // There is a batch only if each job's operation was made, unless memory ran out for it.
-    ensures made { IfOk result (λ _. AllMadeUnlessMemory (J.total jobs.now) (J.makes jobs.now origin.alg) (J.lacks jobs.now)) }
+    ensures made { IfOk result (λ _. AllMadeUnlessMemory (J.total jobs.now) (J.makes jobs.now origin.alg) (J.fails jobs.now)) }
     // Workers start only if their number is right and a book may be opened, and each fault has its cause.
     ensures fault { MatchResult result (λ _. MayBegin workers origin) (IsJobsFaultOf workers origin) }
     // `Workers` exactly where the number of workers is not 1 to 8.
@@ -115,7 +115,7 @@ pub fn record_jobs<R: Threads + Wait + Sync, J: Jobs + Sync, G: Gate + Sync>(
         → result ≡ Err (JobsFault.Agent (AgentFault.Book fault)) }
     // `Job` names the first job whose operation could not be made, and the cause, which is never memory.
     ensures job { (job : ℕ) (fault : JobFault) → result ≡ Err (JobsFault.Job job fault)
-        → IsFirstLack (J.total jobs.now) (J.makes jobs.now origin.alg) (J.lacks jobs.now) job fault × (fault ≢ Memory) }
+        → IsFirstUnmade (J.total jobs.now) (J.makes jobs.now origin.alg) (J.fails jobs.now) job fault × (fault ≢ Memory) }
     // `Gather` names the first cause that holds for some book and some outcomes of distinct jobs, one group per worker.
     ensures gather { (cause : GatherFault) → result ≡ Err (JobsFault.Agent (AgentFault.Gather cause))
         → IsCauseOf workers origin (J.total jobs.now) (J.makes jobs.now origin.alg) cause }
@@ -140,7 +140,7 @@ fn all_taken<R: Threads + Wait + Sync, J: Jobs + Sync, G: Gate + Sync>(
 ) -> Result<(Book, AllWork), AllocError>
     requires few { J.total jobs.now < 2 ^ 32 }
     requires number { IsNumberOfWorkers workers }
-    ensures { IfOk result (λ done. IsAllWork origin.now (J.total jobs.now) (J.makes jobs.now origin.now.alg) (J.lacks jobs.now) workers done.1) }
+    ensures { IfOk result (λ done. IsAllWork origin.now (J.total jobs.now) (J.makes jobs.now origin.now.alg) (J.fails jobs.now) workers done.1) }
 {
     let count = jobs.count();
     let (claims, first) = Claims::new(alloc, count as u32, workers as u32)?;
@@ -160,18 +160,18 @@ fn settle<J: Jobs>(
     all: AllWork,
 ) -> Result<Batch, JobsFault>
     requires number { IsNumberOfWorkers workers }
-    requires all { IsAllWork origin.now (J.total _jobs.now) (J.makes _jobs.now origin.now.alg) (J.lacks _jobs.now) workers all }
+    requires all { IsAllWork origin.now (J.total _jobs.now) (J.makes _jobs.now origin.now.alg) (J.fails _jobs.now) workers all }
     ensures batch { IfOk result (λ batch. IsBatchOf origin.now (J.total _jobs.now) (J.makes _jobs.now origin.now.alg) workers
         batch.book (map book_outcome_of batch.outcomes.items) batch.by.items) }
-    ensures made { IfOk result (λ _. AllMadeUnlessMemory (J.total _jobs.now) (J.makes _jobs.now origin.now.alg) (J.lacks _jobs.now)) }
-    // The fault is the first cause that holds for this book and the workers' outcomes, or that of the first lack.
+    ensures made { IfOk result (λ _. AllMadeUnlessMemory (J.total _jobs.now) (J.makes _jobs.now origin.now.alg) (J.fails _jobs.now)) }
+    // The fault is the first cause that holds for this book and the workers' outcomes, or that of the first unmade job.
     ensures fault { IfErr result (IsUnsettled all book origin.now) }
 {
     if all.foreign {
         return Err(JobsFault::Agent(AgentFault::Gather(GatherFault::ForeignBook)));
     }
-    if let Some(lack) = all.lack {
-        return Err(unmade(lack));
+    if let Some(unmade) = all.unmade {
+        return Err(unmade_fault(unmade));
     }
     check_accounts(alloc, &book, origin, &all.groups)?;
     let AllWork {
@@ -201,13 +201,13 @@ fn check_accounts(
 }
 
 // The fault where this is the first job whose operation could not be made.
-fn unmade(lack: Lack) -> JobsFault
-    ensures { result ≡ fault_of_lack lack }
+fn unmade_fault(unmade: Unmade) -> JobsFault
+    ensures { result ≡ fault_of_unmade unmade }
 {
-    match lack.fault {
+    match unmade.fault {
         JobFault::Memory => JobsFault::Agent(AgentFault::Memory),
         fault => JobsFault::Job {
-            job: lack.job,
+            job: unmade.job,
             fault,
         },
     }
