@@ -10,16 +10,16 @@ use Rattle.measure_book.specs.Operations.{BookOp, book_outcome_of}
 use Rattle.hash_workers.specs.declared.work.End.{End}
 use Rattle.hash_workers.specs.declared.fault.JobFault.{JobFault}
 use Rattle.hash_workers.specs.declared.work.End.TheVariants.{NoneLeft, OutOfMemory, ForeignBook, NoOperation}
-use Rattle.hash_workers.specs.declared.work.Lack.{Lack}
+use Rattle.hash_workers.specs.declared.work.Unmade.{Unmade}
 use Rattle.hash_workers.specs.declared.work.Work.{Work}
 use Rattle.hash_workers.specs.Claims.{ClaimsState, SeatState, HandsOutEach}
 use Rattle.hash_workers.specs.parts.Taking.{NumbersRiseForEach}
-use Rattle.hash_workers.specs.parts.Ending.{AnyCause, IsEnd, IsLack}
+use Rattle.hash_workers.specs.parts.Ending.{AnyCause, IsEnd, IsTakenUnmade}
 use Rattle.hash_workers.specs.parts.Scattering.{ArePairs}
-use Rattle.hash_workers.specs.parts.Seats.{AreWorksOf, HandBack, HasNoEnd, HaveLacks, IsLeastLack, IsSeatEnd, IsSinglePlace, draws_of, outcomes_of, seat_of, some_ended, taken_of}
-use Rattle.hash_workers.specs.parts.Settling.{AreTakenBefore, IsLackOf}
+use Rattle.hash_workers.specs.parts.Seats.{AreWorksOf, HandBack, HasNoEnd, HaveUnmade, IsLeastUnmade, IsSeatEnd, IsSinglePlace, draws_of, outcomes_of, seat_of, some_ended, taken_of}
+use Rattle.hash_workers.specs.parts.Settling.{AreTakenBefore, IsUnmadeOf}
 use Rattle.hash_workers.proofs.ListLaws.{at_list, at_map, in_either, in_mapped, map_at, within_at}
-use Rattle.hash_workers.proofs.EndLaws.{some_lack}
+use Rattle.hash_workers.proofs.EndLaws.{some_unmade}
 use Rattle.hash_workers.proofs.TakingLaws.{drawn_by}
 use Rattle.hash_workers.proofs.WorkLaws.{below_at}
 
@@ -39,23 +39,23 @@ ended_snoc (one ∷ seats) seat = let rest = ended_snoc seats seat in grind arit
 
 -- ---- what each worker hands back
 
-seat_end : (origin : Origin) (work : Work) (end : End) → IsEnd origin work.seat work.taken.items work.lack end → IsSeatEnd work end
+seat_end : (origin : Origin) (work : Work) (end : End) → IsEnd origin work.seat work.taken.items work.unmade end → IsSeatEnd work end
 seat_end origin work NoneLeft ends = ends
 seat_end origin work NoOperation ends = ends
 seat_end origin work end ends = tt
 
-pub hand_back : (origin : Origin) (Makes : ℕ → BookOp → Type 0) (Lacks : ℕ → JobFault → Type 0) (claims : ClaimsState) (works : List Work)
-    → AreWorksOf origin Makes Lacks claims works → HandBack claims works
-hand_back origin Makes Lacks claims works are = record {
+pub hand_back : (origin : Origin) (Makes : ℕ → BookOp → Type 0) (Fails : ℕ → JobFault → Type 0) (claims : ClaimsState) (works : List Work)
+    → AreWorksOf origin Makes Fails claims works → HandBack claims works
+hand_back origin Makes Fails claims works are = record {
   one_each = are.one_each;
   seat = λ worker work here. (are.each worker work here).seat;
   ended = λ worker work here. seat_end origin work work.end (are.each worker work here).ends;
-  lack = λ worker work lack here has. let right = rw has at (are.each worker work here).lack in
+  unmade = λ worker work unmade here has. let right = rw has at (are.each worker work here).unmade in
       record { index = right.index; stands = right.stands; within = right.within; cause = tt };
 }
 
-pub have_lacks : (claims : ClaimsState) (works : List Work) → HandBack claims works → HaveLacks works
-have_lacks claims works back worker work stands is = (rw is at (back.ended worker work stands)).2
+pub have_unmade : (claims : ClaimsState) (works : List Work) → HandBack claims works → HaveUnmade works
+have_unmade claims works back worker work stands is = (rw is at (back.ended worker work stands)).2
 
 all_seats : (works : List Work) (P : SeatState → Type 0)
     → ((worker : ℕ) (work : Work) → slice_get works worker ≡ Some work → P work.seat) → All P (map seat_of works)
@@ -88,21 +88,21 @@ above_all : (rest taken : List ℕ) (index number : ℕ) → All (λ number. All
 above_all rest taken index number beyond has =
     rw (get_or_from_slice_get rest index number 0 has) at (beyond index 0 (slice_get_within rest index number has))
 
--- Each number that a worker's seat drew is a job that the worker took, or above its first lack.
+-- Each number that a worker's seat drew is a job that the worker took, or above its first unmade job.
 took_or_passed : (jobs : ℕ) (work : Work) (end : End) (index job : ℕ) → end ≢ OutOfMemory → end ≢ ForeignBook → IsSeatEnd work end
-    → ((lack : Lack) → work.lack ≡ Some lack → IsLack jobs AnyCause work.taken.items lack)
+    → ((unmade : Unmade) → work.unmade ≡ Some unmade → IsTakenUnmade jobs AnyCause work.taken.items unmade)
     → slice_get work.seat.draws index ≡ Some job
-    → ((at : ℕ) × (slice_get work.taken.items at ≡ Some job)) ⊎ ((lack : Lack) × (work.lack ≡ Some lack) × (lack.job < job))
+    → ((at : ℕ) × (slice_get work.taken.items at ≡ Some job)) ⊎ ((unmade : Unmade) × (work.unmade ≡ Some unmade) × (unmade.job < job))
 took_or_passed jobs work NoneLeft index job memory foreign ends known drew = inl (index, rw ends.1 at drew)
 took_or_passed jobs work NoOperation index job memory foreign ends known drew =
     let beyond = ends.1 in
     elim (in_either work.taken.items beyond.rest index job (rw beyond.draws_are at drew)) [
       | inl took ↦ inl (index, took)
       | inr past ↦
-          let first = some_lack work.lack ends.2 in
-          let lack = known first.0 first.1 in
+          let first = some_unmade work.unmade ends.2 in
+          let unmade = known first.0 first.1 in
           let above = above_all beyond.rest work.taken.items past.0 job beyond.beyond past.1 in
-          let below = below_at work.taken.items lack.index first.0.job job above lack.stands in
+          let below = below_at work.taken.items unmade.index first.0.job job above unmade.stands in
           inr (first.0, first.1, below)
     ]
 took_or_passed jobs work OutOfMemory index job memory foreign ends known drew = absurd (memory refl)
@@ -129,12 +129,12 @@ module _ (claims : ClaimsState) (works : List Work) (back : HandBack claims work
       (how_ended worker work is).1 (not_stopped.each worker work (slice_get_within works worker work is) is)) in
       rw drawn at drawn_each
 
-  -- Each job before the first lack was taken.
-  taken_before : (first : Lack) → IsLeastLack works (length works) (Some first) → AreTakenBefore (map taken_of works) first
+  -- Each job before the first unmade job was taken.
+  taken_before : (first : Unmade) → IsLeastUnmade works (length works) (Some first) → AreTakenBefore (map taken_of works) first
   taken_before first least job before =
       let has = least.some in
-      let lack = back.lack has.worker has.work first has.stands has.has in
-      let within = lack.within in
+      let unmade = back.unmade has.worker has.work first has.stands has.has in
+      let within = unmade.within in
       let below : job < claims.jobs = omega arith in
       let once = drawn_each.once job below in
       let drawn = drawn_by (map draws_of (map seat_of works)) job (omega arith) in
@@ -144,7 +144,7 @@ module _ (claims : ClaimsState) (works : List Work) (back : HandBack claims work
       let drew : slice_get work.0.seat.draws drawn.index ≡ Some job = rw work.2 seat.2 in
       elim (took_or_passed claims.jobs work.0 work.0.end drawn.index job (not_memory.each drawn.worker work.0 inside work.1)
       (not_foreign.each drawn.worker work.0 inside work.1) (back.ended drawn.worker work.0 work.1)
-      (λ other is. back.lack drawn.worker work.0 other work.1 is) drew) [
+      (λ other is. back.unmade drawn.worker work.0 other work.1 is) drew) [
         | inl took ↦
             let taken = at_map taken_of works drawn.worker work.0 work.1 in
             record {
@@ -158,14 +158,14 @@ module _ (claims : ClaimsState) (works : List Work) (back : HandBack claims work
             absurd (omega arith)
       ]
 
-  pub taken_before_lack : (lack : Option Lack) → IsLackOf works lack → IfSome lack (AreTakenBefore (map taken_of works))
-  taken_before_lack None of = tt
-  taken_before_lack (Some first) of = taken_before first (of.some (λ none. none-some first (sym none)))
+  pub taken_before_unmade : (unmade : Option Unmade) → IsUnmadeOf works unmade → IfSome unmade (AreTakenBefore (map taken_of works))
+  taken_before_unmade None of = tt
+  taken_before_unmade (Some first) of = taken_before first (of.some (λ none. none-some first (sym none)))
 
 -- ---- what the workers took
 
-module _ (origin : Origin) (Makes : ℕ → BookOp → Type 0) (Lacks : ℕ → JobFault → Type 0) (claims : ClaimsState) (works : List Work)
-    (are : AreWorksOf origin Makes Lacks claims works) where
+module _ (origin : Origin) (Makes : ℕ → BookOp → Type 0) (Fails : ℕ → JobFault → Type 0) (claims : ClaimsState) (works : List Work)
+    (are : AreWorksOf origin Makes Fails claims works) where
   pub rises_of : (takings : List (List ℕ)) → takings ≡ map taken_of works → NumbersRiseForEach takings
   rises_of takings is = rw is (record {
     each = λ worker first second earlier later order took also.

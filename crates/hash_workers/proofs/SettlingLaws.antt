@@ -1,6 +1,6 @@
 -- What all workers did, how it is settled, and why it cannot be.
-use Rattle.std.proofs.Common.{◌≡◌, ◌≢◌, ℕ, ◌<◌, Bool, true, false, List, length, map, Option, None, Some, refl, sym, ap, ◌∙◌, inl, inr, arith}
-use Rattle.std.specs.Prelude.{slice_get, Vec, Result, Ok, Err, IfErr, IfSome, MatchResult}
+use Rattle.std.proofs.Common.{◌≡◌, ◌≢◌, ℕ, zero, suc, ◌<◌, Bool, true, false, List, [], length, map, Option, None, Some, refl, sym, ap, ◌∙◌, inl, inr, arith}
+use Rattle.std.specs.Prelude.{slice_get, replicate, unwrap_or, Vec, Result, Ok, Err, IfErr, IfSome, MatchResult}
 use Rattle.std.specs.declared.alloc.Global.{Global}
 use Rattle.std.proofs.lemmas.List.{length-map}
 use Rattle.std.proofs.lemmas.Option.{same_Some, none-some, slice_get_within}
@@ -10,45 +10,47 @@ use Rattle.measure_book.specs.declared.gathers.GatherFault.{GatherFault}
 use Rattle.measure_book.specs.declared.gathers.GatherFault.TheVariants as gathers
 use Rattle.measure_book.specs.Operations.{BookOp, BookOutcome, book_outcome_of}
 use Rattle.measure_book.specs.Groups.{groups_of, outcome_at, IsFirstFault}
-use Rattle.measure_book.specs.Books.{BookState}
+use Rattle.measure_book.specs.Books.{BookState, IsBook}
 use Rattle.hash_workers.specs.declared.batch.Batch.{Batch}
 use Rattle.hash_workers.specs.declared.fault.AgentFault.{AgentFault}
 use Rattle.hash_workers.specs.declared.fault.AgentFault.TheVariants as agents
 use Rattle.hash_workers.specs.declared.fault.JobFault.{JobFault}
-use Rattle.hash_workers.specs.declared.fault.JobFault.TheVariants as lacks
+use Rattle.hash_workers.specs.declared.fault.JobFault.TheVariants as causes
 use Rattle.hash_workers.specs.declared.fault.JobsFault.{JobsFault}
 use Rattle.hash_workers.specs.declared.fault.JobsFault.TheVariants as jobs
-use Rattle.hash_workers.specs.declared.work.Lack.{Lack}
+use Rattle.hash_workers.specs.declared.work.End.TheVariants.{NoOperation}
+use Rattle.hash_workers.specs.declared.work.Unmade.{Unmade}
 use Rattle.hash_workers.specs.declared.work.Work.{Work}
 use Rattle.hash_workers.specs.declared.work.all.AllWork.{AllWork}
-use Rattle.hash_workers.specs.parts.Faults.{fault_for, fault_of_lack}
+use Rattle.hash_workers.specs.parts.Faults.{fault_for, fault_of_unmade}
 use Rattle.hash_workers.specs.Faults.{fault_of_gather, MayBegin, IsFaultOf, IsJobsFaultOf}
 use Rattle.std.specs.List.{concat}
 use Rattle.hash_workers.specs.Claims.{ClaimsState, HandsOutEach}
-use Rattle.hash_workers.specs.parts.Taking.{Took}
+use Rattle.hash_workers.specs.parts.Taking.{Took, job_at}
 use Rattle.hash_workers.specs.Outcomes.{IsOutcomeOf}
 use Rattle.hash_workers.specs.parts.Ending.{IsFound, IsHad}
 use Rattle.hash_workers.specs.parts.Scattering.{items_of}
-use Rattle.hash_workers.specs.parts.Seats.{AreWorksOf, IsLeastLack, outcomes_of, taken_of}
-use Rattle.hash_workers.specs.parts.Settling.{AreTakenBefore, IsAllWork, IsFirstCause, IsLackOf, IsMadeOf, IsUnsettled, outcomes_by_worker, takings_of}
-use Rattle.hash_workers.specs.Causes.{IsCauseOf, IsFirstLack}
+use Rattle.hash_workers.specs.parts.Seats.{AreWorksOf, HasNoEnd, IsLeastUnmade, outcomes_of, taken_of}
+use Rattle.hash_workers.specs.parts.Settling.{AreTakenBefore, IsAllWork, IsFirstCause, IsUnmadeOf, IsMadeOf, IsUnsettled, outcomes_by_worker, takings_of}
+use Rattle.hash_workers.specs.Causes.{AllMadeUnlessMemory, IsCauseOf, IsFirstUnmade, IsMadeUnlessMemory}
 use Rattle.hash_workers.proofs.ListLaws.{at_map, in_mapped}
 use Rattle.hash_workers.proofs.SeatLaws.{rises_of, pairs_of}
 use Rattle.hash_workers.proofs.BatchLaws.{from_groups, job_for}
+use Rattle.hash_workers.proofs.TakingLaws.{take_each}
 
 -- ---- what all workers did
 
--- Each job that was taken and is before the first lack has an operation.
-made_at : (Makes : ℕ → BookOp → Type 0) (works : List Work) (worker : ℕ) (work : Work) (job : ℕ) (first : Lack) (lack : Option Lack)
-    → work.lack ≡ lack → IsLeastLack works (length works) (Some first) → slice_get works worker ≡ Some work → job < first.job
-    → IsHad Makes lack job → (op : BookOp) × Makes job op
-made_at Makes works worker work job first lack is least stands before (inl made) = made
+-- Each job that was taken and is before the first unmade job has an operation.
+made_at : (Makes : ℕ → BookOp → Type 0) (works : List Work) (worker : ℕ) (work : Work) (job : ℕ) (first : Unmade) (unmade : Option Unmade)
+    → work.unmade ≡ unmade → IsLeastUnmade works (length works) (Some first) → slice_get works worker ≡ Some work → job < first.job
+    → IsHad Makes unmade job → (op : BookOp) × Makes job op
+made_at Makes works worker work job first unmade is least stands before (inl made) = made
 made_at Makes works worker work job first None is least stands before (inr never) = absurd never
 made_at Makes works worker work job first (Some other) is least stands before (inr from) =
     let earlier = least.none_before worker work other (slice_get_within works worker work stands) stands is in absurd (omega arith)
 
-module _ (origin : Origin) (Makes : ℕ → BookOp → Type 0) (Lacks : ℕ → JobFault → Type 0) (claims : ClaimsState) (works : List Work)
-    (are : AreWorksOf origin Makes Lacks claims works) where
+module _ (origin : Origin) (Makes : ℕ → BookOp → Type 0) (Fails : ℕ → JobFault → Type 0) (claims : ClaimsState) (works : List Work)
+    (are : AreWorksOf origin Makes Fails claims works) where
   of_job : (takings : List (List ℕ)) (gs : List (Vec Outcome Global)) (worker i job : ℕ) (outcome : BookOutcome)
       → takings ≡ map taken_of works → map items_of gs ≡ map outcomes_of works → Took takings worker i job
       → outcome_at (groups_of gs) worker i ≡ Some outcome → IsOutcomeOf origin claims.jobs Makes job outcome
@@ -60,35 +62,53 @@ module _ (origin : Origin) (Makes : ℕ → BookOp → Type 0) (Lacks : ℕ → 
       (are.each worker taken.0 taken.1).worked.each i job outcome taken.2
       (at_map book_outcome_of taken.0.outcomes.items i got.0 (rw same at group.2) ∙ ap (λ (b : BookOutcome). Some b) got.2)
 
-  first_lack : (takings : List (List ℕ)) (lack : Option Lack) → IsLackOf works lack → takings ≡ map taken_of works
-      → IfSome lack (AreTakenBefore takings) → IfSome lack (λ first. IsFirstLack claims.jobs Makes Lacks first.job first.fault)
-  first_lack takings None of is before = tt
-  first_lack takings (Some first) of is before =
+  first_unmade : (takings : List (List ℕ)) (unmade : Option Unmade) → IsUnmadeOf works unmade → takings ≡ map taken_of works
+      → IfSome unmade (AreTakenBefore takings) → IfSome unmade (λ first. IsFirstUnmade claims.jobs Makes Fails first.job first.fault)
+  first_unmade takings None of is before = tt
+  first_unmade takings (Some first) of is before =
       let least = of.some (λ none. absurd (none-some first (sym none))) in
       let has = least.some in
-      let right = rw has.has at (are.each has.worker has.work has.stands).lack in
+      let right = rw has.has at (are.each has.worker has.work has.stands).unmade in
       record {
         within = right.within;
         cause = right.cause;
         before = λ job earlier.
             let taken = before job earlier in
             let one = in_mapped taken_of works taken.worker taken.index job (rw is at taken.took) in
-            made_at Makes works taken.worker one.0 job first one.0.lack refl least one.1 earlier
+            made_at Makes works taken.worker one.0 job first one.0.unmade refl least one.1 earlier
             ((are.each taken.worker one.0 one.1).had.each taken.index job one.2);
       }
 
+  -- If no worker stopped for a job, the operation of each that was taken was made, unless memory ran out for it; and so it is of all
+  -- jobs if each was taken.
+  made_or_memory : (takings : List (List ℕ)) (worker index job : ℕ) → takings ≡ map taken_of works
+      → HasNoEnd works NoOperation (length works) → Took takings worker index job → IsMadeUnlessMemory Makes Fails job
+  made_or_memory takings worker index job is goes_on took =
+      let one = in_mapped taken_of works worker index job (rw is at took) in
+      let within = slice_get_within works worker one.0 one.1 in
+      ((are.each worker one.0 one.1).made (goes_on.each worker one.0 within one.1)).each index job one.2
+
+  all_made : (takings : List (List ℕ)) → takings ≡ map taken_of works → HasNoEnd works NoOperation (length works)
+      → HandsOutEach claims.jobs (concat takings) → AllMadeUnlessMemory claims.jobs Makes Fails
+  all_made takings is goes_on hands = record {
+    each = λ job below.
+        let taken = (take_each claims.jobs takings hands).each job below in
+        made_or_memory takings taken.worker taken.index job is goes_on taken.took;
+  }
+
   pub all_work : (all : AllWork) → IsMadeOf works claims.jobs all
-      → (all.foreign ≡ false → all.lack ≡ None → HandsOutEach claims.jobs (concat (takings_of all)))
-      → (all.foreign ≡ false → IfSome all.lack (AreTakenBefore (takings_of all)))
-      → IsAllWork origin claims.jobs Makes Lacks claims.seats all
+      → (all.foreign ≡ false → all.unmade ≡ None → HandsOutEach claims.jobs (concat (takings_of all)))
+      → (all.foreign ≡ false → IfSome all.unmade (AreTakenBefore (takings_of all)))
+      → IsAllWork origin claims.jobs Makes Fails claims.seats all
   all_work all made each before = record {
     one_each = sym (length-map all.takings.items items_of) ∙ ap length made.takings ∙ length-map works taken_of ∙ are.one_each;
-    pairs = pairs_of origin Makes Lacks claims works are (takings_of all) (map items_of all.groups.items) made.takings made.groups;
+    pairs = pairs_of origin Makes Fails claims works are (takings_of all) (map items_of all.groups.items) made.takings made.groups;
     of_jobs = λ worker index job outcome took has.
         of_job (takings_of all) all.groups.items worker index job outcome made.takings made.groups took has;
-    rise = rises_of origin Makes Lacks claims works are (takings_of all) made.takings;
+    rise = rises_of origin Makes Fails claims works are (takings_of all) made.takings;
     each = each;
-    lack = λ same. first_lack (takings_of all) all.lack made.lack made.takings (before same);
+    made = λ same none. all_made (takings_of all) made.takings (made.unmade.none none) (each same none);
+    unmade = λ same. first_unmade (takings_of all) all.unmade made.unmade made.takings (before same);
     found = λ foreign. let has = made.foreign foreign in rw has.ends at (are.each has.worker has.work has.stands).ends;
     places = made.places;
     places_by = made.places_by;
@@ -101,10 +121,10 @@ gather_fault : (workers : ℕ) (origin : Origin) (cause : GatherFault) → MayBe
 gather_fault workers origin gathers.Memory may = may
 gather_fault workers origin cause may = (may, λ same. cc)
 
-lack_fault : (workers : ℕ) (origin : Origin) (job : ℕ) (fault : JobFault) → MayBegin workers origin
+fault_for_unmade : (workers : ℕ) (origin : Origin) (job : ℕ) (fault : JobFault) → MayBegin workers origin
     → IsJobsFaultOf workers origin (fault_for job fault)
-lack_fault workers origin job lacks.Memory may = may
-lack_fault workers origin job fault may = may
+fault_for_unmade workers origin job causes.Memory may = may
+fault_for_unmade workers origin job fault may = may
 
 pub settled_fault : (workers : ℕ) (origin : Origin) (all : AllWork) (book : BookState) (result : Result Batch JobsFault)
     → MayBegin workers origin → IfErr result (IsUnsettled all book origin)
@@ -112,7 +132,7 @@ pub settled_fault : (workers : ℕ) (origin : Origin) (all : AllWork) (book : Bo
 settled_fault workers origin all book (Ok batch) may known = may
 settled_fault workers origin all book (Err fault) may (inl known) = rw known.fault_is (gather_fault workers origin known.cause may)
 settled_fault workers origin all book (Err fault) may (inr known) =
-    rw known.fault_is (lack_fault workers origin known.lack.job known.lack.fault may)
+    rw known.fault_is (fault_for_unmade workers origin known.unmade.job known.unmade.fault may)
 
 -- ---- what a fault tells
 
@@ -120,17 +140,36 @@ same_cause : (one other : GatherFault) → agents.Gather one ≡ fault_of_gather
 same_cause one gathers.Memory is = cc
 same_cause one other is = cc
 
--- There is a book against which the cause holds.
-first_against : (origin : Origin) (foreign : Bool) (book : BookState) (groups : List (List BookOutcome)) (cause : GatherFault)
-    → (foreign ≡ true → IsFound origin) → IsFirstCause foreign book origin groups cause
-    → (other : BookState) × IsFirstFault other origin groups cause
-first_against origin true book groups cause found first = let known = found refl in (known.book, rw first known.other)
-first_against origin false book groups cause found first = (book, first)
+-- Groups without an outcome, of which `ForeignBook` is the first cause as of any.
+abbrev no_outcomes : ℕ → List (List BookOutcome)
+no_outcomes workers = replicate workers []
 
--- The fault of a lack is neither one of `gather` nor a wrong number of workers.
-lack_no_agent : (job : ℕ) (fault : JobFault) (agent : AgentFault) → agent ≢ agents.Memory → jobs.Agent agent ≡ fault_for job fault → ⊥
-lack_no_agent job lacks.Memory agent other is = other cc
-lack_no_agent job fault agent other is = absurd cc
+none_at : (workers worker index : ℕ) (outcome : BookOutcome) → outcome_at (no_outcomes workers) worker index ≡ Some outcome → ⊥
+none_at zero worker index outcome has = none-some outcome has
+none_at (suc workers) zero index outcome has = none-some outcome has
+none_at (suc workers) (suc worker) index outcome has = none_at workers worker index outcome has
+
+replicated : (workers : ℕ) → length (no_outcomes workers) ≡ workers
+replicated zero = refl
+replicated (suc workers) = ap suc (replicated workers)
+
+foreign_cause : (workers : ℕ) (origin : Origin) (count : ℕ) (Makes : ℕ → BookOp → Type 0) (cause : GatherFault) → IsFound origin
+    → cause ≡ gathers.ForeignBook → IsCauseOf workers origin count Makes cause
+foreign_cause workers origin count Makes cause found is = rw is (record {
+  book = found.book;
+  is_book = found.is_book;
+  groups = no_outcomes workers;
+  one_each = replicated workers;
+  job_of = λ worker index. 0;
+  of_jobs = λ worker index outcome has. absurd (none_at workers worker index outcome has);
+  distinct = λ worker other index at outcome another has also same. absurd (none_at workers worker index outcome has);
+  first = found.other;
+})
+
+-- The fault of an unmade job is neither one of `gather` nor a wrong number of workers.
+unmade_no_agent : (job : ℕ) (fault : JobFault) (agent : AgentFault) → agent ≢ agents.Memory → jobs.Agent agent ≡ fault_for job fault → ⊥
+unmade_no_agent job causes.Memory agent other is = other cc
+unmade_no_agent job fault agent other is = absurd cc
 
 -- A fault of `gather` is not a wrong number of workers.
 no_number : (cause : GatherFault) → agents.Workers ≡ fault_of_gather cause → ⊥
@@ -143,52 +182,83 @@ settled_number origin all book (Ok batch) known is = absurd cc
 settled_number origin all book (Err fault) (inl known) is =
     let same : agents.Workers ≡ fault_of_gather known.cause = cc known.fault_is in no_number known.cause same
 settled_number origin all book (Err fault) (inr known) is =
-    let same : jobs.Agent agents.Workers ≡ fault_of_lack known.lack = cc known.fault_is in
-    lack_no_agent known.lack.job known.lack.fault agents.Workers (λ memory. cc) same
+    let same : jobs.Agent agents.Workers ≡ fault_of_unmade known.unmade = cc known.fault_is in
+    unmade_no_agent known.unmade.job known.unmade.fault agents.Workers (λ memory. cc) same
 
--- The job that the fault names is the first lack.
-job_of_lack : (job other : ℕ) (fault : JobFault) (cause : JobFault) → jobs.Job job fault ≡ fault_for other cause
-    → (job ≡ other) × (fault ≡ cause) × (fault ≢ lacks.Memory)
-job_of_lack job other fault lacks.Memory is = absurd cc
-job_of_lack job other fault cause is = (cc, cc, λ memory. cc)
+-- The job that the fault names is the first unmade job.
+job_of_unmade : (job other : ℕ) (fault : JobFault) (cause : JobFault) → jobs.Job job fault ≡ fault_for other cause
+    → (job ≡ other) × (fault ≡ cause) × (fault ≢ causes.Memory)
+job_of_unmade job other fault causes.Memory is = absurd cc
+job_of_unmade job other fault cause is = (cc, cc, λ memory. cc)
 
-module _ (workers : ℕ) (origin : Origin) (count : ℕ) (Makes : ℕ → BookOp → Type 0) (Lacks : ℕ → JobFault → Type 0) (all : AllWork)
-    (are : IsAllWork origin count Makes Lacks workers all) (book : BookState) where
-  -- Each of the workers' outcomes is one of some job.
+module _ (workers : ℕ) (origin : Origin) (count : ℕ) (Makes : ℕ → BookOp → Type 0) (Fails : ℕ → JobFault → Type 0) (all : AllWork)
+    (are : IsAllWork origin count Makes Fails workers all) (book : BookState) where
+  -- Each of the workers' outcomes is one of the job that the worker took at its index.
   of_some_job : (worker index : ℕ) (outcome : BookOutcome) → outcome_at (outcomes_by_worker all) worker index ≡ Some outcome
-      → (job : ℕ) × IsOutcomeOf origin count Makes job outcome
+      → (job : ℕ) × Took (takings_of all) worker index job × IsOutcomeOf origin count Makes job outcome
   of_some_job worker index outcome has =
       let got = from_groups all.groups.items worker index outcome has in
       let job = job_for (takings_of all) (map items_of all.groups.items) worker index got.0 are.pairs got.1 in
-      (job.0, are.of_jobs worker index job.0 outcome job.1 has)
+      (job.0, job.1, are.of_jobs worker index job.0 outcome job.1 has)
 
-  cause_of : (cause : GatherFault) → IsFirstCause all.foreign book origin (outcomes_by_worker all) cause
-      → IsCauseOf workers origin count Makes cause
-  cause_of cause first =
-      let against = first_against origin all.foreign book (outcomes_by_worker all) cause are.found first in
+  abbrev job_of : ℕ → ℕ → ℕ
+  job_of worker index = unwrap_or (job_at (takings_of all) worker index) 0
+
+  took_of : (worker index : ℕ) (outcome : BookOutcome) → outcome_at (outcomes_by_worker all) worker index ≡ Some outcome
+      → Took (takings_of all) worker index (job_of worker index) × IsOutcomeOf origin count Makes (job_of worker index) outcome
+  took_of worker index outcome has =
+      let one = of_some_job worker index outcome has in
+      let same : job_of worker index ≡ one.0 = ap (λ (job : Option ℕ). unwrap_or job 0) one.1 in
+      (rw same one.1, rw same one.2)
+
+  distinct_jobs : HandsOutEach count (concat (takings_of all)) → (worker other index at : ℕ) (outcome another : BookOutcome)
+      → outcome_at (outcomes_by_worker all) worker index ≡ Some outcome → outcome_at (outcomes_by_worker all) other at ≡ Some another
+      → job_of worker index ≡ job_of other at → (worker ≡ other) × (index ≡ at)
+  distinct_jobs hands worker other index at outcome another has also same =
+      let one = (took_of worker index outcome has).0 in
+      let there = (took_of other at another also).0 in
+      (take_each count (takings_of all) hands).once worker other index at (job_of other at) (rw same at one) there
+
+  cause_against : (cause : GatherFault) → HandsOutEach count (concat (takings_of all)) → IsBook book
+      → IsFirstFault book origin (outcomes_by_worker all) cause → IsCauseOf workers origin count Makes cause
+  cause_against cause hands is_book first =
       let pairs = are.pairs.workers in
       let takings = length-map all.takings.items items_of in
       let lists = length-map all.groups.items items_of in
       let groups = length-map all.groups.items (λ (v : Vec Outcome Global). map book_outcome_of v.items) in
       let one_each = are.one_each in
-      record { book = against.0; groups = outcomes_by_worker all; one_each = omega arith; of_jobs = of_some_job; first = against.1 }
+      record {
+        book = book;
+        is_book = is_book;
+        groups = outcomes_by_worker all;
+        one_each = omega arith;
+        job_of = job_of;
+        of_jobs = λ worker index outcome has. (took_of worker index outcome has).1;
+        distinct = distinct_jobs hands;
+        first = first;
+      }
+
+  cause_of : (cause : GatherFault) (foreign : Bool) → all.foreign ≡ foreign → (foreign ≡ false → all.unmade ≡ None)
+      → IsFirstCause foreign book origin (outcomes_by_worker all) cause → IsCauseOf workers origin count Makes cause
+  cause_of cause true is made first = foreign_cause workers origin count Makes cause (are.found is) first
+  cause_of cause false is made first = cause_against cause (are.each is (made refl)) first.0 first.1
 
   pub settled_cause : (cause : GatherFault) (result : Result Batch JobsFault) → IfErr result (IsUnsettled all book origin)
       → result ≡ Err (jobs.Agent (agents.Gather cause)) → IsCauseOf workers origin count Makes cause
   settled_cause cause (Ok batch) known is = absurd cc
   settled_cause cause (Err fault) (inl known) is =
       let same : agents.Gather cause ≡ fault_of_gather known.cause = cc known.fault_is in
-      cause_of cause (rw (same_cause cause known.cause same) known.first)
+      cause_of cause all.foreign refl known.made (rw (same_cause cause known.cause same) known.first)
   settled_cause cause (Err fault) (inr known) is =
-      let same : jobs.Agent (agents.Gather cause) ≡ fault_of_lack known.lack = cc known.fault_is in
-      absurd (lack_no_agent known.lack.job known.lack.fault (agents.Gather cause) (λ memory. cc) same)
+      let same : jobs.Agent (agents.Gather cause) ≡ fault_of_unmade known.unmade = cc known.fault_is in
+      absurd (unmade_no_agent known.unmade.job known.unmade.fault (agents.Gather cause) (λ memory. cc) same)
 
   pub settled_job : (job : ℕ) (fault : JobFault) (result : Result Batch JobsFault) → IfErr result (IsUnsettled all book origin)
-      → result ≡ Err (jobs.Job job fault) → IsFirstLack count Makes Lacks job fault × (fault ≢ lacks.Memory)
+      → result ≡ Err (jobs.Job job fault) → IsFirstUnmade count Makes Fails job fault × (fault ≢ causes.Memory)
   settled_job job fault (Ok batch) known is = absurd cc
   settled_job job fault (Err told) (inl known) is =
       let same : jobs.Job job fault ≡ jobs.Agent (fault_of_gather known.cause) = cc known.fault_is in absurd cc
   settled_job job fault (Err told) (inr known) is =
-      let told_is : jobs.Job job fault ≡ fault_of_lack known.lack = cc known.fault_is in
-      let same = job_of_lack job known.lack.job fault known.lack.fault told_is in
-      (rw (same.0, same.1) (rw known.first_is at (are.lack known.same)), same.2)
+      let told_is : jobs.Job job fault ≡ fault_of_unmade known.unmade = cc known.fault_is in
+      let same = job_of_unmade job known.unmade.job fault known.unmade.fault told_is in
+      (rw (same.0, same.1) (rw known.first_is at (are.unmade known.same)), same.2)

@@ -21,13 +21,14 @@ use Rattle.hash_workers.specs.declared.job.Job.{Job}
 use Rattle.hash_workers.specs.Jobs.{operation_of, operations_of}
 use Rattle.hash_workers.specs.parts.Taking.{NumbersRise}
 use Rattle.hash_workers.specs.Outcomes.{MayBecome}
+use Rattle.hash_workers.specs.Causes.{IsMadeUnlessMemory}
 use Rattle.hash_workers.specs.parts.Working.{IsWorked, IsEntered, Records, IsDoneAfter, AreDoneInOrder}
 use Rattle.hash_workers.specs.declared.fault.JobFault.{JobFault}
-use Rattle.hash_workers.specs.declared.fault.JobFault.TheVariants as lacks
+use Rattle.hash_workers.specs.declared.fault.JobFault.TheVariants as causes
 use Rattle.hash_workers.specs.declared.work.Turn.{Turn}
 use Rattle.hash_workers.specs.declared.work.Turn.TheVariants.{Next, Last}
-use Rattle.hash_workers.specs.declared.work.Lack.{Lack}
-use Rattle.hash_workers.specs.parts.Ending.{AreHad, AreMadeOrWant, Becomes, IsHad, IsLack, IsLackAfter, IsMadeOrWants, IsTurnAfter, IsNoted, TellsOp, KeepsOne, TakesOne, TellsAll, StopsFor, TurnsPrivateBook}
+use Rattle.hash_workers.specs.declared.work.Unmade.{Unmade}
+use Rattle.hash_workers.specs.parts.Ending.{AreHad, AreMadeUnlessMemory, Becomes, IsHad, IsTakenUnmade, IsUnmadeAfter, IsTurnAfter, IsNoted, TellsOp, KeepsOne, TakesOne, TellsAll, StopsFor, TurnsPrivateBook}
 use Rattle.hash_workers.proofs.ListLaws.{at_last, at_longer, slice_get_snoc, length_snoc, within_at}
 
 -- ---- one operation
@@ -120,51 +121,51 @@ op_of_job alg jobs number job within is =
 
 -- ---- jobs without an operation
 
-module _ (count : ℕ) (Makes : ℕ → BookOp → Type 0) (Lacks : ℕ → JobFault → Type 0) (job : ℕ) (taken now_taken : List ℕ)
+module _ (count : ℕ) (Makes : ℕ → BookOp → Type 0) (Fails : ℕ → JobFault → Type 0) (job : ℕ) (taken now_taken : List ℕ)
     (takes : now_taken ≡ taken ++ job ∷ []) where
-  -- A lack of these jobs is a lack of these and one more.
-  taken_lack : (lack : Option Lack) → IfSome lack (IsLack count Lacks taken) → IfSome lack (IsLack count Lacks now_taken)
-  taken_lack None right = tt
-  taken_lack (Some lack) right = rw takes (record {
+  -- An unmade job among these is one among these and one more.
+  taken_unmade : (unmade : Option Unmade) → IfSome unmade (IsTakenUnmade count Fails taken) → IfSome unmade (IsTakenUnmade count Fails now_taken)
+  taken_unmade None right = tt
+  taken_unmade (Some unmade) right = rw takes (record {
     index = right.index;
-    stands = at_longer taken job right.index lack.job right.stands;
+    stands = at_longer taken job right.index unmade.job right.stands;
     within = right.within;
     cause = right.cause;
   })
 
-  -- After a job with an operation, the first lack is as before.
-  pub lack_made : (op : BookOp) (old new : Option Lack) → Makes job op → new ≡ old
-      → IsLackAfter count Makes Lacks job taken now_taken old new
-  lack_made op old new has same = record {
+  -- After a job with an operation, the first unmade job is as before.
+  pub unmade_kept : (op : BookOp) (old new : Option Unmade) → Makes job op → new ≡ old
+      → IsUnmadeAfter count Makes Fails job taken now_taken old new
+  unmade_kept op old new has same = record {
     had = λ _. inl (op, has);
     before = λ earlier had. rw same had;
-    right = λ right. rw same (taken_lack old right);
+    right = λ right. rw same (taken_unmade old right);
   }
 
   -- After a job without one, it is the one before, if there was one, else this job's.
-  pub lack_noted : (fault : JobFault) (old new : Option Lack) → job < count → Lacks job fault → IsNoted job fault old new
-      → IsLackAfter count Makes Lacks job taken now_taken old new
-  lack_noted fault None new within cause noted = record {
+  pub unmade_noted : (fault : JobFault) (old new : Option Unmade) → job < count → Fails job fault → IsNoted job fault old new
+      → IsUnmadeAfter count Makes Fails job taken now_taken old new
+  unmade_noted fault None new within cause noted = record {
     had = λ _. inr (rw noted (le_refl job));
     before = λ earlier had. elim had [ inl made ↦ inl made | inr never ↦ absurd never ];
     right = λ _. rw noted (record { index = length taken; stands = rw takes (at_last taken job); within = within; cause = cause });
   }
-  lack_noted fault (Some lack) new within cause noted = record {
+  unmade_noted fault (Some unmade) new within cause noted = record {
     had = λ before. inr (rw noted before);
     before = λ earlier had. rw noted had;
-    right = λ right. rw noted (taken_lack (Some lack) right);
+    right = λ right. rw noted (taken_unmade (Some unmade) right);
   }
 
 -- A worker that goes on after a cause of memory alone turns as it should after a job without an operation.
-pub turn_after : (Makes : ℕ → BookOp → Type 0) (Lacks : ℕ → JobFault → Type 0) (job : ℕ) (fault : JobFault) (turn : Turn)
-    → Lacks job fault → (turn ≡ Next → fault ≡ lacks.Memory) → (turn ≡ Last → fault ≢ lacks.Memory) → IsTurnAfter Makes Lacks job turn
-turn_after Makes Lacks job fault Next cause next last = inr (rw (next refl) at cause)
-turn_after Makes Lacks job fault Last cause next last = record { fault = fault; cause = cause; other = last refl }
+pub turn_after : (Makes : ℕ → BookOp → Type 0) (Fails : ℕ → JobFault → Type 0) (job : ℕ) (fault : JobFault) (turn : Turn)
+    → Fails job fault → (turn ≡ Next → fault ≡ causes.Memory) → (turn ≡ Last → fault ≢ causes.Memory) → IsTurnAfter Makes Fails job turn
+turn_after Makes Fails job fault Next cause next last = inr (rw (next refl) at cause)
+turn_after Makes Fails job fault Last cause next last = record { fault = fault; cause = cause; other = last refl }
 
--- After one more job whose operation was made, or for which memory lacked, all are such.
-pub want_more : (Makes : ℕ → BookOp → Type 0) (Lacks : ℕ → JobFault → Type 0) (taken now_taken : List ℕ) (job : ℕ)
-    → AreMadeOrWant Makes Lacks taken → now_taken ≡ taken ++ job ∷ [] → IsMadeOrWants Makes Lacks job → AreMadeOrWant Makes Lacks now_taken
-want_more Makes Lacks taken now_taken job are is one = rw is (record {
+-- After one more job whose operation was made unless memory ran out, all are such.
+pub made_more : (Makes : ℕ → BookOp → Type 0) (Fails : ℕ → JobFault → Type 0) (taken now_taken : List ℕ) (job : ℕ)
+    → AreMadeUnlessMemory Makes Fails taken → now_taken ≡ taken ++ job ∷ [] → IsMadeUnlessMemory Makes Fails job → AreMadeUnlessMemory Makes Fails now_taken
+made_more Makes Fails taken now_taken job are is one = rw is (record {
   each = λ index other has. elim (slice_get_snoc taken job other index has) [
     | inl old ↦ are.each index other old
     | inr new ↦ rw new.1 one
@@ -218,8 +219,8 @@ turn_smaller taken now_taken count job rise above below is =
     let few = count_of taken (length taken) job refl rise above in
     omega arith
 
--- One more job is taken, and each job taken still has an operation, or is not before the first lack.
-pub had_more : (Makes : ℕ → BookOp → Type 0) (taken now_taken : List ℕ) (job : ℕ) (old new : Option Lack) → AreHad Makes taken old
+-- One more job is taken, and each job taken still has an operation, or is not before the first unmade job.
+pub had_more : (Makes : ℕ → BookOp → Type 0) (taken now_taken : List ℕ) (job : ℕ) (old new : Option Unmade) → AreHad Makes taken old
     → now_taken ≡ taken ++ job ∷ [] → IsHad Makes new job → ((earlier : ℕ) → IsHad Makes old earlier → IsHad Makes new earlier)
     → AreHad Makes now_taken new
 had_more Makes taken now_taken job old new had takes here before = rw takes (record {
@@ -265,12 +266,12 @@ tells_stop origin Makes told middle now_told taken outcomes ends.ForeignBook all
       };
 }
 
--- If all jobs taken are below a number, so is their first lack.
-pub lack_below : (count : ℕ) (Lacks : ℕ → JobFault → Type 0) (taken : List ℕ) (job : ℕ) (lack : Option Lack)
-    → All (λ drawn. drawn < job) taken → IfSome lack (IsLack count Lacks taken) → IfSome lack (λ first. first.job ≤ job)
-lack_below count Lacks taken job None above right = tt
-lack_below count Lacks taken job (Some lack) above right =
-    let below = below_at taken right.index lack.job job above right.stands in omega arith
+-- If all jobs taken are below a number, so is their first unmade job.
+pub unmade_below : (count : ℕ) (Fails : ℕ → JobFault → Type 0) (taken : List ℕ) (job : ℕ) (unmade : Option Unmade)
+    → All (λ drawn. drawn < job) taken → IfSome unmade (IsTakenUnmade count Fails taken) → IfSome unmade (λ first. first.job ≤ job)
+unmade_below count Fails taken job None above right = tt
+unmade_below count Fails taken job (Some unmade) above right =
+    let below = below_at taken right.index unmade.job job above right.stands in omega arith
 
 -- ---- one turn of a worker's loop
 

@@ -1,26 +1,41 @@
--- The first job whose operation could not be had, and the first cause against what the workers got.
-use Rattle.std.specs.Prelude.{◌≡◌, ℕ, ◌<◌, List, length, Some}
+-- Whether the operations of jobs were made, the first job whose operation could not be made, and the first cause against what the
+-- workers got.
+use Rattle.std.specs.Prelude.{◌≡◌, ◌⊎◌, ℕ, ◌<◌, List, length, Some}
 use Rattle.measure_book.specs.declared.origin.Origin.{Origin}
 use Rattle.measure_book.specs.declared.gathers.GatherFault.{GatherFault}
 use Rattle.measure_book.specs.Operations.{BookOp, BookOutcome}
 use Rattle.measure_book.specs.Groups.{outcome_at, IsFirstFault}
-use Rattle.measure_book.specs.Books.{BookState}
+use Rattle.measure_book.specs.Books.{BookState, IsBook}
 use Rattle.hash_workers.specs.declared.fault.JobFault.{JobFault}
+use Rattle.hash_workers.specs.declared.fault.JobFault.TheVariants.{Memory}
 use Rattle.hash_workers.specs.Outcomes.{IsAt, IsOutcomeOf}
 
+-- The job's operation was made, unless memory ran out for it.
+abbrev pub IsMadeUnlessMemory : (ℕ → BookOp → Type 0) → (ℕ → JobFault → Type 0) → ℕ → Type 0
+IsMadeUnlessMemory Makes Fails job = ((op : BookOp) × Makes job op) ⊎ Fails job Memory
+
+-- The same of each of `count` jobs.
+pub record AllMadeUnlessMemory (count : ℕ) (Makes : ℕ → BookOp → Type 0) (Fails : ℕ → JobFault → Type 0) : Type 0 where
+  pub each : (job : ℕ) → job < count → IsMadeUnlessMemory Makes Fails job
+
 -- This job, one of `count`, has no operation, for this cause, and each job before it has one.
-pub record IsFirstLack (count : ℕ) (Makes : ℕ → BookOp → Type 0) (Lacks : ℕ → JobFault → Type 0) (job : ℕ) (fault : JobFault) : Type 0 where
+pub record IsFirstUnmade (count : ℕ) (Makes : ℕ → BookOp → Type 0) (Fails : ℕ → JobFault → Type 0) (job : ℕ) (fault : JobFault) : Type 0 where
   pub within : job < count
-  pub cause : Lacks job fault
+  pub cause : Fails job fault
   pub before : (earlier : ℕ) → earlier < job → (op : BookOp) × Makes earlier op
 
--- This is the first cause against some book and a group for each of these workers, of outcomes of these jobs.
+-- This is the first cause against some book and a group for each of these workers, of outcomes of distinct jobs: `job_of` has the
+-- job of each outcome, by worker and index.
 pub record IsCauseOf (workers : ℕ) (origin : Origin) (count : ℕ) (Makes : ℕ → BookOp → Type 0) (cause : GatherFault) : Type 0 where
   pub book : BookState
+  pub is_book : IsBook book
   pub groups : List (List BookOutcome)
   pub one_each : length groups ≡ workers
+  pub job_of : ℕ → ℕ → ℕ
   pub of_jobs : (worker index : ℕ) (outcome : BookOutcome) → outcome_at groups worker index ≡ Some outcome
-      → (job : ℕ) × IsOutcomeOf origin count Makes job outcome
+      → IsOutcomeOf origin count Makes (job_of worker index) outcome
+  pub distinct : (worker other index at : ℕ) (outcome another : BookOutcome) → outcome_at groups worker index ≡ Some outcome
+      → outcome_at groups other at ≡ Some another → job_of worker index ≡ job_of other at → (worker ≡ other) × (index ≡ at)
   pub first : IsFirstFault book origin groups cause
 
 -- The same of jobs that become these operations.

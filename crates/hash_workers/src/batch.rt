@@ -5,14 +5,15 @@ ghost use Rattle.measure_book.specs.declared.fault.BookFault.{BookFault};
 ghost use Rattle.measure_book.specs.declared.gathers.GatherFault.{GatherFault};
 ghost use Rattle.measure_book.specs.Operations.{book_outcome_of};
 ghost use Rattle.measure_book.specs.Groups.{AccountsForAll, IsFirstFault, groups_of};
+ghost use Rattle.measure_book.specs.Books.{IsBook};
 ghost use Rattle.measure_book.specs.Histories.{open_refusal_of};
 ghost use Rattle.hash_workers.specs.Jobs.{operations_of};
 ghost use Rattle.hash_workers.specs.declared.fault.JobFault.{JobFault};
 ghost use Rattle.hash_workers.specs.declared.fault.JobFault.TheVariants.{Memory};
 ghost use Rattle.hash_workers.specs.Faults.{IsFaultOf, IsJobsFaultOf, IsNumberOfWorkers, MayBegin};
-ghost use Rattle.hash_workers.specs.parts.Faults.{fault_of_lack};
+ghost use Rattle.hash_workers.specs.parts.Faults.{fault_of_unmade};
 ghost use Rattle.hash_workers.specs.parts.Settling.{IsAllWork, IsUnsettled};
-ghost use Rattle.hash_workers.specs.Causes.{IsCauseAmong, IsCauseOf, IsFirstLack};
+ghost use Rattle.hash_workers.specs.Causes.{AllMadeUnlessMemory, IsCauseAmong, IsCauseOf, IsFirstUnmade};
 ghost use Rattle.hash_workers.specs.Batches.{IsBatch, IsBatchOf};
 
 use crate::claims::Claims;
@@ -22,7 +23,7 @@ use crate::gate::Gate;
 use crate::job::Job;
 use crate::jobs::{Jobs, Listed};
 use crate::scatter::scatter;
-use crate::work::{AllWork, Lack};
+use crate::work::{AllWork, Unmade};
 use measure_book::{Book, BookFault, GatherFault, Origin, Outcome, gather};
 use std::alloc::{AllocError, Global};
 use std::sync::Wait;
@@ -70,7 +71,7 @@ pub fn measure_files<R: Threads + Wait + Sync, G: Gate + Sync>(
     // If the number is right and `open_refusal_of` is `Some fault`, the result is `Err(Book(fault))`.
     ensures book { (fault : BookFault) → IsNumberOfWorkers workers → open_refusal_of origin ≡ Some fault
         → result ≡ Err (AgentFault.Book fault) }
-    // `Gather` names the first cause that holds for some book and some outcomes of these jobs, one group per worker.
+    // `Gather` names the first cause that holds for some book and some outcomes of distinct jobs, one group per worker.
     ensures gather { (cause : GatherFault) → result ≡ Err (AgentFault.Gather cause)
         → IsCauseAmong workers origin (operations_of origin.alg jobs.now) cause }
 {
@@ -103,6 +104,8 @@ pub fn record_jobs<R: Threads + Wait + Sync, J: Jobs + Sync, G: Gate + Sync>(
     // Each job has one outcome.
     ensures batch { IfOk result (λ batch. IsBatchOf origin (J.total jobs.now) (J.makes jobs.now origin.alg) workers
         batch.book (map book_outcome_of batch.outcomes.items) batch.by.items) }
+    // There is a batch only if each job's operation was made, unless memory ran out for it.
+    ensures made { IfOk result (λ _. AllMadeUnlessMemory (J.total jobs.now) (J.makes jobs.now origin.alg) (J.fails jobs.now)) }
     // Workers start only if their number is right and a book may be opened, and each fault has its cause.
     ensures fault { MatchResult result (λ _. MayBegin workers origin) (IsJobsFaultOf workers origin) }
     // `Workers` exactly where the number of workers is not 1 to 8.
@@ -112,8 +115,8 @@ pub fn record_jobs<R: Threads + Wait + Sync, J: Jobs + Sync, G: Gate + Sync>(
         → result ≡ Err (JobsFault.Agent (AgentFault.Book fault)) }
     // `Job` names the first job whose operation could not be made, and the cause, which is never memory.
     ensures job { (job : ℕ) (fault : JobFault) → result ≡ Err (JobsFault.Job job fault)
-        → IsFirstLack (J.total jobs.now) (J.makes jobs.now origin.alg) (J.lacks jobs.now) job fault × (fault ≢ Memory) }
-    // `Gather` names the first cause that holds for some book and some outcomes of these jobs, one group per worker.
+        → IsFirstUnmade (J.total jobs.now) (J.makes jobs.now origin.alg) (J.fails jobs.now) job fault × (fault ≢ Memory) }
+    // `Gather` names the first cause that holds for some book and some outcomes of distinct jobs, one group per worker.
     ensures gather { (cause : GatherFault) → result ≡ Err (JobsFault.Agent (AgentFault.Gather cause))
         → IsCauseOf workers origin (J.total jobs.now) (J.makes jobs.now origin.alg) cause }
 {
@@ -137,7 +140,7 @@ fn all_taken<R: Threads + Wait + Sync, J: Jobs + Sync, G: Gate + Sync>(
 ) -> Result<(Book, AllWork), AllocError>
     requires few { J.total jobs.now < 2 ^ 32 }
     requires number { IsNumberOfWorkers workers }
-    ensures { IfOk result (λ done. IsAllWork origin.now (J.total jobs.now) (J.makes jobs.now origin.now.alg) (J.lacks jobs.now) workers done.1) }
+    ensures { IfOk result (λ done. IsAllWork origin.now (J.total jobs.now) (J.makes jobs.now origin.now.alg) (J.fails jobs.now) workers done.1) }
 {
     let count = jobs.count();
     let (claims, first) = Claims::new(alloc, count as u32, workers as u32)?;
@@ -157,17 +160,18 @@ fn settle<J: Jobs>(
     all: AllWork,
 ) -> Result<Batch, JobsFault>
     requires number { IsNumberOfWorkers workers }
-    requires all { IsAllWork origin.now (J.total _jobs.now) (J.makes _jobs.now origin.now.alg) (J.lacks _jobs.now) workers all }
+    requires all { IsAllWork origin.now (J.total _jobs.now) (J.makes _jobs.now origin.now.alg) (J.fails _jobs.now) workers all }
     ensures batch { IfOk result (λ batch. IsBatchOf origin.now (J.total _jobs.now) (J.makes _jobs.now origin.now.alg) workers
         batch.book (map book_outcome_of batch.outcomes.items) batch.by.items) }
-    // The fault is the first cause that holds for this book and the workers' outcomes, or that of the first lack.
+    ensures made { IfOk result (λ _. AllMadeUnlessMemory (J.total _jobs.now) (J.makes _jobs.now origin.now.alg) (J.fails _jobs.now)) }
+    // The fault is the first cause that holds for this book and the workers' outcomes, or that of the first unmade job.
     ensures fault { IfErr result (IsUnsettled all book origin.now) }
 {
     if all.foreign {
         return Err(JobsFault::Agent(AgentFault::Gather(GatherFault::ForeignBook)));
     }
-    if let Some(lack) = all.lack {
-        return Err(unmade(lack));
+    if let Some(unmade) = all.unmade {
+        return Err(unmade_fault(unmade));
     }
     check_accounts(alloc, &book, origin, &all.groups)?;
     let AllWork {
@@ -191,18 +195,19 @@ fn check_accounts(
 ) -> Result<(), GatherFault>
     ensures accounts { IfOk result (λ _. AccountsForAll book.now origin.now (groups_of groups.now)) }
     ensures fault { IfErr result (IsFirstFault book.now origin.now (groups_of groups.now)) }
+    ensures book { IsBook book.now }
 {
     gather(alloc, book, origin, groups)
 }
 
 // The fault where this is the first job whose operation could not be made.
-fn unmade(lack: Lack) -> JobsFault
-    ensures { result ≡ fault_of_lack lack }
+fn unmade_fault(unmade: Unmade) -> JobsFault
+    ensures { result ≡ fault_of_unmade unmade }
 {
-    match lack.fault {
+    match unmade.fault {
         JobFault::Memory => JobsFault::Agent(AgentFault::Memory),
         fault => JobsFault::Job {
-            job: lack.job,
+            job: unmade.job,
             fault,
         },
     }

@@ -28,7 +28,7 @@ pub(crate) fn fan_out<R: Threads + Wait + Sync, J: Jobs + Sync, G: Gate + Sync>(
 ) -> Result<(Book, Vec<Work>), AllocError>
     requires jobs { claims.now.jobs ≡ J.total jobs.now }
     requires first { IsSeat claims.now claims.now.seats [] false first }
-    ensures { IfOk result (λ done. AreWorksOf origin.now (J.makes jobs.now origin.now.alg) (J.lacks jobs.now) claims.now done.1.items) }
+    ensures { IfOk result (λ done. AreWorksOf origin.now (J.makes jobs.now origin.now.alg) (J.fails jobs.now) claims.now done.1.items) }
 {
     let seats = seats_of(alloc, claims, first)?;
     let book = Mutex::new(book);
@@ -38,7 +38,7 @@ pub(crate) fn fan_out<R: Threads + Wait + Sync, J: Jobs + Sync, G: Gate + Sync>(
         seats,
         &|seat: ClaimSeat| -> Work
             requires { IsNewSeat claims.now seat × (claims.now.jobs ≡ J.total jobs.now) }
-            ensures { IsWorkOf origin.entry.now (J.makes jobs.entry.now origin.entry.now.alg) (J.lacks jobs.entry.now) claims.entry.now result }
+            ensures { IsWorkOf origin.entry.now (J.makes jobs.entry.now origin.entry.now.alg) (J.fails jobs.entry.now) claims.entry.now result }
         {
             let mut recorder = SharedBook { rt, book: shared };
             take_jobs(alloc, &mut recorder, origin, jobs, claims, seat, gate)

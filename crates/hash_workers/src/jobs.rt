@@ -24,7 +24,7 @@ pub trait Jobs {
     ghost makes: { Self → Alg → ℕ → BookOp → Type 0 };
 
     // The operation of the job with this number cannot be made, for this cause.
-    ghost lacks: { Self → ℕ → JobFault → Type 0 };
+    ghost fails: { Self → ℕ → JobFault → Type 0 };
 
     /// The number of jobs.
     fn count(&self) -> usize
@@ -33,7 +33,7 @@ pub trait Jobs {
     /// Makes the operation of the job with this number, hashed by this algorithm.
     fn operation(&self, alloc: Global, job: u32, alg: Alg) -> Result<Op, JobFault>
         requires { job < total self.now }
-        ensures { MatchResult result (λ op. makes self.now alg job (book_op_of op)) (λ fault. lacks self.now job fault) };
+        ensures { MatchResult result (λ op. makes self.now alg job (book_op_of op)) (λ fault. fails self.now job fault) };
 }
 
 /// The jobs of a list.
@@ -48,7 +48,7 @@ impl Jobs for Listed<'_> {
     ghost makes = { λ listed alg. IsAt (operations_of alg listed.jobs.now) };
 
     // Making an operation fails only for memory.
-    ghost lacks = { λ _ _ fault. fault ≡ Memory };
+    ghost fails = { λ _ _ fault. fault ≡ Memory };
 
     fn count(&self) -> usize {
         self.jobs.len()

@@ -8,7 +8,7 @@ ghost use Rattle.hash_workers.specs.parts.Working.{IsWorked};
 ghost use Rattle.hash_workers.specs.declared.fault.JobFault.TheVariants.{Memory};
 ghost use Rattle.hash_workers.specs.declared.work.End.TheVariants.{NoOperation};
 ghost use Rattle.hash_workers.specs.declared.work.Turn.TheVariants.{Next, Last};
-ghost use Rattle.hash_workers.specs.parts.Ending.{AreHad, AreMadeOrWant, IsEnd, IsLack, IsLackAfter, IsNoted, IsStopped, IsTurnAfter, KeepsOne, StopsFor, TakesOne, TellsAll};
+ghost use Rattle.hash_workers.specs.parts.Ending.{AreHad, AreMadeUnlessMemory, IsEnd, IsTakenUnmade, IsUnmadeAfter, IsNoted, IsStopped, IsTurnAfter, KeepsOne, StopsFor, TakesOne, TellsAll};
 ghost use Rattle.hash_workers.specs.parts.Seats.{IsNewSeat, IsSinglePlace};
 
 mod all;
@@ -66,7 +66,7 @@ enum Turn {
 
 /// A job whose operation could not be made, and why.
 #[derive(Clone, Copy)]
-pub(crate) struct Lack {
+pub(crate) struct Unmade {
     pub(crate) job: u32,
     pub(crate) fault: JobFault,
 }
@@ -78,7 +78,7 @@ pub(crate) struct Work {
     pub(crate) seat: ClaimSeat,
     pub(crate) taken: Vec<u32>,
     pub(crate) outcomes: Vec<Outcome>,
-    lack: Option<Lack>,
+    unmade: Option<Unmade>,
     end: End,
 }
 
@@ -99,12 +99,12 @@ pub(crate) fn take_jobs<B: Recorder, J: Jobs, G: Gate>(
     ensures taken { NumbersRise result.taken.items }
     ensures worked { IsWorked origin.now (J.total jobs.now) (J.makes jobs.now origin.now.alg) result.taken.items
         (map book_outcome_of result.outcomes.items) }
-    ensures had { AreHad (J.makes jobs.now origin.now.alg) result.taken.items result.lack }
-    ensures lack { IfSome result.lack (IsLack (J.total jobs.now) (J.lacks jobs.now) result.taken.items) }
-    ensures end { IsEnd origin.now result.seat result.taken.items result.lack result.end }
+    ensures had { AreHad (J.makes jobs.now origin.now.alg) result.taken.items result.unmade }
+    ensures unmade { IfSome result.unmade (IsTakenUnmade (J.total jobs.now) (J.fails jobs.now) result.taken.items) }
+    ensures end { IsEnd origin.now result.seat result.taken.items result.unmade result.end }
     // It stops for a job exactly if the operation of that could not be made for a cause other than memory.
-    ensures wants { result.end ≢ NoOperation → AreMadeOrWant (J.makes jobs.now origin.now.alg) (J.lacks jobs.now) result.taken.items }
-    ensures stopped { result.end ≡ NoOperation → (job : ℕ) × IsStopped (J.lacks jobs.now) job }
+    ensures made { result.end ≢ NoOperation → AreMadeUnlessMemory (J.makes jobs.now origin.now.alg) (J.fails jobs.now) result.taken.items }
+    ensures stopped { result.end ≡ NoOperation → (job : ℕ) × IsStopped (J.fails jobs.now) job }
     ensures told { TellsAll origin.now (J.makes jobs.now origin.now.alg) (B.told recorder.old) (B.told recorder.new)
         result.taken.items (map book_outcome_of result.outcomes.items) result.end }
 {
@@ -112,7 +112,7 @@ pub(crate) fn take_jobs<B: Recorder, J: Jobs, G: Gate>(
         seat,
         taken: Vec::new(alloc),
         outcomes: Vec::new(alloc),
-        lack: None,
+        unmade: None,
         end: End::NoneLeft,
     };
     while let Some(number) = claims.draw(&mut work.seat) {
@@ -150,12 +150,12 @@ impl Work {
             (map book_outcome_of self.old.outcomes.items) (map book_outcome_of self.new.outcomes.items)
             (B.told recorder.old) (B.told recorder.new))
             (λ end. StopsFor origin.now (B.told recorder.old) (B.told recorder.new) end) }
-        ensures lack { OnOk result (IsLackAfter (J.total jobs.now) (J.makes jobs.now origin.now.alg) (J.lacks jobs.now) number
-            self.old.taken.items self.new.taken.items self.old.lack self.new.lack) }
-        ensures turn { IfOk result (IsTurnAfter (J.makes jobs.now origin.now.alg) (J.lacks jobs.now) number) }
-        ensures last { IfOk result (λ turn. turn ≡ Last → self.new.lack ≢ None) }
+        ensures unmade { OnOk result (IsUnmadeAfter (J.total jobs.now) (J.makes jobs.now origin.now.alg) (J.fails jobs.now) number
+            self.old.taken.items self.new.taken.items self.old.unmade self.new.unmade) }
+        ensures turn { IfOk result (IsTurnAfter (J.makes jobs.now origin.now.alg) (J.fails jobs.now) number) }
+        ensures last { IfOk result (λ turn. turn ≡ Last → self.new.unmade ≢ None) }
         ensures refused { OnErr result ((self.new.taken.items ≡ self.old.taken.items) × (self.new.outcomes.items ≡ self.old.outcomes.items)
-            × (self.new.lack ≡ self.old.lack)) }
+            × (self.new.unmade ≡ self.old.unmade)) }
         ensures same { (self.new.seat ≡ self.old.seat) × (self.new.end ≡ self.old.end) }
     {
         match jobs.operation(alloc, number, origin.alg) {
@@ -172,14 +172,14 @@ impl Work {
 
     // Notes the job as the one whose operation could not be made, if it is the first such. Returns whether the worker goes on.
     fn note(&mut self, job: u32, fault: JobFault) -> Turn
-        ensures noted { IsNoted job fault self.old.lack self.new.lack }
+        ensures noted { IsNoted job fault self.old.unmade self.new.unmade }
         ensures next { result ≡ Next → fault ≡ Memory }
         ensures last { result ≡ Last → fault ≢ Memory }
         ensures same { (self.new.seat ≡ self.old.seat) × (self.new.end ≡ self.old.end) × (self.new.taken ≡ self.old.taken)
             × (self.new.outcomes ≡ self.old.outcomes) }
     {
-        if self.lack.is_none() {
-            self.lack = Some(Lack { job, fault });
+        if self.unmade.is_none() {
+            self.unmade = Some(Unmade { job, fault });
         }
         match fault {
             JobFault::Memory => Turn::Next,
@@ -202,7 +202,7 @@ impl Work {
             (B.told recorder.old) (B.told recorder.new))
             (λ end. StopsFor origin.now (B.told recorder.old) (B.told recorder.new) end) }
         ensures refused { OnErr result ((self.new.taken.items ≡ self.old.taken.items) × (self.new.outcomes.items ≡ self.old.outcomes.items)) }
-        ensures same { (self.new.seat ≡ self.old.seat) × (self.new.end ≡ self.old.end) × (self.new.lack ≡ self.old.lack) }
+        ensures same { (self.new.seat ≡ self.old.seat) × (self.new.end ≡ self.old.end) × (self.new.unmade ≡ self.old.unmade) }
     {
         gate.hashed(number, op);
         let kept = self.keep(recorder, origin, number, op);
@@ -224,7 +224,7 @@ impl Work {
             (B.told recorder.old) (B.told recorder.new))
             (λ end. StopsFor origin.now (B.told recorder.old) (B.told recorder.new) end) }
         ensures refused { OnErr result ((self.new.taken.items ≡ self.old.taken.items) × (self.new.outcomes.items ≡ self.old.outcomes.items)) }
-        ensures same { (self.new.seat ≡ self.old.seat) × (self.new.end ≡ self.old.end) × (self.new.lack ≡ self.old.lack) }
+        ensures same { (self.new.seat ≡ self.old.seat) × (self.new.end ≡ self.old.end) × (self.new.unmade ≡ self.old.unmade) }
     {
         self.taken.reserve(1)?;
         self.outcomes.reserve(1)?;

@@ -30,7 +30,7 @@ impl<S: SharedFiles> Jobs for NamedFiles<'_, S> {
 
     ghost makes = { λ jobs. IsFileMeasure (S.held jobs.files.now) (map string_bytes jobs.names.now) };
 
-    ghost lacks = { λ jobs. IsFileLack (S.held jobs.files.now) (S.fails jobs.files.now) (map string_bytes jobs.names.now) };
+    ghost fails = { λ jobs. IsFileLack (S.held jobs.files.now) (S.fails jobs.files.now) (map string_bytes jobs.names.now) };
 
     fn count(&self) -> usize {
         self.names.len()

@@ -11,6 +11,7 @@ mod gathers;
 pub mod laws;
 mod op;
 mod origin;
+mod payload_key;
 mod refusing;
 
 pub use book::Book;

@@ -4,14 +4,15 @@ use Rattle.measure_book.specs.declared.origin.Origin.{Origin}
 use Rattle.measure_book.specs.declared.fault.BookFault.TheVariants.{Memory}
 use Rattle.measure_book.specs.Operations.{BookOp, BookOutcome, refused}
 use Rattle.measure_book.specs.Runs.{records_after}
-use Rattle.measure_book.specs.Books.{BookState}
+use Rattle.measure_book.specs.Books.{BookState, IsBook}
 use Rattle.hash_workers.specs.declared.work.End.{End}
 use Rattle.hash_workers.specs.declared.work.End.TheVariants.{NoneLeft, OutOfMemory, ForeignBook, NoOperation}
-use Rattle.hash_workers.specs.declared.work.Lack.{Lack}
+use Rattle.hash_workers.specs.declared.work.Unmade.{Unmade}
 use Rattle.hash_workers.specs.declared.fault.JobFault.{JobFault}
-use Rattle.hash_workers.specs.declared.fault.JobFault.TheVariants as lacks
+use Rattle.hash_workers.specs.declared.fault.JobFault.TheVariants as causes
 use Rattle.hash_workers.specs.declared.work.Turn.{Turn}
 use Rattle.hash_workers.specs.declared.work.Turn.TheVariants.{Next, Last}
+use Rattle.hash_workers.specs.Causes.{IsMadeUnlessMemory}
 use Rattle.hash_workers.specs.Claims.{SeatState}
 use Rattle.hash_workers.specs.Outcomes.{MayBecome, IsOutcomeOf}
 use Rattle.hash_workers.specs.parts.Working.{IsEntered, IsForeign, IsDoneAfter, AreDoneInOrder}
@@ -73,58 +74,55 @@ pub record TakesOne (origin : Origin) (count : ℕ) (Makes : ℕ → BookOp → 
 
 -- ---- jobs without an operation
 
--- The job is the lack's or a later one.
-abbrev pub IsFrom : Option Lack → ℕ → Type 0
+-- The job is the unmade one or a later one.
+abbrev pub IsFrom : Option Unmade → ℕ → Type 0
 IsFrom None job = ⊥
-IsFrom (Some lack) job = lack.job ≤ job
+IsFrom (Some unmade) job = unmade.job ≤ job
 
--- The job has an operation, or it is the lack's or a later one.
-abbrev pub IsHad : (ℕ → BookOp → Type 0) → Option Lack → ℕ → Type 0
-IsHad Makes lack job = ((op : BookOp) × Makes job op) ⊎ IsFrom lack job
+-- The job has an operation, or it is the unmade one or a later one.
+abbrev pub IsHad : (ℕ → BookOp → Type 0) → Option Unmade → ℕ → Type 0
+IsHad Makes unmade job = ((op : BookOp) × Makes job op) ⊎ IsFrom unmade job
 
-pub record AreHad (Makes : ℕ → BookOp → Type 0) (taken : List ℕ) (lack : Option Lack) : Type 0 where
-  pub each : (index job : ℕ) → slice_get taken index ≡ Some job → IsHad Makes lack job
+pub record AreHad (Makes : ℕ → BookOp → Type 0) (taken : List ℕ) (unmade : Option Unmade) : Type 0 where
+  pub each : (index job : ℕ) → slice_get taken index ≡ Some job → IsHad Makes unmade job
 
 -- One of these jobs, of `count` in all, has no operation, and this is the cause.
-pub record IsLack (count : ℕ) (Lacks : ℕ → JobFault → Type 0) (taken : List ℕ) (lack : Lack) : Type 0 where
+pub record IsTakenUnmade (count : ℕ) (Fails : ℕ → JobFault → Type 0) (taken : List ℕ) (unmade : Unmade) : Type 0 where
   pub index : ℕ
-  pub stands : slice_get taken index ≡ Some lack.job
-  pub within : lack.job < count
-  pub cause : Lacks lack.job lack.fault
+  pub stands : slice_get taken index ≡ Some unmade.job
+  pub within : unmade.job < count
+  pub cause : Fails unmade.job unmade.fault
 
--- This job has no operation, for this cause; that is noted as the lack, unless one was noted before.
-abbrev pub IsNoted : ℕ → JobFault → Option Lack → Option Lack → Type 0
+-- This job has no operation, for this cause; that is noted as the unmade one, unless one was noted before.
+abbrev pub IsNoted : ℕ → JobFault → Option Unmade → Option Unmade → Type 0
 IsNoted job fault None new = new ≡ Some (record { job = job; fault = fault })
-IsNoted job fault (Some lack) new = new ≡ Some lack
+IsNoted job fault (Some unmade) new = new ≡ Some unmade
 
--- The job's operation was made, or memory lacked for it.
-abbrev pub IsMadeOrWants : (ℕ → BookOp → Type 0) → (ℕ → JobFault → Type 0) → ℕ → Type 0
-IsMadeOrWants Makes Lacks job = ((op : BookOp) × Makes job op) ⊎ Lacks job lacks.Memory
-
-pub record AreMadeOrWant (Makes : ℕ → BookOp → Type 0) (Lacks : ℕ → JobFault → Type 0) (taken : List ℕ) : Type 0 where
-  pub each : (index job : ℕ) → slice_get taken index ≡ Some job → IsMadeOrWants Makes Lacks job
+-- The operation of each of these jobs was made, unless memory ran out for it.
+pub record AreMadeUnlessMemory (Makes : ℕ → BookOp → Type 0) (Fails : ℕ → JobFault → Type 0) (taken : List ℕ) : Type 0 where
+  pub each : (index job : ℕ) → slice_get taken index ≡ Some job → IsMadeUnlessMemory Makes Fails job
 
 -- The job's operation could not be made, for a cause other than memory.
-pub record IsStopped (Lacks : ℕ → JobFault → Type 0) (job : ℕ) : Type 0 where
+pub record IsStopped (Fails : ℕ → JobFault → Type 0) (job : ℕ) : Type 0 where
   pub fault : JobFault
-  pub cause : Lacks job fault
-  pub other : fault ≢ lacks.Memory
+  pub cause : Fails job fault
+  pub other : fault ≢ causes.Memory
 
--- Whether a worker takes another job after this one: exactly if its operation was made, or memory lacked for it.
+-- Whether a worker takes another job after this one: exactly if its operation was made, unless memory ran out for it.
 abbrev pub IsTurnAfter : (ℕ → BookOp → Type 0) → (ℕ → JobFault → Type 0) → ℕ → Turn → Type 0
-IsTurnAfter Makes Lacks job Next = IsMadeOrWants Makes Lacks job
-IsTurnAfter Makes Lacks job Last = IsStopped Lacks job
+IsTurnAfter Makes Fails job Next = IsMadeUnlessMemory Makes Fails job
+IsTurnAfter Makes Fails job Last = IsStopped Fails job
 
 -- Any cause.
 abbrev pub AnyCause : ℕ → JobFault → Type 0
 AnyCause job fault = Unit {0}
 
--- The first lack before and after this job was taken: what is known of it, and of earlier jobs, stays known.
-pub record IsLackAfter (count : ℕ) (Makes : ℕ → BookOp → Type 0) (Lacks : ℕ → JobFault → Type 0) (job : ℕ) (taken now_taken : List ℕ)
-    (old new : Option Lack) : Type 0 where
-  pub had : IfSome old (λ lack. lack.job ≤ job) → IsHad Makes new job
+-- The first unmade job before and after this job was taken: what is known of it, and of earlier jobs, stays known.
+pub record IsUnmadeAfter (count : ℕ) (Makes : ℕ → BookOp → Type 0) (Fails : ℕ → JobFault → Type 0) (job : ℕ) (taken now_taken : List ℕ)
+    (old new : Option Unmade) : Type 0 where
+  pub had : IfSome old (λ unmade. unmade.job ≤ job) → IsHad Makes new job
   pub before : (earlier : ℕ) → IsHad Makes old earlier → IsHad Makes new earlier
-  pub right : IfSome old (IsLack count Lacks taken) → IfSome new (IsLack count Lacks now_taken)
+  pub right : IfSome old (IsTakenUnmade count Fails taken) → IfSome new (IsTakenUnmade count Fails now_taken)
 
 -- A seat drew `taken`, and then numbers above all of these.
 pub record DrewBeyond (draws taken : List ℕ) : Type 0 where
@@ -155,13 +153,14 @@ StopsFor origin told now_told NoOperation = ⊥
 -- There is a book of another origin.
 pub record IsFound (origin : Origin) : Type 0 where
   pub book : BookState
+  pub is_book : IsBook book
   pub other : book.origin ≢ origin
 
 -- Why a worker takes no more jobs. `NoneLeft`: its seat is ended, and drew what the worker took. `NoOperation`: there is a first
--- lack, and its seat is ended, and drew what the worker took and then numbers above these, if any. `ForeignBook`: there is a book
+-- unmade job, and its seat is ended, and drew what the worker took and then numbers above these, if any. `ForeignBook`: there is a book
 -- of another origin.
-abbrev pub IsEnd : Origin → SeatState → List ℕ → Option Lack → End → Type 0
-IsEnd origin seat taken lack NoneLeft = (seat.ended ≡ true) × (seat.draws ≡ taken)
-IsEnd origin seat taken lack NoOperation = (seat.ended ≡ true) × DrewBeyond seat.draws taken × (lack ≢ None)
-IsEnd origin seat taken lack OutOfMemory = Unit {0}
-IsEnd origin seat taken lack ForeignBook = IsFound origin
+abbrev pub IsEnd : Origin → SeatState → List ℕ → Option Unmade → End → Type 0
+IsEnd origin seat taken unmade NoneLeft = (seat.ended ≡ true) × (seat.draws ≡ taken)
+IsEnd origin seat taken unmade NoOperation = (seat.ended ≡ true) × DrewBeyond seat.draws taken × (unmade ≢ None)
+IsEnd origin seat taken unmade OutOfMemory = Unit {0}
+IsEnd origin seat taken unmade ForeignBook = IsFound origin

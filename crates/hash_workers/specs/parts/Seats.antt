@@ -7,12 +7,12 @@ use Rattle.measure_book.specs.Operations.{BookOp, book_outcome_of}
 use Rattle.hash_workers.specs.declared.fault.JobFault.{JobFault}
 use Rattle.hash_workers.specs.declared.work.End.{End}
 use Rattle.hash_workers.specs.declared.work.End.TheVariants.{NoneLeft, NoOperation}
-use Rattle.hash_workers.specs.declared.work.Lack.{Lack}
+use Rattle.hash_workers.specs.declared.work.Unmade.{Unmade}
 use Rattle.hash_workers.specs.declared.work.Work.{Work}
 use Rattle.hash_workers.specs.Claims.{ClaimsState, SeatState, IsSeat}
 use Rattle.hash_workers.specs.parts.Taking.{NumbersRise}
 use Rattle.hash_workers.specs.parts.Working.{IsWorked}
-use Rattle.hash_workers.specs.parts.Ending.{AnyCause, AreHad, DrewBeyond, IsEnd, IsFrom, IsLack}
+use Rattle.hash_workers.specs.parts.Ending.{AnyCause, AreHad, AreMadeUnlessMemory, DrewBeyond, IsEnd, IsFrom, IsTakenUnmade}
 
 -- ---- seats
 
@@ -55,58 +55,59 @@ pub record AreJoined (claims : ClaimsState) (seats : List SeatState) (all : Opti
 
 -- ---- what workers hand back
 
--- What a worker did: its jobs rise; each has one outcome; each before the first lack has an operation; its seat is still one of
--- these claims; and this is why it took no more.
-pub record IsWorkOf (origin : Origin) (Makes : ℕ → BookOp → Type 0) (Lacks : ℕ → JobFault → Type 0) (claims : ClaimsState) (work : Work) :
+-- What a worker did: its jobs rise; each has one outcome; each before the first unmade job has an operation, and so has each, unless
+-- memory ran out for it or the worker stopped for one; its seat is still one of these claims; and this is why it took no more.
+pub record IsWorkOf (origin : Origin) (Makes : ℕ → BookOp → Type 0) (Fails : ℕ → JobFault → Type 0) (claims : ClaimsState) (work : Work) :
     Type 0 where
   pub rises : NumbersRise work.taken.items
   pub worked : IsWorked origin claims.jobs Makes work.taken.items (map book_outcome_of work.outcomes.items)
-  pub had : AreHad Makes work.taken.items work.lack
-  pub lack : IfSome work.lack (IsLack claims.jobs Lacks work.taken.items)
+  pub had : AreHad Makes work.taken.items work.unmade
+  pub unmade : IfSome work.unmade (IsTakenUnmade claims.jobs Fails work.taken.items)
+  pub made : work.end ≢ NoOperation → AreMadeUnlessMemory Makes Fails work.taken.items
   pub seat : IsSinglePlace claims work.seat
-  pub ends : IsEnd origin work.seat work.taken.items work.lack work.end
+  pub ends : IsEnd origin work.seat work.taken.items work.unmade work.end
 
 -- There is one worker for each place of the claims, and each did its work.
-pub record AreWorksOf (origin : Origin) (Makes : ℕ → BookOp → Type 0) (Lacks : ℕ → JobFault → Type 0) (claims : ClaimsState)
+pub record AreWorksOf (origin : Origin) (Makes : ℕ → BookOp → Type 0) (Fails : ℕ → JobFault → Type 0) (claims : ClaimsState)
     (works : List Work) : Type 0 where
   pub one_each : length works ≡ claims.seats
-  pub each : (worker : ℕ) (work : Work) → slice_get works worker ≡ Some work → IsWorkOf origin Makes Lacks claims work
+  pub each : (worker : ℕ) (work : Work) → slice_get works worker ≡ Some work → IsWorkOf origin Makes Fails claims work
 
--- How a worker's seat ended. `NoneLeft`: it drew what the worker took. `NoOperation`: there is a first lack, and it drew what the
--- worker took and then numbers above these, if any.
+-- How a worker's seat ended. `NoneLeft`: it drew what the worker took. `NoOperation`: there is a first unmade job, and it drew what
+-- the worker took and then numbers above these, if any.
 abbrev pub IsSeatEnd : Work → End → Type 0
 IsSeatEnd work NoneLeft = (work.seat.ended ≡ true) × (work.seat.draws ≡ work.taken.items)
-IsSeatEnd work NoOperation = (work.seat.ended ≡ true) × DrewBeyond work.seat.draws work.taken.items × (work.lack ≢ None)
+IsSeatEnd work NoOperation = (work.seat.ended ≡ true) × DrewBeyond work.seat.draws work.taken.items × (work.unmade ≢ None)
 IsSeatEnd work end = Unit {0}
 
--- There is one worker for each place of the claims; each hands its seat back, ended as its work ended, and its first lack is a
+-- There is one worker for each place of the claims; each hands its seat back, ended as its work ended, and its first unmade job is a
 -- job that it took.
 pub record HandBack (claims : ClaimsState) (works : List Work) : Type 0 where
   pub one_each : length works ≡ claims.seats
   pub seat : (worker : ℕ) (work : Work) → slice_get works worker ≡ Some work → IsSinglePlace claims work.seat
   pub ended : (worker : ℕ) (work : Work) → slice_get works worker ≡ Some work → IsSeatEnd work work.end
-  pub lack : (worker : ℕ) (work : Work) (lack : Lack) → slice_get works worker ≡ Some work → work.lack ≡ Some lack
-      → IsLack claims.jobs AnyCause work.taken.items lack
+  pub unmade : (worker : ℕ) (work : Work) (unmade : Unmade) → slice_get works worker ≡ Some work → work.unmade ≡ Some unmade
+      → IsTakenUnmade claims.jobs AnyCause work.taken.items unmade
 
--- Some worker has this first lack.
-pub record HasLack (works : List Work) (lack : Lack) : Type 0 where
+-- Some worker has this first unmade job.
+pub record HasUnmade (works : List Work) (unmade : Unmade) : Type 0 where
   pub worker : ℕ
   pub work : Work
   pub stands : slice_get works worker ≡ Some work
-  pub has : work.lack ≡ Some lack
+  pub has : work.unmade ≡ Some unmade
 
--- `least` is a first lack of some worker, and none of the first `count` workers has an earlier one.
-pub record IsLeastLack (works : List Work) (count : ℕ) (least : Option Lack) : Type 0 where
-  pub some : IfSome least (HasLack works)
-  pub none_before : (worker : ℕ) (work : Work) (lack : Lack) → worker < count → slice_get works worker ≡ Some work
-      → work.lack ≡ Some lack → IsFrom least lack.job
+-- `least` is a first unmade job of some worker, and none of the first `count` workers has an earlier one.
+pub record IsLeastUnmade (works : List Work) (count : ℕ) (least : Option Unmade) : Type 0 where
+  pub some : IfSome least (HasUnmade works)
+  pub none_before : (worker : ℕ) (work : Work) (unmade : Unmade) → worker < count → slice_get works worker ≡ Some work
+      → work.unmade ≡ Some unmade → IsFrom least unmade.job
 
--- Each worker that stopped for a job without an operation has a first lack.
-abbrev pub HaveLacks : List Work → Type 0
-HaveLacks works = (worker : ℕ) (work : Work) → slice_get works worker ≡ Some work → work.end ≡ NoOperation → work.lack ≢ None
+-- Each worker that stopped for a job without an operation has a first unmade job.
+abbrev pub HaveUnmade : List Work → Type 0
+HaveUnmade works = (worker : ℕ) (work : Work) → slice_get works worker ≡ Some work → work.end ≡ NoOperation → work.unmade ≢ None
 
--- This is the earlier of two lacks; none if there is none.
-abbrev pub IsEarlier : Option Lack → Option Lack → Option Lack → Type 0
+-- This is the earlier of two unmade jobs; none if there is none.
+abbrev pub IsEarlier : Option Unmade → Option Unmade → Option Unmade → Type 0
 IsEarlier None other first = first ≡ other
 IsEarlier (Some one) None first = first ≡ Some one
 IsEarlier (Some one) (Some other) first =

@@ -4,7 +4,7 @@ use Rattle.measure_book.specs.declared.origin.Origin.{Origin}
 use Rattle.measure_book.specs.declared.fault.BookFault.TheVariants.{Memory}
 use Rattle.measure_book.specs.Operations.{BookOp, BookRecord, BookOutcome, refused}
 use Rattle.measure_book.specs.Runs.{RunsTo, IsOutcome, records_after}
-use Rattle.measure_book.specs.Books.{BookState}
+use Rattle.measure_book.specs.Books.{BookState, IsBook}
 use Rattle.hash_workers.specs.Outcomes.{IsOutcomeOf}
 
 -- Each job that was taken has one outcome of its own.
@@ -33,6 +33,7 @@ pub record Records (origin : Origin) (told now_told : Option BookState) (op : Bo
 -- The book is of another origin, and stays as it is.
 pub record IsForeign (origin : Origin) (told now_told : Option BookState) : Type 0 where
   pub found : BookState
+  pub is_book : IsBook found
   pub other : found.origin ≢ origin
   pub tells : Tells told now_told found found
 

@@ -3,11 +3,11 @@
 ghost use Rattle.std.specs.Prelude.{◌≡◌, ◌≢◌, ◌+◌, ◌<◌, ◌≤◌, ◌++◌, ◌||◌, true, false, None, length, map, vec_len, All, IfOk, IfSome, MatchBool};
 ghost use Rattle.std.specs.List.{concat};
 ghost use Rattle.hash_workers.specs.Claims.{HandsOutEach, IsSeat};
-ghost use Rattle.hash_workers.specs.parts.Seats.{AreJoined, HandBack, HasEnd, HasNoEnd, HaveLacks, IsEarlier, IsLeastLack, IsSinglePlace, draws_in, draws_of, ended_in, outcomes_of, places_in, seat_of, taken_of};
+ghost use Rattle.hash_workers.specs.parts.Seats.{AreJoined, HandBack, HasEnd, HasNoEnd, HaveUnmade, IsEarlier, IsLeastUnmade, IsSinglePlace, draws_in, draws_of, ended_in, outcomes_of, places_in, seat_of, taken_of};
 ghost use Rattle.hash_workers.specs.parts.Scattering.{items_of};
-ghost use Rattle.hash_workers.specs.parts.Settling.{AreTakenBefore, IsLackOf, IsMadeOf, takings_of};
+ghost use Rattle.hash_workers.specs.parts.Settling.{AreTakenBefore, IsUnmadeOf, IsMadeOf, takings_of};
 
-use super::{End, Lack, Work};
+use super::{End, Unmade, Work};
 use crate::claims::{ClaimSeat, Claims};
 use measure_book::{BookFault, Outcome};
 use std::alloc::{AllocError, Global};
@@ -22,7 +22,7 @@ pub(crate) struct AllWork {
     /// Whether a worker found that the book has another origin.
     pub(crate) foreign: bool,
     /// The first job whose operation could not be made, if a worker stopped for one.
-    pub(crate) lack: Option<Lack>,
+    pub(crate) unmade: Option<Unmade>,
     /// A place for the outcome of each job.
     pub(crate) outcomes: Vec<Outcome>,
     /// A place for the number of each job's worker.
@@ -44,14 +44,14 @@ impl AllWork {
         requires some { 1 ≤ claims.seats }
         requires works { HandBack claims works.items }
         ensures made { IfOk result (IsMadeOf works.items count) }
-        ensures each { IfOk result (λ all. all.foreign ≡ false → all.lack ≡ None → HandsOutEach claims.jobs (concat (takings_of all))) }
-        ensures before { IfOk result (λ all. all.foreign ≡ false → IfSome all.lack (AreTakenBefore (takings_of all))) }
+        ensures each { IfOk result (λ all. all.foreign ≡ false → all.unmade ≡ None → HandsOutEach claims.jobs (concat (takings_of all))) }
+        ensures before { IfOk result (λ all. all.foreign ≡ false → IfSome all.unmade (AreTakenBefore (takings_of all))) }
     {
         if has_end(&works, End::OutOfMemory) {
             return Err(AllocError);
         }
         let foreign = has_end(&works, End::ForeignBook);
-        let lack = lack_of(&works);
+        let unmade = unmade_of(&works);
         let outcomes = places(alloc, count)?;
         let by = vec![in alloc; 0u32; count]?;
         let (takings, groups, seats) = split(alloc, works)?;
@@ -60,43 +60,43 @@ impl AllWork {
             takings,
             groups,
             foreign,
-            lack,
+            unmade,
             outcomes,
             by,
         })
     }
 }
 
-// The first lack, if a worker stopped for one.
-fn lack_of(works: &[Work]) -> Option<Lack>
-    requires { HaveLacks works.now }
-    ensures { IsLackOf works.now result }
+// The first unmade job, if a worker stopped for one.
+fn unmade_of(works: &[Work]) -> Option<Unmade>
+    requires { HaveUnmade works.now }
+    ensures { IsUnmadeOf works.now result }
 {
     if has_end(works, End::NoOperation) {
-        first_lack(works)
+        first_unmade(works)
     } else {
         None
     }
 }
 
-// The first lack in the order of the jobs.
-fn first_lack(works: &[Work]) -> Option<Lack>
-    ensures { IsLeastLack works.now (length works.now) result }
+// The first unmade job in the order of the jobs.
+fn first_unmade(works: &[Work]) -> Option<Unmade>
+    ensures { IsLeastUnmade works.now (length works.now) result }
 {
     let mut first = None;
     for work in works {
-        first = earlier(first, work.lack);
+        first = earlier(first, work.unmade);
     }
     first
 }
 
-// The earlier of two lacks, if there are any.
-fn earlier(one: Option<Lack>, other: Option<Lack>) -> Option<Lack>
+// The earlier of two unmade jobs, if there are any.
+fn earlier(one: Option<Unmade>, other: Option<Unmade>) -> Option<Unmade>
     ensures { IsEarlier one other result }
 {
     match (one, other) {
-        (Some(lack), Some(next)) => Some(if next.job < lack.job { next } else { lack }),
-        (lack, None) | (None, lack) => lack,
+        (Some(unmade), Some(next)) => Some(if next.job < unmade.job { next } else { unmade }),
+        (unmade, None) | (None, unmade) => unmade,
     }
 }
 

@@ -127,7 +127,7 @@ impl<'a> Jobs for Numbered<'a> {
     ghost makes = { λ _ alg job op. op ≡ operation_of_number alg job };
 
     // Memory may run out for each job, and some fail.
-    ghost lacks = { λ jobs job fault. (fault ≡ Memory) ⊎ Contains jobs.failing.now (record { job = job; fault = fault }) };
+    ghost fails = { λ jobs job fault. (fault ≡ Memory) ⊎ Contains jobs.failing.now (record { job = job; fault = fault }) };
 
     fn count(&self) -> usize {
         self.count as usize

@@ -26,11 +26,11 @@ returns-clause-workers g c =
 pub returns-clause-job : goal.returns-clause-job
 returns-clause-job g c = λ job fault is.
     settled_job c.args.workers c.args.origin (g.J.Jobs.total c.args.jobs.now) (g.J.Jobs.makes c.args.jobs.now c.args.origin.alg)
-    (g.J.Jobs.lacks c.args.jobs.now) c.in_ok-book-2.all c.in_ok-book-2.ensures c.in_ok-book-2.book job fault c.settle.result
+    (g.J.Jobs.fails c.args.jobs.now) c.in_ok-book-2.all c.in_ok-book-2.ensures c.in_ok-book-2.book job fault c.settle.result
     c.settle.ensures.fault is
 
 pub returns-clause-gather : goal.returns-clause-gather
 returns-clause-gather g c = λ cause is.
     settled_cause c.args.workers c.args.origin (g.J.Jobs.total c.args.jobs.now) (g.J.Jobs.makes c.args.jobs.now c.args.origin.alg)
-    (g.J.Jobs.lacks c.args.jobs.now) c.in_ok-book-2.all c.in_ok-book-2.ensures c.in_ok-book-2.book cause c.settle.result
+    (g.J.Jobs.fails c.args.jobs.now) c.in_ok-book-2.all c.in_ok-book-2.ensures c.in_ok-book-2.book cause c.settle.result
     c.settle.ensures.fault is

@@ -34,3 +34,6 @@ returns-clause-batch g c =
       outcomes_len = omega arith;
       by_len = omega arith;
     })
+
+pub returns-clause-made : goal.returns-clause-made
+returns-clause-made g c = c.requires.all.made c.if-all.false c.in_default.is

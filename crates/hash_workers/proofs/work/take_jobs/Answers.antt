@@ -1,6 +1,6 @@
 use Rattle.std.proofs.Common.{ℕ, List, [], ◌∷◌, ◌++◌, refl, sym, ap, ◌∙◌}
 use Rattle.hash_workers.specs.declared.work.End.TheVariants.{NoOperation}
-use Rattle.hash_workers.proofs.WorkLaws.{had_more, want_more, lack_below, rise_more, tells_end, tells_stop, turn_smaller, turn_worked, turn_tells}
+use Rattle.hash_workers.proofs.WorkLaws.{had_more, made_more, unmade_below, rise_more, tells_end, tells_stop, turn_smaller, turn_worked, turn_tells}
 use Rattle.hash_workers.proofs.work.take_jobs.Goals as goal
 
 -- The job is above all that the worker took, which is what its seat drew.
@@ -17,7 +17,7 @@ loop-number-preserved g c =
     let same = c.in-Some.ensures.same in
     let one = c.in-Ok-Next.ensures.takes in
     let stays = c.in-Ok-Next.ensures.same in
-    let after = c.in-Ok-Next.ensures.lack in
+    let after = c.in-Ok-Next.ensures.unmade in
     let number : ℕ = c.in-Some.number in
     let above = rw kept.seat.2 at drawn.1 in
     record {
@@ -25,11 +25,11 @@ loop-number-preserved g c =
           (same.0, same.1 ∙ kept.seat.1, drawn.2 ∙ ap (λ (xs : List ℕ). xs ++ number ∷ []) kept.seat.2 ∙ sym one.takes, drawn.4);
       rises = rise_more _ _ number kept.rises above one.takes;
       worked = turn_worked number _ _ _ _ _ _ _ _ _ one kept.worked;
-      had = had_more _ _ _ number _ _ kept.had one.takes (after.had (lack_below _ _ _ number _ above kept.lack)) after.before;
-      lack = after.right kept.lack;
+      had = had_more _ _ _ number _ _ kept.had one.takes (after.had (unmade_below _ _ _ number _ above kept.unmade)) after.before;
+      unmade = after.right kept.unmade;
       tells = turn_tells number _ _ _ _ _ _ _ _ _ one _ kept.tells;
       end = stays.1 ∙ kept.end;
-      want = want_more _ _ _ _ number kept.want one.takes (rw c.in-Ok-Next.field-0-is at c.in-Ok-Next.ensures.turn);
+      made = made_more _ _ _ _ number kept.made one.takes (rw c.in-Ok-Next.field-0-is at c.in-Ok-Next.ensures.turn);
     }
 
 pub returns-in-Ok-Last-clause-stopped : goal.returns-in-Ok-Last-clause-stopped
@@ -52,17 +52,17 @@ returns-in-Ok-Last-clause-worked g c =
 pub returns-in-Ok-Last-clause-had : goal.returns-in-Ok-Last-clause-had
 returns-in-Ok-Last-clause-had g c =
     let kept = c.loop-number.invariant in
-    let after = c.in-Ok-Last.ensures.lack in
+    let after = c.in-Ok-Last.ensures.unmade in
     had_more _ _ _ c.in-Some.number _ _ kept.had c.in-Ok-Last.ensures.takes.takes
-    (after.had (lack_below _ _ _ c.in-Some.number _ (rw kept.seat.2 at c.in-Some.ensures.some.1) kept.lack)) after.before
+    (after.had (unmade_below _ _ _ c.in-Some.number _ (rw kept.seat.2 at c.in-Some.ensures.some.1) kept.unmade)) after.before
 
 pub returns-in-Ok-Last-clause-told : goal.returns-in-Ok-Last-clause-told
 returns-in-Ok-Last-clause-told g c =
     tells_end _ _ _ _ _ _ _ NoOperation (λ is. cc) refl
     (turn_tells c.in-Some.number _ _ _ _ _ _ _ _ _ c.in-Ok-Last.ensures.takes _ c.loop-number.invariant.tells)
 
-pub returns-in-Err-clause-wants : goal.returns-in-Err-clause-wants
-returns-in-Err-clause-wants g c = λ other. rw c.in-Err.ensures.refused.0 c.loop-number.invariant.want
+pub returns-in-Err-clause-made : goal.returns-in-Err-clause-made
+returns-in-Err-clause-made g c = λ other. rw c.in-Err.ensures.refused.0 c.loop-number.invariant.made
 
 pub returns-in-Err-clause-stopped : goal.returns-in-Err-clause-stopped
 returns-in-Err-clause-stopped g c = λ is. absurd (rw is at c.in-Err.ensures.takes)

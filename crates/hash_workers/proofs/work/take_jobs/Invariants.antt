@@ -5,7 +5,7 @@ use Rattle.hash_workers.specs.declared.work.End.TheVariants.{NoneLeft}
 use Rattle.hash_workers.specs.Claims.{IsSeat}
 use Rattle.hash_workers.specs.parts.Taking.{NumbersRise}
 use Rattle.hash_workers.specs.parts.Working.{IsWorked}
-use Rattle.hash_workers.specs.parts.Ending.{AreHad, AreMadeOrWant, IsLack, TellsAll}
+use Rattle.hash_workers.specs.parts.Ending.{AreHad, AreMadeUnlessMemory, IsTakenUnmade, TellsAll}
 use Rattle.hash_workers.proofs.work.take_jobs.Given as goal
 
 abbrev pub invariant-loop-number : goal.invariant-loop-number
@@ -16,12 +16,12 @@ invariant-loop-number g l =
       seat : IsSeat l.claims 1 l.work.taken.items false l.work.seat;
       rises : NumbersRise l.work.taken.items;
       worked : IsWorked l.origin count Makes l.work.taken.items (map book_outcome_of l.work.outcomes.items);
-      had : AreHad Makes l.work.taken.items l.work.lack;
-      lack : IfSome l.work.lack (IsLack count (g.J.Jobs.lacks l.jobs) l.work.taken.items);
+      had : AreHad Makes l.work.taken.items l.work.unmade;
+      unmade : IfSome l.work.unmade (IsTakenUnmade count (g.J.Jobs.fails l.jobs) l.work.taken.items);
       tells : TellsAll l.origin Makes (g.B.Recorder.told l.fn.recorder) (g.B.Recorder.told l.recorder) l.work.taken.items
           (map book_outcome_of l.work.outcomes.items) NoneLeft;
       end : l.work.end ≡ NoneLeft;
-      want : AreMadeOrWant Makes (g.J.Jobs.lacks l.jobs) l.work.taken.items;
+      made : AreMadeUnlessMemory Makes (g.J.Jobs.fails l.jobs) l.work.taken.items;
     }
 
 abbrev pub decreases-loop-number : goal.decreases-loop-number

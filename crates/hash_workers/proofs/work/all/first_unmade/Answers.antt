@@ -1,5 +1,5 @@
 use Rattle.hash_workers.proofs.EndLaws.{least_more}
-use Rattle.hash_workers.proofs.work.all.first_lack.Goals as goal
+use Rattle.hash_workers.proofs.work.all.first_unmade.Goals as goal
 
 pub loop-work-preserved : goal.loop-work-preserved
 loop-work-preserved c =
