@@ -2,7 +2,7 @@
 
 ghost use Rattle.std.specs.Prelude.{◌≡◌, ◌≤◌, IfOk};
 
-use super::tasks::{Task, job_of};
+use super::tasks::{Task, TwoFault, by_two, job_of};
 use hash_workers::{Batch, ClaimSeat, Claims, Gate, Job, measure_files};
 use measure_book::Op;
 use std::alloc::{AllocError, Global};
@@ -105,12 +105,12 @@ fn draw_all(alloc: Global, claims: &Claims, mut seat: ClaimSeat) -> Drawn
 fn drawn_by_two<R: Threads + Sync>(
     rt: &R,
     alloc: Global,
-) -> Result<(Vec<u32>, Vec<u32>, u32, bool), &'static str> {
+) -> Result<(Vec<u32>, Vec<u32>, u32, bool), TwoFault> {
     let Ok((claims, first)) = Claims::new(alloc, NUMBERS, 8) else {
-        return Err("out of memory");
+        return Err(TwoFault::Memory);
     };
     let Ok((first, second)) = claims.split(first) else {
-        return Err("a seat of eight places is not split");
+        return Err(TwoFault::Wrong("a seat of eight places is not split"));
     };
     let shared = &claims;
     let (one, other) = join(
@@ -130,7 +130,7 @@ fn drawn_by_two<R: Threads + Sync>(
     if one.kept && other.kept {
         Ok((one.numbers, other.numbers, places, ended))
     } else {
-        Err("out of memory")
+        Err(TwoFault::Memory)
     }
 }
 
@@ -202,23 +202,18 @@ const FILES: [Task; 3] = [
     Task::File(b"/bin/cp", b"one"),
 ];
 
-/// Three files by two workers, the first of which is held up; or what is wrong.
+/// Three files by two workers, the first of which is held up.
 fn held_batch<R: Threads + Wait + Sync>(
     rt: &R,
     alloc: Global,
     jobs: &[Job; 3],
-) -> Result<Batch, &'static str> {
+) -> Result<Batch, TwoFault> {
     let gate = FirstLast {
         last: AtomicBool::new(false),
         ran_out: AtomicBool::new(false),
     };
-    let Ok(batch) = measure_files(rt, alloc, origin(100), jobs, 2, &gate) else {
-        return Err("no batch");
-    };
-    if gate.ran_out.load(Ordering::SeqCst) {
-        return Err("the turns ran out");
-    }
-    Ok(batch)
+    let batch = measure_files(rt, alloc, origin(100), jobs, 2, &gate);
+    by_two(batch, gate.ran_out.load(Ordering::SeqCst))
 }
 
 /// A worker that is held up at one job holds up no other job.
@@ -230,8 +225,9 @@ fn assert_held<R: Threads + Wait + Sync + Abort>(rt: &R, alloc: Global) -> Resul
         job_of(alloc, three)?,
     ];
     let batch = match held_batch(rt, alloc, &jobs) {
-        Ok(batch) => batch,
-        Err(_) => held_batch(rt, alloc, &jobs)?,
+        // An allocation may have been refused.
+        Err(TwoFault::Memory | TwoFault::OneWorker) => held_batch(rt, alloc, &jobs)?,
+        found => found?,
     };
     assert!(rt; batch.by.len() == 3 && batch.by.get(1) == batch.by.get(2));
     assert!(rt; batch.by.first() != batch.by.get(1));
@@ -255,8 +251,8 @@ fn assert_none_and_most(rt: &impl Abort, alloc: Global) -> Result<(), Fail> {
 fn claims_of_two_threads(rt: HostRuntime) -> Result<(), Fail> {
     let alloc = rt.alloc();
     let (one, other, places, ended) = match drawn_by_two(&rt, alloc) {
-        Ok(drawn) => drawn,
-        Err(_) => drawn_by_two(&rt, alloc)?,
+        Err(TwoFault::Memory) => drawn_by_two(&rt, alloc)?,
+        drawn => drawn?,
     };
     assert!(rt; places == 8 && ended && one.len() + other.len() == NUMBERS as usize);
     assert!(rt; all_once(alloc, &one, &other)?);

@@ -60,6 +60,7 @@ pub(super) struct Numbered<'a> {
     calls: AtomicU32,
     released: AtomicBool,
     ran_out: AtomicBool,
+    all_held: AtomicBool,
 }
 
 impl<'a> Numbered<'a> {
@@ -73,12 +74,15 @@ impl<'a> Numbered<'a> {
             calls: AtomicU32::new(0),
             released: AtomicBool::new(false),
             ran_out: AtomicBool::new(false),
+            all_held: AtomicBool::new(false),
         }
     }
 
     /// Waits until the jobs that are held are released. Where the turns run out they all are.
     fn wait(&self) {
         if !comes(&self.released, TURNS) {
+            let all_held = self.calls.load(Ordering::SeqCst) <= self.held;
+            self.all_held.store(all_held, Ordering::SeqCst);
             self.ran_out.store(true, Ordering::SeqCst);
             self.released.store(true, Ordering::SeqCst);
         }
@@ -156,12 +160,14 @@ impl<'a> Gate for Numbered<'a> {
     }
 }
 
-/// The batch, or why there is none, how often an operation was asked for, and whether the turns ran out for a job.
+/// The batch, or why there is none, how often an operation was asked for, and whether the turns ran out for a job: if so, whether
+/// no operation had then been asked for of a job that is not held. One of the workers had not begun, or no thread could be started for it.
 #[derive(Drop)]
 pub(super) struct Answer {
     pub(super) batch: Result<Batch, JobsFault>,
     pub(super) calls: u32,
     pub(super) ran_out: bool,
+    pub(super) all_held: bool,
 }
 
 /// What comes of the jobs.
@@ -172,17 +178,22 @@ pub(super) fn tried<R: Threads + Wait + Sync>(rt: &R, alloc: Global, trial: &Tri
         batch,
         calls: jobs.calls.load(Ordering::SeqCst),
         ran_out: jobs.ran_out.load(Ordering::SeqCst),
+        all_held: jobs.all_held.load(Ordering::SeqCst),
     }
 }
 
-/// The same; once more where memory or the turns ran out.
-pub(super) fn answer_of<R: Threads + Wait + Sync>(rt: &R, alloc: Global, trial: &Trial) -> Answer {
-    let answer = tried(rt, alloc, trial);
-    let once_more = match &answer.batch {
+/// Whether memory ran out, for the batch or for a job.
+pub(super) fn has_run_out(batch: &Result<Batch, JobsFault>) -> bool {
+    match batch {
         Ok(batch) => lacks_memory(batch),
         Err(fault) => *fault == JobsFault::Agent(AgentFault::Memory),
-    };
-    if once_more || answer.ran_out {
+    }
+}
+
+/// The same; once more where an allocation may have been refused.
+pub(super) fn answer_of<R: Threads + Wait + Sync>(rt: &R, alloc: Global, trial: &Trial) -> Answer {
+    let answer = tried(rt, alloc, trial);
+    if has_run_out(&answer.batch) || answer.all_held {
         tried(rt, alloc, trial)
     } else {
         answer

@@ -1,7 +1,7 @@
 //! Two workers at once.
 
 use super::each_allocation_refused::{ONE_FILE_TWICE, assert_two};
-use super::tasks::{Task, has_ends, job_of};
+use super::tasks::{Task, TwoFault, by_two, has_ends, job_of};
 use hash_workers::{Batch, Gate, Job, measure_files};
 use measure_book::{Answer, Op};
 use std::alloc::{AllocError, Global};
@@ -111,24 +111,20 @@ impl Gate for OtherFirst {
     }
 }
 
-/// Two files with two workers, where one job is held; or what is wrong.
+/// Two files with two workers, where one job is held.
 fn held_batch<R: Threads + Wait + Sync>(
     rt: &R,
     alloc: Global,
     jobs: &[Job; 2],
     held: u32,
-) -> Result<Batch, &'static str> {
+) -> Result<Batch, TwoFault> {
     let Ok(gate) = OtherFirst::new(alloc, held) else {
-        return Err("out of memory");
+        return Err(TwoFault::Memory);
     };
-    let Ok(batch) = measure_files(rt, alloc, origin(100), jobs, 2, &gate) else {
-        return Err("no batch");
-    };
-    if gate.ran_out.load(Ordering::SeqCst) {
-        return Err("the turns ran out");
-    }
+    let batch = measure_files(rt, alloc, origin(100), jobs, 2, &gate);
+    let batch = by_two(batch, gate.ran_out.load(Ordering::SeqCst))?;
     if gate.other_op.load(Ordering::SeqCst) {
-        return Err("another operation");
+        return Err(TwoFault::Wrong("another operation"));
     }
     Ok(batch)
 }
@@ -141,10 +137,11 @@ fn assert_held<R: Threads + Wait + Sync + Abort>(
     alloc: Global,
     jobs: &[Job; 2],
     held: u32,
-) -> Result<(), &'static str> {
+) -> Result<(), TwoFault> {
     let batch = match held_batch(rt, alloc, jobs, held) {
-        Ok(batch) => batch,
-        Err(_) => held_batch(rt, alloc, jobs, held)?,
+        // An allocation may have been refused.
+        Err(TwoFault::Memory | TwoFault::OneWorker) => held_batch(rt, alloc, jobs, held)?,
+        found => found?,
     };
     let first = Ok((1, Answer::Added(1)));
     let second = Ok((2, Answer::Added(2)));

@@ -21,6 +21,18 @@ pub enum Task {
     Read(Alg, u32),
 }
 
+/// Why there is nothing to look at of what two threads did.
+#[derive(Clone, Copy, Debug, PartialEq, Eq)]
+pub enum TwoFault {
+    /// Out of memory.
+    Memory,
+    /// One worker took all jobs: the other one had not begun when the turns ran out. No thread can be started for it where that
+    /// finds no memory.
+    OneWorker,
+    /// Anything else.
+    Wrong(&'static str),
+}
+
 /// What becomes of a job: the place of its record and the answer, or why it is refused.
 pub type End = Result<(u32, Answer), BookFault>;
 
@@ -91,6 +103,28 @@ pub fn lacks_memory(batch: &Batch) -> bool {
     batch
         .outcomes
         .contains(&Outcome::Refused(BookFault::Memory))
+}
+
+/// A batch by two workers, jobs of which waited for one another; whether the turns ran out.
+pub fn by_two(batch: Result<Batch, AgentFault>, ran_out: bool) -> Result<Batch, TwoFault> {
+    if has_run_out(&batch) {
+        return Err(TwoFault::Memory);
+    }
+    match batch {
+        Ok(batch) if !ran_out => Ok(batch),
+        Ok(batch) if are_by_one(&batch.by) => Err(TwoFault::OneWorker),
+        Ok(_) => Err(TwoFault::Wrong("the turns ran out")),
+        Err(_) => Err(TwoFault::Wrong("no batch")),
+    }
+}
+
+fn are_by_one(workers: &[u32]) -> bool {
+    for worker in workers {
+        if Some(worker) != workers.first() {
+            return false;
+        }
+    }
+    true
 }
 
 fn is_end(outcome: &Outcome, end: &End) -> bool {

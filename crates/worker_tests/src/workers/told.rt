@@ -1,6 +1,6 @@
 //! What a gate is told of each job.
 
-use super::numbered::{Failing, Numbered, Trial};
+use super::numbered::{Failing, Numbered, Trial, has_run_out};
 use hash_workers::{AgentFault, Gate, JobFault, JobsFault, record_jobs};
 use measure_book::Op;
 use std::alloc::{AllocError, Global};
@@ -140,20 +140,27 @@ const ROWS: [Row; 5] = [
     },
 ];
 
-/// Whether what the gate is told and what is answered is that of the row.
-fn is_told<R: Threads + Wait + Sync>(rt: &R, alloc: Global, row: &Row) -> Result<bool, AllocError> {
+/// Whether what the gate is told and what is answered is that of the row, and whether memory ran out.
+fn is_told<R: Threads + Wait + Sync>(
+    rt: &R,
+    alloc: Global,
+    row: &Row,
+) -> Result<(bool, bool), AllocError> {
     let jobs = Numbered::of(&Trial::of(row.count, row.failing, row.workers));
     let told = Told::new(alloc, row.count)?;
     let batch = record_jobs(rt, alloc, origin(100), &jobs, row.workers, &told);
-    Ok(batch.err() == row.fault && told.is(row.told))
+    let ran_out = has_run_out(&batch);
+    Ok((batch.err() == row.fault && told.is(row.told), ran_out))
 }
 
 #[test]
 fn gate_is_told_of_each_job(rt: HostRuntime) -> Result<(), Fail> {
     let alloc = rt.alloc();
     for (number, row) in ROWS.iter().enumerate() {
-        // An allocation may have been refused.
-        let is_so = is_told(&rt, alloc, row) == Ok(true) || is_told(&rt, alloc, row)?;
+        let (is_so, _) = match is_told(&rt, alloc, row) {
+            Ok((false, true)) | Err(AllocError) => is_told(&rt, alloc, row)?,
+            found => found?,
+        };
         assert!(rt; is_so, "row {number}");
     }
     Ok(())
