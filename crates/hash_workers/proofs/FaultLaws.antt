@@ -8,20 +8,20 @@ use Rattle.measure_book.specs.declared.fault.BookFault.TheVariants.{Memory}
 use Rattle.measure_book.specs.Histories.{open_refusal_of}
 use Rattle.hash_workers.specs.declared.batch.Batch.{Batch}
 use Rattle.hash_workers.specs.declared.fault.JobsFault.{JobsFault}
-use Rattle.hash_workers.specs.Faults.{IsNumberOfWorkers, MayBegin, IsFaultOf, IsJobsFaultOf, fault_of_book, jobs_fault_of_book}
+use Rattle.hash_workers.specs.Faults.{IsNumberOfWorkers, MayBegin, IsAgentFaultOf, IsJobsFaultOf, fault_of_book, jobs_fault_of_book}
 
 never_memory : (origin : Origin) → open_refusal_of origin ≡ Some Memory → ⊥
 never_memory origin is = grind arith
 
 book_fault : (workers : ℕ) (origin : Origin) (fault : BookFault) → fault ≢ Memory → IsNumberOfWorkers workers
     → open_refusal_of origin ≡ Some fault
-    → IsFaultOf workers origin (fault_of_book fault)
+    → IsAgentFaultOf workers origin (fault_of_book fault)
 book_fault workers origin Memory other number is = absurd (other refl)
 book_fault workers origin fault other number is = (number, is)
 
 fault_of : (workers : ℕ) (origin : Origin) (fault : BookFault) (refusal : Option BookFault) → open_refusal_of origin ≡ refusal
     → IsNumberOfWorkers workers
-    → fault ≡ unwrap_or refusal Memory → IsFaultOf workers origin (fault_of_book fault)
+    → fault ≡ unwrap_or refusal Memory → IsAgentFaultOf workers origin (fault_of_book fault)
 fault_of workers origin fault None none number is = rw is (number, none)
 fault_of workers origin fault (Some other) some number is =
     rw is (book_fault workers origin other (λ memory. never_memory origin (some ∙ ap (λ (f : BookFault). Some f) memory)) number some)

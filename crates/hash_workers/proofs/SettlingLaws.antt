@@ -23,7 +23,7 @@ use Rattle.hash_workers.specs.declared.work.Unmade.{Unmade}
 use Rattle.hash_workers.specs.declared.work.Work.{Work}
 use Rattle.hash_workers.specs.declared.work.all.AllWork.{AllWork}
 use Rattle.hash_workers.specs.parts.Faults.{fault_for, fault_of_unmade}
-use Rattle.hash_workers.specs.Faults.{fault_of_gather, MayBegin, IsFaultOf, IsJobsFaultOf}
+use Rattle.hash_workers.specs.Faults.{fault_of_gather, MayBegin, IsAgentFaultOf, IsJobsFaultOf}
 use Rattle.std.specs.List.{concat}
 use Rattle.hash_workers.specs.Claims.{ClaimsState, HandsOutEach}
 use Rattle.hash_workers.specs.parts.Taking.{Took, job_at}
@@ -117,7 +117,7 @@ module _ (origin : Origin) (Makes : ℕ → BookOp → Type 0) (Fails : ℕ → 
 -- ---- faults
 
 gather_fault : (workers : ℕ) (origin : Origin) (cause : GatherFault) → MayBegin workers origin
-    → IsFaultOf workers origin (fault_of_gather cause)
+    → IsAgentFaultOf workers origin (fault_of_gather cause)
 gather_fault workers origin gathers.Memory may = may
 gather_fault workers origin cause may = (may, λ same. cc)
 

@@ -29,11 +29,11 @@ abbrev pub MayBegin : ℕ → Origin → Type 0
 MayBegin workers origin = IsNumberOfWorkers workers × (open_refusal_of origin ≡ None)
 
 -- When each fault is possible, for this number of workers and this origin.
-abbrev pub IsFaultOf : ℕ → Origin → AgentFault → Type 0
-IsFaultOf workers origin agents.Workers = IsNumberOfWorkers workers → ⊥
-IsFaultOf workers origin (agents.Book fault) = IsNumberOfWorkers workers × (open_refusal_of origin ≡ Some fault)
-IsFaultOf workers origin (agents.Gather fault) = MayBegin workers origin × (fault ≢ gathers.Memory)
-IsFaultOf workers origin agents.Memory = MayBegin workers origin
+abbrev pub IsAgentFaultOf : ℕ → Origin → AgentFault → Type 0
+IsAgentFaultOf workers origin agents.Workers = IsNumberOfWorkers workers → ⊥
+IsAgentFaultOf workers origin (agents.Book fault) = IsNumberOfWorkers workers × (open_refusal_of origin ≡ Some fault)
+IsAgentFaultOf workers origin (agents.Gather fault) = MayBegin workers origin × (fault ≢ gathers.Memory)
+IsAgentFaultOf workers origin agents.Memory = MayBegin workers origin
 
 -- ---- of any jobs
 
@@ -45,5 +45,5 @@ jobs_fault_of_gather cause = Agent (fault_of_gather cause)
 
 -- When each fault is possible, for this number of workers and this origin.
 abbrev pub IsJobsFaultOf : ℕ → Origin → JobsFault → Type 0
-IsJobsFaultOf workers origin (Agent fault) = IsFaultOf workers origin fault
+IsJobsFaultOf workers origin (Agent fault) = IsAgentFaultOf workers origin fault
 IsJobsFaultOf workers origin (Job job fault) = MayBegin workers origin

@@ -10,7 +10,7 @@ ghost use Rattle.measure_book.specs.Histories.{open_refusal_of};
 ghost use Rattle.hash_workers.specs.Jobs.{operations_of};
 ghost use Rattle.hash_workers.specs.declared.fault.JobFault.{JobFault};
 ghost use Rattle.hash_workers.specs.declared.fault.JobFault.TheVariants.{Memory};
-ghost use Rattle.hash_workers.specs.Faults.{IsFaultOf, IsJobsFaultOf, IsNumberOfWorkers, MayBegin};
+ghost use Rattle.hash_workers.specs.Faults.{IsAgentFaultOf, IsJobsFaultOf, IsNumberOfWorkers, MayBegin};
 ghost use Rattle.hash_workers.specs.parts.Faults.{fault_of_unmade};
 ghost use Rattle.hash_workers.specs.parts.Settling.{IsAllWork, IsUnsettled};
 ghost use Rattle.hash_workers.specs.Causes.{AllMadeUnlessMemory, IsCauseAmong, IsCauseOf, IsFirstUnmade};
@@ -65,7 +65,7 @@ pub fn measure_files<R: Threads + Wait + Sync, G: Gate + Sync>(
     ensures batch { IfOk result (λ batch. IsBatch origin (operations_of origin.alg jobs.now) workers
         batch.book (map book_outcome_of batch.outcomes.items) batch.by.items) }
     // Workers start only if their number is right and a book may be opened, and each fault has its cause.
-    ensures fault { MatchResult result (λ _. MayBegin workers origin) (IsFaultOf workers origin) }
+    ensures fault { MatchResult result (λ _. MayBegin workers origin) (IsAgentFaultOf workers origin) }
     // `Workers` exactly where the number of workers is not 1 to 8.
     ensures workers { (result ≡ Err AgentFault.Workers) ↔ (IsNumberOfWorkers workers → ⊥) }
     // If the number is right and `open_refusal_of` is `Some fault`, the result is `Err(Book(fault))`.

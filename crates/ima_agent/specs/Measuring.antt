@@ -20,7 +20,7 @@ use Rattle.measure_book.specs.Books.{BookState, exported}
 use Rattle.hash_workers.specs.declared.fault.AgentFault.{AgentFault}
 use Rattle.hash_workers.specs.declared.fault.AgentFault.TheVariants as agents
 use Rattle.hash_workers.specs.Batches.{IsBatchOf}
-use Rattle.hash_workers.specs.Faults.{IsFaultOf}
+use Rattle.hash_workers.specs.Faults.{IsAgentFaultOf}
 use Rattle.hash_workers.specs.Causes.{IsCauseOf}
 use Rattle.boot_verdict.specs.RegisterTexts.{registers_text}
 use Rattle.ima_agent.specs.declared.fault.RunFault.{RunFault}
@@ -141,7 +141,7 @@ pub record IsRefusedJob (origin : Origin) (count : ℕ) (Makes : ℕ → BookOp 
 -- Why the workers returned no batch. If their outcomes do not account for the book, this is the first cause against them.
 pub record IsNoBatch (origin : Origin) (count : ℕ) (Makes : ℕ → BookOp → Type 0) (workers : ℕ) (fault : RunFault) : Type 0 where
   pub first : AgentFault
-  pub first_is : IsFaultOf workers origin first
+  pub first_is : IsAgentFaultOf workers origin first
   pub among : (cause : GatherFault) → first ≡ agents.Gather cause → IsCauseOf workers origin count Makes cause
   pub says : fault ≡ fault_of_agent first
 
