@@ -35,6 +35,10 @@ SIZES = (63 * MEBIBYTE, MOST_BYTES, MOST_BYTES + 1, 65 * MEBIBYTE)
 # (the two in the middle are of no concern to the library)
 LIBRARY_SIZES = (SIZES[0], SIZES[-1])
 FILES = 250_000
+WORDS = 100_000
+# (an argument is shorter than 128 KiB)
+RANGES = 10_900
+MOST_SHOWN = 200
 BANKS = {algorithm.identifier: algorithm.size for algorithm in ALGORITHMS}
 BANK = {SHA256.identifier: SHA256.size}
 REQUIRE = ",".join(f"{algorithm.name}:0-23" for algorithm in ALGORITHMS)
@@ -55,7 +59,7 @@ class Asker:
                 found, errors = (ran.returncode, ran.stdout), ran.stderr
             except subprocess.TimeoutExpired:
                 found, errors = (None, b""), f"more than {SECONDS} seconds".encode()
-        self.count(f"{title}: {' '.join(words)}", found, wanted, errors)
+        self.count(f"{title}: {' '.join(words)[:MOST_SHOWN]}", found, wanted, errors)
 
     def has_function(self, words, folder):
         """Whether the library has a function for this command."""
@@ -63,7 +67,7 @@ class Asker:
 
     def ask_library(self, title, words, folder, wanted):
         """Wants the same of the library, which has a function for this."""
-        self.count(f"the library, {title}: {' '.join(words)}", self.library.answer(words, folder), wanted)
+        self.count(f"the library, {title}: {' '.join(words)[:MOST_SHOWN]}", self.library.answer(words, folder), wanted)
 
     def count(self, title, found, wanted, errors=b""):
         status, text = wanted
@@ -290,13 +294,34 @@ def ask_of_files(asker, folder):
         asker.ask(f"{FILES} names", words, folder, answer)
 
 
+def ask_of_words(asker, folder):
+    """Very many words, and words as long as the system takes: a file named again and again, a range, and names in the lines of faults."""
+    for name, data in {"L": LOG.spelling(), "list": list_spelling(ENTRIES), "expected": EXPECTED.encode(), "f": b"abc"}.items():
+        (folder / name).write_bytes(data)
+    entries = [ENTRIES[0], entry_of(IMA_NG, SHA256, SHA256.hash(b"abc"), b"f")]
+    words = ["measure", "--limit", str(2 * WORDS), "L", *["f"] * WORDS]
+    asker.ask(f"{WORDS} names as words", words, folder, (0, list_text(entries)))
+    for command in ("verify L list expected", "locate L list expected", "replay list expected"):
+        word, *names = command.split()
+        wanted = reference.answer([word, "--require", "sha256:0-23", *names], folder)
+        ask_of_parts(asker, f"{RANGES} ranges", folder, {f"{word} --require {','.join(['sha256:0-23'] * RANGES)} {' '.join(names)}": wanted})
+    longest = "./" * 2045 + "names"
+    for data, command, fault in (
+        (b"\xff" + bytes(MOST_BYTES), f"show {longest}", (2, f"refused: too long {longest}\n")),
+        (b"\xff", f"measure L --files-from {longest}", (2, f"refused: not UTF-8 {longest}\n")),
+        (b"", f"show {longest[:-1]}", (3, f"failed: read {longest[:-1]}\n")),
+    ):
+        (folder / "names").write_bytes(data)
+        asker.ask("a name of 4,095 bytes", command.split(), folder, fault)
+
+
 def main():
     parser = argparse.ArgumentParser(usage="cases/limits.py [--library FILE] [PROGRAM]")
     parser.add_argument("--library", type=Path)
     parser.add_argument("program", nargs="?", type=Path, default=PROGRAM)
     words = parser.parse_args()
     asker = Asker(words.program.resolve(), Library(words.library.resolve()) if words.library else None)
-    for part in (ask_of_sizes, ask_of_events, ask_of_entries, ask_of_files):
+    for part in (ask_of_sizes, ask_of_events, ask_of_entries, ask_of_files, ask_of_words):
         with tempfile.TemporaryDirectory() as name:
             part(asker, Path(name))
     print(f"{asker.passed} passed, {asker.failed} failed")

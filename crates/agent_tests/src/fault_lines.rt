@@ -30,6 +30,14 @@ fn faults_of_workers(rt: HostRuntime) -> Result<(), Fail> {
             2,
         ),
         (
+            RunFault::Outcome {
+                job: 0,
+                fault: BookFault::Memory,
+            },
+            b"failed: memory\n",
+            3,
+        ),
+        (
             RunFault::Gather(GatherFault::Unnamed { place: 2 }),
             b"failed: gather fault 5\n",
             3,

@@ -239,12 +239,17 @@ fn of_sha512(template: Template) -> Origin {
     }
 }
 
+/// The boot aggregate of registers of SHA-512 at reset.
+const AGGREGATE_OF_SHA512: Deed = Deed::MeasureBy(Alg::Sha512, b"boot_aggregate", &[0; 640]);
+
 #[test]
 fn sha512_bank_in_a_book(rt: HostRuntime) -> Result<(), Fail> {
     let alloc = rt.alloc();
     assert!(rt; refuses(alloc, of_sha512(Template::Ima), BookFault::WrongHash));
     let origin = of_sha512(Template::ImaNg);
     assert_example(&rt, alloc, origin, &BY_SHA512, 3, &OF_SHA512, AFTER_SHA512)?;
+    let book = opened(alloc, origin)?;
+    assert!(rt; begins_with(&book, &op_of(alloc, &AGGREGATE_OF_SHA512)?));
     Ok(())
 }
 

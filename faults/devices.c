@@ -1,0 +1,74 @@
+/* Stands before the C library's open, read and write, by LD_PRELOAD. A read gives at most MOST_BYTES, and a write takes as many at most. Of
+   the calls of the kind FAILING_CALL (`open`, `read` or `write`) number FAILING_NUMBER (counted from 1) fails with FAILING_ERROR, or takes
+   no byte if that is 0; then the file FAILURE_MET gets the name by which its file was opened, or `-` for standard input. */
+#define _GNU_SOURCE
+#include <dlfcn.h>
+#include <errno.h>
+#include <fcntl.h>
+#include <stdarg.h>
+#include <stdatomic.h>
+#include <stdlib.h>
+#include <string.h>
+#include <unistd.h>
+
+#define FILES 1024
+
+static atomic_long calls;
+static _Atomic(char *) names[FILES];
+static int (*real_open)(const char *, int, ...);
+static ssize_t (*real_read)(int, void *, size_t);
+static ssize_t (*real_write)(int, const void *, size_t);
+
+__attribute__((constructor)) static void begin(void) {
+    real_open = dlsym(RTLD_NEXT, "open");
+    real_read = dlsym(RTLD_NEXT, "read");
+    real_write = dlsym(RTLD_NEXT, "write");
+}
+
+static long setting(const char *name) {
+    const char *value = getenv(name);
+    return value ? atol(value) : 0;
+}
+
+/* Whether this call fails. */
+static int fails(const char *kind, const char *file) {
+    const char *failing = getenv("FAILING_CALL");
+    if (!failing || strcmp(failing, kind) != 0 || atomic_fetch_add(&calls, 1) + 1 != setting("FAILING_NUMBER"))
+        return 0;
+    int met = real_open(getenv("FAILURE_MET"), O_CREAT | O_WRONLY, 0600);
+    real_write(met, file, strlen(file));
+    close(met);
+    errno = setting("FAILING_ERROR");
+    return 1;
+}
+
+static size_t at_most(size_t size) {
+    long most = setting("MOST_BYTES");
+    return most > 0 && size > (size_t)most ? (size_t)most : size;
+}
+
+int open(const char *name, int flags, ...) {
+    va_list rest;
+    va_start(rest, flags);
+    mode_t mode = flags & O_CREAT ? va_arg(rest, mode_t) : 0;
+    va_end(rest);
+    if (fails("open", name))
+        return -1;
+    int file = real_open(name, flags, mode);
+    if (file >= 0 && file < FILES)
+        atomic_store(&names[file], strdup(name));
+    return file;
+}
+
+ssize_t read(int file, void *bytes, size_t size) {
+    const char *name = file > 0 && file < FILES ? atomic_load(&names[file]) : "-";
+    if (name && fails("read", name))
+        return -1;
+    return real_read(file, bytes, name ? at_most(size) : size);
+}
+
+ssize_t write(int file, const void *bytes, size_t size) {
+    if (file == 1 && fails("write", "-"))
+        return errno ? -1 : 0;
+    return real_write(file, bytes, file == 1 ? at_most(size) : size);
+}

@@ -1,0 +1,99 @@
+#!/usr/bin/env python3
+"""Has the files and the output of the program be slow, or fail, as real devices do.
+
+faults/devices.py [PROGRAM]: by default the program that was built in this tree.
+
+Of the cases a command of each kind (those of `faults/sweep.py`) runs again and again, with faults/devices.c before the C library. Where a
+read gives one byte at most and a write takes one, its answer is to be the same. Then each opening of a file fails in turn, and each read,
+the one at the end of a file too: the answer is to be `failed: read` with the name of that file, and status 3; a command that is refused
+without that may be refused as it is then. And each write fails in turn, or takes no byte: what was written is to be a front of the output,
+with nothing after it, and the status 3. A command without such a call is told. The last line, 'N passed, M failed', counts commands."""
+
+import errno
+import os
+import subprocess
+import sys
+import tempfile
+from concurrent.futures import ThreadPoolExecutor
+from dataclasses import dataclass
+from pathlib import Path
+
+HERE = Path(__file__).resolve().parent
+sys.path[:0] = [str(HERE.parent), str(HERE.parent / "cases"), str(HERE)]
+
+from answers import answer_of  # noqa: E402
+from sweep import command_runs  # noqa: E402
+
+MOST_CALLS = 10_000
+FAILED = 3
+# Which calls fail, with which errors (of a write, 0 is none: it takes no byte), and how many bytes a call moves at most.
+FAILING = (
+    ("open", (errno.EACCES, errno.EMFILE), 0),
+    ("read", (errno.EIO, errno.EINTR), 0),
+    ("write", (errno.ENOSPC, 0), 40),
+)
+
+
+@dataclass(frozen=True)
+class Devices:
+    """Runs a command, with the library before the C library."""
+
+    library: Path
+    run: object
+
+    def answer(self, settings):
+        """The status, the output and what stands on standard error, under these settings; and the name of the file that failed, or None."""
+        with tempfile.TemporaryDirectory() as name:
+            met, output = Path(name, "met"), Path(name, "output")
+            settings = {"LD_PRELOAD": str(self.library), "FAILURE_MET": str(met), **settings}
+            answer = answer_of(self.run.program, self.run.command, self.run.folder, output, settings)
+            return (answer.status, output.read_bytes(), answer.errors), met.read_bytes() if met.exists() else None
+
+    def faults(self):
+        """What is wrong with the command's answers; and how many calls failed."""
+        wanted, _ = self.answer({})
+        short, _ = self.answer({"MOST_BYTES": "1"})
+        faults, count = [] if short == wanted else [f"a byte at a time: {short}"], 0
+        for kind, errors, most in FAILING:
+            for error in errors:
+                for number in range(1, MOST_CALLS):
+                    failing = {"FAILING_CALL": kind, "FAILING_NUMBER": str(number), "FAILING_ERROR": str(error), "MOST_BYTES": str(most)}
+                    found, name = self.answer(failing)
+                    if name is None:
+                        break
+                    count += 1
+                    if not (is_cut if kind == "write" else is_told)(found, wanted, name):
+                        faults.append(f"{kind} {number} of {name!r} fails with error {error}: {found}")
+        return faults, count
+
+
+def is_told(found, wanted, name):
+    """Whether an answer tells that this file failed, or is the refusal that is wanted in any case."""
+    return found == (FAILED, b"failed: read %s\n" % name, b"") or (wanted[0] > 1 and found == wanted)
+
+
+def is_cut(found, wanted, _name):
+    """Whether an answer is a front of the one wanted, and no more."""
+    status, text, errors = found
+    return status == FAILED and errors == b"" and text != wanted[1] and wanted[1].startswith(text)
+
+
+def main():
+    root = HERE.parent
+    program = Path(sys.argv[1] if len(sys.argv) > 1 else root / "crates/ima_agent_program/out/ima_agent_program").resolve()
+    with tempfile.TemporaryDirectory() as name, ThreadPoolExecutor(os.cpu_count()) as pool:
+        folder = Path(name)
+        library = folder / "devices.so"
+        subprocess.run(["cc", "-O2", "-shared", "-fPIC", "-o", library, HERE / "devices.c", "-ldl"], check=True)
+        runs, wrong = command_runs(program, folder)
+        failed, total = len(wrong), 0
+        for run, (faults, count) in zip(runs, pool.map(lambda run: Devices(library, run).faults(), runs)):
+            total += count
+            failed += bool(faults)
+            print(f"{count:6} failed, {faults[0] if faults else 'ok'}: {run.title()}", flush=True)
+        print(*wrong, f"{total} calls failed", f"{len(runs) + len(wrong) - failed} passed, {failed} failed", sep="\n")
+    return 1 if failed or not runs else 0
+
+
+if __name__ == "__main__":
+    sys.exit(main())
