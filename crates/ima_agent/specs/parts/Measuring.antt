@@ -1,5 +1,6 @@
 -- What is known of a measurement while it is prepared.
-use Rattle.std.specs.Prelude.{◌≡◌, ℕ, ◌<◌, ◌⊎◌, List, length, slice_get, Some, IfSome, String, string_bytes}
+use Rattle.std.specs.Prelude.{◌≡◌, ℕ, ◌<◌, ◌⊎◌, List, length, map, slice_get, Some, IfSome, String, string_bytes}
+use Rattle.std.specs.Borrow.{Bor}
 use Rattle.std.specs.Global.{Global}
 use Rattle.boot_log.specs.declared.log.BootLog.{BootLog}
 use Rattle.boot_log.specs.BootLog.{algs_of, events_of}
@@ -15,6 +16,10 @@ use Rattle.ima_agent.specs.declared.measuring.Measuring.{Measuring}
 use Rattle.ima_agent.specs.declared.fault.RunFault.TheVariants as runs
 use Rattle.ima_agent.specs.Loading.{IsNotRead, IsTooLong, input_limit}
 use Rattle.ima_agent.specs.Measuring.{Contents, Manner}
+
+-- The names that are lent.
+abbrev pub names_lent : List (Bor (List ℕ)) → List (List ℕ)
+names_lent names = map (λ name. name.now) names
 
 -- The requested manner.
 abbrev pub manner_of : Measuring → Manner
