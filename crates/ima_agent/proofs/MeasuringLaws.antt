@@ -1,8 +1,9 @@
 -- Measured files, and the first refused one.
 use Rattle.std.proofs.Common.{rules, ◌≡◌, ℕ, ◌+◌, ◌<◌, ◌≤◌, List, [], length, map, get_or, Some, refl, sym, ap, ◌∙◌, subst, inl, inr, arith}
-use Rattle.std.specs.Prelude.{◌⊎◌, slice_get, String, string_bytes, IfErr, IfOk, IfSome, Result, Ok, Err}
+use Rattle.std.specs.Prelude.{◌⊎◌, slice_get, IfErr, IfOk, IfSome, Result, Ok, Err}
 use Rattle.std.proofs.Math.Path.{fun_ext}
-use Rattle.std.specs.Global.{Global, Vec}
+use Rattle.std.specs.Borrow.{Bor}
+use Rattle.std.specs.Global.{Vec}
 use Rattle.std.proofs.lemmas.List.{length-map}
 use Rattle.std.proofs.lemmas.Bool.{cases_lt}
 use Rattle.std.proofs.lemmas.Option.{same_Some, slice_get_read, slice_get_within}
@@ -36,7 +37,7 @@ use Rattle.ima_agent.specs.Faults.{fault_of_log}
 use Rattle.ima_agent.specs.Hashing.{IsHashOfAll}
 use Rattle.ima_agent.specs.Loading.{Holds, Inputs, IsInputFault, IsNotRead, IsTooLong, input_limit}
 use Rattle.ima_agent.specs.Measuring.{AreAllDone, Contents, HasFile, HasMeasured, IsFileFault, IsFileMeasure, IsFirstRefusal, IsMeasuringFault, IsNamesFault, IsRecordingFault, IsSetOut, IsUnhashed, Manner, ShowsMeasured, all_names, failing_in, files_in}
-use Rattle.ima_agent.specs.parts.Measuring.{IsFileFaultOf, IsFileLack}
+use Rattle.ima_agent.specs.parts.Measuring.{IsFileFaultOf, IsFileFailure, names_lent}
 use Rattle.ima_agent.specs.Program.{IsListedFault, OfInput}
 use Rattle.ima_agent.specs.parts.NamedFiles.{job_fault_of}
 
@@ -75,46 +76,40 @@ measured_of_hash : (alg : Alg) (content path : List ℕ)
     → measured (digest_of alg (hash_of alg content)) path [] ≡ record { alg = alg; digest = hash_of alg content; path = path; sig = [] }
 measured_of_hash alg content path = search rules
 
-pub file_measure : (held : Contents) (names : List (String Global)) (alg : Alg) (number : ℕ) (name : String Global) (digest : Digest)
-    (path sig : List ℕ) → number < length names → name ≡ get_or names number name
-    → IsHashOfAll (held (string_bytes name)) alg input_limit digest → path ≡ string_bytes name → sig ≡ []
-    → IsFileMeasure held (map string_bytes names) alg number (measure (measured digest path sig))
-file_measure held names alg number name digest path sig within is hashed path_is sig_is =
-    let At : Digest → Type 0 = λ d. measured d (string_bytes name) [] ≡ record {
+pub file_measure : (held : Contents) (names : List (Bor (List ℕ))) (alg : Alg) (number : ℕ) (name : Bor (List ℕ)) (digest : Digest)
+    (path sig : List ℕ) → slice_get names number ≡ Some name
+    → IsHashOfAll (held name.now) alg input_limit digest → path ≡ name.now → sig ≡ []
+    → IsFileMeasure held (names_lent names) alg number (measure (measured digest path sig))
+file_measure held names alg number name digest path sig has hashed path_is sig_is =
+    let At : Digest → Type 0 = λ d. measured d name.now [] ≡ record {
       alg = alg;
       digest = hash_of alg hashed.content;
-      path = string_bytes name;
+      path = name.now;
       sig = [];
     } in
-    let fields = subst At (sym hashed.digest_is) (measured_of_hash alg hashed.content (string_bytes name)) in
+    let fields = subst At (sym hashed.digest_is) (measured_of_hash alg hashed.content name.now) in
     record {
       file = record {
-        name = string_bytes name;
+        name = name.now;
         content = hashed.content;
-        has = at_map string_bytes names number name (slice_get_read names (length names) number name refl within is);
+        has = at_map (λ (n : Bor (List ℕ)). n.now) names number name has;
         held_is = hashed.held;
         within = hashed.within;
       };
       op_is = ap (λ (p : List ℕ). measure (measured digest p sig)) path_is
-          ∙ ap (λ (s : List ℕ). measure (measured digest (string_bytes name) s)) sig_is ∙ ap (λ (f : FileFields). measure f) fields;
+          ∙ ap (λ (s : List ℕ). measure (measured digest name.now s)) sig_is ∙ ap (λ (f : FileFields). measure f) fields;
     }
 
-pub file_had : (held : Contents) (names : List (String Global)) (alg : Alg) (number : ℕ) (name : String Global) (digest : Digest)
-    → number < length names → name ≡ get_or names number name → IsHashOfAll (held (string_bytes name)) alg input_limit digest
-    → HasFile held (map string_bytes names) number
-file_had held names alg number name digest within is hashed = record {
-  name = string_bytes name;
+pub file_had : (held : Contents) (names : List (Bor (List ℕ))) (alg : Alg) (number : ℕ) (name : Bor (List ℕ)) (digest : Digest)
+    → slice_get names number ≡ Some name → IsHashOfAll (held name.now) alg input_limit digest
+    → HasFile held (names_lent names) number
+file_had held names alg number name digest has hashed = record {
+  name = name.now;
   content = hashed.content;
-  has = at_map string_bytes names number name (slice_get_read names (length names) number name refl within is);
+  has = at_map (λ (n : Bor (List ℕ)). n.now) names number name has;
   held_is = hashed.held;
   within = hashed.within;
 }
-
--- The same of a file that was looked up by the same name.
-pub asked_for : (held : Contents) (alg : Alg) (digest : Digest) (name looked : List ℕ) → looked ≡ name
-    → IsHashOfAll (held looked) alg input_limit digest → IsHashOfAll (held name) alg input_limit digest
-asked_for held alg digest name looked is hashed =
-    let At : List ℕ → Type 0 = λ n. IsHashOfAll (held n) alg input_limit digest in subst At is hashed
 
 -- One more file was read.
 pub had_more : (held : Contents) (names : List (List ℕ)) (number : ℕ)
@@ -128,25 +123,25 @@ had_more held names number before here earlier below = elim (cases_lt earlier nu
 ]
 
 -- Why a file has no operation.
-pub file_lacks : (held : Contents) (Fails : List ℕ → Type 0) (names : List (String Global)) (number : ℕ) (name : String Global)
-    (fault : LoadFault) → number < length names → name ≡ get_or names number name
-    → (fault ≡ loads.TooLong → IfSome (held (string_bytes name)) (λ all. input_limit < length all))
-    → (fault ≡ loads.Source → Fails (string_bytes name)) → IsFileLack held Fails (map string_bytes names) number (job_fault_of fault)
-file_lacks held Fails names number name loads.TooLong within is too_long source = (
-  string_bytes name,
-  at_map string_bytes names number name (slice_get_read names (length names) number name refl within is),
+pub file_lacks : (held : Contents) (Fails : List ℕ → Type 0) (names : List (Bor (List ℕ))) (number : ℕ) (name : Bor (List ℕ))
+    (fault : LoadFault) → slice_get names number ≡ Some name
+    → (fault ≡ loads.TooLong → IfSome (held name.now) (λ all. input_limit < length all))
+    → (fault ≡ loads.Source → Fails name.now) → IsFileFailure held Fails (names_lent names) number (job_fault_of fault)
+file_lacks held Fails names number name loads.TooLong has too_long source = (
+  name.now,
+  at_map (λ (n : Bor (List ℕ)). n.now) names number name has,
   too_long refl,
 )
-file_lacks held Fails names number name loads.Source within is too_long source = (
-  string_bytes name,
-  at_map string_bytes names number name (slice_get_read names (length names) number name refl within is),
+file_lacks held Fails names number name loads.Source has too_long source = (
+  name.now,
+  at_map (λ (n : Bor (List ℕ)). n.now) names number name has,
   source refl,
 )
-file_lacks held Fails names number name loads.Memory within is too_long source = tt
+file_lacks held Fails names number name loads.Memory has too_long source = tt
 
 -- The fault of the first file without an operation.
 pub file_fault : (held : Contents) (Fails : List ℕ → Type 0) (names : List (List ℕ)) (number : ℕ) (cause : JobFault) (fault : RunFault)
-    → number < length names → IsFileLack held Fails names number cause → IsFileFaultOf names number cause fault
+    → number < length names → IsFileFailure held Fails names number cause → IsFileFaultOf names number cause fault
     → ((earlier : ℕ) → earlier < number → HasFile held names earlier) → IsFileFault held Fails names fault
 file_fault held Fails names number lacks.TooLong fault within lack (inl says) before =
     let same : says.0 ≡ lack.0 = same_Some says.0 lack.0 (sym says.1 ∙ lack.1) in
@@ -193,15 +188,15 @@ same_contents held told same = fun_ext same
 -- ---- a measurement
 
 -- There are as many names as files.
-pub measured_as_named : (origin : Origin) (files : List (String Global)) (Makes : ℕ → BookOp → Type 0) (workers : ℕ) (book : BookState)
-    → HasMeasured origin (length files) Makes workers book → HasMeasured origin (length (map string_bytes files)) Makes workers book
+pub measured_as_named : (origin : Origin) (files : List (Bor (List ℕ))) (Makes : ℕ → BookOp → Type 0) (workers : ℕ) (book : BookState)
+    → HasMeasured origin (length files) Makes workers book → HasMeasured origin (length (names_lent files)) Makes workers book
 measured_as_named origin files Makes workers book known =
-    let At : ℕ → Type 0 = λ n. HasMeasured origin n Makes workers book in subst At (sym (length-map files string_bytes)) known
+    let At : ℕ → Type 0 = λ n. HasMeasured origin n Makes workers book in subst At (sym (length-map files (λ (name : Bor (List ℕ)). name.now))) known
 
-recording_as_named : (origin : Origin) (files : List (String Global)) (Makes : ℕ → BookOp → Type 0) (workers : ℕ) (fault : RunFault)
-    → IsRecordingFault origin (length files) Makes workers fault → IsRecordingFault origin (length (map string_bytes files)) Makes workers fault
+recording_as_named : (origin : Origin) (files : List (Bor (List ℕ))) (Makes : ℕ → BookOp → Type 0) (workers : ℕ) (fault : RunFault)
+    → IsRecordingFault origin (length files) Makes workers fault → IsRecordingFault origin (length (names_lent files)) Makes workers fault
 recording_as_named origin files Makes workers fault known =
-    let At : ℕ → Type 0 = λ n. IsRecordingFault origin n Makes workers fault in subst At (sym (length-map files string_bytes)) known
+    let At : ℕ → Type 0 = λ n. IsRecordingFault origin n Makes workers fault in subst At (sym (length-map files (λ (name : Bor (List ℕ)). name.now))) known
 
 -- A batch whose jobs are all done, or the first of them that was refused.
 module _ (origin : Origin) (count : ℕ) (Makes : ℕ → BookOp → Type 0) (workers : ℕ) (book : BookState) (outcomes : List BookOutcome)
@@ -219,18 +214,18 @@ module _ (origin : Origin) (count : ℕ) (Makes : ℕ → BookOp → Type 0) (wo
   refused_one P (Err fault) first = inr (inr (record { book = book; outcomes = outcomes; by = by; batch = batch; first = first }))
 
 -- Why nothing is shown if the files are not all recorded.
-pub not_recorded : (held : Contents) (Fails : List ℕ → Type 0) (log : List ℕ) (manner : Manner) (files : List (String Global)) (table : List Row)
+pub not_recorded : (held : Contents) (Fails : List ℕ → Type 0) (log : List ℕ) (manner : Manner) (files : List (Bor (List ℕ))) (table : List Row)
     (events : List LogEvent) (origin : Origin) (fault : RunFault) → IsSetOut log manner table events origin
-    → (IsFileFault held Fails (map string_bytes files) fault
-    ⊎ IsRecordingFault origin (length files) (IsFileMeasure held (map string_bytes files) manner.alg) manner.workers fault)
-    → IsMeasuringFault held Fails log manner (map string_bytes files) fault
+    → (IsFileFault held Fails (names_lent files) fault
+    ⊎ IsRecordingFault origin (length files) (IsFileMeasure held (names_lent files) manner.alg) manner.workers fault)
+    → IsMeasuringFault held Fails log manner (names_lent files) fault
 not_recorded held Fails log manner files table events origin fault out (inl file) = inr (inl file)
 not_recorded held Fails log manner files table events origin fault out (inr recording) = inr (inr (inl (record {
   table = table;
   events = events;
   origin = origin;
   set_out = out;
-  cause = recording_as_named origin files (IsFileMeasure held (map string_bytes files) manner.alg) manner.workers fault recording;
+  cause = recording_as_named origin files (IsFileMeasure held (names_lent files) manner.alg) manner.workers fault recording;
 })))
 
 -- What is shown of files that several threads read is shown of the inputs that hold the same.

@@ -1,7 +1,8 @@
 //! The names of files in arguments and in a text.
 
-ghost use Rattle.std.specs.Prelude.{◌≡◌, ◌<◌, ◌^◌, map, string_bytes, vec_len, IfOk, IfErr};
+ghost use Rattle.std.specs.Prelude.{◌≡◌, ◌<◌, ◌^◌, length, map, string_bytes, vec_len, IfOk, IfErr};
 ghost use Rattle.ima_agent.specs.Measuring.{IsNamesFault, all_names};
+ghost use Rattle.ima_agent.specs.parts.Measuring.{names_lent};
 
 use crate::fault::RunFault;
 use crate::inputs::not_utf8;
@@ -9,21 +10,21 @@ use crate::names::{NamesFault, names_in};
 use command_line::NameEnd;
 use std::alloc::{AllocError, Global};
 
-/// These names, and then those in the text of the input of this name. Fails with `NotUtf8` if the text is not UTF-8, and with
+/// These names, and then those in the text of the input of this name, all of them lent. Fails with `NotUtf8` if the text is not UTF-8, and with
 /// `Usage` if there are 2^32 names or more.
-pub(crate) fn with_names_in(
+pub(crate) fn with_names_in<'a>(
     alloc: Global,
-    first: &[String],
-    text: &[u8],
+    first: &'a [String],
+    text: &'a [u8],
     input: &str,
     ends: NameEnd,
-) -> Result<Vec<String>, RunFault>
-    ensures names { IfOk result (λ names. map string_bytes names.items ≡ all_names (map string_bytes first.now) ends text.now) }
+) -> Result<Vec<&'a str>, RunFault>
+    ensures names { IfOk result (λ names. names_lent names.items ≡ all_names (map string_bytes first.now) ends text.now) }
     ensures small { IfOk result (λ names. vec_len names < 2 ^ 32) }
     ensures fault { IfErr result (IsNamesFault input.now (map string_bytes first.now) ends text.now) }
 {
-    let mut names = copied(alloc, first)?;
-    match names_in(alloc, text, ends, &mut names) {
+    let mut names = lent(alloc, first)?;
+    match names_in(text, ends, &mut names) {
         Ok(()) if names.len() <= u32::MAX as usize => Ok(names),
         Ok(()) => Err(RunFault::Usage),
         Err(NamesFault::NotUtf8) => Err(not_utf8(alloc, input)),
@@ -31,13 +32,14 @@ pub(crate) fn with_names_in(
     }
 }
 
-// A copy of these names.
-fn copied(alloc: Global, names: &[String]) -> Result<Vec<String>, AllocError>
-    ensures { IfOk result (λ copies. map string_bytes copies.items ≡ map string_bytes names.now) }
+/// These names, lent.
+pub(crate) fn lent<'a>(alloc: Global, names: &'a [String]) -> Result<Vec<&'a str>, AllocError>
+    ensures names { IfOk result (λ lent. names_lent lent.items ≡ map string_bytes names.now) }
+    ensures count { IfOk result (λ lent. vec_len lent ≡ length names.now) }
 {
-    let mut copies = Vec::with_capacity(alloc, names.len())?;
+    let mut lent = Vec::with_capacity(alloc, names.len())?;
     for name in names {
-        copies.push(String::from_str(alloc, name)?)?;
+        lent.push(name.as_str())?;
     }
-    Ok(copies)
+    Ok(lent)
 }

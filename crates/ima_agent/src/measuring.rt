@@ -4,14 +4,14 @@ ghost use Rattle.std.specs.Prelude.{◌≡◌, ◌<◌, ◌⊎◌, ◌^◌, leng
 ghost use Rattle.measure_book.specs.Operations.{book_outcome_of};
 ghost use Rattle.ima_agent.specs.Loading.{IsInputFault};
 ghost use Rattle.ima_agent.specs.Measuring.{AreAllDone, HasMeasured, IsFileFault, IsFileMeasure, IsFirstRefusal, IsFirstRefused, IsMeasuringFault, IsRecordingFault, ShowsMeasured, all_names, failing_in, files_in, printed};
-ghost use Rattle.ima_agent.specs.parts.Measuring.{IsAskedOf, MeasuresFiles, IsReadLog, manner_of};
+ghost use Rattle.ima_agent.specs.parts.Measuring.{IsAskedOf, MeasuresFiles, IsReadLog, manner_of, names_lent};
 ghost use Rattle.ima_agent.specs.Program.{IsFaultOf, IsListedFault, IsOutputFor, OfInput};
 ghost use Rattle.command_line.specs.Plans.{IsWithinRanges};
 
 use crate::fault::RunFault;
 use crate::files::{Files, SharedFiles};
 use crate::inputs::loaded;
-use crate::listing::with_names_in;
+use crate::listing::{lent, with_names_in};
 use crate::named_files::{NamedFiles, Told};
 use crate::progress::Progress;
 use crate::showing::lines;
@@ -127,7 +127,17 @@ fn measured<R: Threads + Wait + Sync, F: Files, P: Progress>(
 {
     let bytes = loaded(alloc, files, Some(asked.log))?;
     let log = read_log(alloc, &bytes)?;
-    measured_into(rt, alloc, files.shared(), &bytes, &log, asked, progress)
+    let names = lent(alloc, asked.files)?;
+    measured_into(
+        rt,
+        alloc,
+        files.shared(),
+        &bytes,
+        &log,
+        asked,
+        &names,
+        progress,
+    )
 }
 
 /// The same of these files, and then of those named by the text of the input of this name, which is loaded and read after the
@@ -152,14 +162,19 @@ fn measured_listed<R: Threads + Wait + Sync, F: Files, P: Progress>(
     let log = read_log(alloc, &bytes)?;
     let text = loaded(alloc, files, Some(names))?;
     let all = with_names_in(alloc, asked.files, &text, names, ends)?;
-    let asked = Measuring {
-        files: &all,
-        ..asked
-    };
-    measured_into(rt, alloc, files.shared(), &bytes, &log, asked, progress)
+    measured_into(
+        rt,
+        alloc,
+        files.shared(),
+        &bytes,
+        &log,
+        asked,
+        &all,
+        progress,
+    )
 }
 
-// The same over a log that was read. Its bytes, `_bytes`, serve the contract alone.
+// Measures the files of these names over a log that was read. Its bytes, `_bytes`, serve the contract alone.
 fn measured_into<R: Threads + Wait + Sync, S: SharedFiles + Sync, P: Progress>(
     rt: &R,
     alloc: Global,
@@ -167,13 +182,15 @@ fn measured_into<R: Threads + Wait + Sync, S: SharedFiles + Sync, P: Progress>(
     _bytes: &[u8],
     log: &BootLog,
     asked: Measuring,
+    names: &[&str],
     progress: &P,
 ) -> Result<Vec<u8>, RunFault>
-    requires small { length asked.files.now < 2 ^ 32 }
+    requires small { length names.now < 2 ^ 32 }
     requires read { IsReadLog _bytes.now log.now }
     ensures shown { IfOk result (λ shown. ShowsMeasured (S.held files.now) _bytes.now (manner_of asked.entry) asked.entry.print
-        (map string_bytes asked.entry.files.now) shown.items) }
-    ensures fault { IfErr result (IsMeasuringFault (S.held files.now) (S.fails files.now) _bytes.now (manner_of asked.entry) (map string_bytes asked.entry.files.now)) }
+        (names_lent names.now) shown.items) }
+    ensures fault { IfErr result (IsMeasuringFault (S.held files.now) (S.fails files.now) _bytes.now (manner_of asked.entry)
+        (names_lent names.now)) }
 {
     let origin = Origin {
         start: log.registers(),
@@ -181,10 +198,7 @@ fn measured_into<R: Threads + Wait + Sync, S: SharedFiles + Sync, P: Progress>(
         alg: asked.alg,
         limit: asked.limit,
     };
-    let jobs = NamedFiles {
-        files,
-        names: asked.files,
-    };
+    let jobs = NamedFiles { files, names };
     let book = recorded(rt, alloc, origin, &jobs, asked.workers, progress)?;
     Ok(printed(alloc, asked.print, &book, &log.reset_registers())?)
 }
@@ -200,10 +214,10 @@ fn recorded<R: Threads + Wait + Sync, S: SharedFiles + Sync, P: Progress>(
 ) -> Result<Book, RunFault>
     requires small { length jobs.now.names.now < 2 ^ 32 }
     ensures book { IfOk result (HasMeasured origin (length jobs.now.names.now)
-        (IsFileMeasure (S.held jobs.now.files.now) (map string_bytes jobs.now.names.now) origin.alg) workers) }
-    ensures fault { IfErr result (λ fault. IsFileFault (S.held jobs.now.files.now) (S.fails jobs.now.files.now) (map string_bytes jobs.now.names.now) fault
+        (IsFileMeasure (S.held jobs.now.files.now) (names_lent jobs.now.names.now) origin.alg) workers) }
+    ensures fault { IfErr result (λ fault. IsFileFault (S.held jobs.now.files.now) (S.fails jobs.now.files.now) (names_lent jobs.now.names.now) fault
         ⊎ IsRecordingFault origin (length jobs.now.names.now)
-        (IsFileMeasure (S.held jobs.now.files.now) (map string_bytes jobs.now.names.now) origin.alg) workers fault) }
+        (IsFileMeasure (S.held jobs.now.files.now) (names_lent jobs.now.names.now) origin.alg) workers fault) }
 {
     let gate = Told::new(progress, jobs.names.len() as u32);
     let recorded = record_jobs(rt, alloc, origin, jobs, workers, &gate);

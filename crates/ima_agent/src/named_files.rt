@@ -1,8 +1,8 @@
 //! Named files as the workers' jobs.
 
-ghost use Rattle.std.specs.Prelude.{◌≡◌, ◌<◌, ◌^◌, length, map, string_bytes, IfErr};
+ghost use Rattle.std.specs.Prelude.{◌≡◌, ◌<◌, ◌^◌, length, IfErr};
 ghost use Rattle.ima_agent.specs.Measuring.{IsFileFault, IsFileMeasure};
-ghost use Rattle.ima_agent.specs.parts.Measuring.{IsFileFaultOf, IsFileLack};
+ghost use Rattle.ima_agent.specs.parts.Measuring.{IsFileFaultOf, IsFileFailure, names_lent};
 ghost use Rattle.ima_agent.specs.parts.NamedFiles.{job_fault_of};
 
 use crate::fault::RunFault;
@@ -22,22 +22,22 @@ use std::sync::atomic::{AtomicU32, Ordering};
 #[derive(Clone, Copy)]
 pub(crate) struct NamedFiles<'a, S> {
     pub files: &'a S,
-    pub names: &'a [String],
+    pub names: &'a [&'a str],
 }
 
 impl<S: SharedFiles> Jobs for NamedFiles<'_, S> {
     ghost total = { λ jobs. length jobs.names.now };
 
-    ghost makes = { λ jobs. IsFileMeasure (S.held jobs.files.now) (map string_bytes jobs.names.now) };
+    ghost makes = { λ jobs. IsFileMeasure (S.held jobs.files.now) (names_lent jobs.names.now) };
 
-    ghost fails = { λ jobs. IsFileLack (S.held jobs.files.now) (S.fails jobs.files.now) (map string_bytes jobs.names.now) };
+    ghost fails = { λ jobs. IsFileFailure (S.held jobs.files.now) (S.fails jobs.files.now) (names_lent jobs.names.now) };
 
     fn count(&self) -> usize {
         self.names.len()
     }
 
     fn operation(&self, alloc: Global, job: u32, alg: Alg) -> Result<Op, JobFault> {
-        let name = &self.names[job as usize];
+        let name = self.names[job as usize];
         let digest = match self.files.hash(alloc, name, alg, INPUT_LIMIT) {
             Ok(digest) => digest,
             Err(fault) => return Err(job_fault(fault)),
@@ -54,9 +54,9 @@ impl<S: SharedFiles> NamedFiles<'_, S> {
     /// The fault of the file of this number.
     pub fn fault_of(&self, alloc: Global, job: u32, fault: JobFault) -> RunFault
         requires { job < length self.now.names.now }
-        ensures { IsFileFaultOf (map string_bytes self.now.names.now) job fault result }
+        ensures { IsFileFaultOf (names_lent self.now.names.now) job fault result }
     {
-        let name = &self.names[job as usize];
+        let name = self.names[job as usize];
         match fault {
             JobFault::TooLong => too_long(alloc, name),
             JobFault::Source => not_read(alloc, name),
@@ -68,10 +68,10 @@ impl<S: SharedFiles> NamedFiles<'_, S> {
     /// no worker read them.
     pub fn check(&self, alloc: Global, alg: Alg) -> Result<(), RunFault>
         requires { length self.now.names.now < 2 ^ 32 }
-        ensures { IfErr result (IsFileFault (S.held self.now.files.now) (S.fails self.now.files.now) (map string_bytes self.now.names.now)) }
+        ensures { IfErr result (IsFileFault (S.held self.now.files.now) (S.fails self.now.files.now) (names_lent self.now.names.now)) }
     {
         for index in 0..self.names.len() {
-            if let Err(fault) = self.files.hash(alloc, &self.names[index], alg, INPUT_LIMIT) {
+            if let Err(fault) = self.files.hash(alloc, self.names[index], alg, INPUT_LIMIT) {
                 return Err(self.fault_of(alloc, index as u32, job_fault(fault)));
             }
         }

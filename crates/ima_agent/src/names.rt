@@ -1,12 +1,13 @@
 //! The names in a text.
 
-ghost use Rattle.std.specs.Prelude.{◌≡◌, ◌<◌, ◌++◌, map, string_bytes, IsErrOf, OnOk};
+ghost use Rattle.std.specs.Prelude.{◌≡◌, ◌<◌, ◌++◌, IsErrOf, OnOk};
 ghost use Rattle.std.specs.Str.{IsUtf8};
 ghost use Rattle.ima_agent.specs.declared.names.NamesFault.TheVariants.{Memory};
 ghost use Rattle.ima_agent.specs.Names.{byte_of, names_of};
+ghost use Rattle.ima_agent.specs.parts.Measuring.{names_lent};
 
 use command_line::NameEnd;
-use std::alloc::{AllocError, AllocFailed, Global};
+use std::alloc::{AllocError, AllocFailed};
 
 /// Why the names were not read.
 #[derive(Clone, Copy)]
@@ -44,17 +45,16 @@ fn end_char(ends: NameEnd) -> char
     }
 }
 
-/// Appends each name of the text to `names`, in order. The text is split at each byte that ends a name, and at no other; the last
-/// name may lack it. Empty names are skipped.
+/// Appends each name of the text to `names`, in order: a part of the text, which lends it. The text is split at each byte that ends a
+/// name, and at no other; the last name may lack it. Empty names are skipped.
 ///
 /// Fails with `NotUtf8` if the text is not UTF-8; nothing was appended then. After `Memory` some of the names were.
-pub(crate) fn names_in(
-    alloc: Global,
-    text: &[u8],
+pub(crate) fn names_in<'a>(
+    text: &'a [u8],
     ends: NameEnd,
-    names: &mut Vec<String>,
+    names: &mut Vec<&'a str>,
 ) -> Result<(), NamesFault>
-    ensures names { OnOk result (map string_bytes names.new.items ≡ map string_bytes names.old.items ++ names_of ends text.now) }
+    ensures names { OnOk result (names_lent names.new.items ≡ names_lent names.old.items ++ names_of ends text.now) }
     ensures utf8 { OnOk result (IsUtf8 text.now) }
     ensures not_utf8 { IsErrOf result NamesFault.NotUtf8 → IsUtf8 text.now → ⊥ }
 {
@@ -63,7 +63,7 @@ pub(crate) fn names_in(
     };
     for name in text.split(end_char(ends)) {
         if !name.is_empty() {
-            names.push(String::from_str(alloc, name)?)?;
+            names.push(name)?;
         }
     }
     Ok(())

@@ -1,12 +1,13 @@
 -- What is known of a measurement while it is prepared.
-use Rattle.std.specs.Prelude.{◌≡◌, ℕ, ◌<◌, ◌⊎◌, List, length, slice_get, Some, IfSome, String, string_bytes}
+use Rattle.std.specs.Prelude.{◌≡◌, ℕ, ◌<◌, ◌⊎◌, List, length, map, slice_get, Some, IfSome, String, string_bytes}
+use Rattle.std.specs.Borrow.{Bor}
 use Rattle.std.specs.Global.{Global}
 use Rattle.boot_log.specs.declared.log.BootLog.{BootLog}
 use Rattle.boot_log.specs.BootLog.{algs_of, events_of}
 use Rattle.boot_log.specs.declared.header.Row.{Row}
 use Rattle.boot_log.specs.Spelling.{IsLog, algs_in}
 use Rattle.hash_workers.specs.declared.fault.JobFault.{JobFault}
-use Rattle.hash_workers.specs.declared.fault.JobFault.TheVariants as lacks
+use Rattle.hash_workers.specs.declared.fault.JobFault.TheVariants as faults
 use Rattle.command_line.specs.declared.plan.Plan.{Plan}
 use Rattle.command_line.specs.declared.plan.Plan.TheVariants as plans
 use Rattle.command_line.specs.declared.plan.Print.{Print}
@@ -16,25 +17,29 @@ use Rattle.ima_agent.specs.declared.fault.RunFault.TheVariants as runs
 use Rattle.ima_agent.specs.Loading.{IsNotRead, IsTooLong, input_limit}
 use Rattle.ima_agent.specs.Measuring.{Contents, Manner}
 
+-- The names that are lent.
+abbrev pub names_lent : List (Bor (List ℕ)) → List (List ℕ)
+names_lent names = map (λ name. name.now) names
+
 -- The requested manner.
 abbrev pub manner_of : Measuring → Manner
 manner_of asked = record { alg = asked.alg; template = asked.template; workers = asked.workers; limit = asked.limit }
 
 -- Why the file of this number has no operation: it is too long, it could not be opened or read (both only as far as this is
 -- told), or memory ran out.
-abbrev pub IsFileLack : Contents → (List ℕ → Type 0) → List (List ℕ) → ℕ → JobFault → Type 0
-IsFileLack held Fails names number lacks.TooLong =
+abbrev pub IsFileFailure : Contents → (List ℕ → Type 0) → List (List ℕ) → ℕ → JobFault → Type 0
+IsFileFailure held Fails names number faults.TooLong =
     (name : List ℕ) × (slice_get names number ≡ Some name) × IfSome (held name) (λ all. input_limit < length all)
-IsFileLack held Fails names number lacks.Source = (name : List ℕ) × (slice_get names number ≡ Some name) × Fails name
-IsFileLack held Fails names number lacks.Memory = Unit {0}
+IsFileFailure held Fails names number faults.Source = (name : List ℕ) × (slice_get names number ≡ Some name) × Fails name
+IsFileFailure held Fails names number faults.Memory = Unit {0}
 
 -- The fault of the program for this cause, of the file of this number: it names the file, or memory ran out.
 abbrev pub IsFileFaultOf : List (List ℕ) → ℕ → JobFault → RunFault → Type 0
-IsFileFaultOf names number lacks.TooLong fault =
+IsFileFaultOf names number faults.TooLong fault =
     ((name : List ℕ) × (slice_get names number ≡ Some name) × IsTooLong name fault) ⊎ (fault ≡ runs.Memory)
-IsFileFaultOf names number lacks.Source fault =
+IsFileFaultOf names number faults.Source fault =
     ((name : List ℕ) × (slice_get names number ≡ Some name) × IsNotRead name fault) ⊎ (fault ≡ runs.Memory)
-IsFileFaultOf names number lacks.Memory fault = fault ≡ runs.Memory
+IsFileFaultOf names number faults.Memory fault = fault ≡ runs.Memory
 
 -- The bytes are a log, and this is what was read of it.
 abbrev pub IsReadLog : List ℕ → BootLog → Type 0

@@ -13,7 +13,7 @@ returns-clause-shown g c =
     c.in_ok-bytes.ensures.all
     (shown_of told _ c.in_ok-bytes.bytes.items (manner_of c.args.asked) c.args.asked.print names c.measured_into.result
     (λ name. c.shared.ensures.held name ∙ ap (λ inputs. inputs.held (Some name)) c.in_ok-bytes.ensures.told)
-    (rw c.deref-2.ensures.value at c.measured_into.ensures.shown))
+    (rw (c.deref-2.ensures.value, c.deref-3.ensures.value, c.in_ok-names.ensures.names) at c.measured_into.ensures.shown))
 
 pub returns-clause-fault : goal.returns-clause-fault
 returns-clause-fault g c =
@@ -25,4 +25,4 @@ returns-clause-fault g c =
     (fault_of told _ _ c.in_ok-bytes.bytes.items (manner_of c.args.asked) names c.measured_into.result
     (λ name. c.shared.ensures.held name ∙ ap (λ inputs. inputs.held (Some name)) c.in_ok-bytes.ensures.told)
     (λ name fails. rw c.in_ok-bytes.ensures.told at c.shared.ensures.fails name fails)
-    (rw c.deref-2.ensures.value at c.measured_into.ensures.fault))
+    (rw (c.deref-2.ensures.value, c.deref-3.ensures.value, c.in_ok-names.ensures.names) at c.measured_into.ensures.fault))

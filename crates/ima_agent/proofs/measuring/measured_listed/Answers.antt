@@ -2,7 +2,7 @@ use Rattle.std.proofs.Common.{List, ℕ, Some, ap, ◌∙◌, inl, inr, map, str
 use Rattle.std.specs.Prelude.{IfErr, IfOk}
 use Rattle.std.proofs.lemmas.Result.{err_from_is_err_and}
 use Rattle.ima_agent.specs.Measuring.{IsMeasuringFault, IsNamesFault, ShowsMeasured, all_names, failing_in, files_in}
-use Rattle.ima_agent.specs.parts.Measuring.{manner_of}
+use Rattle.ima_agent.specs.parts.Measuring.{manner_of, names_lent}
 use Rattle.ima_agent.specs.Program.{IsListedFault, OfInput}
 use Rattle.ima_agent.proofs.MeasuringLaws.{err_inr, err_of, fault_of, listed_err, listed_log, named_so, ok_of, shown_of}
 use Rattle.ima_agent.proofs.measuring.measured_listed.Goals as goal
@@ -71,9 +71,9 @@ returns-clause-shown g c =
     let result = c.measured_into.result in
     let P : List (List ℕ) → Type 0 = λ ns. IfOk result (λ shown. ShowsMeasured (files_in told) bytes manner print ns shown.items) in
     let known : P (all_names names c.args.ends text) =
-    named_so P (map string_bytes c.in_ok-all.all.items) (all_names names c.args.ends text)
+    named_so P (names_lent c.in_ok-all.all.items) (all_names names c.args.ends text)
     (rw c.deref-2.ensures.value at c.in_ok-all.ensures.names)
-    (shown_of told _ bytes manner print (map string_bytes c.in_ok-all.all.items) result
+    (shown_of told _ bytes manner print (names_lent c.in_ok-all.all.items) result
     (λ name. c.shared.ensures.held name ∙ ap (λ inputs. inputs.held (Some name)) (c.in_ok-text.ensures.told ∙ c.in_ok-bytes.ensures.told))
     (rw (c.deref-3.ensures.value, c.deref-4.ensures.value) at c.measured_into.ensures.shown)) in
     ok_of told c.args.asked.log.now bytes
@@ -94,8 +94,8 @@ returns-clause-fault g c =
     let all = all_names names c.args.ends text in
     let P : List (List ℕ) → Type 0 = λ ns. IfErr result (IsMeasuringFault (files_in told) (failing_in told) bytes manner ns) in
     let known : P all =
-    named_so P (map string_bytes c.in_ok-all.all.items) all (rw c.deref-2.ensures.value at c.in_ok-all.ensures.names)
-    (fault_of told _ _ bytes manner (map string_bytes c.in_ok-all.all.items) result
+    named_so P (names_lent c.in_ok-all.all.items) all (rw c.deref-2.ensures.value at c.in_ok-all.ensures.names)
+    (fault_of told _ _ bytes manner (names_lent c.in_ok-all.all.items) result
     (λ name. c.shared.ensures.held name ∙ ap (λ inputs. inputs.held (Some name)) (c.in_ok-text.ensures.told ∙ c.in_ok-bytes.ensures.told))
     (λ name fails. rw (c.in_ok-text.ensures.told ∙ c.in_ok-bytes.ensures.told) at c.shared.ensures.fails name fails)
     (rw (c.deref-3.ensures.value, c.deref-4.ensures.value) at c.measured_into.ensures.fault)) in

@@ -1,8 +1,10 @@
-use Rattle.std.proofs.Common.{rules, inl, length, map, string_bytes, arith}
+use Rattle.std.proofs.Common.{rules, inl, List, ℕ, length, map, arith}
+use Rattle.std.specs.Borrow.{Bor}
 use Rattle.std.proofs.lemmas.List.{length-map}
 use Rattle.std.proofs.lemmas.Result.{err_from_is_err_and}
 use Rattle.measure_book.specs.Operations.{book_outcome_of}
 use Rattle.ima_agent.specs.Measuring.{IsFileFault, IsFileMeasure}
+use Rattle.ima_agent.specs.parts.Measuring.{names_lent}
 use Rattle.ima_agent.proofs.MeasuringLaws.{file_fault, measured_all, refused_one}
 use Rattle.ima_agent.proofs.measuring.recorded.Goals as goal
 
@@ -14,15 +16,15 @@ returns-in-Err-Job-clause-fault g c =
     let told = c.record_jobs-recorded.ensures.job c.in-Err-Job.job c.in-Err-Job.fault (search rules) in
     let names = c.args.jobs.now.names.now in
     let first = told.0 in
-    inl (file_fault (g.S.SharedFiles.held c.args.jobs.now.files.now) (g.S.SharedFiles.fails c.args.jobs.now.files.now) (map string_bytes names) c.in-Err-Job.job c.in-Err-Job.fault
-    c.fault_of.result (omega (arith, first.within, length-map names string_bytes)) first.cause c.fault_of.ensures
+    inl (file_fault (g.S.SharedFiles.held c.args.jobs.now.files.now) (g.S.SharedFiles.fails c.args.jobs.now.files.now) (names_lent names) c.in-Err-Job.job c.in-Err-Job.fault
+    c.fault_of.result (omega (arith, first.within, length-map names (λ (name : Bor (List ℕ)). name.now))) first.cause c.fault_of.ensures
     (λ earlier below. (first.before earlier below).1.file))
 
 pub returns-in-Ok-clause-book : goal.returns-in-Ok-clause-book
 returns-in-Ok-clause-book g c =
     let names = c.args.jobs.now.names.now in
     measured_all c.args.origin (length names)
-    (IsFileMeasure (g.S.SharedFiles.held c.args.jobs.now.files.now) (map string_bytes names) c.args.origin.alg) c.args.workers
+    (IsFileMeasure (g.S.SharedFiles.held c.args.jobs.now.files.now) (names_lent names) c.args.origin.alg) c.args.workers
     c.in-Ok.batch.book (map book_outcome_of c.in-Ok.batch.outcomes.items) c.in-Ok.batch.by.items c.in-Ok.ensures.batch
     c.all_done.result c.all_done.ensures.done
 
@@ -30,9 +32,9 @@ pub returns-in-Ok-clause-fault : goal.returns-in-Ok-clause-fault
 returns-in-Ok-clause-fault g c =
     let held = g.S.SharedFiles.held c.args.jobs.now.files.now in
     let names = c.args.jobs.now.names.now in
-    refused_one c.args.origin (length names) (IsFileMeasure held (map string_bytes names) c.args.origin.alg) c.args.workers
+    refused_one c.args.origin (length names) (IsFileMeasure held (names_lent names) c.args.origin.alg) c.args.workers
     c.in-Ok.batch.book (map book_outcome_of c.in-Ok.batch.outcomes.items) c.in-Ok.batch.by.items c.in-Ok.ensures.batch
-    (IsFileFault held (g.S.SharedFiles.fails c.args.jobs.now.files.now) (map string_bytes names)) c.all_done.result c.all_done.ensures.refused
+    (IsFileFault held (g.S.SharedFiles.fails c.args.jobs.now.files.now) (names_lent names)) c.all_done.result c.all_done.ensures.refused
 
 pub returns-in-Err-Job-clause-book : goal.returns-in-Err-Job-clause-book
 returns-in-Err-Job-clause-book g c = tt

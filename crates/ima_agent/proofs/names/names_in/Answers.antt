@@ -14,10 +14,6 @@ returns-clause-names c =
     let all = YieldsList-end parts c.loop-name.yielded _ c.loop-name.yielded_by _ _ c.in-None.is c.next.ensures.steps in
     rw all.0 at c.loop-name.invariant
 
-pub returns-in_err-from_str-clause-names : goal.returns-in_err-from_str-clause-names
-returns-in_err-from_str-clause-names c =
-    let p = err_from_is_err_and c.from_residual.result c.from_residual.ensures.1 in rw p.1 tt
-
 pub returns-in_err-push-clause-names : goal.returns-in_err-push-clause-names
 returns-in_err-push-clause-names c =
-    let p = err_from_is_err_and c.from_residual-in_err-push.result c.from_residual-in_err-push.ensures.1 in rw p.1 tt
+    let p = err_from_is_err_and c.from_residual.result c.from_residual.ensures.1 in rw p.1 tt

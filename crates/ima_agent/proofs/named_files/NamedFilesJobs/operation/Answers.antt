@@ -1,11 +1,20 @@
-use Rattle.std.proofs.Common.{rules, ap, sym, ◌∙◌, string_bytes}
-use Rattle.ima_agent.proofs.MeasuringLaws.{asked_for, file_measure}
+use Rattle.std.proofs.Common.{rules, Err, ap, ◌∙◌}
+use Rattle.std.proofs.lemmas.Option.{slice_get-get_or}
+use Rattle.ima_agent.proofs.MeasuringLaws.{file_lacks, file_measure}
 use Rattle.ima_agent.proofs.named_files.NamedFilesJobs.operation.Goals as goal
 
 pub returns : goal.returns
 returns g c =
     let held = g.S.SharedFiles.held c.args.self.now.files.now in
-    let asked = asked_for held c.args.alg c.in-Ok.digest (string_bytes c.index-self-job.result) _
-    (c.deref.ensures ∙ ap string_bytes (sym c.index-self-job.is)) c.in-Ok.ensures.hashed in
-    file_measure held c.args.self.now.names.now c.args.alg c.args.job c.index-self-job.result c.in-Ok.digest _ _ c.requires
-    c.index-self-job.is asked (search rules) c.empty.ensures
+    let names = c.args.self.now.names.now in
+    file_measure held names c.args.alg c.args.job _ c.in-Ok.digest _ _ (slice_get-get_or names c.args.job _ c.requires)
+    c.in-Ok.ensures.hashed (search rules) c.empty.ensures
+
+pub returns-in-Err : goal.returns-in-Err
+returns-in-Err g c =
+    let held = g.S.SharedFiles.held c.args.self.now.files.now in
+    let fails = g.S.SharedFiles.fails c.args.self.now.files.now in
+    let names = c.args.self.now.names.now in
+    rw c.job_fault.ensures
+    (file_lacks held fails names c.args.job _ c.in-Err.fault (slice_get-get_or names c.args.job _ c.requires)
+    (λ is. c.hash.ensures.too_long (c.in-Err.is ∙ ap Err is)) (λ is. c.hash.ensures.source (c.in-Err.is ∙ ap Err is)))
