@@ -12,7 +12,7 @@ use crate::fault::RunFault;
 use crate::files::{Files, SharedFiles};
 use crate::inputs::loaded;
 use crate::listing::{lent, with_names_in};
-use crate::named_files::{NamedFiles, Told};
+use crate::named_files::{NamedFiles, ProgressGate};
 use crate::progress::Progress;
 use crate::showing::lines;
 use boot_log::{BootLog, read_log};
@@ -219,7 +219,7 @@ fn recorded<R: Threads + Wait + Sync, S: SharedFiles + Sync, P: Progress>(
         ⊎ IsRecordingFault origin (length jobs.now.names.now)
         (IsFileMeasure (S.held jobs.now.files.now) (names_lent jobs.now.names.now) origin.alg) workers fault) }
 {
-    let gate = Told::new(progress, jobs.names.len() as u32);
+    let gate = ProgressGate::new(progress, jobs.names.len() as u32);
     let recorded = record_jobs(rt, alloc, origin, jobs, workers, &gate);
     progress.ended();
     match recorded {

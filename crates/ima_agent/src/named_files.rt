@@ -92,16 +92,16 @@ fn job_fault(fault: LoadFault) -> JobFault
 
 /// A gate of the workers that reports how many files are done.
 #[derive(Drop)]
-pub(crate) struct Told<'a, P> {
+pub(crate) struct ProgressGate<'a, P> {
     progress: &'a P,
     done: AtomicU32,
     all: u32,
 }
 
-impl<'a, P: Progress> Told<'a, P> {
+impl<'a, P: Progress> ProgressGate<'a, P> {
     /// A gate for `all` files, none of which is done yet.
     pub fn new(progress: &'a P, all: u32) -> Self {
-        Told {
+        ProgressGate {
             progress,
             done: AtomicU32::new(0),
             all,
@@ -109,7 +109,7 @@ impl<'a, P: Progress> Told<'a, P> {
     }
 }
 
-impl<P: Progress> Gate for Told<'_, P> {
+impl<P: Progress> Gate for ProgressGate<'_, P> {
     fn hashed(&self, _job: u32, _op: Option<&Op>) {}
 
     fn recorded(&self, _job: u32) {

@@ -26,19 +26,19 @@ const ELSE: u32 = 5;
 
 /// What a gate is told of each job, and of any other.
 #[derive(Drop)]
-struct Told {
+struct NotedJobs {
     jobs: Vec<AtomicU32>,
     other: AtomicU32,
 }
 
-impl Told {
+impl NotedJobs {
     fn new(alloc: Global, count: u32) -> Result<Self, AllocError> {
         let mut jobs = Vec::new(alloc);
         for _job in 0..count {
             jobs.push(AtomicU32::new(NOTHING))?;
         }
         let other = AtomicU32::new(NOTHING);
-        Ok(Told { jobs, other })
+        Ok(NotedJobs { jobs, other })
     }
 
     fn of(&self, job: u32) -> &AtomicU32 {
@@ -56,7 +56,7 @@ impl Told {
     }
 }
 
-impl Gate for Told {
+impl Gate for NotedJobs {
     fn hashed(&self, job: u32, op: Option<&Op>) {
         let told = self.of(job);
         let next = match told.load(Ordering::SeqCst) {
@@ -147,7 +147,7 @@ fn is_told<R: Threads + Wait + Sync>(
     row: &Row,
 ) -> Result<(bool, bool), AllocError> {
     let jobs = Numbered::of(&Trial::of(row.count, row.failing, row.workers));
-    let told = Told::new(alloc, row.count)?;
+    let told = NotedJobs::new(alloc, row.count)?;
     let batch = record_jobs(rt, alloc, origin(100), &jobs, row.workers, &told);
     let ran_out = has_run_out(&batch);
     Ok((batch.err() == row.fault && told.is(row.told), ran_out))
