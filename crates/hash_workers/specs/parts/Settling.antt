@@ -41,7 +41,7 @@ pub record IsUnmadeOf (works : List Work) (unmade : Option Unmade) : Type 0 wher
 abbrev pub AreTakenBefore : List (List ℕ) → Unmade → Type 0
 AreTakenBefore takings unmade = (job : ℕ) → job < unmade.job → IsTaken takings job
 
--- This is what these workers did, none of which ran out of memory, with places for `count` outcomes.
+-- This is what these workers did, none of which ran out of memory, with places for `count` outcomes unless a job is unmade.
 pub record IsMadeOf (works : List Work) (count : ℕ) (all : AllWork) : Type 0 where
   pub takings : takings_of all ≡ map taken_of works
   pub groups : map items_of all.groups.items ≡ map outcomes_of works
@@ -49,8 +49,8 @@ pub record IsMadeOf (works : List Work) (count : ℕ) (all : AllWork) : Type 0 w
   pub foreign : all.foreign ≡ true → HasEnd works ForeignBook
   pub same : all.foreign ≡ false → HasNoEnd works ForeignBook (length works)
   pub unmade : IsUnmadeOf works all.unmade
-  pub places : vec_len all.outcomes ≡ count
-  pub places_by : vec_len all.by ≡ count
+  pub places : all.unmade ≡ None → vec_len all.outcomes ≡ count
+  pub places_by : all.unmade ≡ None → vec_len all.by ≡ count
 
 -- What all of this number of workers did: their jobs rise, and each has an outcome of its own. Each of the `count` jobs was taken
 -- once, and its operation made unless memory ran out for it; or a worker stopped for a book of another origin, which it found, or for
@@ -66,8 +66,8 @@ pub record IsAllWork (origin : Origin) (count : ℕ) (Makes : ℕ → BookOp →
   pub made : all.foreign ≡ false → all.unmade ≡ None → AllMadeUnlessMemory count Makes Fails
   pub found : all.foreign ≡ true → IsFound origin
   pub unmade : all.foreign ≡ false → IfSome all.unmade (λ unmade. IsFirstUnmade count Makes Fails unmade.job unmade.fault)
-  pub places : vec_len all.outcomes ≡ count
-  pub places_by : vec_len all.by ≡ count
+  pub places : all.unmade ≡ None → vec_len all.outcomes ≡ count
+  pub places_by : all.unmade ≡ None → vec_len all.by ≡ count
 
 -- ---- why there is no batch
 

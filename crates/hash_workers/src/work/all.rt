@@ -23,9 +23,9 @@ pub(crate) struct AllWork {
     pub(crate) foreign: bool,
     /// The first job whose operation could not be made, if a worker stopped for one.
     pub(crate) unmade: Option<Unmade>,
-    /// A place for the outcome of each job.
+    /// A place for the outcome of each job; none if there is an unmade one.
     pub(crate) outcomes: Vec<Outcome>,
-    /// A place for the number of each job's worker.
+    /// A place for the number of each job's worker; none if there is an unmade job.
     pub(crate) by: Vec<u32>,
 }
 
@@ -52,8 +52,9 @@ impl AllWork {
         }
         let foreign = has_end(&works, End::ForeignBook);
         let unmade = unmade_of(&works);
-        let outcomes = places(alloc, count)?;
-        let by = vec![in alloc; 0u32; count]?;
+        let needed = places_needed(unmade, count);
+        let outcomes = places(alloc, needed)?;
+        let by = vec![in alloc; 0u32; needed]?;
         let (takings, groups, seats) = split(alloc, works)?;
         close(claims, seats);
         Ok(AllWork {
@@ -110,6 +111,13 @@ fn has_end(works: &[Work], end: End) -> bool
         }
     }
     false
+}
+
+// How many places there are to be for `count` jobs: none if one is unmade, since no batch comes of them then.
+fn places_needed(unmade: Option<Unmade>, count: usize) -> usize
+    ensures { unmade ≡ None → result ≡ count }
+{
+    if unmade.is_some() { 0 } else { count }
 }
 
 // A place for each job's outcome.

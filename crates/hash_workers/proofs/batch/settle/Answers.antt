@@ -19,8 +19,8 @@ returns-then-all-clause-fault g c = inl (record {
 pub returns-clause-batch : goal.returns-clause-batch
 returns-clause-batch g c =
     let sizes = c.scatter.ensures.sizes in
-    let places = c.requires.all.places in
-    let places_by = c.requires.all.places_by in
+    let places = c.requires.all.places c.in_default.is in
+    let places_by = c.requires.all.places_by c.in_default.is in
     batch_of c.args.origin.now (g.J.Jobs.total c.args._jobs.now) (g.J.Jobs.makes c.args._jobs.now c.args.origin.now.alg) c.args.workers c.args.book
     (takings_of c.args.all) c.args.all.groups.items c.scatter.new.outcomes.items c.scatter.new.by.items
     (record {
