@@ -94,7 +94,11 @@ fn faults_behind_an_entry_that_is_not_genuine(rt: HostRuntime) -> Result<(), Fai
     for (list, limit, answer) in [
         ([VIOLATION, FORGED, b""], u64::MAX, Err(forged(1))),
         ([VIOLATION, FORGED, FOREIGN], u64::MAX, Err(foreign(2))),
-        ([VIOLATION, FORGED, b"\x0a\x00"], u64::MAX, Err(truncated(2))),
+        (
+            [VIOLATION, FORGED, b"\x0a\x00"],
+            u64::MAX,
+            Err(truncated(2)),
+        ),
         ([FORGED, VIOLATION, b""], 187, Err(forged(0))),
         ([FORGED, VIOLATION, b""], 186, Err(VerifyFault::TooLong)),
         ([FORGED, VIOLATION, b""], 94, Err(VerifyFault::TooLong)),
