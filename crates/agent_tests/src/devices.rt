@@ -1,6 +1,11 @@
 //! Files in memory that come in pieces and fail, and what the program makes of them.
 
-use byte_streams::{Failed, VecSink};
+ghost use Rattle.std.specs.Prelude.{◌≡◌, None, Some, IfNone, IfSome, IsTrue, cond, is_none, is_some, option_map, unwrap_or};
+ghost use Rattle.byte_streams.specs.Memory.{slice_source_rest, slice_source_state};
+ghost use Rattle.ima_agent.specs.Loading.{input_name};
+ghost use Rattle.agent_tests.specs.Devices.{held};
+
+use byte_streams::{Failed, SliceSource, Source, VecSink};
 use ima_agent::{Files, LoadFault, SharedFiles, hash_from, run};
 use pcr_banks::{Alg, Digest};
 use std::alloc::{AllocError, Global};
@@ -8,6 +13,27 @@ use std::sync::Wait;
 use std::thread::Threads;
 use test_kit::devices::PieceSource;
 use test_kit::once_more;
+
+/// Gives what the device gives, if there is one, which may fail; else the whole bytes, and never fails.
+#[derive(Drop)]
+pub struct FileSource<'a, D> {
+    whole: SliceSource<'a>,
+    device: Option<D>,
+}
+
+impl<D: Source> Source for FileSource<'_, D> {
+    ghost state = { λ source. unwrap_or (option_map D.state source.device) (slice_source_state source.whole) };
+
+    fn read(&mut self, buffer: &mut [u8]) -> Result<usize, Failed> {
+        match &mut self.device {
+            Some(device) => device.read(buffer),
+            None => self.whole.read(buffer),
+        }
+    }
+}
+
+/// The source of a file in memory.
+pub type MemorySource<'a> = FileSource<'a, PieceSource<'a>>;
 
 /// Files with these names and these bytes; the name of standard input is `-`. One of them gives so many bytes a read at most, and
 /// fails after some reads; a read of any other gives all.
@@ -33,21 +59,36 @@ impl<'a> PieceFiles<'a> {
         }
     }
 
-    fn open(&self, name: &str) -> Option<PieceSource<'a>> {
+    fn open(&self, name: &str) -> Option<MemorySource<'a>>
+        ensures some { IfSome result (λ source.
+            cond (is_some source.device) None (Some (slice_source_rest source.whole)) ≡ held self.now.files.now self.now.failing.now name.now) }
+        ensures none { IfNone result (held self.now.files.now self.now.failing.now name.now ≡ None) }
+    {
         let file = self.files.iter().find(|file| file.0 == name)?;
-        if name == self.failing {
-            return Some(PieceSource::failing(file.1, self.most, self.reads));
-        }
-        Some(PieceSource::new(file.1, usize::MAX))
+        let device = if name == self.failing {
+            Some(PieceSource::failing(file.1, self.most, self.reads))
+        } else {
+            None
+        };
+        Some(FileSource {
+            whole: SliceSource::new(file.1),
+            device,
+        })
     }
 }
 
 impl<'a> Files for PieceFiles<'a> {
-    type Src = PieceSource<'a>;
+    type Src = MemorySource<'a>;
 
     type Shared = Self;
 
-    fn source(&mut self, name: Option<&str>) -> Result<PieceSource<'a>, Failed> {
+    // The bytes of each file but the one that is to fail. That one may, and a file that is none of these.
+    ghost told = { λ files. record {
+      held = λ name. held files.files.now files.failing.now (input_name name);
+      may_fail = λ name. is_none (held files.files.now files.failing.now (input_name name));
+    } };
+
+    fn source(&mut self, name: Option<&str>) -> Result<MemorySource<'a>, Failed> {
         self.opened = self.opened.saturating_add(1);
         self.open(name.unwrap_or("-")).ok_or(Failed)
     }
@@ -58,6 +99,10 @@ impl<'a> Files for PieceFiles<'a> {
 }
 
 impl SharedFiles for PieceFiles<'_> {
+    ghost held = { λ files name. held files.files.now files.failing.now name };
+
+    ghost fails = { λ files name. IsTrue (is_none (held files.files.now files.failing.now name)) };
+
     fn hash(&self, alloc: Global, name: &str, alg: Alg, limit: u64) -> Result<Digest, LoadFault> {
         let mut source = self.open(name).ok_or(LoadFault::Source)?;
         hash_from(alloc, &mut source, alg, limit)
