@@ -72,6 +72,7 @@ def call_of(words):
 
 
 def is_input(name, folder, most_bytes):
-    """Whether this names a file below the folder that has at most so many bytes."""
+    """Whether this names a file below the folder that has at most so many bytes. (A `Path` would drop a slash at the end of a name.)"""
     is_name = name == "-" or not name.startswith(("-", "/"))
-    return is_name and (folder / name).is_file() and (folder / name).stat().st_size <= most_bytes
+    file = os.path.join(folder, name)
+    return is_name and os.path.isfile(file) and os.path.getsize(file) <= most_bytes

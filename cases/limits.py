@@ -35,7 +35,9 @@ SIZES = (63 * MEBIBYTE, MOST_BYTES, MOST_BYTES + 1, 65 * MEBIBYTE)
 # (the two in the middle are of no concern to the library)
 LIBRARY_SIZES = (SIZES[0], SIZES[-1])
 FILES = 250_000
-WORDS = 100_000
+MISSING = 8_000_000
+# (nearly as many as the system takes)
+WORDS = 200_000
 # (an argument is shorter than 128 KiB)
 RANGES = 10_900
 MOST_SHOWN = 200
@@ -173,7 +175,7 @@ INPUTS = (
 
 
 def ask_of_sizes(asker, folder):
-    """Each input by each command, of sizes up to the limit and just above it; a longer one by one command alone."""
+    """Each input by each command, of sizes up to the limit and just above it; a longer one by one command alone, but by each function."""
     given, short = folder / "given", folder / "short"
     for each in (given, short):
         each.mkdir()
@@ -185,18 +187,20 @@ def ask_of_sizes(asker, folder):
             (given / "input").write_bytes(it.of_size(size))
             if it.short is not None:
                 (short / "input").write_bytes(it.short)
-            for command in it.commands if size <= MOST_BYTES + 1 else it.commands[:1]:
-                ask_of_size(asker, f"{it.title}, {size} bytes", command.split(), given, given if it.short is None else short)
+            for command in it.commands:
+                is_asked = size <= MOST_BYTES + 1 or command == it.commands[0]
+                ask_of_size(asker, f"{it.title}, {size} bytes", command.split(), given, given if it.short is None else short, is_asked)
 
 
-def ask_of_size(asker, title, words, folder, short):
-    """One command, which the reference answers in the folder `short`."""
+def ask_of_size(asker, title, words, folder, short, is_asked):
+    """One command, which the reference answers in the folder `short`; of the program only if that is asked."""
     size = (folder / "input").stat().st_size
     name = "input" if words else "-"
     is_taken, has_function = size <= MOST_BYTES, size in LIBRARY_SIZES and asker.has_function(words, folder)
     if is_taken or has_function:
         unlimited = reference.answer(words, short, b"" if words else (short / "input").read_bytes(), 2 * MOST_BYTES)
-    asker.ask(title, words, folder, unlimited if is_taken else (2, f"refused: too long {name}\n"), None if words else "input")
+    if is_asked:
+        asker.ask(title, words, folder, unlimited if is_taken else (2, f"refused: too long {name}\n"), None if words else "input")
     if has_function:
         asker.ask_library(title, words, folder, unlimited)
 
@@ -232,7 +236,7 @@ def many_events(size, event):
 
 
 def ask_of_entries(asker, folder):
-    """Lists with an entry again and again: one with a payload of a MiB, a measurement, and the shortest violation, which is shown only."""
+    """Lists with an entry again and again: one with a payload of a MiB, a measurement, and, for two commands, the shortest violation."""
     log = Log(BANK, [])
     (folder / "L").write_bytes(log.spelling())
     for size, entry in ((63 * MEBIBYTE, payload_of(MEBIBYTE - 100)), (24 * MEBIBYTE, ENTRIES[1])):
@@ -248,7 +252,12 @@ def ask_of_entries(asker, folder):
         })
     violation = Entry(10, bytes(20), b"", b"")
     entries = many_entries(63 * MEBIBYTE, violation, folder / "list")
-    ask_of_parts(asker, f"{len(entries)} entries", folder, {"show list": (0, violation.line() * len(entries))})
+    row = Expected(SHA256, 10, bytes(SHA256.size))
+    (folder / "expected").write_text(row.line())
+    ask_of_parts(asker, f"{len(entries)} entries", folder, {
+        "show list": (0, violation.line() * len(entries)),
+        "verify L list expected": answer_of(verdict(log, entries, [row])),
+    })
 
 
 def many_entries(size, entry, file):
@@ -273,7 +282,8 @@ def answer_of(judged):
 
 
 def ask_of_files(asker, folder):
-    """Very many names of one file, by folders that are this one: more than `--limit` is by default; and a book that is full just then."""
+    """Very many names of one file, by folders that are this one: more than `--limit` is by default; and a book that is full just then. And
+    many more of a file that is not there."""
     for digit in range(10):
         (folder / str(digit)).symlink_to(".")
     names = ["/".join(f"{number:06}") + "/f" for number in range(FILES)]
@@ -292,15 +302,20 @@ def ask_of_files(asker, folder):
     ):
         words = f"measure --workers 1 --limit {limit}{options} L --files-from names".split()
         asker.ask(f"{FILES} names", words, folder, answer)
+    (folder / "names").write_bytes(b"x\n" * MISSING)
+    asker.ask(f"{MISSING} names", "measure L --files-from names".split(), folder, (3, "failed: read x\n"))
 
 
 def ask_of_words(asker, folder):
-    """Very many words, and words as long as the system takes: a file named again and again, a range, and names in the lines of faults."""
-    for name, data in {"L": LOG.spelling(), "list": list_spelling(ENTRIES), "expected": EXPECTED.encode(), "f": b"abc"}.items():
+    """Very many words, and words as long as the system takes: a file named again and again before another one, a range, and names in the
+    lines of faults."""
+    files = {"L": LOG.spelling(), "list": list_spelling(ENTRIES), "expected": EXPECTED.encode(), "f": b"abc", "g": b"abc"}
+    for name, data in files.items():
         (folder / name).write_bytes(data)
-    entries = [ENTRIES[0], entry_of(IMA_NG, SHA256, SHA256.hash(b"abc"), b"f")]
-    words = ["measure", "--limit", str(2 * WORDS), "L", *["f"] * WORDS]
-    asker.ask(f"{WORDS} names as words", words, folder, (0, list_text(entries)))
+    entries = [ENTRIES[0], *(entry_of(IMA_NG, SHA256, SHA256.hash(b"abc"), name) for name in (b"f", b"g"))]
+    for workers in "28":
+        words = ["measure", "--workers", workers, "--limit", str(2 * WORDS), "L", *["f"] * (WORDS - 1), "g"]
+        asker.ask(f"{WORDS} names as words", words, folder, (0, list_text(entries)))
     for command in ("verify L list expected", "locate L list expected", "replay list expected"):
         word, *names = command.split()
         wanted = reference.answer([word, "--require", "sha256:0-23", *names], folder)

@@ -5,9 +5,10 @@ cases/terminal.py [PROGRAM]: by default the program that was built in this tree.
 
 Each command of the cases whose files have at most 4 MiB runs with a terminal as its standard error. Status and output are to be what the
 case wants; the terminal is to get the sentence of the fault, which is made here of the fault's line, by the tables of docs/formats.md, and
-nothing after a success. Of a refused command line it is to get some text of clap's; which one, `USAGES` has for some. Further commands have
-names with bytes that a terminal acts upon, are out of memory, have an output that fails, or measure for more than a second; each of these
-runs without a terminal too, and then standard error is to get nothing. The last line is 'N passed, M failed', of commands."""
+nothing after a success. Where the output goes to the same terminal, the sentence is to come after the line. Of a refused command line it is
+to get some text of clap's; which one, `USAGES` has for some. Further commands have names with bytes that a terminal acts upon, are out of
+memory, have an output that fails, or measure for more than a second; each of these runs without a terminal too, and then standard error is
+to get nothing. Pipes that are closed one after another tell when which number is due. The last line is 'N passed, M failed', of commands."""
 
 import os
 import pty
@@ -17,6 +18,7 @@ import select
 import subprocess
 import sys
 import tempfile
+import threading
 import time
 import tty
 from pathlib import Path
@@ -37,6 +39,9 @@ MEBIBYTE = 1 << 20
 MOST_BYTES = 4 * MEBIBYTE
 LARGE_FILES, LARGE_BYTES = 16, 48 * MEBIBYTE
 ADDRESS_SPACE = 64 * MEBIBYTE
+# For how many seconds each of some pipes stays open: the first number is due after more than a second, the next after a tenth of one.
+PACES = (1.2, 0.3, 0.3)
+ATTEMPTS = 5
 
 # Which inputs the names of a command are; what follows them are files to measure.
 INPUTS = {
@@ -374,11 +379,50 @@ def progress_fault(said, count, end):
     return None if len(numbers) > 1 and rises and numbers[-1] <= count else f"the numbers are {numbers}"
 
 
+def order_results(program, folder):
+    """A refusal where the output and standard error are one terminal: the line, and then the sentence."""
+    status, said = run_on_terminal(program, ["show", "none"], folder, subprocess.DEVNULL, subprocess.DEVNULL, lambda: os.dup2(2, 1))
+    wanted = b"failed: read none\ncannot read none: No such file or directory\n"
+    yield "a refusal, all on one terminal", None if (status, said) == (3, wanted) else f"status {status}, the terminal got {said!r}"
+
+
+def pace_results(program, folder):
+    """Measurements of pipes: each number in turn, from 1 on, after more than a second; and none before."""
+    names = [f"pipe {number}" for number, _ in enumerate(PACES)]
+    for name in names:
+        os.mkfifo(folder / name)
+    said, _ = paced(program, folder, names, PACES)
+    wanted = b"".join(b"\r%d of %d files\x1b[K" % (number + 1, len(names)) for number, _ in enumerate(names)) + b"\r\x1b[K"
+    yield "a measurement of pipes", None if said == wanted else f"the terminal got {said!r}, and not {wanted!r}"
+    for _ in range(ATTEMPTS):
+        said, seconds = paced(program, folder, names[:1], (0.5,))
+        if seconds < 1:
+            yield "a measurement of less than a second", f"the terminal got {said!r}" if said else None
+            return
+    yield "a measurement of less than a second", f"it took {seconds} seconds"
+
+
+def paced(program, folder, names, paces):
+    """What a terminal gets of a measurement of pipes that are closed after these times, and how long it took."""
+    def close_in_turn():
+        for name, pace in zip(names, paces):
+            with open(folder / name, "wb"):
+                time.sleep(pace)
+
+    thread, begun = threading.Thread(target=close_in_turn, daemon=True), time.monotonic()
+    thread.start()
+    words = ["measure", "--workers", "1", "L", *names]
+    _, said = run_on_terminal(program, words, folder, subprocess.DEVNULL, subprocess.DEVNULL)
+    return said, time.monotonic() - begun
+
+
 def results(program):
     yield from case_results(program)
     with tempfile.TemporaryDirectory() as name:
         make_files(Path(name))
         yield from further_results(program, Path(name))
+        yield from order_results(program, Path(name))
+        yield from pace_results(program, Path(name))
         yield from progress_results(program, Path(name))
 
 

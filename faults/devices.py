@@ -30,7 +30,7 @@ FAILED = 3
 FAILING = (
     ("open", (errno.EACCES, errno.EMFILE), 0),
     ("read", (errno.EIO, errno.EINTR), 0),
-    ("write", (errno.ENOSPC, 0), 40),
+    ("write", (errno.ENOSPC, errno.EINTR, 0), 40),
 )
 
 

@@ -232,6 +232,13 @@ func TestWrongRefusalsAreNoRefusals(t *testing.T) {
 	equal(t, errors.As(answered(refused, "refused: log fault 2\n", 21), &found), true)
 }
 
+func TestErrorsSayWhatIsWrong(t *testing.T) {
+	equal(t, ErrOutOfMemory.Error(), "libima_verify got no memory")
+	equal(t, ErrMalformed.Error(), "the text names no registers in its form, as sha256:0-10 or 0-10")
+	equal(t, (&UnexpectedError{5, 10, []byte("text\n")}).Error(),
+		`libima_verify answered status 5 and size 10, with a text that begins "text\n"`)
+}
+
 func TestNoMemoryIsItsError(t *testing.T) {
 	equal(t, answered(outOfMemory, memoryLine, uint64(len(memoryLine))), ErrOutOfMemory)
 	checkUnexpected(t, answered(outOfMemory, "failed: other!\n", uint64(len(memoryLine))), "failed: other!\n")

@@ -330,6 +330,12 @@ func TestExpectedRegistersOfAnotherFormAreRefused(t *testing.T) {
 	checkRefused(t, err, RefusedError{"refused: expected fault 2 at line 25", KindExpected, 2, 25, true})
 }
 
+func TestInputIsTakenWhole(t *testing.T) {
+	text := append(bytes.Repeat([]byte("\n"), 1<<24), 'x')
+	_, err := Verify(bootLog, bootList, text)
+	checkRefused(t, err, RefusedError{"refused: expected fault 1 at line 16777217", KindExpected, 1, 1<<24 + 1, true})
+}
+
 func TestInputsWithoutBytes(t *testing.T) {
 	for _, empty := range [][]byte{nil, {}, bootLog[:0]} {
 		_, err := Registers(empty)

@@ -65,6 +65,10 @@ class Buffers(unittest.TestCase):
             self.assertEqual(_library.ask(counted, (LIST,), room), (0, ASCII))
             self.assertEqual(counted.calls, 2)
 
+    def test_text_of_mebibytes_that_does_not_fit_takes_a_second_call(self):
+        for room in (1, len(ASCII), 1 << 20):
+            self.assertEqual(_library.ask(ima_verify._LIBRARY.ima_show, (200 * LIST,), room), (0, 200 * ASCII))
+
     def test_text_as_long_as_the_buffer_takes_one_call(self):
         counted = Counted(ima_verify._LIBRARY.ima_show)
         self.assertEqual(_library.ask(counted, (LIST,), len(ASCII)), (0, ASCII))

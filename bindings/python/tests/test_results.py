@@ -133,7 +133,7 @@ class Required(unittest.TestCase):
     def test_wrong_requirement_is_a_value_error(self):
         for require in self.WRONG:
             for function in (ima_verify.verify, ima_verify.locate):
-                with self.assertRaisesRegex(ValueError, "^not of its form: "):
+                with self.assertRaisesRegex(ValueError, f"^not of its form: {re.escape(repr(require))}$"):
                     function(b"", b"", b"", require=require)
 
     def test_inputs_are_refused_as_without_a_requirement(self):
@@ -198,7 +198,8 @@ class ListAlone(unittest.TestCase):
         for wrong in (None, 5, 0, False, ["sha256:10"]):
             self.assertRaises(TypeError, ima_verify.replay, LIST, self.TENTH, require=wrong)
         for wrong in Required.WRONG:
-            self.assertRaisesRegex(ValueError, "^not of its form: ", ima_verify.replay, b"", b"", require=wrong)
+            text = f"^not of its form: {re.escape(repr(wrong))}$"
+            self.assertRaisesRegex(ValueError, text, ima_verify.replay, b"", b"", require=wrong)
 
     def test_inputs_are_refused(self):
         for listed, expected, line in (
@@ -248,7 +249,8 @@ class ExpectedRegisters(unittest.TestCase):
 
     def test_wrong_range_is_a_value_error(self):
         for wrong in ("24", "10-0", "0-", "-", " ", "sha256:0", "\u00e4"):
-            self.assertRaises(ValueError, ima_verify.expected, PRINTED, wrong)
+            text = f"^not of its form: {re.escape(repr(wrong))}$"
+            self.assertRaisesRegex(ValueError, text, ima_verify.expected, PRINTED, wrong)
         for wrong in (10, 0, False):
             self.assertRaises(TypeError, ima_verify.expected, PRINTED, wrong)
         self.assertRaises(TypeError, ima_verify.expected, None)

@@ -288,6 +288,25 @@ fn expected_registers_of_another_form_are_refused() {
 }
 
 #[test]
+fn errors_say_what_is_wrong() {
+    for (error, text) in [
+        (Error::Malformed, "the text names no registers in its form, as sha256:0-10 or 0-10"),
+        (Error::OutOfMemory, "no memory for libima_verify"),
+        (Error::Unexpected { status: 5, needed: 10, text: Vec::new() }, "libima_verify answered status 5 and size 10"),
+        (Error::Version(1), "libima_verify has version 1 of the interface"),
+    ] {
+        assert_eq!(error.to_string(), text);
+    }
+}
+
+#[test]
+fn input_is_taken_whole() {
+    let text = ["\n".repeat(1 << 24).as_bytes(), b"x"].concat();
+    let wanted = refused("refused: expected fault 1 at line 16777217", Kind::Expected, 1, Some((1 << 24) + 1));
+    assert_eq!(verify(&log(), &list(), &text).unwrap_err(), wanted);
+}
+
+#[test]
 fn inputs_without_bytes() {
     let cut = refused("refused: log fault 1 at event 0", Kind::Log, 1, Some(0));
     assert_eq!(registers(&[]).unwrap_err(), cut);
