@@ -93,6 +93,7 @@ USAGES = [
     (["measure", "--workers", "9", "L"], f"error: invalid value '9' for '--workers <N>': 9 is not in 1..=8\n{MORE}"),
     (["measure", "--alg", "sm3", "L"],
      f"error: invalid value 'sm3' for '--alg <A>'\n  [possible values: sha1, sha256, sha384, sha512]\n{MORE}"),
+    (["measure", "--json", "--print", "binary", "L"], "error: invalid value 'binary' for '--print <P>' with '--json'\n"),
     (["\x1b[31m\nred"], f"error: unrecognized subcommand '\\x1b[31m\\x0ared'\n\nUsage: ima-agent <COMMAND>\n{MORE}"),
     (["verify", "--require", "sha256", "L", "M", "N"], f"error: invalid value 'sha256' for '{REQUIRE}'\n"),
     (["locate", "--require=\x9b2J", "L", "M", "N"], f"error: invalid value '\\xc2\\x9b2J' for '{REQUIRE}'\n"),

@@ -15,7 +15,7 @@ LONGEST_PATH = 4095
 
 
 class Unanswered(Exception):
-    """What the reference leaves to the program: help, and workers whose order may show."""
+    """What the reference leaves to the program: help, JSON, and workers whose order may show."""
 
 
 class Inputs:
@@ -201,6 +201,8 @@ def answer(words, folder=".", standard_input=b"", most_bytes=MOST_BYTES):
             raise NO_ARGUMENTS
         if words:
             asked = read_words(words)
+            if asked.values["--json"]:
+                raise Unanswered("JSON")
             text, status = COMMANDS[asked.command](inputs, asked.values, *asked.names)
         else:
             text, status = registers_of_hexadecimal(inputs)

@@ -1,7 +1,7 @@
 use Rattle.std.proofs.Common.{rules}
 use Rattle.clap.specs.Words.{found_of}
 use Rattle.clap.proofs.WalkLemmas.{first_value-rows}
-use Rattle.command_line.proofs.words.text_of.Goals as goal
+use Rattle.command_line.proofs.values.text_of.Goals as goal
 
 pub returns : goal.returns
 returns c =

@@ -4,7 +4,7 @@ use Rattle.std.proofs.lemmas.Result.{IfOk-weaker}
 use Rattle.clap.specs.Words.{found_of}
 use Rattle.clap.proofs.WalkLemmas.{raw_values-rows}
 use Rattle.command_line.proofs.ReadLemmas.{words_or_none}
-use Rattle.command_line.proofs.words.files_of.Goals as goal
+use Rattle.command_line.proofs.values.files_of.Goals as goal
 
 pub returns : goal.returns
 returns c =
