@@ -89,7 +89,7 @@ REQUIRE, REGISTERS = "--require <BANK:A-B[,BANK:C-D..]>", "--registers <A-B>"
 USAGES = [
     (["nothing"], f"error: unrecognized subcommand 'nothing'\n\nUsage: ima-agent <COMMAND>\n{MORE}"),
     (["show"], f"error: the following required arguments were not provided:\n  <LIST>\n\nUsage: ima-agent show <LIST>\n{MORE}"),
-    (["show", "L", "M"], f"error: unexpected argument 'M' found\n\nUsage: ima-agent show <LIST>\n{MORE}"),
+    (["show", "L", "M"], f"error: unexpected argument 'M' found\n\nUsage: ima-agent show [OPTIONS] <LIST>\n{MORE}"),
     (["measure", "--workers", "9", "L"], f"error: invalid value '9' for '--workers <N>': 9 is not in 1..=8\n{MORE}"),
     (["measure", "--alg", "sm3", "L"],
      f"error: invalid value 'sm3' for '--alg <A>'\n  [possible values: sha1, sha256, sha384, sha512]\n{MORE}"),
