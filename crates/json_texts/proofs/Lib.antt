@@ -1,0 +1,4 @@
+pub mod LineLaws
+pub mod WrittenLaws
+pub mod EntryLaws
+pub mod SameEntryLaws

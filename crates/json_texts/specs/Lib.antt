@@ -1,0 +1,3 @@
+pub mod JsonValues
+pub mod EntryJson
+pub mod parts
