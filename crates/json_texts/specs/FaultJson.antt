@@ -20,6 +20,11 @@ place_members None = []
 place_members (Some (Event number)) = (codes "event", number_json number) ∷ []
 place_members (Some (Entry number)) = (codes "entry", number_json number) ∷ []
 
+-- The number of the event or of the entry.
+abbrev pub number_at : FaultPlace → ℕ
+number_at (Event number) = number
+number_at (Entry number) = number
+
 -- What is told of the fault.
 abbrev pub fault_members : Option (List ℕ) → Option ℕ → Option FaultPlace → List ℕ → List Member
 fault_members kind number place message =

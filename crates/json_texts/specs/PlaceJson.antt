@@ -1,5 +1,5 @@
 -- Places as JSON. The members and their order are this project's choice.
-use Rattle.std.specs.Prelude.{ℕ, Bool, List, [], ◌∷◌, ◌++◌, codes, map, Option, Some, None}
+use Rattle.std.specs.Prelude.{⊤, ℕ, Bool, List, [], ◌∷◌, ◌++◌, codes, map, Option, Some, None}
 use Rattle.json.specs.Json.{Json}
 use Rattle.json.specs.Json as json
 use Rattle.boot_verdict.specs.declared.places.Located.{Located}
@@ -8,7 +8,7 @@ use Rattle.boot_verdict.specs.declared.places.Place.TheVariants.{Reset, Event, E
 use Rattle.boot_verdict.specs.declared.requirement.BankRange.{BankRange}
 use Rattle.boot_verdict.specs.Places.{all_found}
 use Rattle.boot_verdict.specs.Requirements.{expected_of_located, required_found}
-use Rattle.json_texts.specs.JsonValues.{Member, array_of, number_json, object_of}
+use Rattle.json_texts.specs.JsonValues.{IsCount, Member, array_of, number_json, object_of}
 use Rattle.json_texts.specs.MissingJson.{missing_among}
 use Rattle.json_texts.specs.RegisterJson.{register_members}
 
@@ -19,6 +19,14 @@ place_members (Event number) = (codes "place", json.string (codes "event")) ∷ 
 place_members (Entry number) = (codes "place", json.string (codes "entry")) ∷ (codes "number", number_json number) ∷ []
 place_members Nowhere = (codes "place", json.string (codes "nowhere")) ∷ []
 place_members Absent = (codes "place", json.string (codes "absent")) ∷ []
+
+-- The number of the event or entry, if there is one, fits.
+abbrev pub IsCountedPlace : Place → Type 0
+IsCountedPlace Reset = ⊤
+IsCountedPlace (Event number) = IsCount number
+IsCountedPlace (Entry number) = IsCount number
+IsCountedPlace Nowhere = ⊤
+IsCountedPlace Absent = ⊤
 
 abbrev pub located_json : Located → Json
 located_json row = object_of (register_members row.expected.alg row.expected.register ++ place_members row.place)
