@@ -2,3 +2,4 @@ pub mod LineLaws
 pub mod WrittenLaws
 pub mod EntryLaws
 pub mod SameEntryLaws
+pub mod ValueLaws

@@ -1,5 +1,5 @@
 -- JSON (RFC 8259) as this crate writes it: its values, and their lines. All of this is this project's choice.
-use Rattle.std.specs.Prelude.{◌≡◌, ℕ, nat_le, Bool, true, if◌then◌else◌, List, [], ◌∷◌, ◌++◌, codes, decimal, Some}
+use Rattle.std.specs.Prelude.{◌≡◌, ℕ, ◌^◌, ◌<◌, nat_le, Bool, true, if◌then◌else◌, List, [], ◌∷◌, ◌++◌, codes, decimal, Some}
 use Rattle.std.specs.List.{list_all}
 use Rattle.std.specs.Str.{is_utf8}
 use Rattle.hex.specs.Hex.{encode_lower}
@@ -29,6 +29,10 @@ items_of (first ∷ values) = json.item first (items_of values)
 -- The array of these values, in order.
 abbrev pub array_of : List Json → Json
 array_of values = json.array (items_of values)
+
+-- A number as code holds it fits in 64 bits.
+abbrev pub IsCount : ℕ → Type 0
+IsCount number = number < 2 ^ 64
 
 -- A number, in decimal.
 abbrev pub number_json : ℕ → Json
