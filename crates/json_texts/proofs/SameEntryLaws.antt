@@ -19,8 +19,7 @@ use Rattle.ima_list.specs.ListEntry.{ListEntry}
 use Rattle.ima_list.specs.FieldKinds.{FileFields, no_fields}
 use Rattle.ima_list.specs.Fields.{HasFields, IsMadeOf, fields_of}
 use Rattle.ima_list.specs.Rows.{row_spelling, row_told}
-use Rattle.ima_list.specs.Templates.{template_named, template_row}
-use Rattle.ima_list.proofs.TemplateLaws.{named_again}
+use Rattle.ima_list.specs.Templates.{template_name, template_named, template_row}
 use Rattle.json_texts.specs.JsonValues.{line_of, members_of, shown_name, shown_text}
 use Rattle.json_texts.specs.EntryJson.{content_members, entry_json, signature_members}
 use Rattle.json_texts.specs.parts.KnownEntries.{IsKnown}
@@ -170,6 +169,11 @@ made_same template p q f g first_bytes second_bytes first second same =
 
 some_same : (s t : Template) → Some s ≡ Some t → s ≡ t
 some_same s t e = cc
+
+named_again : (template : Template) → template_named (template_name template) ≡ Some template
+named_again Ima = refl
+named_again ImaNg = refl
+named_again ImaSig = refl
 
 -- The template by name of an entry that has fields, and what its payload is made of.
 has_made : (entry : ListEntry) (fields : FileFields) → HasFields entry fields

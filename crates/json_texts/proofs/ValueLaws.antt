@@ -1,5 +1,5 @@
 -- Each value is one line.
-use Rattle.std.proofs.Common.{◌≡◌, ℕ, zero, suc, ◌+◌, ◌^◌, ◌<◌, ◌≤◌, Bool, true, false, cond, List, [], ◌∷◌, ◌++◌, map, Option, Some, None, codes, arith}
+use Rattle.std.proofs.Common.{ℕ, zero, suc, ◌+◌, ◌<◌, ◌≤◌, Bool, true, false, cond, List, [], ◌∷◌, map, Option, Some, None, codes, arith}
 use Rattle.std.specs.Prelude.{⊤, flat_map, IfSome}
 use Rattle.std.specs.List.{AllByRecursion, range_with_len}
 use Rattle.json.specs.Json.{Json, string}
@@ -27,7 +27,7 @@ use Rattle.boot_verdict.specs.Requirements.{expected_of_located, expected_of_row
 use Rattle.boot_verdict.specs.Verdicts.{Verdict}
 use Rattle.json_texts.specs.declared.faults.FaultPlace.{FaultPlace}
 use Rattle.json_texts.specs.declared.faults.FaultPlace.TheVariants.{Event, Entry}
-use Rattle.json_texts.specs.JsonValues.{IsCount, IsOneLine, Member, array_of, number_json}
+use Rattle.json_texts.specs.JsonValues.{IsCount, IsOneLine, Member, array_of}
 use Rattle.json_texts.specs.EventJson.{algorithm_json, algorithms_json, digest_members, digests_json, event_json, name_members, type_members}
 use Rattle.json_texts.specs.FaultJson.{fault_json, fault_members, kind_members, number_at, number_members, place_members}
 use Rattle.json_texts.specs.MissingJson.{missing_among, missing_in, missing_json, value_if_missing}
@@ -89,8 +89,8 @@ pub fault_line : (kind : Option (List ℕ)) (number : Option ℕ) (place : Optio
     → IfSome number IsCount → IfSome place (λ at. IsCount (number_at at)) → IsOneLine (fault_json kind number place message)
 fault_line kind number place message fits placed =
     let members = members_joined 0 (kind_members kind) _ (kind_plain kind)
-        (members_joined 0 (number_members number) _ (number_of_fault number fits)
-        (members_joined 0 (place_members place) _ (place_of_fault place placed) (one_text _ message))) in
+    (members_joined 0 (number_members number) _ (number_of_fault number fits)
+    (members_joined 0 (place_members place) _ (place_of_fault place placed) (one_text _ message))) in
     one_line 2 (fault_json kind number place message)
     (object_plain 1 _ (member_plain 1 _ _ [] (object_plain 0 (fault_members kind number place message) members) (no_members_plain 1)))
     (omega arith)
@@ -114,8 +114,8 @@ change_plain alg register before (Some value) fits =
 pub registers_line : (now start : Banks) → IsOneLine (registers_json now start)
 registers_line now start =
     let all = of_each_alg (IsPlain 1) (changed_in now start)
-        (λ alg. of_each_register (IsPlain 1) (changed_register now start alg)
-        (λ r lt. change_plain alg r (value_at start alg r) (value_at now alg r) (omega (arith, lt)))) in
+    (λ alg. of_each_register (IsPlain 1) (changed_register now start alg)
+    (λ r lt. change_plain alg r (value_at start alg r) (value_at now alg r) (omega (arith, lt)))) in
     one_line 3 (registers_json now start)
     (object_plain 2 _ (member_plain 2 _ _ [] (array_plain 1 (changed_registers now start) all) (no_members_plain 2))) (omega arith)
 
@@ -190,8 +190,8 @@ pub places_line : (required : Option (List BankRange)) (located : List Located)
     → AllByRecursion (λ row. IsCount row.expected.register × IsCountedPlace row.place) located → IsOneLine (places_json required located)
 places_line required located fit =
     let all = all_joined (IsPlain 1) (map located_json located) _
-        (mapped_plain (IsPlain 1) (λ row. IsCount row.expected.register × IsCountedPlace row.place) located_json located_plain located fit)
-        (among_plain (codes "place") required (expected_of_located located)) in
+    (mapped_plain (IsPlain 1) (λ row. IsCount row.expected.register × IsCountedPlace row.place) located_json located_plain located fit)
+    (among_plain (codes "place") required (expected_of_located located)) in
     one_line 3 (places_json required located)
     (object_plain 2 _ (member_plain 2 _ _ _ (array_plain 1 (places_values required located) all)
     (member_plain 2 _ _ [] (flag_plain 2 _) (no_members_plain 2)))) (omega arith)

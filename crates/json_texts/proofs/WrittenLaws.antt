@@ -1,10 +1,12 @@
 -- Tokens of members and of items that are written one after another.
-use Rattle.std.proofs.Common.{◌≡◌, ℕ, ◌+◌, ◌<◌, List, [], ◌∷◌, ◌++◌, length, get_or, take, map, refl, sym, ap, ◌∙◌, append_assoc}
+use Rattle.std.proofs.Common.{◌≡◌, zero, suc, arith, ℕ, ◌+◌, ◌<◌, List, [], ◌∷◌, ◌++◌, length, get_or, take, map, refl, sym, ap, ◌∙◌, append_assoc}
 use Rattle.std.specs.Prelude.{flat_map}
 use Rattle.std.proofs.lemmas.List.{flat_map_more, take_more}
 use Rattle.std.proofs.lemmas.List.Concat.{flat_map-append}
 use Rattle.std.proofs.lemmas.List.Folds.{flat_map-map}
 use Rattle.std.proofs.Math.Seq.{take-length}
+use Rattle.std.specs.Str.{IsAscii, IsUtf8}
+use Rattle.std.proofs.lemmas.Str.{IsUtf8-append, IsUtf8-from_ascii}
 use Rattle.json.specs.Token.{Token}
 use Rattle.json.specs.Json.{Json}
 use Rattle.json.specs.Tree.{items_tokens, json_tokens, members_tokens}
@@ -57,3 +59,11 @@ pub all_written : {X : Type 0} (f : X → List Token) (xs : List X) (i : ℕ) (s
     → now ≡ start ++ flat_map f (take i xs) → now ≡ start ++ flat_map f xs
 all_written {X} f xs i start now all before =
     before ∙ ap (λ (n : ℕ). start ++ flat_map f (take n xs)) all ∙ ap (λ (ys : List X). start ++ flat_map f ys) (take-length xs)
+
+line_feed : IsAscii (10 ∷ [])
+line_feed zero = omega arith
+line_feed (suc i) = omega arith
+
+-- A text and a line feed.
+pub with_line_feed : (text : List ℕ) → IsUtf8 text → IsUtf8 (text ++ 10 ∷ [])
+with_line_feed text is = IsUtf8-append text (10 ∷ []) is (IsUtf8-from_ascii (10 ∷ []) line_feed)

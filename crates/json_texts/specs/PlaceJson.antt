@@ -1,5 +1,5 @@
 -- Places as JSON. The members and their order are this project's choice.
-use Rattle.std.specs.Prelude.{⊤, ℕ, Bool, List, [], ◌∷◌, ◌++◌, codes, map, Option, Some, None}
+use Rattle.std.specs.Prelude.{⊤, Bool, List, [], ◌∷◌, ◌++◌, codes, map, Option, Some, None}
 use Rattle.json.specs.Json.{Json}
 use Rattle.json.specs.Json as json
 use Rattle.boot_verdict.specs.declared.places.Located.{Located}

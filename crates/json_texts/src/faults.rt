@@ -1,6 +1,7 @@
 //! The line of a fault.
 
 ghost use Rattle.std.specs.Prelude.{◌≡◌, [], ◌∷◌, ◌++◌, option_map, OnOk, OnErr};
+ghost use Rattle.std.specs.Str.{IsUtf8};
 ghost use Rattle.json.specs.Tree.{json_tokens};
 ghost use Rattle.json_texts.specs.JsonValues.{line_of};
 ghost use Rattle.json_texts.specs.FaultJson.{fault_json, fault_members, kind_members, number_members, place_members};
@@ -44,6 +45,8 @@ pub fn append_fault(
 ) -> Result<(), AllocError>
     ensures ok { OnOk result (line.new.items ≡ line.old.items ++ line_of
         (fault_json (option_map (λ kind. kind.now) fault.now.kind) fault.now.number fault.now.place fault.now.message.now)) }
+    ensures utf8 { OnOk result (IsUtf8 (line_of
+        (fault_json (option_map (λ kind. kind.now) fault.now.kind) fault.now.number fault.now.place fault.now.message.now))) }
     ensures err { OnErr result (line.new.items ≡ line.old.items) }
 {
     let start = line.len();

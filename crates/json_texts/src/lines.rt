@@ -1,6 +1,7 @@
 //! Lines in a vector, and on their way to a sink.
 
 ghost use Rattle.std.specs.Prelude.{◌≡◌, [], ◌++◌, length, codes, IsOk, OnOk, OnErr};
+ghost use Rattle.std.specs.Str.{IsUtf8};
 ghost use Rattle.byte_streams.specs.Streams.{Sends};
 ghost use Rattle.json.specs.Print.{print};
 
@@ -30,6 +31,7 @@ pub(crate) fn begin_line(alloc: Global, line: &mut Vec<u8>) -> Writer
 
 /// Gives the vector the bytes of a writer that began after `start` bytes, and a line feed; without what the writer added, if
 /// that was refused or the line feed is.
+#[tactic(auto, using(crate::proofs::WrittenLaws::with_line_feed))]
 pub(crate) fn end_line(
     written: Result<(), AllocError>,
     writer: Writer,
@@ -39,6 +41,7 @@ pub(crate) fn end_line(
     requires { start ≡ length writer.before }
     ensures written { OnOk result (IsOk written) }
     ensures ok { OnOk result (line.new.items ≡ writer.before ++ (print writer.tokens ++ codes "\n")) }
+    ensures utf8 { OnOk result (IsUtf8 (print writer.tokens ++ codes "\n")) }
     ensures err { OnErr result (line.new.items ≡ writer.before) }
 {
     *line = writer.into_inner();

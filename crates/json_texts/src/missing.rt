@@ -110,12 +110,7 @@ fn write_if_missing(
     Ok(())
 }
 
-fn write_one(
-    name: &str,
-    alg: Alg,
-    register: u32,
-    writer: &mut Writer,
-) -> Result<(), AllocError>
+fn write_one(name: &str, alg: Alg, register: u32, writer: &mut Writer) -> Result<(), AllocError>
     ensures before { writer.new.before ≡ writer.old.before }
     ensures tokens { OnOk result (writer.new.tokens ≡ writer.old.tokens ++ json_tokens (missing_json name.now alg register)) }
 {

@@ -1,6 +1,7 @@
 //! The line of places.
 
 ghost use Rattle.std.specs.Prelude.{◌≡◌, [], ◌∷◌, ◌++◌, codes, flat_map, map, option_map, OnOk, OnErr};
+ghost use Rattle.std.specs.Str.{IsUtf8};
 ghost use Rattle.json.specs.Json.{string};
 ghost use Rattle.json.specs.Tree.{json_tokens};
 ghost use Rattle.json_texts.specs.JsonValues.{array_of, line_of, number_json};
@@ -30,6 +31,7 @@ pub fn append_places(
 ) -> Result<(), AllocError>
     ensures ok { OnOk result (line.new.items ≡ line.old.items
         ++ line_of (places_json (option_map (λ ranges. ranges.now) requirement.entry) located.now)) }
+    ensures utf8 { OnOk result (IsUtf8 (line_of (places_json (option_map (λ ranges. ranges.now) requirement.entry) located.now))) }
     ensures err { OnErr result (line.new.items ≡ line.old.items) }
 {
     let start = line.len();

@@ -1,6 +1,7 @@
 //! The line of registers.
 
 ghost use Rattle.std.specs.Prelude.{◌≡◌, ℕ, List, [], ◌∷◌, ◌++◌, flat_map, Option, option_map, OnOk, OnErr};
+ghost use Rattle.std.specs.Str.{IsUtf8};
 ghost use Rattle.pcr_banks.specs.declared.alg.Alg.{Alg};
 ghost use Rattle.pcr_banks.specs.Digests.{alg_of, bytes_of, digest_of};
 ghost use Rattle.json.specs.Tree.{json_tokens};
@@ -27,6 +28,7 @@ pub fn append_registers(
     line: &mut Vec<u8>,
 ) -> Result<(), AllocError>
     ensures ok { OnOk result (line.new.items ≡ line.old.items ++ line_of (registers_json now.now start.now)) }
+    ensures utf8 { OnOk result (IsUtf8 (line_of (registers_json now.now start.now))) }
     ensures err { OnErr result (line.new.items ≡ line.old.items) }
 {
     let length = line.len();

@@ -1,6 +1,7 @@
 //! The lines of reports.
 
 ghost use Rattle.std.specs.Prelude.{◌≡◌, [], ◌∷◌, ◌++◌, codes, flat_map, map, option_map, OnOk, OnErr};
+ghost use Rattle.std.specs.Str.{IsUtf8};
 ghost use Rattle.boot_verdict.specs.declared.report.State.TheVariants.{Differ};
 ghost use Rattle.boot_verdict.specs.ListVerdicts.{list_verdict_of};
 ghost use Rattle.boot_verdict.specs.ReportTexts.{aggregate_word};
@@ -36,6 +37,8 @@ pub fn append_report(
 ) -> Result<(), AllocError>
     ensures ok { OnOk result (line.new.items ≡ line.old.items
         ++ line_of (report_json (option_map (λ ranges. ranges.now) requirement.entry) (verdict_of report.now))) }
+    ensures utf8 { OnOk result (IsUtf8 (line_of
+        (report_json (option_map (λ ranges. ranges.now) requirement.entry) (verdict_of report.now)))) }
     ensures err { OnErr result (line.new.items ≡ line.old.items) }
 {
     let start = line.len();
@@ -55,6 +58,8 @@ pub fn append_list_report(
 ) -> Result<(), AllocError>
     ensures ok { OnOk result (line.new.items ≡ line.old.items
         ++ line_of (list_report_json (option_map (λ ranges. ranges.now) requirement.entry) (list_verdict_of report.now))) }
+    ensures utf8 { OnOk result (IsUtf8 (line_of
+        (list_report_json (option_map (λ ranges. ranges.now) requirement.entry) (list_verdict_of report.now)))) }
     ensures err { OnErr result (line.new.items ≡ line.old.items) }
 {
     let start = line.len();

@@ -1,4 +1,4 @@
-use Rattle.std.proofs.Common.{◌≡◌, map, take}
+use Rattle.std.proofs.Common.{◌≡◌, take}
 use Rattle.boot_verdict.specs.Requirements.{expected_of_rows}
 use Rattle.json_texts.proofs.missing.expected_of_rows.Given as goal
 

@@ -13,7 +13,7 @@ loop-register-preserved c =
     record {
       before = c.in_ok-write_if_missing.ensures.before ∙ c.loop-register.invariant.before;
       tokens = more_written (λ register. items_written (value_if_missing c.args.name.now c.args.requirement.now c.args.expected.now c.args.alg register)) all_registers c.loop-register.register 0 _ _ _ lt
-        c.loop-register.invariant.tokens (rw (← is) at c.in_ok-write_if_missing.ensures.tokens);
+          c.loop-register.invariant.tokens (rw (← is) at c.in_ok-write_if_missing.ensures.tokens);
     }
 
 pub returns-clause-tokens : goal.returns-clause-tokens

@@ -9,5 +9,5 @@ abbrev pub invariant-loop-register : goal.invariant-loop-register
 invariant-loop-register l = record {
   before : l.writer.before ≡ l.initial.writer.before;
   tokens : l.writer.tokens
-    ≡ l.initial.writer.tokens ++ flat_map (λ register. items_written (value_if_missing l.name l.requirement l.expected l.alg register)) (take l.register all_registers);
+      ≡ l.initial.writer.tokens ++ flat_map (λ register. items_written (value_if_missing l.name l.requirement l.expected l.alg register)) (take l.register all_registers);
 }

@@ -10,7 +10,7 @@ pub loop-alg-preserved : goal.loop-alg-preserved
 loop-alg-preserved c = record {
   before = c.in_ok-write_missing_in.ensures.before ∙ c.loop-alg.invariant.before;
   tokens = more_written (λ alg. items_written (missing_in c.args.name.now c.args.requirement.now c.args.expected.now alg)) all_algs c.loop-alg.alg-index Sha1 _ _ _ c.loop-alg-test.true
-    c.loop-alg.invariant.tokens c.in_ok-write_missing_in.ensures.tokens;
+      c.loop-alg.invariant.tokens c.in_ok-write_missing_in.ensures.tokens;
 }
 
 pub returns-clause-tokens : goal.returns-clause-tokens

@@ -8,7 +8,7 @@ pub loop-row-preserved : goal.loop-row-preserved
 loop-row-preserved c = record {
   before = c.in_ok-write_located.ensures.before ∙ c.loop-row.invariant.before;
   tokens = more_written (λ row. json_tokens (located_json row)) c.args.located.now c.loop-row.row-index _ _ _ _ c.loop-row-test.true
-    c.loop-row.invariant.tokens c.in_ok-write_located.ensures.tokens;
+      c.loop-row.invariant.tokens c.in_ok-write_located.ensures.tokens;
 }
 
 pub returns-clause-tokens : goal.returns-clause-tokens

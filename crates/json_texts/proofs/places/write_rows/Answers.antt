@@ -12,6 +12,13 @@ returns-clause-tokens c =
     let located = c.args.located.now in
     let missing = rw (c.deref.ensures.value, c.in_ok-expected.ensures) at c.in_ok-write_missing.ensures.tokens in
     let joined = items_joined (map located_json located) (missing_among (codes "place") required (expected_of_located located)) in
-    rw (c.in_ok-end_array.ensures.ok, missing, c.in_ok-write_each.ensures.tokens, c.in_ok-begin_array.ensures.ok,
-      c.in_ok-key.ensures.ok, items_and_end (places_values required located), joined)
+    rw (
+      c.in_ok-end_array.ensures.ok,
+      missing,
+      c.in_ok-write_each.ensures.tokens,
+      c.in_ok-begin_array.ensures.ok,
+      c.in_ok-key.ensures.ok,
+      items_and_end (places_values required located),
+      joined,
+    )
     (simp (append_assoc, append-nil) refl)

@@ -5,6 +5,13 @@ use Rattle.json_texts.proofs.registers.write_registers.Goals as goal
 
 pub returns-clause-tokens : goal.returns-clause-tokens
 returns-clause-tokens c =
-    rw (c.in_ok-end_object.ensures.ok, c.in_ok-end_array.ensures.ok, c.in_ok-write_banks.ensures.tokens,
-      c.in_ok-begin_array.ensures.ok, c.in_ok-key.ensures.ok, c.in_ok-begin_object.ensures.ok, items_and_end (changed_registers c.args.now.now c.args.start.now))
+    rw (
+      c.in_ok-end_object.ensures.ok,
+      c.in_ok-end_array.ensures.ok,
+      c.in_ok-write_banks.ensures.tokens,
+      c.in_ok-begin_array.ensures.ok,
+      c.in_ok-key.ensures.ok,
+      c.in_ok-begin_object.ensures.ok,
+      items_and_end (changed_registers c.args.now.now c.args.start.now),
+    )
     (simp append_assoc refl)

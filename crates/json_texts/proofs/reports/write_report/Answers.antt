@@ -12,6 +12,15 @@ returns-clause-tokens c =
     let aggregate = rw c.aggregate_word.ensures at c.in_ok-write_text.ensures.tokens in
     let rows = rw c.deref.ensures.value at c.in_ok-write_rows.ensures.tokens in
     let word = rw (c.verdict_word.ensures, c.meets-is_match.ensures) at c.in_ok-write_text-2.ensures.tokens in
-    rw (c.in_ok-end_object.ensures.ok, word, rows, aggregate, c.in_ok-write_number-3.ensures.tokens,
-      c.in_ok-write_number-2.ensures.tokens, c.in_ok-write_number.ensures.tokens, c.in_ok-begin_object.ensures.ok, append-nil items)
+    rw (
+      c.in_ok-end_object.ensures.ok,
+      word,
+      rows,
+      aggregate,
+      c.in_ok-write_number-3.ensures.tokens,
+      c.in_ok-write_number-2.ensures.tokens,
+      c.in_ok-write_number.ensures.tokens,
+      c.in_ok-begin_object.ensures.ok,
+      append-nil items,
+    )
     (simp append_assoc refl)

@@ -12,6 +12,13 @@ returns-clause-tokens c =
     let rows = c.args.rows.now in
     let missing = rw (c.deref.ensures.value, c.in_ok-expected.ensures) at c.in_ok-write_missing.ensures.tokens in
     let joined = items_joined (map row_json rows) (missing_among (codes "state") required (expected_of_rows rows)) in
-    rw (c.in_ok-end_array.ensures.ok, missing, c.in_ok-write_each.ensures.tokens, c.in_ok-begin_array.ensures.ok,
-      c.in_ok-key.ensures.ok, items_and_end (rows_values required rows), joined)
+    rw (
+      c.in_ok-end_array.ensures.ok,
+      missing,
+      c.in_ok-write_each.ensures.tokens,
+      c.in_ok-begin_array.ensures.ok,
+      c.in_ok-key.ensures.ok,
+      items_and_end (rows_values required rows),
+      joined,
+    )
     (simp (append_assoc, append-nil) refl)
