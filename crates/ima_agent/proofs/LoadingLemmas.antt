@@ -1,13 +1,16 @@
 -- The bytes that a source lost, and why it was not loaded.
-use Rattle.std.proofs.Common.{◌≡◌, ℕ, ◌<◌, List, ◌++◌, length, Option, None, Some, Err, refl, sym, ap, ◌∙◌, append-nil, length-append, arith}
-use Rattle.std.specs.Prelude.{IfSome}
+use Rattle.std.proofs.Common.{◌≡◌, ℕ, ◌<◌, List, ◌++◌, length, Option, None, Some, Err, refl, sym, ap, subst, ◌∙◌, Result, append-nil, length-append, arith}
+use Rattle.std.specs.Prelude.{IfSome, is_some}
 use Rattle.std.specs.Io.KnownBytes.{Consumes, IsAtEnd}
 use Rattle.byte_streams.specs.declared.pieces.ReadFault.{ReadFault}
 use Rattle.byte_streams.specs.declared.pieces.ReadFault.TheVariants as reads
-use Rattle.byte_streams.specs.Streams.{GivesPiece, LosesFront, failures_after_reading}
+use Rattle.byte_streams.specs.Streams.{GivesPiece, LosesFront, SourceState, failures_after_reading}
 use Rattle.byte_streams.proofs.SourceLaws.{Consumes-then}
+use Rattle.boot_verdict.specs.ListSources.{failures_after_list}
+use Rattle.boot_verdict.specs.declared.verifier.VerifyFault.{VerifyFault}
+use Rattle.boot_verdict.specs.declared.verifier.VerifyFault.TheVariants as verdicts
 use Rattle.ima_agent.specs.declared.loading.LoadFault.TheVariants.{TooLong}
-use Rattle.ima_agent.specs.Loading.{LosesMoreThan, failures_after_load, fault_of_reading}
+use Rattle.ima_agent.specs.Loading.{HasFailed, LosesMoreThan, failures_after_load, fault_of_reading}
 
 -- Two pieces that follow each other are one.
 pub Consumes-append : (old mid new : Option (List ℕ)) (first second : List ℕ) → Consumes old mid first → Consumes mid new second
@@ -41,6 +44,13 @@ pub had : (old new : Option (List ℕ)) (limit : ℕ) (lost : List ℕ) → Cons
 had None new limit lost came more = tt
 had (Some all) None limit lost came more = absurd came
 had (Some all) (Some rest) limit lost came more = omega (arith, ap length came, length-append lost rest)
+
+-- A list that was not read since its source failed.
+pub source_failed : {A : Type 0} (result : Result A VerifyFault) (fault : VerifyFault) (old new : SourceState) → result ≡ Err fault
+    → new.failures ≡ failures_after_list result old.failures → is_some new.remaining ≡ is_some old.remaining → fault ≡ verdicts.Source
+    → HasFailed old new
+source_failed {A} result fault old new is counts telling source =
+    record { counts = subst (λ (r : Result A VerifyFault). new.failures ≡ failures_after_list r old.failures) (is ∙ ap Err source) counts; telling = telling }
 
 -- The fault of a failed read is not that too many bytes came.
 pub read_fault_is_not_too_long : (fault : ReadFault) → fault_of_reading fault ≡ TooLong → ⊥

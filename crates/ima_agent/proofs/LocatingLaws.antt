@@ -23,7 +23,7 @@ places_from inputs log_name list_name text_name log expected source new (Ok plac
   text = evidence.text;
   expected = expected;
   log_held = evidence.log_held;
-  list_held = held_whole (inputs (Some list_name)) source.remaining new input_limit are.list evidence.list_given are.came;
+  list_held = held_whole (inputs.held (Some list_name)) source.remaining new input_limit are.list evidence.list_given are.came;
   text_held = evidence.text_held;
   expected_is = evidence.expected_is;
   located_are = are.located_are;

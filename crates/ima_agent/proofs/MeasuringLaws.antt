@@ -34,8 +34,8 @@ use Rattle.ima_agent.specs.declared.loading.LoadFault.{LoadFault}
 use Rattle.ima_agent.specs.declared.loading.LoadFault.TheVariants as loads
 use Rattle.ima_agent.specs.Faults.{fault_of_log}
 use Rattle.ima_agent.specs.Hashing.{IsHashOfAll}
-use Rattle.ima_agent.specs.Loading.{Holds, Inputs, IsInputFault, IsTooLong, input_limit}
-use Rattle.ima_agent.specs.Measuring.{AreAllDone, Contents, HasFile, HasMeasured, IsFileFault, IsFileMeasure, IsFirstRefusal, IsMeasuringFault, IsNamesFault, IsRecordingFault, IsSetOut, Manner, ShowsMeasured, all_names, files_in}
+use Rattle.ima_agent.specs.Loading.{Holds, Inputs, IsInputFault, IsNotRead, IsTooLong, input_limit}
+use Rattle.ima_agent.specs.Measuring.{AreAllDone, Contents, HasFile, HasMeasured, IsFileFault, IsFileMeasure, IsFirstRefusal, IsMeasuringFault, IsNamesFault, IsRecordingFault, IsSetOut, IsUnhashed, Manner, ShowsMeasured, all_names, failing_in, files_in}
 use Rattle.ima_agent.specs.parts.Measuring.{IsFileFaultOf, IsFileLack}
 use Rattle.ima_agent.specs.Program.{IsListedFault, OfInput}
 use Rattle.ima_agent.specs.parts.NamedFiles.{job_fault_of}
@@ -147,7 +147,7 @@ file_lacks held Fails names number name loads.Memory within is too_long source =
 -- The fault of the first file without an operation.
 pub file_fault : (held : Contents) (Fails : List ℕ → Type 0) (names : List (List ℕ)) (number : ℕ) (cause : JobFault) (fault : RunFault)
     → number < length names → IsFileLack held Fails names number cause → IsFileFaultOf names number cause fault
-    → ((earlier : ℕ) → earlier < number → HasFile held names earlier) → IsFileFault held names fault
+    → ((earlier : ℕ) → earlier < number → HasFile held names earlier) → IsFileFault held Fails names fault
 file_fault held Fails names number lacks.TooLong fault within lack (inl says) before =
     let same : says.0 ≡ lack.0 = same_Some says.0 lack.0 (sym says.1 ∙ lack.1) in
     let At : List ℕ → Type 0 = λ name. IsTooLong name fault in
@@ -155,13 +155,36 @@ file_fault held Fails names number lacks.TooLong fault within lack (inl says) be
 file_fault held Fails names number lacks.TooLong fault within lack (inr memory) before =
     record { index = number; name = lack.0; has = lack.1; cause = inr (inr memory); before = before }
 file_fault held Fails names number lacks.Source fault within lack (inl says) before =
-    record { index = number; name = says.0; has = says.1; cause = inr (inl says.2); before = before }
+    let same : says.0 ≡ lack.0 = same_Some says.0 lack.0 (sym says.1 ∙ lack.1) in
+    let At : List ℕ → Type 0 = λ name. IsNotRead name fault in
+    record { index = number; name = lack.0; has = lack.1; cause = inr (inl (subst At same says.2, lack.2)); before = before }
 file_fault held Fails names number lacks.Source fault within lack (inr memory) before =
     let at = within_at names number within in
     record { index = number; name = at.0; has = at.1; cause = inr (inr memory); before = before }
 file_fault held Fails names number lacks.Memory fault within lack says before =
     let at = within_at names number within in
     record { index = number; name = at.0; has = at.1; cause = inr (inr says); before = before }
+
+-- A fault of files of which some may fail is one of files of which more may.
+module _ (held : Contents) (Fails Others : List ℕ → Type 0) (more : (name : List ℕ) → Fails name → Others name) where
+  unhashed : (name : List ℕ) (fault : RunFault) → IsUnhashed held Fails name fault → IsUnhashed held Others name fault
+  unhashed name fault (inl long) = inl long
+  unhashed name fault (inr (inl failed)) = inr (inl (failed.0, more name failed.1))
+  unhashed name fault (inr (inr memory)) = inr (inr memory)
+
+  pub fault_among : (log : List ℕ) (manner : Manner) (names : List (List ℕ)) (result : Result (Vec ℕ) RunFault)
+      → IfErr result (IsMeasuringFault held Fails log manner names) → IfErr result (IsMeasuringFault held Others log manner names)
+  fault_among log manner names (Ok shown) known = tt
+  fault_among log manner names (Err fault) (inl log-fault) = inl log-fault
+  fault_among log manner names (Err fault) (inr (inl file)) =
+      inr (inl (record {
+        index = file.index;
+        name = file.name;
+        has = file.has;
+        cause = unhashed file.name fault file.cause;
+        before = file.before;
+      }))
+  fault_among log manner names (Err fault) (inr (inr rest)) = inr (inr rest)
 
 -- Two tellings of what files hold that agree on every name are the same.
 pub same_contents : (held told : Contents) → ((name : List ℕ) → held name ≡ told name) → held ≡ told
@@ -196,13 +219,13 @@ module _ (origin : Origin) (count : ℕ) (Makes : ℕ → BookOp → Type 0) (wo
   refused_one P (Err fault) first = inr (inr (record { book = book; outcomes = outcomes; by = by; batch = batch; first = first }))
 
 -- Why nothing is shown if the files are not all recorded.
-pub not_recorded : (held : Contents) (log : List ℕ) (manner : Manner) (files : List (String Global)) (table : List Row)
+pub not_recorded : (held : Contents) (Fails : List ℕ → Type 0) (log : List ℕ) (manner : Manner) (files : List (String Global)) (table : List Row)
     (events : List LogEvent) (origin : Origin) (fault : RunFault) → IsSetOut log manner table events origin
-    → (IsFileFault held (map string_bytes files) fault
+    → (IsFileFault held Fails (map string_bytes files) fault
     ⊎ IsRecordingFault origin (length files) (IsFileMeasure held (map string_bytes files) manner.alg) manner.workers fault)
-    → IsMeasuringFault held log manner (map string_bytes files) fault
-not_recorded held log manner files table events origin fault out (inl file) = inr (inl file)
-not_recorded held log manner files table events origin fault out (inr recording) = inr (inr (inl (record {
+    → IsMeasuringFault held Fails log manner (map string_bytes files) fault
+not_recorded held Fails log manner files table events origin fault out (inl file) = inr (inl file)
+not_recorded held Fails log manner files table events origin fault out (inr recording) = inr (inr (inl (record {
   table = table;
   events = events;
   origin = origin;
@@ -212,19 +235,21 @@ not_recorded held log manner files table events origin fault out (inr recording)
 
 -- What is shown of files that several threads read is shown of the inputs that hold the same.
 pub shown_of : (inputs : Inputs) (held : Contents) (log : List ℕ) (manner : Manner) (print : Print) (names : List (List ℕ))
-    (result : Result (Vec ℕ) RunFault) → ((name : List ℕ) → held name ≡ inputs (Some name))
+    (result : Result (Vec ℕ) RunFault) → ((name : List ℕ) → held name ≡ inputs.held (Some name))
     → IfOk result (λ shown. ShowsMeasured held log manner print names shown.items)
     → IfOk result (λ shown. ShowsMeasured (files_in inputs) log manner print names shown.items)
 shown_of inputs held log manner print names result same =
     let At : Contents → Type 0 = λ h. IfOk result (λ shown. ShowsMeasured h log manner print names shown.items) in
     subst At (same_contents held (files_in inputs) same)
 
-pub fault_of : (inputs : Inputs) (held : Contents) (log : List ℕ) (manner : Manner) (names : List (List ℕ))
-    (result : Result (Vec ℕ) RunFault) → ((name : List ℕ) → held name ≡ inputs (Some name))
-    → IfErr result (IsMeasuringFault held log manner names) → IfErr result (IsMeasuringFault (files_in inputs) log manner names)
-fault_of inputs held log manner names result same =
-    let At : Contents → Type 0 = λ h. IfErr result (IsMeasuringFault h log manner names) in
+pub fault_of : (inputs : Inputs) (held : Contents) (Fails : List ℕ → Type 0) (log : List ℕ) (manner : Manner) (names : List (List ℕ))
+    (result : Result (Vec ℕ) RunFault) → ((name : List ℕ) → held name ≡ inputs.held (Some name))
+    → ((name : List ℕ) → Fails name → failing_in inputs name) → IfErr result (IsMeasuringFault held Fails log manner names)
+    → IfErr result (IsMeasuringFault (files_in inputs) (failing_in inputs) log manner names)
+fault_of inputs held Fails log manner names result same more known =
+    let At : Contents → Type 0 = λ h. IfErr result (IsMeasuringFault h (failing_in inputs) log manner names) in
     subst At (same_contents held (files_in inputs) same)
+    (fault_among held Fails (failing_in inputs) more log manner names result known)
 
 -- Of the bytes that the log holds.
 pub ok_of : (inputs : Inputs) (name bytes : List ℕ) (P : List ℕ → List ℕ → Type 0) (result : Result (Vec ℕ) RunFault)
@@ -243,7 +268,7 @@ err_of inputs name bytes P (Err fault) held known = inr (bytes, held, known)
 pub listed_err : (inputs : Inputs) (log : List ℕ) (manner : Manner) (first : List (List ℕ)) (input text : List ℕ) (ends : NameEnd)
     (result : Result (Vec ℕ) RunFault) → Holds inputs (Some input) text
     → IfErr result (λ fault. IsNamesFault input first ends text fault
-    ⊎ IsMeasuringFault (files_in inputs) log manner (all_names first ends text) fault)
+    ⊎ IsMeasuringFault (files_in inputs) (failing_in inputs) log manner (all_names first ends text) fault)
     → IfErr result (IsListedFault inputs log manner first input ends)
 listed_err inputs log manner first input text ends (Ok shown) held known = tt
 listed_err inputs log manner first input text ends (Err fault) held known = inr (inr (inl (text, held, known)))

@@ -12,6 +12,7 @@ use Rattle.ima_list.specs.Spelling.{BeginsWith, IsReading}
 use Rattle.ima_agent.specs.Faults.{fault_of_list}
 use Rattle.ima_agent.specs.declared.fault.RunFault.{RunFault}
 use Rattle.ima_agent.specs.Hexadecimal.{without_white_space}
+use Rattle.ima_agent.specs.parts.Showing.{IsKept}
 use Rattle.ima_agent.specs.Showing.{IsNoListFor, IsNoLogFor, IsRefusedFor, ShowsList}
 
 -- The text has the lines of the entries so far, and `rest` is left of the list.
@@ -53,6 +54,29 @@ pub shows_none : (list text rest : List ℕ) (number : ℕ) (fault : ListFault) 
     → IsReading list (Err fault)) → IsNoListFor list (fault_of_list fault)
 shows_none list text rest number fault shown some read =
     inl (record { first = fault; reading = read list shown.entries shown.begins (sym shown.count) some; says = refl })
+
+-- ---- lines that are kept while they fit
+
+-- The lines so far, of which all are kept, or all are counted.
+pub record HasCounted (room : ℕ) (list text rest : List ℕ) (size number : ℕ) : Type 0 where
+  pub lines : List ℕ
+  pub shown : HasShown list lines rest number
+  pub kept : IsKept room lines text size
+
+pub counted_none : (room : ℕ) (list : List ℕ) → HasCounted room list [] list 0 0
+counted_none room list = record { lines = []; shown = shown_none list; kept = inl (refl, refl, omega arith) }
+
+pub counted_more : (room : ℕ) (list text more rest after : List ℕ) (size next number : ℕ) (entry : ListEntry)
+    → HasCounted room list text rest size number
+    → ((list : List ℕ) (before : List ListEntry) → BeginsWith list before rest → BeginsWith list (before ++ entry ∷ []) after)
+    → length after < length rest
+    → ((lines : List ℕ) → IsKept room lines text size → IsKept room (lines ++ line_of entry) more next)
+    → HasCounted room list more after next (number + 1)
+counted_more room list text more rest after size next number entry counted read shorter keeps = record {
+  lines = counted.lines ++ line_of entry;
+  shown = shown_more list counted.lines rest (counted.lines ++ line_of entry) after number entry counted.shown read refl shorter;
+  kept = keeps counted.lines counted.kept;
+}
 
 -- ---- what is left
 

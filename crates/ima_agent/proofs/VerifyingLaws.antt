@@ -1,6 +1,6 @@
 -- What a list that was read from the source of an input says of the input.
 use Rattle.std.proofs.Common.{◌≡◌, ℕ, ◌<◌, List, [], ◌++◌, length, Option, None, Some, Ok, Err, refl, sym, ap, subst, ◌∙◌, append_assoc, append-nil, arith, inl, inr}
-use Rattle.std.specs.Prelude.{IfSome, IfOk, IfErr, Result}
+use Rattle.std.specs.Prelude.{IfSome, IfOk, IfErr, IsTrue, Result}
 use Rattle.std.specs.Io.KnownBytes.{Consumes, IsAtEnd}
 use Rattle.std.proofs.lemmas.List.{length-append}
 use Rattle.byte_streams.specs.Streams.{SourceState}
@@ -15,7 +15,7 @@ use Rattle.boot_verdict.specs.declared.expected.Expected.{Expected}
 use Rattle.boot_verdict.specs.declared.report.Report.{Report}
 use Rattle.ima_agent.specs.declared.fault.RunFault.{RunFault}
 use Rattle.ima_agent.specs.Faults.{IsFaultOfVerdict}
-use Rattle.ima_agent.specs.Loading.{Inputs, Holds, input_limit}
+use Rattle.ima_agent.specs.Loading.{HasFailed, Inputs, Holds, input_limit}
 use Rattle.ima_agent.specs.parts.Verifying.{IsEvidence, IsNoVerdictFrom}
 use Rattle.ima_agent.specs.Verifying.{HasVerdict, IsReportFault, IsVerdictOn, ShowsReport, ShowsReportOn, verdict_status}
 
@@ -74,8 +74,9 @@ longer (Some bytes) old (Some rest) limit list over has came some = (
 
 -- ---- why there is no report
 
-module _ (inputs : Inputs) (log_name list_name text_name log : List ℕ) (old new : Option (List ℕ)) (fault : RunFault)
-    (held : Holds inputs (Some log_name) log) (has : HasAll (inputs (Some list_name)) old) where
+module _ (inputs : Inputs) (log_name list_name text_name log : List ℕ) (old new : SourceState) (fault : RunFault)
+    (held : Holds inputs (Some log_name) log) (has : HasAll (inputs.held (Some list_name)) old.remaining)
+    (failing : HasFailed old new → IsTrue (inputs.may_fail (Some list_name))) where
   no_verdict : (list : List ℕ) (first : VerifyFault) → Holds inputs (Some list_name) list → IsVerifyFault log list first
       → IsFaultOfVerdict list_name first fault → IsReportFault inputs log_name list_name text_name fault
   no_verdict list first list-held is says = inr (inr (inr (inr (inl (record {
@@ -87,42 +88,42 @@ module _ (inputs : Inputs) (log_name list_name text_name log : List ℕ) (old ne
   })))))
 
   list_fails : (first : ListFault) → IsSomeLog log
-      → ((list : List ℕ) × (over : List ℕ) × CameFrom old new input_limit list over × FailsFor list first)
+      → ((list : List ℕ) × (over : List ℕ) × CameFrom old.remaining new.remaining input_limit list over × FailsFor list first)
       → IsFaultOfVerdict list_name (verdicts.List first) fault → IsReportFault inputs log_name list_name text_name fault
   list_fails first is fails says =
-      let more = held_more (inputs (Some list_name)) old new input_limit fails.0 fails.1 has fails.2 in
+      let more = held_more (inputs.held (Some list_name)) old.remaining new.remaining input_limit fails.0 fails.1 has fails.2 in
       no_verdict more.all (verdicts.List first) more.held
       (is, rw more.parts (fails.3.1 more.more)) says
 
   pub report_fault : IsNoVerdictFrom list_name log old new fault → IsReportFault inputs log_name list_name text_name fault
   report_fault (inr memory) = inr (inr (inr (inr (inr memory))))
-  report_fault (inl (verdicts.Log first, is, says)) =
-      let any = held_any (inputs (Some list_name)) in
+  report_fault (inl (verdicts.Log first, is, says, failed)) =
+      let any = held_any (inputs.held (Some list_name)) in
       no_verdict any.0 (verdicts.Log first) any.1 is.0 says
-  report_fault (inl (verdicts.List (lists.Truncated entry), is, says)) =
+  report_fault (inl (verdicts.List (lists.Truncated entry), is, says, failed)) =
       no_verdict is.1.0 (verdicts.List (lists.Truncated entry))
-      (held_whole (inputs (Some list_name)) old new input_limit is.1.0 has is.1.1) (is.0, is.1.2) says
-  report_fault (inl (verdicts.List (lists.BadRegister entry), is, says)) = list_fails (lists.BadRegister entry) is.0 is.1 says
-  report_fault (inl (verdicts.List (lists.NameTooLong entry), is, says)) = list_fails (lists.NameTooLong entry) is.0 is.1 says
-  report_fault (inl (verdicts.List lists.Memory, is, says)) = list_fails lists.Memory is.0 is.1 says
-  report_fault (inl (verdicts.Replay first, is, says)) =
-      no_verdict is.1.0 (verdicts.Replay first) (held_whole (inputs (Some list_name)) old new input_limit is.1.0 has is.1.1)
+      (held_whole (inputs.held (Some list_name)) old.remaining new.remaining input_limit is.1.0 has is.1.1) (is.0, is.1.2) says
+  report_fault (inl (verdicts.List (lists.BadRegister entry), is, says, failed)) = list_fails (lists.BadRegister entry) is.0 is.1 says
+  report_fault (inl (verdicts.List (lists.NameTooLong entry), is, says, failed)) = list_fails (lists.NameTooLong entry) is.0 is.1 says
+  report_fault (inl (verdicts.List lists.Memory, is, says, failed)) = list_fails lists.Memory is.0 is.1 says
+  report_fault (inl (verdicts.Replay first, is, says, failed)) =
+      no_verdict is.1.0 (verdicts.Replay first) (held_whole (inputs.held (Some list_name)) old.remaining new.remaining input_limit is.1.0 has is.1.1)
       (is.0, is.1.2) says
-  report_fault (inl (verdicts.Source, is, inl says)) = inr (inl (inr (inl says)))
-  report_fault (inl (verdicts.Source, is, inr memory)) = inr (inl (inr (inr memory)))
-  report_fault (inl (verdicts.TooLong, is, inl says)) =
+  report_fault (inl (verdicts.Source, is, inl says, failed)) = inr (inl (inr (inl (says, failing (failed refl)))))
+  report_fault (inl (verdicts.Source, is, inr memory, failed)) = inr (inl (inr (inr memory)))
+  report_fault (inl (verdicts.TooLong, is, inl says, failed)) =
       inr (inl (inl (
         says,
         record {
           list = is.1.0;
           sound = is.1.5;
           size = is.1.3;
-          more = longer (inputs (Some list_name)) old new input_limit is.1.0 is.1.1 has is.1.2 is.1.4;
+          more = longer (inputs.held (Some list_name)) old.remaining new.remaining input_limit is.1.0 is.1.1 has is.1.2 is.1.4;
         },
         record { log = log; log_held = held; log_is = is.0 },
       )))
-  report_fault (inl (verdicts.TooLong, is, inr memory)) = inr (inl (inr (inr memory)))
-  report_fault (inl (verdicts.Memory, is, says)) = inr (inr (inr (inr (inr says))))
+  report_fault (inl (verdicts.TooLong, is, inr memory, failed)) = inr (inl (inr (inr memory)))
+  report_fault (inl (verdicts.Memory, is, says, failed)) = inr (inr (inr (inr (inr says))))
 
 -- ---- what the program shows
 
@@ -136,7 +137,7 @@ verdict_from inputs log_name list_name text_name log expected source new (Ok rep
   text = evidence.text;
   expected = expected;
   log_held = evidence.log_held;
-  list_held = held_whole (inputs (Some list_name)) source.remaining new input_limit is.list evidence.list_given is.came;
+  list_held = held_whole (inputs.held (Some list_name)) source.remaining new input_limit is.list evidence.list_given is.came;
   text_held = evidence.text_held;
   expected_is = evidence.expected_is;
   verdict_is = is.verdict_is;
@@ -144,12 +145,12 @@ verdict_from inputs log_name list_name text_name log expected source new (Ok rep
 verdict_from inputs log_name list_name text_name log expected source new (Err fault) evidence is = tt
 
 pub refused_from : {A : Type 0} (inputs : Inputs) (log_name list_name text_name log : List ℕ) (expected : List Expected)
-    (source : SourceState) (new : Option (List ℕ)) (result : Result A RunFault)
-    → IsEvidence inputs log_name list_name text_name log expected source
-    → IfErr result (IsNoVerdictFrom list_name log source.remaining new) → IfErr result (IsReportFault inputs log_name list_name text_name)
-refused_from inputs log_name list_name text_name log expected source new (Ok value) evidence none = tt
-refused_from inputs log_name list_name text_name log expected source new (Err fault) evidence none =
-    report_fault inputs log_name list_name text_name log source.remaining new fault evidence.log_held evidence.list_given none
+    (source new : SourceState) (result : Result A RunFault) → IsEvidence inputs log_name list_name text_name log expected source
+    → (HasFailed source new → IsTrue (inputs.may_fail (Some list_name)))
+    → IfErr result (IsNoVerdictFrom list_name log source new) → IfErr result (IsReportFault inputs log_name list_name text_name)
+refused_from inputs log_name list_name text_name log expected source new (Ok value) evidence failing none = tt
+refused_from inputs log_name list_name text_name log expected source new (Err fault) evidence failing none =
+    report_fault inputs log_name list_name text_name log source new fault evidence.log_held evidence.list_given failing none
 
 -- The report on such a verdict, as it is written.
 pub shows_report : (inputs : Inputs) (log_name list_name text_name : List ℕ) (verdict : Verdict) (shown : List ℕ) (status : ℕ)

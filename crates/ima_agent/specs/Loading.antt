@@ -1,5 +1,5 @@
 -- What loading takes from a source, and why an input is not loaded.
-use Rattle.std.specs.Prelude.{◌≡◌, ℕ, ◌+◌, ◌<◌, ◌⊎◌, List, length, codes, Option, None, Some, ⊤, Result, Ok, Err, IfSome, String, string_bytes}
+use Rattle.std.specs.Prelude.{◌≡◌, ℕ, ◌+◌, ◌<◌, ◌⊎◌, Bool, true, List, length, codes, Option, None, Some, is_some, ⊤, Result, Ok, Err, IfSome, IsTrue, String, string_bytes}
 use Rattle.std.specs.Global.{Global}
 use Rattle.byte_streams.specs.declared.pieces.ReadFault.{ReadFault}
 use Rattle.byte_streams.specs.declared.pieces.ReadFault.TheVariants as reads
@@ -33,21 +33,32 @@ LosesMoreThan count (Some left) (Some rest) = count + length rest < length left
 abbrev pub input_limit : ℕ
 input_limit = 67108864
 
--- What inputs hold: all bytes of the file of a name, or of standard input without a name; none if they are not told.
-abbrev pub Inputs : Type 0
-Inputs = Option (List ℕ) → Option (List ℕ)
+-- What contracts are told of inputs, by the name of a file, or without a name of standard input: all bytes that it holds, none if
+-- they are not told; and whether it may fail, to be opened or while it is read.
+pub record Inputs : Type 0 where
+  pub held : Option (List ℕ) → Option (List ℕ)
+  pub may_fail : Option (List ℕ) → Bool
+
+-- Inputs of which nothing is told: they hold any bytes, and each may fail.
+abbrev pub untold : Inputs
+untold = record { held = λ name. None; may_fail = λ name. true }
 
 -- These are all bytes of the input of this name, if they are told.
 abbrev pub Holds : Inputs → Option (List ℕ) → List ℕ → Type 0
-Holds inputs name bytes = IfSome (inputs name) (λ all. bytes ≡ all)
+Holds inputs name bytes = IfSome (inputs.held name) (λ all. bytes ≡ all)
 
 -- The input of this name is longer than an input may be, if its bytes are told.
 abbrev pub HoldsTooMuch : Inputs → Option (List ℕ) → Type 0
-HoldsTooMuch inputs name = IfSome (inputs name) (λ all. input_limit < length all)
+HoldsTooMuch inputs name = IfSome (inputs.held name) (λ all. input_limit < length all)
 
 -- The source gives exactly these bytes, if they are told.
 abbrev pub GivesAll : Option (List ℕ) → SourceState → Type 0
 GivesAll told source = IfSome told (λ all. source.remaining ≡ Some all)
+
+-- The source failed, once: it counted one failure more. Whether it tells its bytes is as before.
+pub record HasFailed (old new : SourceState) : Type 0 where
+  pub counts : new.failures ≡ failures_after {A = ℕ} (Err old) old.failures
+  pub telling : is_some new.remaining ≡ is_some old.remaining
 
 -- The name of an input in faults: standard input is `-`.
 abbrev pub input_name : Option (List ℕ) → List ℕ
@@ -60,7 +71,7 @@ pub record IsTooLong (name : List ℕ) (fault : RunFault) : Type 0 where
   pub names : string_bytes input ≡ name
   pub says : fault ≡ runs.TooLong input
 
--- The fault says that the input of this name could not be opened or read.
+-- The fault says that the input of this name could not be opened, or failed while it was read.
 pub record IsNotRead (name : List ℕ) (fault : RunFault) : Type 0 where
   pub input : String Global
   pub names : string_bytes input ≡ name
@@ -72,7 +83,11 @@ pub record IsNotUtf8 (name : List ℕ) (fault : RunFault) : Type 0 where
   pub names : string_bytes input ≡ name
   pub says : fault ≡ runs.NotUtf8 input
 
+-- The fault says that the input of this name could not be opened, or failed while it was read; and it may fail.
+abbrev pub IsReadFailure : Inputs → Option (List ℕ) → RunFault → Type 0
+IsReadFailure inputs name fault = IsNotRead (input_name name) fault × IsTrue (inputs.may_fail name)
+
 -- Why the input of this name was not loaded: it is too long, it could not be opened or read, or memory ran out.
 abbrev pub IsInputFault : Inputs → Option (List ℕ) → RunFault → Type 0
 IsInputFault inputs name fault =
-    (IsTooLong (input_name name) fault × HoldsTooMuch inputs name) ⊎ IsNotRead (input_name name) fault ⊎ (fault ≡ runs.Memory)
+    (IsTooLong (input_name name) fault × HoldsTooMuch inputs name) ⊎ IsReadFailure inputs name fault ⊎ (fault ≡ runs.Memory)

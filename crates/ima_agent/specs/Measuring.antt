@@ -1,5 +1,5 @@
 -- Files, measured into the registers of a log. All of this is this project's choice.
-use Rattle.std.specs.Prelude.{◌≡◌, ℕ, ◌<◌, ◌≤◌, ◌^◌, ◌⊎◌, List, [], ◌++◌, length, flat_map, slice_get, Option, Some, IfSome}
+use Rattle.std.specs.Prelude.{◌≡◌, ℕ, ◌<◌, ◌≤◌, ◌^◌, ◌⊎◌, List, [], ◌++◌, length, flat_map, slice_get, Option, Some, IfSome, IsTrue}
 use Rattle.std.specs.Str.{IsUtf8}
 use Rattle.pcr_banks.specs.declared.alg.Alg.{Alg}
 use Rattle.pcr_banks.specs.declared.banks.Banks.{Banks}
@@ -40,7 +40,11 @@ Contents = List ℕ → Option (List ℕ)
 
 -- What the files among these inputs hold.
 abbrev pub files_in : Inputs → Contents
-files_in inputs = λ name. inputs (Some name)
+files_in inputs = λ name. inputs.held (Some name)
+
+-- Which files among these inputs may fail.
+abbrev pub failing_in : Inputs → List ℕ → Type 0
+failing_in inputs = λ name. IsTrue (inputs.may_fail (Some name))
 
 -- The name of the file of this number, and all bytes that it holds, at most as many as an input may have.
 pub record HasFile (held : Contents) (names : List (List ℕ)) (number : ℕ) : Type 0 where
@@ -110,12 +114,18 @@ pub record HasLogFault (bytes : List ℕ) (fault : RunFault) : Type 0 where
   pub first_is : log_fault bytes ≡ Some first
   pub says : fault ≡ fault_of_log first
 
+-- Why the file of this name has no hash: it is too long, it failed, as such a file may, or memory ran out.
+abbrev pub IsUnhashed : Contents → (List ℕ → Type 0) → List ℕ → RunFault → Type 0
+IsUnhashed held Fails name fault =
+    (IsTooLong name fault × IfSome (held name) (λ all. input_limit < length all)) ⊎ (IsNotRead name fault × Fails name)
+    ⊎ (fault ≡ runs.Memory)
+
 -- The file of one of these names could not be read, and each before it was read.
-pub record IsFileFault (held : Contents) (names : List (List ℕ)) (fault : RunFault) : Type 0 where
+pub record IsFileFault (held : Contents) (Fails : List ℕ → Type 0) (names : List (List ℕ)) (fault : RunFault) : Type 0 where
   pub index : ℕ
   pub name : List ℕ
   pub has : slice_get names index ≡ Some name
-  pub cause : (IsTooLong name fault × IfSome (held name) (λ all. input_limit < length all)) ⊎ IsNotRead name fault ⊎ (fault ≡ runs.Memory)
+  pub cause : IsUnhashed held Fails name fault
   pub before : (earlier : ℕ) → earlier < index → HasFile held names earlier
 
 -- The first refused job has this number and this cause.
@@ -160,9 +170,9 @@ pub record IsNotRecorded (held : Contents) (log : List ℕ) (manner : Manner) (n
 
 -- Why nothing is shown of a measurement of the files of these names over this log: the log is invalid, a file could not be read,
 -- the files were not all recorded, or memory ran out.
-abbrev pub IsMeasuringFault : Contents → List ℕ → Manner → List (List ℕ) → RunFault → Type 0
-IsMeasuringFault held log manner names fault =
-    HasLogFault log fault ⊎ IsFileFault held names fault ⊎ IsNotRecorded held log manner names fault ⊎ (fault ≡ runs.Memory)
+abbrev pub IsMeasuringFault : Contents → (List ℕ → Type 0) → List ℕ → Manner → List (List ℕ) → RunFault → Type 0
+IsMeasuringFault held Fails log manner names fault =
+    HasLogFault log fault ⊎ IsFileFault held Fails names fault ⊎ IsNotRecorded held log manner names fault ⊎ (fault ≡ runs.Memory)
 
 -- ---- names in a text
 

@@ -15,7 +15,7 @@ use Rattle.ima_agent.specs.Locating.{ShowsPlaces}
 use Rattle.ima_agent.specs.Replaying.{IsReplayFaultOf, ShowsReplay}
 use Rattle.ima_agent.specs.Requiring.{IsFaultWith, ShowsRequiredPlaces, ShowsRequiredReport}
 use Rattle.ima_agent.specs.Showing.{IsNoListFor, IsNoLogFor, IsRefusedFor, ShowsEvents, ShowsList, ShowsRegisters, ShowsRegistersAfter}
-use Rattle.ima_agent.specs.Measuring.{IsMeasuringFault, IsNamesFault, HasLogFault, Manner, ShowsMeasured, all_names, files_in}
+use Rattle.ima_agent.specs.Measuring.{IsMeasuringFault, IsNamesFault, HasLogFault, Manner, ShowsMeasured, all_names, failing_in, files_in}
 use Rattle.ima_agent.specs.Verifying.{IsReportFault, ShowsReport}
 use Rattle.command_line.specs.Plans.{IsAskedBy, IsWithinRanges}
 use Rattle.ima_agent.specs.Faults.{IsWordsFault}
@@ -66,7 +66,7 @@ abbrev pub IsListedFault : Inputs → List ℕ → Manner → List (List ℕ) �
 IsListedFault inputs log manner names input ends fault =
     HasLogFault log fault ⊎ IsInputFault inputs (Some input) fault
     ⊎ OfInput inputs (Some input) (λ text. IsNamesFault input names ends text fault
-    ⊎ IsMeasuringFault (files_in inputs) log manner (all_names names ends text) fault)
+    ⊎ IsMeasuringFault (files_in inputs) (failing_in inputs) log manner (all_names names ends text) fault)
     ⊎ (fault ≡ runs.Memory)
 
 -- The fault may come of the plan, with these inputs.
@@ -75,7 +75,7 @@ IsFaultOf inputs Registers fault = IsInputFault inputs None fault ⊎ OfInput in
 IsFaultOf inputs (Measure alg template workers limit print log files) fault =
     IsInputFault inputs (Some (string_bytes log)) fault
     ⊎ OfInput inputs (Some (string_bytes log)) (λ bytes.
-    IsMeasuringFault (files_in inputs) bytes (record { alg = alg; template = template; workers = workers; limit = limit })
+    IsMeasuringFault (files_in inputs) (failing_in inputs) bytes (record { alg = alg; template = template; workers = workers; limit = limit })
     (map string_bytes files.items) fault)
 IsFaultOf inputs (MeasureListed alg template workers limit print log files names ends) fault =
     IsInputFault inputs (Some (string_bytes log)) fault

@@ -10,7 +10,7 @@ use Rattle.boot_verdict.specs.Replays.{IsListStart}
 use Rattle.boot_verdict.specs.Verdicts.{IsForged}
 use Rattle.ima_agent.specs.declared.fault.RunFault.{RunFault}
 use Rattle.ima_agent.specs.declared.fault.RunFault.TheVariants as runs
-use Rattle.ima_agent.specs.Loading.{Inputs, Holds, IsNotRead, IsTooLong}
+use Rattle.ima_agent.specs.Loading.{Inputs, Holds, IsReadFailure, IsTooLong}
 use Rattle.ima_agent.specs.Showing.{IsNoList}
 use Rattle.ima_agent.specs.Verifying.{HoldsSoundBytesAndMore}
 
@@ -45,5 +45,5 @@ pub record IsListRefused (inputs : Inputs) (name : List ℕ) (fault : RunFault) 
 -- opened or read; it is refused; or memory ran out.
 abbrev pub IsReplayFaultOf : Inputs → List ℕ → RunFault → Type 0
 IsReplayFaultOf inputs name fault =
-    (IsTooLong name fault × HoldsSoundBytesAndMore inputs name) ⊎ IsNotRead name fault ⊎ IsListRefused inputs name fault
+    (IsTooLong name fault × HoldsSoundBytesAndMore inputs name) ⊎ IsReadFailure inputs (Some name) fault ⊎ IsListRefused inputs name fault
     ⊎ (fault ≡ runs.Memory)

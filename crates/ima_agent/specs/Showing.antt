@@ -1,5 +1,5 @@
 -- The registers and the events of a log and the entries of a list, as the program shows them. All of this is this project's choice.
-use Rattle.std.specs.Prelude.{◌≡◌, ℕ, ◌⊎◌, List, flat_map, Some, Ok, Err, IsErr}
+use Rattle.std.specs.Prelude.{◌≡◌, ℕ, ◌<◌, ◌≤◌, ◌⊎◌, List, length, flat_map, Some, Ok, Err, IsErr}
 use Rattle.hex.specs.Hex.{decode_of}
 use Rattle.pcr_banks.specs.declared.banks.Banks.{Banks}
 use Rattle.pcr_banks.specs.Registers.{IsReset}
@@ -21,6 +21,8 @@ use Rattle.command_line.specs.declared.plan.DataShown.TheVariants as words
 use Rattle.ima_agent.specs.declared.fault.RunFault.{RunFault}
 use Rattle.ima_agent.specs.declared.fault.RunFault.TheVariants as runs
 use Rattle.ima_agent.specs.Faults.{fault_of_log, fault_of_list}
+use Rattle.ima_agent.specs.declared.showing.Fitted.{Fitted}
+use Rattle.ima_agent.specs.declared.showing.Fitted.TheVariants.{Longer, Text}
 use Rattle.ima_agent.specs.Hexadecimal.{without_white_space}
 
 -- The bytes are a firmware event log, and what is shown are the registers that differ from their reset values after its events.
@@ -79,6 +81,11 @@ pub record ShowsList (bytes shown : List ℕ) : Type 0 where
   pub entries : List ListEntry
   pub reading : IsReading bytes (Ok entries)
   pub text_is : shown ≡ flat_map line_of entries
+
+-- Of the text there is all of it, if it fits into so many bytes of room; else its size.
+abbrev pub IsFitted : ℕ → List ℕ → Fitted → Type 0
+IsFitted room text (Text all) = (all.items ≡ text) × (length text ≤ room)
+IsFitted room text (Longer size) = (size ≡ length text) × (room < size)
 
 -- The bytes are no list, and the fault is that of their reading.
 pub record IsNoList (bytes : List ℕ) (fault : RunFault) : Type 0 where

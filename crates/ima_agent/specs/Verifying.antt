@@ -11,7 +11,7 @@ use Rattle.boot_verdict.specs.ReportTexts.{report_text}
 use Rattle.ima_agent.specs.declared.fault.RunFault.{RunFault}
 use Rattle.ima_agent.specs.declared.fault.RunFault.TheVariants as runs
 use Rattle.ima_agent.specs.Faults.{IsFaultOfVerdict, fault_of_expected, fault_of_list, fault_of_log}
-use Rattle.ima_agent.specs.Loading.{Inputs, Holds, IsInputFault, IsNotRead, IsTooLong, input_limit}
+use Rattle.ima_agent.specs.Loading.{Inputs, Holds, IsInputFault, IsReadFailure, IsTooLong, input_limit}
 
 -- The exit status of a verdict: 0 if all matches, else 1.
 abbrev pub verdict_status : Verdict → ℕ
@@ -75,7 +75,7 @@ pub record HoldsSoundBytesAndMore (inputs : Inputs) (name : List ℕ) : Type 0 w
   pub list : List ℕ
   pub sound : IsSound list
   pub size : length list ≡ input_limit
-  pub more : IfSome (inputs (Some name)) (λ all. (over : List ℕ) × (0 < length over) × (all ≡ list ++ over))
+  pub more : IfSome (inputs.held (Some name)) (λ all. (over : List ℕ) × (0 < length over) × (all ≡ list ++ over))
 
 -- The input of this name is a firmware event log.
 pub record HoldsLog (inputs : Inputs) (name : List ℕ) : Type 0 where
@@ -87,7 +87,8 @@ pub record HoldsLog (inputs : Inputs) (name : List ℕ) : Type 0 where
 -- could not be opened or read; or memory ran out.
 abbrev pub IsListInputFault : Inputs → List ℕ → List ℕ → RunFault → Type 0
 IsListInputFault inputs log list fault =
-    (IsTooLong list fault × HoldsSoundBytesAndMore inputs list × HoldsLog inputs log) ⊎ IsNotRead list fault ⊎ (fault ≡ runs.Memory)
+    (IsTooLong list fault × HoldsSoundBytesAndMore inputs list × HoldsLog inputs log)
+    ⊎ IsReadFailure inputs (Some list) fault ⊎ (fault ≡ runs.Memory)
 
 -- Why there is no report on the files of these names: one was not read, the text does not state expected registers, there is no
 -- verdict, or memory ran out.

@@ -4,4 +4,5 @@ pub mod Measuring
 pub mod NamedFiles
 pub mod Verifying
 pub mod Replaying
+pub mod Showing
 pub mod Program

@@ -1,6 +1,7 @@
 //! What a verdict is on: a log, a list and expected registers, from the files of their names.
 
-ghost use Rattle.std.specs.Prelude.{IfOk, IfErr};
+ghost use Rattle.std.specs.Prelude.{Some, IfOk, IfErr, IsTrue};
+ghost use Rattle.ima_agent.specs.Loading.{HasFailed};
 ghost use Rattle.ima_agent.specs.parts.Verifying.{IsEvidence};
 ghost use Rattle.ima_agent.specs.Verifying.{IsReportFault};
 
@@ -32,6 +33,8 @@ pub(crate) fn opened<F: Files>(
 ) -> Result<Evidence<F::Src>, RunFault>
     ensures opened { IfOk result (λ evidence. IsEvidence (F.told files.old) log.now list.now expected.now
         evidence.log.items evidence.expected.items (F.Src.state evidence.list)) }
+    ensures failing { IfOk result (λ evidence. (later : F.Src) → HasFailed (F.Src.state evidence.list) (F.Src.state later)
+        → IsTrue ((F.told files.old).may_fail (Some list.now))) }
     ensures fault { IfErr result (IsReportFault (F.told files.old) log.now list.now expected.now) }
 {
     let log = loaded(alloc, files, Some(log))?;

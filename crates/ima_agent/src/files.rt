@@ -1,8 +1,8 @@
 //! Where the program's inputs come from.
 
-ghost use Rattle.std.specs.Prelude.{◌≡◌, ◌<◌, length, List, ℕ, None, Some, Option, option_map, IfOk, IfSome, IsErrOf, ⊤};
+ghost use Rattle.std.specs.Prelude.{◌≡◌, ◌<◌, length, List, ℕ, None, Some, Option, option_map, IfOk, IfSome, IsErr, IsErrOf, IsTrue, ⊤};
 ghost use Rattle.ima_agent.specs.Hashing.{IsHashOfAll};
-ghost use Rattle.ima_agent.specs.Loading.{GivesAll};
+ghost use Rattle.ima_agent.specs.Loading.{GivesAll, HasFailed, Inputs, untold};
 
 use crate::loading::LoadFault;
 use byte_streams::{Failed, Source};
@@ -11,25 +11,30 @@ use std::alloc::Global;
 
 /// Where the program's inputs come from.
 ///
-/// An implementation may tell the bytes of its inputs (`told`): a source then gives exactly those.
+/// An implementation may tell the bytes of its inputs, and which may fail (`told`): a source then gives exactly those bytes, and no
+/// other fails.
 pub trait Files {
     /// The source of one input's bytes.
     type Src: Source + Drop;
     /// The same files, shared by several threads.
     type Shared: SharedFiles + Sync;
 
-    // All bytes of the file of this name, or of standard input without a name; `None` if they are not told.
-    ghost told: { Self → Option (List ℕ) → Option (List ℕ) } = { λ _ _. None };
+    // What the inputs hold, and which of them may fail.
+    ghost told: { Self → Inputs } = { λ _. untold };
 
     /// The source of the file of this name, or of standard input without a name. Fails if it cannot be opened.
     fn source(&mut self, name: Option<&str>) -> Result<Self::Src, Failed>
         ensures gives { IfOk result (λ source.
-            GivesAll (told self.old (option_map (λ name. name.now) name.entry)) (Self.Src.state source)) }
+            GivesAll ((told self.old).held (option_map (λ name. name.now) name.entry)) (Self.Src.state source)) }
+        ensures refused { IsErr result → IsTrue ((told self.old).may_fail (option_map (λ name. name.now) name.entry)) }
+        ensures failing { IfOk result (λ source. (later : Self.Src) → HasFailed (Self.Src.state source) (Self.Src.state later)
+            → IsTrue ((told self.old).may_fail (option_map (λ name. name.now) name.entry))) }
         ensures told { told self.new ≡ told self.old };
 
     /// The same files, for several threads at once.
     fn shared(&self) -> &Self::Shared
-        ensures { (name : List ℕ) → Self.Shared.held result.now name ≡ told self.now (Some name) };
+        ensures held { (name : List ℕ) → Self.Shared.held result.now name ≡ (told self.now).held (Some name) }
+        ensures fails { (name : List ℕ) → Self.Shared.fails result.now name → IsTrue ((told self.now).may_fail (Some name)) };
 }
 
 /// Files that several threads read at once.

@@ -50,7 +50,7 @@ pub use locating::{places_on, required_places_on};
 pub use output::Output;
 pub use program::{exit_code, run, run_with_progress};
 pub use progress::{NoProgress, Progress, SystemProgress};
-pub use showing::{entries_on, registers_on};
+pub use showing::{Fitted, entries_within, registers_on};
 pub use system::{Input, ReadSource, SystemFiles, WriteSink};
 pub use texts::{status_of, write_fault};
 pub use verifying::{report_on, required_report_on};

@@ -143,7 +143,7 @@ fn list_judged_from<R: Source>(
 ) -> Result<ListReport, RunFault>
     ensures report { IfOk result (λ report. IsListVerdictFrom (R.state list.old).remaining (R.state list.new).remaining input_limit
         expected.now (list_verdict_of report)) }
-    ensures fault { IfErr result (IsNoReplayFrom name.now (R.state list.old).remaining (R.state list.new).remaining) }
+    ensures fault { IfErr result (IsNoReplayFrom name.now (R.state list.old) (R.state list.new)) }
 {
     match verify_list_from(alloc, list, INPUT_LIMIT, expected) {
         Ok(report) => Ok(report),

@@ -139,7 +139,7 @@ fn found_from<R: Source>(
 ) -> Result<Vec<Located>, RunFault>
     ensures places { IfOk result (λ places. AreLocatedFrom log.now (R.state list.old).remaining (R.state list.new).remaining input_limit
         expected.now places.items) }
-    ensures fault { IfErr result (IsNoVerdictFrom name.now log.now (R.state list.old).remaining (R.state list.new).remaining) }
+    ensures fault { IfErr result (IsNoVerdictFrom name.now log.now (R.state list.old) (R.state list.new)) }
 {
     match locate_from(alloc, log, list, INPUT_LIMIT, expected) {
         Ok(places) => Ok(places),

@@ -3,7 +3,7 @@
 ghost use Rattle.std.specs.Prelude.{◌≡◌, ◌<◌, ◌⊎◌, ◌^◌, length, map, string_bytes, Some, IfOk, IfErr, IfSome, IfNone};
 ghost use Rattle.measure_book.specs.Operations.{book_outcome_of};
 ghost use Rattle.ima_agent.specs.Loading.{IsInputFault};
-ghost use Rattle.ima_agent.specs.Measuring.{AreAllDone, HasMeasured, IsFileFault, IsFileMeasure, IsFirstRefusal, IsFirstRefused, IsMeasuringFault, IsRecordingFault, ShowsMeasured, all_names, files_in, printed};
+ghost use Rattle.ima_agent.specs.Measuring.{AreAllDone, HasMeasured, IsFileFault, IsFileMeasure, IsFirstRefusal, IsFirstRefused, IsMeasuringFault, IsRecordingFault, ShowsMeasured, all_names, failing_in, files_in, printed};
 ghost use Rattle.ima_agent.specs.parts.Measuring.{IsAskedOf, MeasuresFiles, IsReadLog, manner_of};
 ghost use Rattle.ima_agent.specs.Program.{IsFaultOf, IsListedFault, IsOutputFor, OfInput};
 ghost use Rattle.command_line.specs.Plans.{IsWithinRanges};
@@ -123,7 +123,7 @@ fn measured<R: Threads + Wait + Sync, F: Files, P: Progress>(
         shown.items)) }
     ensures fault { IfErr result (λ fault. IsInputFault (F.told files.old) (Some asked.entry.log.now) fault
         ⊎ OfInput (F.told files.old) (Some asked.entry.log.now) (λ bytes.
-        IsMeasuringFault (files_in (F.told files.old)) bytes (manner_of asked.entry) (map string_bytes asked.entry.files.now) fault)) }
+        IsMeasuringFault (files_in (F.told files.old)) (failing_in (F.told files.old)) bytes (manner_of asked.entry) (map string_bytes asked.entry.files.now) fault)) }
 {
     let bytes = loaded(alloc, files, Some(asked.log))?;
     let log = read_log(alloc, &bytes)?;
@@ -173,7 +173,7 @@ fn measured_into<R: Threads + Wait + Sync, S: SharedFiles + Sync, P: Progress>(
     requires read { IsReadLog _bytes.now log.now }
     ensures shown { IfOk result (λ shown. ShowsMeasured (S.held files.now) _bytes.now (manner_of asked.entry) asked.entry.print
         (map string_bytes asked.entry.files.now) shown.items) }
-    ensures fault { IfErr result (IsMeasuringFault (S.held files.now) _bytes.now (manner_of asked.entry) (map string_bytes asked.entry.files.now)) }
+    ensures fault { IfErr result (IsMeasuringFault (S.held files.now) (S.fails files.now) _bytes.now (manner_of asked.entry) (map string_bytes asked.entry.files.now)) }
 {
     let origin = Origin {
         start: log.registers(),
@@ -201,7 +201,7 @@ fn recorded<R: Threads + Wait + Sync, S: SharedFiles + Sync, P: Progress>(
     requires small { length jobs.now.names.now < 2 ^ 32 }
     ensures book { IfOk result (HasMeasured origin (length jobs.now.names.now)
         (IsFileMeasure (S.held jobs.now.files.now) (map string_bytes jobs.now.names.now) origin.alg) workers) }
-    ensures fault { IfErr result (λ fault. IsFileFault (S.held jobs.now.files.now) (map string_bytes jobs.now.names.now) fault
+    ensures fault { IfErr result (λ fault. IsFileFault (S.held jobs.now.files.now) (S.fails jobs.now.files.now) (map string_bytes jobs.now.names.now) fault
         ⊎ IsRecordingFault origin (length jobs.now.names.now)
         (IsFileMeasure (S.held jobs.now.files.now) (map string_bytes jobs.now.names.now) origin.alg) workers fault) }
 {

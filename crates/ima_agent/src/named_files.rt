@@ -68,7 +68,7 @@ impl<S: SharedFiles> NamedFiles<'_, S> {
     /// no worker read them.
     pub fn check(&self, alloc: Global, alg: Alg) -> Result<(), RunFault>
         requires { length self.now.names.now < 2 ^ 32 }
-        ensures { IfErr result (IsFileFault (S.held self.now.files.now) (map string_bytes self.now.names.now)) }
+        ensures { IfErr result (IsFileFault (S.held self.now.files.now) (S.fails self.now.files.now) (map string_bytes self.now.names.now)) }
     {
         for index in 0..self.names.len() {
             if let Err(fault) = self.files.hash(alloc, &self.names[index], alg, INPUT_LIMIT) {

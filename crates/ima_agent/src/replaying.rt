@@ -34,7 +34,7 @@ pub(crate) fn replayed<F: Files>(
 // The lines of the registers after the list that the source of this name has left.
 fn registers_from<R: Source>(alloc: Global, list: &mut R, name: &str) -> Result<Vec<u8>, RunFault>
     ensures shown { IfOk result (λ shown. ShowsReplayFrom (R.state list.old).remaining (R.state list.new).remaining shown.items) }
-    ensures fault { IfErr result (IsNoReplayFrom name.now (R.state list.old).remaining (R.state list.new).remaining) }
+    ensures fault { IfErr result (IsNoReplayFrom name.now (R.state list.old) (R.state list.new)) }
 {
     match replay_from(alloc, list, INPUT_LIMIT) {
         Ok(now) => Ok(register_lines(alloc, &now, &list_start())?),

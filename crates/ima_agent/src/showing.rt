@@ -1,10 +1,11 @@
 //! The registers and the events of a log and the entries of a list, as text.
 
-ghost use Rattle.std.specs.Prelude.{◌≡◌, ◌⊎◌, flat_map, None, Some, IfOk, IfErr};
+ghost use Rattle.std.specs.Prelude.{◌≡◌, ◌⊎◌, ◌++◌, List, ℕ, flat_map, None, Some, IfOk, IfErr, OnOk};
 ghost use Rattle.ima_list.specs.Lines.{line_of};
 ghost use Rattle.ima_agent.specs.Loading.{IsInputFault};
 ghost use Rattle.ima_agent.specs.Program.{OfInput};
-ghost use Rattle.ima_agent.specs.Showing.{IsNoListFor, IsNoLogFor, IsRefusedFor, ShowsEvents, ShowsList, ShowsRegisters, ShowsRegistersAfter, data_of};
+ghost use Rattle.ima_agent.specs.Showing.{IsFitted, IsNoListFor, IsNoLogFor, IsRefusedFor, ShowsEvents, ShowsList, ShowsRegisters, ShowsRegistersAfter, data_of};
+ghost use Rattle.ima_agent.specs.parts.Showing.{IsKept};
 
 use crate::fault::RunFault;
 use crate::files::Files;
@@ -110,25 +111,74 @@ pub(crate) fn shown_list<F: Files>(
     entries_on(alloc, &bytes)
 }
 
+// The lines of the entries of this measurement list.
+fn entries_on(alloc: Global, list: &[u8]) -> Result<Vec<u8>, RunFault>
+    ensures shown { IfOk result (λ shown. ShowsList list.now shown.items) }
+    ensures fault { IfErr result (IsNoListFor list.now) }
+{
+    match entries_within(alloc, list, usize::MAX)? {
+        Fitted::Text(text) => Ok(text),
+        Fitted::Longer(_) => unreachable!(),
+    }
+}
+
+/// A text, if there is room for it; else its size.
+#[derive(Drop)]
+pub enum Fitted {
+    /// The text.
+    Text(Vec<u8>),
+    /// How many bytes the text has.
+    Longer(usize),
+}
+
 /// The lines of the entries of this measurement list, which are read in place: what `show` shows of a file with these bytes, here of any
-/// size.
+/// size. If they have more than `room` bytes, they are only counted: then no more than these and one line are in memory at once.
 ///
 /// Fails with [`RunFault::List`] if the bytes are no list, and with [`RunFault::Memory`] if memory runs out.
-pub fn entries_on(alloc: Global, list: &[u8]) -> Result<Vec<u8>, RunFault>
-    ensures shown { IfOk result (λ shown. ShowsList list.now shown.items) }
+pub fn entries_within(alloc: Global, list: &[u8], room: usize) -> Result<Fitted, RunFault>
+    ensures shown { IfOk result (λ fitted. (shown : List ℕ) × ShowsList list.now shown × IsFitted room shown fitted) }
     ensures fault { IfErr result (IsNoListFor list.now) }
 {
     entries_to_the_end_are_the_reading();
     let mut text = Vec::new(alloc);
+    let mut size = 0;
     let mut number = 0;
     let mut rest = list;
     while !rest.is_empty() {
         let (entry, after) = EntryRef::read(number, rest)?;
-        entry.line(&mut text)?;
+        add_line(&entry, &mut text, &mut size, room)?;
         number += 1;
         rest = after;
     }
-    Ok(text)
+    Ok(as_kept(text, size))
+}
+
+// What is kept of lines: their text, unless they are counted.
+fn as_kept(text: Vec<u8>, size: usize) -> Fitted
+    ensures { (room : ℕ) (lines : List ℕ) → IsKept room lines text.items size → IsFitted room lines result }
+{
+    if size == 0 {
+        return Fitted::Text(text);
+    }
+    Fitted::Longer(size)
+}
+
+// Adds the entry's line to a text that fits into the room; or, once it does not, to the size of all lines, and keeps none.
+fn add_line(
+    entry: &EntryRef,
+    text: &mut Vec<u8>,
+    size: &mut usize,
+    room: usize,
+) -> Result<(), AllocError>
+    ensures { OnOk result ((lines : List ℕ) → IsKept room lines text.old.items size.old
+        → IsKept room (lines ++ line_of entry.now) text.new.items size.new) }
+{
+    entry.line(text)?;
+    if *size > 0 || text.len() > room {
+        *size = size.checked_add(text.len()).ok_or(AllocError)?;
+        text.clear();
+    }
+    Ok(())
 }
 
 // The lines of the registers that differ from their reset values after this log in hexadecimal.

@@ -1,9 +1,9 @@
 //! The system's files and streams, as sources and sinks.
 
-ghost use Rattle.std.specs.Prelude.{◌≡◌, ◌<◌, ◌≤◌, length, None, is_some, IfOk, IsNone, IsOk};
+ghost use Rattle.std.specs.Prelude.{◌≡◌, ◌<◌, ◌≤◌, length, None, is_some, option_map, IfOk, IsErr, IsNone, IsOk, IsTrue};
 ghost use Rattle.std.specs.Io.KnownBytes.{ReadConsumes, WriteAppends};
 ghost use Rattle.byte_streams.specs.Streams.{failures_after};
-ghost use Rattle.ima_agent.specs.Loading.{GivesAll};
+ghost use Rattle.ima_agent.specs.Loading.{GivesAll, HasFailed, untold};
 ghost use Rattle.ima_agent.specs.System.{reader_of, writer_of, reads_failed, writes_failed, read_source_state, write_sink_state, runtime_of, is_file, remaining_bytes};
 
 use crate::files::{Files, SharedFiles};
@@ -143,8 +143,8 @@ impl<R: FileSystem + io::Input + Sync> Files for SystemFiles<'_, R> {
 
     type Shared = Self;
 
-    // The contents of files are not told.
-    ghost told = { λ _ _. None };
+    // Nothing is told of the system's files.
+    ghost told = { λ _. untold };
 
     /// Opens the file of this name, or standard input.
     fn source(&mut self, name: Option<&str>) -> Result<Self::Src, Failed>
@@ -152,6 +152,9 @@ impl<R: FileSystem + io::Input + Sync> Files for SystemFiles<'_, R> {
         ensures standard_input { IsNone name.entry → IsOk result }
         ensures failures { IfOk result (λ source. reads_failed source ≡ 0) }
         ensures gives { IfOk result (λ source. GivesAll None (read_source_state source)) }
+        ensures refused { IsErr result → IsTrue (untold.may_fail (option_map (λ name. name.now) name.entry)) }
+        ensures failing { IfOk result (λ source. (later : ReadSource (Input R.File R.Reader)) → HasFailed (read_source_state source) (read_source_state later)
+            → IsTrue (untold.may_fail (option_map (λ name. name.now) name.entry))) }
     {
         let input = match name {
             None => Input::StandardInput(self.runtime.reader()),

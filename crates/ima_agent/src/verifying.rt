@@ -148,7 +148,7 @@ fn judged_from<R: Source>(
 ) -> Result<Report, RunFault>
     ensures report { IfOk result (λ report. IsVerdictFrom log.now (R.state list.old).remaining (R.state list.new).remaining input_limit
         expected.now (verdict_of report)) }
-    ensures fault { IfErr result (IsNoVerdictFrom name.now log.now (R.state list.old).remaining (R.state list.new).remaining) }
+    ensures fault { IfErr result (IsNoVerdictFrom name.now log.now (R.state list.old) (R.state list.new)) }
 {
     match verify_from(alloc, log, list, INPUT_LIMIT, expected) {
         Ok(report) => Ok(report),

@@ -1,11 +1,13 @@
 -- What was made, once it is given, is an answer.
-use Rattle.std.proofs.Common.{◌≡◌, ℕ, List, Ok, Err, sym, subst, inl, inr, Result}
+use Rattle.std.proofs.Common.{◌≡◌, ℕ, List, length, Ok, Err, refl, sym, subst, inl, inr, Result}
 use Rattle.std.specs.Prelude.{ℤ, ◌⊎◌, IfOk, IfErr}
 use Rattle.std.specs.Global.{Vec}
 use Rattle.ima_agent.specs.declared.fault.RunFault.{RunFault}
 use Rattle.ima_agent.specs.declared.fault.RunFault.TheVariants.{Memory}
 use Rattle.ima_agent.specs.declared.output.Output.{Output}
-use Rattle.ima_verify_c.specs.Answers.{Answers, IsRefusal}
+use Rattle.ima_agent.specs.declared.showing.Fitted.{Fitted}
+use Rattle.ima_agent.specs.Showing.{IsFitted, IsNoListFor, ShowsList}
+use Rattle.ima_verify_c.specs.Answers.{Answers, IsEntriesAnswer, IsGiven, IsRefusal}
 use Rattle.ima_verify_c.specs.parts.Givings.{IsFaultText, IsOf, IsTextOf}
 
 -- What holds of a text and a status holds of equal ones.
@@ -54,4 +56,18 @@ gives_text Shows Cause (Err fault) answer needed old new memory shows cause give
   status = given.status;
   is_answer = inr (refusal Cause fault given.text given.status memory cause given.is_answer);
   given = given.given;
+}
+
+-- The lines of a list, as far as there is room, or the line of a fault, were given.
+pub gives_fitted : (list : List ℕ) (made : Result Fitted RunFault) (answer : ℤ) (needed : ℕ) (old new : List ℕ)
+    → IfOk made (λ fitted. (shown : List ℕ) × ShowsList list shown × IsFitted (length old) shown fitted) → IfErr made (IsNoListFor list)
+    → IfOk made (λ fitted. (text : List ℕ) → IsFitted (length old) text fitted → IsGiven text 0 answer needed old new)
+    → IfErr made (λ fault. Answers (IsFaultText fault) answer needed old new) → Answers (IsEntriesAnswer list) answer needed old new
+gives_fitted list (Ok fitted) answer needed old new shows cause given refused =
+    record { text = shows.0; status = 0; is_answer = inl (shows.1, refl); given = given shows.0 shows.2 }
+gives_fitted list (Err fault) answer needed old new shows cause given refused = record {
+  text = refused.text;
+  status = refused.status;
+  is_answer = inr (refusal (IsNoListFor list) fault refused.text refused.status (inr refl) cause refused.is_answer);
+  given = refused.given;
 }

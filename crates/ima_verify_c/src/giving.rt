@@ -1,12 +1,13 @@
 //! Gives an answer to the caller: a text in the caller's buffer, its size, and a number.
 
-ghost use Rattle.std.specs.Prelude.{◌≡◌, IfOk};
+ghost use Rattle.std.specs.Prelude.{◌≡◌, ℕ, List, length, IfOk, IfErr};
 ghost use Rattle.ima_agent.specs.FaultTexts.{fault_line};
+ghost use Rattle.ima_agent.specs.Showing.{IsFitted};
 ghost use Rattle.ima_verify_c.specs.Answers.{Answers, IsGiven};
 ghost use Rattle.ima_verify_c.specs.parts.Givings.{IsFaultText, IsOf, IsTextOf};
 
 use byte_streams::{Failed, VecSink};
-use ima_agent::{Output, RunFault, status_of, write_fault};
+use ima_agent::{Fitted, Output, RunFault, status_of, write_fault};
 use std::alloc::{AllocError, Global};
 
 /// What a call returns if memory ran out.
@@ -44,6 +45,27 @@ pub(crate) fn give_text(
 {
     match asked {
         Ok(text) => put(&text, 0, out, needed),
+        Err(fault) => give_fault(alloc, &fault, out, needed),
+    }
+}
+
+/// Gives a text for which the caller's buffer is the room, or its size, or the line of a fault.
+pub(crate) fn give_fitted(
+    alloc: Global,
+    asked: Result<Fitted, RunFault>,
+    out: &mut [u8],
+    needed: &mut usize,
+) -> i32
+    ensures given { IfOk asked (λ fitted. (text : List ℕ) → IsFitted (length out.old) text fitted
+        → IsGiven text 0 result needed.new out.old out.new) }
+    ensures fault { IfErr asked (λ fault. Answers (IsFaultText fault) result needed.new out.old out.new) }
+{
+    match asked {
+        Ok(Fitted::Text(text)) => put(&text, 0, out, needed),
+        Ok(Fitted::Longer(size)) => {
+            *needed = size;
+            TOO_SHORT
+        }
         Err(fault) => give_fault(alloc, &fault, out, needed),
     }
 }

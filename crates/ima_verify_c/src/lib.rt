@@ -11,9 +11,9 @@ mod giving;
 ghost use Rattle.std.specs.Prelude.{◌≡◌};
 ghost use Rattle.ima_verify_c.specs.Answers.{Answers, IsPlacesAnswer, IsEntriesAnswer, IsExpectedAnswer, IsRegistersAnswer, IsReportAnswer, IsRequiredListReportAnswer, IsRequiredPlacesAnswer, IsRequiredReportAnswer, interface_version};
 
-use crate::giving::{give, give_text};
+use crate::giving::{give, give_fitted, give_text};
 use ima_agent::{
-    entries_on, expected_on, places_on, registers_on, report_on, required_list_report_on,
+    entries_within, expected_on, places_on, registers_on, report_on, required_list_report_on,
     required_places_on, required_report_on,
 };
 use std::alloc::Global;
@@ -138,10 +138,11 @@ pub extern "C" fn ima_registers(
     give_text(alloc, registers_on(alloc, log), out, needed)
 }
 
-/// The entries of a measurement list, as `show` writes them.
+/// The entries of a measurement list, as `show` writes them. A text that is longer than the buffer is counted, and never whole in memory.
 #[unsafe(no_mangle)]
 pub extern "C" fn ima_show(alloc: Global, list: &[u8], out: &mut [u8], needed: &mut usize) -> i32
     ensures { Answers (IsEntriesAnswer list.now) result needed.new out.old out.new }
 {
-    give_text(alloc, entries_on(alloc, list), out, needed)
+    let asked = entries_within(alloc, list, out.len());
+    give_fitted(alloc, asked, out, needed)
 }

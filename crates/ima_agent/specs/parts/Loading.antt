@@ -1,9 +1,9 @@
 -- Why one source is not loaded.
-use Rattle.std.specs.Prelude.{◌≡◌, ℕ, ◌<◌, ◌⊎◌, List, length, Err, IfSome}
-use Rattle.byte_streams.specs.Streams.{SourceState, failures_after}
+use Rattle.std.specs.Prelude.{◌≡◌, ℕ, ◌<◌, ◌⊎◌, List, length, IfSome}
+use Rattle.byte_streams.specs.Streams.{SourceState}
 use Rattle.ima_agent.specs.declared.fault.RunFault.{RunFault}
 use Rattle.ima_agent.specs.declared.fault.RunFault.TheVariants as runs
-use Rattle.ima_agent.specs.Loading.{IsNotRead, IsTooLong, LosesMoreThan, input_limit}
+use Rattle.ima_agent.specs.Loading.{HasFailed, IsNotRead, IsTooLong, LosesMoreThan, input_limit}
 
 -- Why an input was not loaded from its source: it is longer than an input may be, and more bytes than that were taken; or the
 -- source failed, once; or memory ran out. The fault names the input.
@@ -11,5 +11,5 @@ abbrev pub IsLoadFaultOf : List ℕ → SourceState → SourceState → RunFault
 IsLoadFaultOf name old new fault =
     (IsTooLong name fault × IfSome old.remaining (λ left. input_limit < length left)
     × LosesMoreThan input_limit old.remaining new.remaining × (new.failures ≡ old.failures))
-    ⊎ (IsNotRead name fault × (new.failures ≡ failures_after {A = ℕ} (Err fault) old.failures))
+    ⊎ (IsNotRead name fault × HasFailed old new)
     ⊎ (fault ≡ runs.Memory)

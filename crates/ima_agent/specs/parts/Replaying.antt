@@ -1,12 +1,14 @@
 -- The registers that a list from a source alone makes, and why there are none.
 use Rattle.std.specs.Prelude.{◌≡◌, ℕ, ◌⊎◌, List, Option}
+use Rattle.byte_streams.specs.Streams.{SourceState}
 use Rattle.boot_verdict.specs.declared.verifier.VerifyFault.{VerifyFault}
+use Rattle.boot_verdict.specs.declared.verifier.VerifyFault.TheVariants as verdicts
 use Rattle.boot_verdict.specs.ListSources.{CameWhole}
 use Rattle.boot_verdict.specs.Replays.{IsListReplayFault}
 use Rattle.ima_agent.specs.declared.fault.RunFault.{RunFault}
 use Rattle.ima_agent.specs.declared.fault.RunFault.TheVariants as runs
 use Rattle.ima_agent.specs.Faults.{IsFaultOfVerdict}
-use Rattle.ima_agent.specs.Loading.{input_limit}
+use Rattle.ima_agent.specs.Loading.{HasFailed, input_limit}
 use Rattle.ima_agent.specs.Replaying.{ShowsReplay}
 
 -- What is shown are the registers of all that the source had left.
@@ -16,6 +18,7 @@ pub record ShowsReplayFrom (old new : Option (List ℕ)) (shown : List ℕ) : Ty
   pub replay : ShowsReplay list shown
 
 -- There are no registers of what the source of this name had left, and the fault is the first cause; or memory ran out.
-abbrev pub IsNoReplayFrom : List ℕ → Option (List ℕ) → Option (List ℕ) → RunFault → Type 0
+abbrev pub IsNoReplayFrom : List ℕ → SourceState → SourceState → RunFault → Type 0
 IsNoReplayFrom name old new fault =
-    ((first : VerifyFault) × IsListReplayFault old new input_limit first × IsFaultOfVerdict name first fault) ⊎ (fault ≡ runs.Memory)
+    ((first : VerifyFault) × IsListReplayFault old.remaining new.remaining input_limit first × IsFaultOfVerdict name first fault
+    × (first ≡ verdicts.Source → HasFailed old new)) ⊎ (fault ≡ runs.Memory)

@@ -11,5 +11,5 @@ returns-in-Ok-clause-report g c =
 pub returns-in-Ok-clause-fault : goal.returns-in-Ok-clause-fault
 returns-in-Ok-clause-fault g c =
     list_report_refused (g.F.Files.told c.args.files.now) c.args.list.now c.args.expected.now
-    (g.F.Src.Source.state c.in-Ok.source).remaining _ c.list_judged_from.result (rw c.loaded.ensures.told at c.in-Ok.ensures.gives)
-    c.list_judged_from.ensures.fault
+    (g.F.Src.Source.state c.in-Ok.source) _ c.list_judged_from.result (rw c.loaded.ensures.told at c.in-Ok.ensures.gives)
+    (rw c.loaded.ensures.told at c.in-Ok.ensures.failing _) c.list_judged_from.ensures.fault

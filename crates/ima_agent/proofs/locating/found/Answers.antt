@@ -9,4 +9,5 @@ returns-clause-places g c =
 
 pub returns-clause-fault : goal.returns-clause-fault
 returns-clause-fault g c =
-    refused_from _ _ _ _ _ _ _ _ c.found_from.result c.in_ok-log.ensures.opened (rw c.deref.ensures.value at c.found_from.ensures.fault)
+    refused_from _ _ _ _ _ _ _ _ c.found_from.result c.in_ok-log.ensures.opened (c.in_ok-log.ensures.failing _)
+    (rw c.deref.ensures.value at c.found_from.ensures.fault)

@@ -10,7 +10,7 @@ returns-in_err-book-clause-fault g c =
     let p = err_from_is_err_and c.from_residual.result c.from_residual.ensures.1 in
     let asked = c.args.asked in
     let read = c.requires.read in
-    rw (p.1, p.2) (not_recorded (g.S.SharedFiles.held c.args.files.now) c.args._bytes.now (manner_of asked) asked.files.now read.0
+    rw (p.1, p.2) (not_recorded (g.S.SharedFiles.held c.args.files.now) (g.S.SharedFiles.fails c.args.files.now) c.args._bytes.now (manner_of asked) asked.files.now read.0
     (events_of c.args.log.now)
     (record { start = c.registers.result; template = asked.template; alg = asked.alg; limit = asked.limit }) c.in_err-book.field-0.0
     (record {

@@ -1,7 +1,7 @@
 use Rattle.std.proofs.Common.{List, ℕ, Some, ap, ◌∙◌, inl, inr, map, string_bytes}
 use Rattle.std.specs.Prelude.{IfErr, IfOk}
 use Rattle.std.proofs.lemmas.Result.{err_from_is_err_and}
-use Rattle.ima_agent.specs.Measuring.{IsMeasuringFault, IsNamesFault, ShowsMeasured, all_names, files_in}
+use Rattle.ima_agent.specs.Measuring.{IsMeasuringFault, IsNamesFault, ShowsMeasured, all_names, failing_in, files_in}
 use Rattle.ima_agent.specs.parts.Measuring.{manner_of}
 use Rattle.ima_agent.specs.Program.{IsListedFault, OfInput}
 use Rattle.ima_agent.proofs.MeasuringLaws.{err_inr, err_of, fault_of, listed_err, listed_log, named_so, ok_of, shown_of}
@@ -74,7 +74,7 @@ returns-clause-shown g c =
     named_so P (map string_bytes c.in_ok-all.all.items) (all_names names c.args.ends text)
     (rw c.deref-2.ensures.value at c.in_ok-all.ensures.names)
     (shown_of told _ bytes manner print (map string_bytes c.in_ok-all.all.items) result
-    (λ name. c.shared.ensures name ∙ ap (λ inputs. inputs (Some name)) (c.in_ok-text.ensures.told ∙ c.in_ok-bytes.ensures.told))
+    (λ name. c.shared.ensures.held name ∙ ap (λ inputs. inputs.held (Some name)) (c.in_ok-text.ensures.told ∙ c.in_ok-bytes.ensures.told))
     (rw (c.deref-3.ensures.value, c.deref-4.ensures.value) at c.measured_into.ensures.shown)) in
     ok_of told c.args.asked.log.now bytes
     (λ all shown. OfInput told (Some c.args.names.now) (λ listed.
@@ -92,14 +92,15 @@ returns-clause-fault g c =
     let manner = manner_of c.args.asked in
     let result = c.measured_into.result in
     let all = all_names names c.args.ends text in
-    let P : List (List ℕ) → Type 0 = λ ns. IfErr result (IsMeasuringFault (files_in told) bytes manner ns) in
+    let P : List (List ℕ) → Type 0 = λ ns. IfErr result (IsMeasuringFault (files_in told) (failing_in told) bytes manner ns) in
     let known : P all =
     named_so P (map string_bytes c.in_ok-all.all.items) all (rw c.deref-2.ensures.value at c.in_ok-all.ensures.names)
-    (fault_of told _ bytes manner (map string_bytes c.in_ok-all.all.items) result
-    (λ name. c.shared.ensures name ∙ ap (λ inputs. inputs (Some name)) (c.in_ok-text.ensures.told ∙ c.in_ok-bytes.ensures.told))
+    (fault_of told _ _ bytes manner (map string_bytes c.in_ok-all.all.items) result
+    (λ name. c.shared.ensures.held name ∙ ap (λ inputs. inputs.held (Some name)) (c.in_ok-text.ensures.told ∙ c.in_ok-bytes.ensures.told))
+    (λ name fails. rw (c.in_ok-text.ensures.told ∙ c.in_ok-bytes.ensures.told) at c.shared.ensures.fails name fails)
     (rw (c.deref-3.ensures.value, c.deref-4.ensures.value) at c.measured_into.ensures.fault)) in
     err_of told c.args.asked.log.now bytes (λ log fault. IsListedFault told log manner names c.args.names.now c.args.ends fault) result
     c.in_ok-bytes.ensures.all
     (listed_err told bytes manner names c.args.names.now text c.args.ends result
     (rw c.in_ok-bytes.ensures.told at c.in_ok-text.ensures.all)
-    (err_inr (IsNamesFault c.args.names.now names c.args.ends text) (IsMeasuringFault (files_in told) bytes manner all) result known))
+    (err_inr (IsNamesFault c.args.names.now names c.args.ends text) (IsMeasuringFault (files_in told) (failing_in told) bytes manner all) result known))

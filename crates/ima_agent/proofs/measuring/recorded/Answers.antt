@@ -32,7 +32,7 @@ returns-in-Ok-clause-fault g c =
     let names = c.args.jobs.now.names.now in
     refused_one c.args.origin (length names) (IsFileMeasure held (map string_bytes names) c.args.origin.alg) c.args.workers
     c.in-Ok.batch.book (map book_outcome_of c.in-Ok.batch.outcomes.items) c.in-Ok.batch.by.items c.in-Ok.ensures.batch
-    (IsFileFault held (map string_bytes names)) c.all_done.result c.all_done.ensures.refused
+    (IsFileFault held (g.S.SharedFiles.fails c.args.jobs.now.files.now) (map string_bytes names)) c.all_done.result c.all_done.ensures.refused
 
 pub returns-in-Err-Job-clause-book : goal.returns-in-Err-Job-clause-book
 returns-in-Err-Job-clause-book g c = tt
