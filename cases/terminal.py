@@ -9,6 +9,7 @@ nothing after a success. Of a refused command line it is to get some text of cla
 names with bytes that a terminal acts upon, are out of memory, have an output that fails, or measure for more than a second; each of these
 runs without a terminal too, and then standard error is to get nothing. The last line is 'N passed, M failed', of commands."""
 
+import json
 import os
 import pty
 import re
@@ -230,9 +231,15 @@ def unread(name, folder):
     return f"cannot read {name}"
 
 
-def is_fault(text):
-    """Whether an output is the line of a fault."""
-    return text.startswith((b"refused: ", b"failed: "))
+def fault_line_of(words, text):
+    """The line of the fault that these words' output is, as it is without `--json`; or None. (A damaged list that is shown as JSON is an
+    output that ends with its fault's line.)"""
+    if text.startswith((b"refused: ", b"failed: ")):
+        return text[:-1]
+    if not text.startswith(b'{"fault":'):
+        return None
+    fault = json.loads(text)["fault"]
+    return None if words[0] == "show" and fault["kind"] == "list" else fault["message"].encode()
 
 
 def is_of_usage(said):
@@ -254,13 +261,13 @@ def case_fault(program, command, folder, output):
         text = output.read_bytes()
     except (OSError, subprocess.TimeoutExpired) as error:
         return str(error)
-    is_refused = status >= 2 and is_fault(text)
+    line = fault_line_of(command.words, text) if status >= 2 else None
     # (this may move the output away)
     fault = fault_of(command, Answer(status, output, b""), folder)
     if fault is not None:
         return f"the answer is another one:\n    {fault}"
     try:
-        wanted = sentence_of(command.words, text[:-1], folder) if is_refused else b""
+        wanted = b"" if line is None else sentence_of(command.words, line, folder)
     except (KeyError, ValueError) as error:
         return f"no table has the words of {text!r}: {error!r}"
     if is_of_usage(said) if wanted is None else said == wanted:

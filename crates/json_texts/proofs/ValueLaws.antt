@@ -12,6 +12,7 @@ use Rattle.pcr_banks.specs.Sets.{digest_in}
 use Rattle.boot_log.specs.declared.header.Row.{Row as TableRow}
 use Rattle.boot_log.specs.EventTypes.{event_type_name}
 use Rattle.boot_log.specs.Spelling.{IsRow, LogEvent}
+use Rattle.pcr_banks.specs.Digests.{bytes_of}
 use Rattle.boot_verdict.specs.declared.expected.Expected.{Expected}
 use Rattle.boot_verdict.specs.declared.places.Located.{Located}
 use Rattle.boot_verdict.specs.declared.places.Place.{Place}
@@ -22,6 +23,8 @@ use Rattle.boot_verdict.specs.declared.report.State.TheVariants.{Match, Differ, 
 use Rattle.boot_verdict.specs.declared.requirement.BankRange.{BankRange}
 use Rattle.boot_verdict.specs.EventTexts.{algorithm_with}
 use Rattle.boot_verdict.specs.ListVerdicts.{ListVerdict}
+use Rattle.boot_verdict.specs.declared.register_range.RegisterRange.{RegisterRange}
+use Rattle.boot_verdict.specs.RegisterRanges.{is_within}
 use Rattle.boot_verdict.specs.RegisterTexts.{all_registers, differs}
 use Rattle.boot_verdict.specs.Requirements.{expected_of_located, expected_of_rows, is_missing}
 use Rattle.boot_verdict.specs.Verdicts.{Verdict}
@@ -33,7 +36,7 @@ use Rattle.json_texts.specs.FaultJson.{fault_json, fault_members, kind_members, 
 use Rattle.json_texts.specs.MissingJson.{missing_among, missing_in, missing_json, value_if_missing}
 use Rattle.json_texts.specs.PlaceJson as place
 use Rattle.json_texts.specs.PlaceJson.{IsCountedPlace, located_json, places_json, places_values}
-use Rattle.json_texts.specs.RegisterJson.{change_values, changed_in, changed_register, changed_registers, register_json, register_members, registers_json}
+use Rattle.json_texts.specs.RegisterJson.{change_values, changed_in, changed_register, changed_registers, expected_json, register_json, register_members, registers_json, value_within, values_within}
 use Rattle.json_texts.specs.ReportJson.{list_report_json, report_json, row_json, rows_values, state_members}
 use Rattle.json_texts.proofs.LineLaws.{ArePlain, IsPlain, all_joined, array_plain, flag_plain, member_plain, members_joined, no_members_plain, number_plain, object_plain, one_line, string_plain}
 
@@ -118,6 +121,19 @@ registers_line now start =
     (λ r lt. change_plain alg r (value_at start alg r) (value_at now alg r) (omega (arith, lt)))) in
     one_line 3 (registers_json now start)
     (object_plain 2 _ (member_plain 2 _ _ [] (array_plain 1 (changed_registers now start) all) (no_members_plain 2))) (omega arith)
+
+within_plain : (range : RegisterRange) (expected : Expected) → IsCount expected.register
+    → AllByRecursion (IsPlain 1) (value_within range expected)
+within_plain range expected fits =
+    if_plain (IsPlain 1) (is_within range expected.register) (register_json expected.alg expected.register (bytes_of expected.value))
+    (register_plain expected.alg expected.register (bytes_of expected.value) fits)
+
+pub expected_line : (range : RegisterRange) (expected : List Expected) → AllByRecursion (λ e. IsCount e.register) expected
+    → IsOneLine (expected_json range expected)
+expected_line range expected fit =
+    let all = each_plain (IsPlain 1) (λ e. IsCount e.register) (value_within range) (within_plain range) expected fit in
+    one_line 3 (expected_json range expected)
+    (object_plain 2 _ (member_plain 2 _ _ [] (array_plain 1 (values_within range expected) all) (no_members_plain 2))) (omega arith)
 
 -- ---- required registers
 

@@ -6,6 +6,10 @@ use Rattle.pcr_banks.specs.declared.alg.Alg.{Alg}
 use Rattle.pcr_banks.specs.declared.banks.Banks.{Banks}
 use Rattle.pcr_banks.specs.Hashing.{all_algs, name_of}
 use Rattle.pcr_banks.specs.Registers.{value_at}
+use Rattle.pcr_banks.specs.Digests.{bytes_of}
+use Rattle.boot_verdict.specs.declared.expected.Expected.{Expected}
+use Rattle.boot_verdict.specs.declared.register_range.RegisterRange.{RegisterRange}
+use Rattle.boot_verdict.specs.RegisterRanges.{is_within}
 use Rattle.boot_verdict.specs.RegisterTexts.{all_registers, differs}
 use Rattle.json_texts.specs.JsonValues.{Member, array_of, hex_json, number_json, object_of}
 
@@ -35,3 +39,19 @@ changed_registers now start = flat_map (changed_in now start) all_algs
 
 abbrev pub registers_json : Banks → Banks → Json
 registers_json now start = object_of ((codes "registers", array_of (changed_registers now start)) ∷ [])
+
+-- ---- expected registers
+
+-- An expected register within the range; nothing if it is not within it.
+abbrev pub value_within : RegisterRange → Expected → List Json
+value_within range expected =
+    if is_within range expected.register
+    then register_json expected.alg expected.register (bytes_of expected.value) ∷ []
+    else []
+
+-- Those within the range, in order: the ones of which `expected_text` has a line.
+abbrev pub values_within : RegisterRange → List Expected → List Json
+values_within range expected = flat_map (value_within range) expected
+
+abbrev pub expected_json : RegisterRange → List Expected → Json
+expected_json range expected = object_of ((codes "registers", array_of (values_within range expected)) ∷ [])

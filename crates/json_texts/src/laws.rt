@@ -8,6 +8,8 @@ ghost use Rattle.boot_log.specs.declared.header.Row.{Row as TableRow};
 ghost use Rattle.boot_log.specs.Spelling.{IsRow, LogEvent};
 ghost use Rattle.ima_list.specs.ListEntry.{IsEntry, ListEntry};
 ghost use Rattle.ima_list.specs.Digesting.{IsGenuine};
+ghost use Rattle.boot_verdict.specs.declared.expected.Expected.{Expected};
+ghost use Rattle.boot_verdict.specs.declared.register_range.RegisterRange.{RegisterRange};
 ghost use Rattle.boot_verdict.specs.declared.places.Located.{Located};
 ghost use Rattle.boot_verdict.specs.declared.requirement.BankRange.{BankRange};
 ghost use Rattle.boot_verdict.specs.ListVerdicts.{ListVerdict};
@@ -18,7 +20,7 @@ ghost use Rattle.json_texts.specs.EntryJson.{entry_json, is_genuine};
 ghost use Rattle.json_texts.specs.EventJson.{algorithms_json, event_json};
 ghost use Rattle.json_texts.specs.FaultJson.{fault_json, number_at};
 ghost use Rattle.json_texts.specs.PlaceJson.{IsCountedPlace, places_json};
-ghost use Rattle.json_texts.specs.RegisterJson.{registers_json};
+ghost use Rattle.json_texts.specs.RegisterJson.{expected_json, registers_json};
 ghost use Rattle.json_texts.specs.ReportJson.{list_report_json, report_json};
 ghost use Rattle.json_texts.specs.parts.KnownEntries.{IsKnown};
 
@@ -31,6 +33,8 @@ pub fn each_value_is_one_line()
         → IsOneLine (event_json number event) }
     ensures algorithms { (rows : List TableRow) → AllByRecursion IsRow rows → IsOneLine (algorithms_json rows) }
     ensures registers { (now start : Banks) → IsOneLine (registers_json now start) }
+    ensures expected { (range : RegisterRange) (expected : List Expected) → AllByRecursion (λ e. IsCount e.register) expected
+        → IsOneLine (expected_json range expected) }
     ensures report { (required : Option (List BankRange)) (verdict : Verdict)
         → IsCount verdict.events → IsCount verdict.locality → IsCount verdict.entries
         → AllByRecursion (λ row. IsCount row.expected.register) verdict.rows → IsOneLine (report_json required verdict) }

@@ -6,6 +6,7 @@
 
 mod entries;
 mod events;
+mod expected;
 mod faults;
 pub mod laws;
 mod lines;
@@ -17,6 +18,7 @@ mod reports;
 
 pub use entries::append_entry;
 pub use events::{append_algorithms, append_event};
+pub use expected::append_expected;
 pub use faults::{FaultPlace, FaultText, append_fault};
 pub use lines::send_line;
 pub use places::append_places;
