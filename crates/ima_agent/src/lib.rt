@@ -12,7 +12,7 @@ mod files;
 mod hashing;
 mod hexadecimal;
 mod inputs;
-mod json;
+mod json_outputs;
 mod json_plans;
 mod list_verifying;
 mod listing;

@@ -14,7 +14,7 @@ ghost use Rattle.command_line.specs.Plans.{IsWithinJsonRanges, IsWithinRanges};
 use crate::fault::RunFault;
 use crate::files::{Files, SharedFiles};
 use crate::inputs::loaded;
-use crate::json::entry_lines;
+use crate::json_outputs::entry_lines;
 use crate::listing::with_names_in;
 use crate::named_files::{NamedFiles, Told};
 use crate::output::Form;

@@ -3,7 +3,7 @@ use Rattle.ima_list.specs.ListEntry.{ListEntry}
 use Rattle.json_texts.specs.EntryJson.{entry_json}
 use Rattle.json_texts.specs.JsonValues.{line_of}
 use Rattle.ima_agent.proofs.EntryLineLaws.{numbered_more}
-use Rattle.ima_agent.proofs.json.entries.entry_lines.Goals as goal
+use Rattle.ima_agent.proofs.json_outputs.entries.entry_lines.Goals as goal
 
 pub loop-number-preserved : goal.loop-number-preserved
 loop-number-preserved c =

@@ -4,7 +4,7 @@ use Rattle.ima_agent.specs.JsonJudging.{IsFaultWhere}
 use Rattle.ima_agent.specs.ListVerifying.{IsListReportFault}
 use Rattle.ima_agent.specs.Verifying.{IsReportFault}
 use Rattle.ima_agent.proofs.JsonLaws.{list_report_fault, places_fault, report_fault}
-use Rattle.ima_agent.proofs.json.json_for.Goals as goal
+use Rattle.ima_agent.proofs.json_outputs.json_for.Goals as goal
 
 pub returns-in-Verify-clause-fault : goal.returns-in-Verify-clause-fault
 returns-in-Verify-clause-fault g c =

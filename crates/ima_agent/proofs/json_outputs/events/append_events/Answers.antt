@@ -3,7 +3,7 @@ use Rattle.boot_log.specs.Spelling.{log_event_of}
 use Rattle.json_texts.specs.EventJson.{event_json}
 use Rattle.json_texts.specs.JsonValues.{line_of}
 use Rattle.ima_agent.proofs.EntryLineLaws.{numbered_all, numbered_more, numbered_of}
-use Rattle.ima_agent.proofs.json.events.append_events.Goals as goal
+use Rattle.ima_agent.proofs.json_outputs.events.append_events.Goals as goal
 
 pub loop-number-preserved : goal.loop-number-preserved
 loop-number-preserved c =

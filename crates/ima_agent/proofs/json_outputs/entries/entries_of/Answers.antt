@@ -1,7 +1,7 @@
 use Rattle.std.proofs.lemmas.Result.{IfOk-weaker}
 use Rattle.ima_agent.proofs.EntryLineLaws.{lines_more, lines_to_fault}
 use Rattle.ima_agent.proofs.ShowingLaws.{some_left}
-use Rattle.ima_agent.proofs.json.entries.entries_of.Goals as goal
+use Rattle.ima_agent.proofs.json_outputs.entries.entries_of.Goals as goal
 
 pub loop-rest-preserved : goal.loop-rest-preserved
 loop-rest-preserved c =

@@ -1,6 +1,6 @@
 use Rattle.std.proofs.Common.{length}
 use Rattle.ima_agent.proofs.EntryLineLaws.{HasLines}
-use Rattle.ima_agent.proofs.json.entries.entries_of.Given as goal
+use Rattle.ima_agent.proofs.json_outputs.entries.entries_of.Given as goal
 
 abbrev pub invariant-loop-rest : goal.invariant-loop-rest
 invariant-loop-rest l = HasLines l.list l.text.items l.rest l.number

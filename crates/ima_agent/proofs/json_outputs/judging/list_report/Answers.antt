@@ -1,5 +1,5 @@
 use Rattle.ima_agent.proofs.JsonLaws.{with_required}
-use Rattle.ima_agent.proofs.json.judging.list_report.Goals as goal
+use Rattle.ima_agent.proofs.json_outputs.judging.list_report.Goals as goal
 
 pub returns-in_ok-requirement-in-Some-clause-fault : goal.returns-in_ok-requirement-in-Some-clause-fault
 returns-in_ok-requirement-in-Some-clause-fault g c =

@@ -3,7 +3,7 @@ use Rattle.boot_log.specs.Spelling.{log_event_of}
 use Rattle.json_texts.specs.EventJson.{event_json}
 use Rattle.json_texts.specs.JsonValues.{line_of}
 use Rattle.ima_agent.specs.JsonShowing.{numbered_lines}
-use Rattle.ima_agent.proofs.json.events.append_events.Given as goal
+use Rattle.ima_agent.proofs.json_outputs.events.append_events.Given as goal
 
 abbrev pub invariant-loop-number : goal.invariant-loop-number
 invariant-loop-number l =
