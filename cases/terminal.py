@@ -10,6 +10,7 @@ to get some text of clap's; which one, `USAGES` has for some. Further commands h
 memory, have an output that fails, or measure for more than a second; each of these runs without a terminal too, and then standard error is
 to get nothing. Pipes that are closed one after another tell when which number is due. The last line is 'N passed, M failed', of commands."""
 
+import json
 import os
 import pty
 import re
@@ -94,10 +95,11 @@ REQUIRE, REGISTERS = "--require <BANK:A-B[,BANK:C-D..]>", "--registers <A-B>"
 USAGES = [
     (["nothing"], f"error: unrecognized subcommand 'nothing'\n\nUsage: ima-agent <COMMAND>\n{MORE}"),
     (["show"], f"error: the following required arguments were not provided:\n  <LIST>\n\nUsage: ima-agent show <LIST>\n{MORE}"),
-    (["show", "L", "M"], f"error: unexpected argument 'M' found\n\nUsage: ima-agent show <LIST>\n{MORE}"),
+    (["show", "L", "M"], f"error: unexpected argument 'M' found\n\nUsage: ima-agent show [OPTIONS] <LIST>\n{MORE}"),
     (["measure", "--workers", "9", "L"], f"error: invalid value '9' for '--workers <N>': 9 is not in 1..=8\n{MORE}"),
     (["measure", "--alg", "sm3", "L"],
      f"error: invalid value 'sm3' for '--alg <A>'\n  [possible values: sha1, sha256, sha384, sha512]\n{MORE}"),
+    (["measure", "--json", "--print", "binary", "L"], "error: invalid value 'binary' for '--print <P>' with '--json'\n"),
     (["\x1b[31m\nred"], f"error: unrecognized subcommand '\\x1b[31m\\x0ared'\n\nUsage: ima-agent <COMMAND>\n{MORE}"),
     (["verify", "--require", "sha256", "L", "M", "N"], f"error: invalid value 'sha256' for '{REQUIRE}'\n"),
     (["locate", "--require=\x9b2J", "L", "M", "N"], f"error: invalid value '\\xc2\\x9b2J' for '{REQUIRE}'\n"),
@@ -234,9 +236,15 @@ def unread(name, folder):
     return f"cannot read {name}"
 
 
-def is_fault(text):
-    """Whether an output is the line of a fault."""
-    return text.startswith((b"refused: ", b"failed: "))
+def fault_line_of(words, text):
+    """The line of the fault that these words' output is, as it is without `--json`; or None. (A damaged list that is shown as JSON is an
+    output that ends with its fault's line.)"""
+    if text.startswith((b"refused: ", b"failed: ")):
+        return text[:-1]
+    if not text.startswith(b'{"fault":'):
+        return None
+    fault = json.loads(text)["fault"]
+    return None if words[0] == "show" and fault["kind"] == "list" else fault["message"].encode()
 
 
 def is_of_usage(said):
@@ -258,13 +266,13 @@ def case_fault(program, command, folder, output):
         text = output.read_bytes()
     except (OSError, subprocess.TimeoutExpired) as error:
         return str(error)
-    is_refused = status >= 2 and is_fault(text)
+    line = fault_line_of(command.words, text) if status >= 2 else None
     # (this may move the output away)
     fault = fault_of(command, Answer(status, output, b""), folder)
     if fault is not None:
         return f"the answer is another one:\n    {fault}"
     try:
-        wanted = sentence_of(command.words, text[:-1], folder) if is_refused else b""
+        wanted = b"" if line is None else sentence_of(command.words, line, folder)
     except (KeyError, ValueError) as error:
         return f"no table has the words of {text!r}: {error!r}"
     if is_of_usage(said) if wanted is None else said == wanted:

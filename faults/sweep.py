@@ -5,9 +5,10 @@ faults/sweep.py [ROOT]: the tree with the test binaries and the program that `rt
 
 Each test whose name contains `each_allocation_refused`, and a command of each kind that the cases have, runs again and again. In the
 Nth run its Nth allocation is refused (faults/refuse.c), until a run ends with none refused. A test must pass each time; a command must
-answer as its case wants, or with `failed: memory` and status 3. A test or command without a refused allocation fails, and so does a
-run that crashes or takes longer than a minute. Allocations of a test's binary that runs no test do not count: as many as that makes, a
-test makes before it begins. (What a test allocates to prepare its call does count: nothing outside tells where that begins.)
+answer as its case wants, or with `failed: memory`, which `--json` has as JSON, and status 3. A test or command without a refused
+allocation fails, and so does a run that crashes or takes longer than a minute. Allocations of a test's binary that runs no test do not
+count: as many as that makes, a test makes before it begins. (What a test allocates to prepare its call does count: nothing outside
+tells where that begins.)
 
 Each crate of crates.txt that has such tests in its sources must have its binary, which must list just these. The help of the program and
 of each command must be among the commands, with a file of its case that it has to be.
@@ -48,6 +49,7 @@ NO_TEST = "no test has this name"
 TEST = re.compile(r"^ *#\[test\]\n(?: *#\[.*\]\n)* *(?:pub )?fn (\w+)", re.MULTILINE)
 CRATE = re.compile(r"^(\w+)[^:#\n]*:", re.MULTILINE)
 OUT_OF_MEMORY = (3, b"failed: memory\n", b"")
+OUT_OF_MEMORY_AS_JSON = (3, b'{"fault":{"kind":"memory","message":"failed: memory"}}\n', b"")
 FAULT = re.compile(r"(?:refused|failed): (?:job \d+ )?(?:(.* fault \d+)|(read|too long|not UTF-8|[a-z ]+))")
 MEBIBYTE = 1 << 20
 LARGE_FILES = 50
@@ -90,11 +92,15 @@ class CommandRun:
     def title(self):
         return f"{self.case.name}:{self.command.line}: {self.command.text}"
 
+    def wants_of_memory(self):
+        """The answers of which one is due out of memory: with `--json` the plain one while the arguments are read."""
+        return (OUT_OF_MEMORY, OUT_OF_MEMORY_AS_JSON) if "--json" in self.command.words else (OUT_OF_MEMORY,)
+
     def fault(self, settings, met):
         """What is wrong with a run under these settings, in which an allocation was refused if the file `met` is there, or None."""
         with tempfile.TemporaryDirectory() as name:
             answer = answer_of(self.program, self.command, self.folder, Path(name, "output"), settings)
-            if met.exists() and (answer.status, answer.output.read_bytes(), answer.errors) == OUT_OF_MEMORY:
+            if met.exists() and (answer.status, answer.output.read_bytes(), answer.errors) in self.wants_of_memory():
                 return None
             return fault_of(self.command, answer, self.folder)
 
@@ -117,7 +123,7 @@ def kind_of(command, folder):
         request = request_of(command, folder) if word in COMMANDS else asks_for_help(word)
     except (Fault, HelpAsked) as cause:
         request = type(cause)
-    fault = FAULT.match(command.wanted[0]) if command.status > 1 and command.wanted else None
+    fault = FAULT.search(command.wanted[-1]) if command.status > 1 and command.wanted else None
     return word if word in COMMANDS else "", request, command.status, fault and fault.groups(), names_sample
 
 

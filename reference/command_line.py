@@ -56,14 +56,15 @@ COMMANDS = {
         "--print": Option(one_of("ascii", "binary", "registers"), "ascii"),
         "--files-from": Option(str, None),
         "--null": Option(FLAG, False),
+        "--json": Option(FLAG, False),
     }),
-    "verify": Command(3, 3, {"--require": Option(str, None)}),
-    "locate": Command(3, 3, {"--require": Option(str, None)}),
-    "expected": Command(1, 1, {"--registers": Option(read_range, range(24))}),
-    "registers": Command(1, 1, {}),
-    "events": Command(1, 1, {"--data": Option(FLAG, False)}),
-    "show": Command(1, 1, {}),
-    "replay": Command(1, 2, {"--require": Option(str, None)}),
+    "verify": Command(3, 3, {"--require": Option(str, None), "--json": Option(FLAG, False)}),
+    "locate": Command(3, 3, {"--require": Option(str, None), "--json": Option(FLAG, False)}),
+    "expected": Command(1, 1, {"--registers": Option(read_range, range(24)), "--json": Option(FLAG, False)}),
+    "registers": Command(1, 1, {"--json": Option(FLAG, False)}),
+    "events": Command(1, 1, {"--data": Option(FLAG, False), "--json": Option(FLAG, False)}),
+    "show": Command(1, 1, {"--json": Option(FLAG, False)}),
+    "replay": Command(1, 2, {"--require": Option(str, None), "--json": Option(FLAG, False)}),
 }
 
 
@@ -80,7 +81,7 @@ def read_words(words):
         raise USAGE
     command = COMMANDS[name]
     names, values = read_arguments(command, rest)
-    if len(names) < command.fewest_names or lacks_another(name, names, values):
+    if len(names) < command.fewest_names or lacks_another(name, names, values) or is_json_of_binary(values):
         raise USAGE
     defaults = {option: it.default for option, it in command.options.items()}
     return Words(name, names, {**defaults, **values})
@@ -91,6 +92,11 @@ def lacks_another(command, names, values):
     if command == "replay":
         return "--require" in values and len(names) < 2
     return "--null" in values and "--files-from" not in values
+
+
+def is_json_of_binary(values):
+    """Whether the binary list shall be JSON, which it never is."""
+    return "--json" in values and values.get("--print") == "binary"
 
 
 def read_arguments(command, words):

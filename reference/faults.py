@@ -4,11 +4,16 @@ from enum import IntEnum
 
 
 class Fault(Exception):
-    """Why there is no answer: the line in its place, the exit status, and the number that the fault has, if any."""
+    """Why there is no answer: the line in its place, the kind, the exit status, and the number and the place that the fault has, if any."""
 
-    def __init__(self, line, status=2, number=None):
+    def __init__(self, line, kind, status=2, number=None, **place):
         super().__init__(line)
-        self.line, self.status, self.number = line, status, number
+        self.line, self.kind, self.status, self.number, self.place = line, kind, status, number, place
+
+    def as_json(self):
+        """The fault as JSON."""
+        numbered = {} if self.number is None else {"number": self.number}
+        return {"fault": {"kind": self.kind, **numbered, **self.place, "message": self.line}}
 
 
 class LogFault(IntEnum):
@@ -24,8 +29,9 @@ class LogFault(IntEnum):
 
     def at(self, event):
         names_no_event = LogFault.NOT_CRYPTO_AGILE <= self <= LogFault.NO_BANK
-        place = "" if names_no_event else f" at event {event}"
-        return Fault(f"refused: log fault {self.value}{place}", number=self.value)
+        if names_no_event:
+            return Fault(f"refused: log fault {self.value}", "log", number=self.value)
+        return Fault(f"refused: log fault {self.value} at event {event}", "log", number=self.value, event=event)
 
 
 class ListFault(IntEnum):
@@ -34,14 +40,14 @@ class ListFault(IntEnum):
     NAME_TOO_LONG = 3
 
     def at(self, entry):
-        return Fault(f"refused: list fault {self.value} at entry {entry}", number=self.value)
+        return Fault(f"refused: list fault {self.value} at entry {entry}", "list", number=self.value, entry=entry)
 
 
 class ReplayFault(IntEnum):
     BAD_TEMPLATE_DIGEST = 1
 
     def at(self, entry):
-        return Fault(f"refused: replay fault {self.value} at entry {entry}", number=self.value)
+        return Fault(f"refused: replay fault {self.value} at entry {entry}", "replay", number=self.value, entry=entry)
 
 
 class ExpectedFault(IntEnum):
@@ -52,10 +58,10 @@ class ExpectedFault(IntEnum):
     NO_REGISTER = 6
 
     def at(self, line):
-        return Fault(f"refused: expected fault {self.value} at line {line}", number=self.value)
+        return Fault(f"refused: expected fault {self.value} at line {line}", "expected", number=self.value)
 
     def of_text(self):
-        return Fault(f"refused: expected fault {self.value}", number=self.value)
+        return Fault(f"refused: expected fault {self.value}", "expected", number=self.value)
 
 
 class BookFault(IntEnum):
@@ -67,24 +73,24 @@ class BookFault(IntEnum):
     FULL = 7
 
     def at_opening(self):
-        return Fault(f"refused: book fault {self.value}", number=self.value)
+        return Fault(f"refused: book fault {self.value}", "book", number=self.value)
 
     def of_file(self, job):
-        return Fault(f"refused: job {job} book fault {self.value}", number=self.value)
+        return Fault(f"refused: job {job} book fault {self.value}", "job", number=self.value)
 
 
-USAGE = Fault("refused: command line")
-NOT_HEXADECIMAL = Fault("refused: not hexadecimal")
-NO_ARGUMENTS = Fault("failed: memory", status=3)
+USAGE = Fault("refused: command line", "command_line")
+NOT_HEXADECIMAL = Fault("refused: not hexadecimal", "not_hexadecimal")
+NO_ARGUMENTS = Fault("failed: memory", "memory", status=3)
 
 
 def too_long(name):
-    return Fault(f"refused: too long {name}")
+    return Fault(f"refused: too long {name}", "too_long")
 
 
 def not_utf8(name):
-    return Fault(f"refused: not UTF-8 {name}")
+    return Fault(f"refused: not UTF-8 {name}", "not_utf8")
 
 
 def not_read(name):
-    return Fault(f"failed: read {name}", status=3)
+    return Fault(f"failed: read {name}", "read", status=3)

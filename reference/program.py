@@ -1,14 +1,27 @@
 """What the program answers ('The command line', "The program's input", "The program's output")."""
 
+import json
 import os
+from typing import Callable, NamedTuple
 
 from .command_line import HelpAsked, read_words
 from .faults import NO_ARGUMENTS, USAGE, BookFault, ExpectedFault, Fault, ListFault, not_read, not_utf8, too_long
 from .log import read_log
-from .measurement_list import BOOT_AGGREGATE, IMA, LONGEST_IMA_PATH, entry_of, list_spelling, list_text, read_list, replay
-from .registers import ALGORITHMS, BY_NAME, SHA1, Registers
+from .measurement_list import (
+    BOOT_AGGREGATE,
+    IMA,
+    LONGEST_IMA_PATH,
+    entry_of,
+    entry_values,
+    list_spelling,
+    list_text,
+    read_front,
+    read_list,
+    replay,
+)
+from .registers import ALGORITHMS, BY_NAME, SHA1, Registers, registers_value
 from .texts import read_expected, read_hexadecimal, read_names, read_printed, read_requirement
-from .verdict import list_verdict, locate, verdict
+from .verdict import list_report, places, verdict_report
 
 MOST_BYTES = 64 << 20
 LONGEST_PATH = 4095
@@ -75,31 +88,49 @@ def list_of(data, fault):
     return whole(entries, fault)
 
 
+class Told(NamedTuple):
+    """What a command shows: its text, which may be bytes, and its values as JSON, each made when it is asked for; and its status."""
+
+    text: Callable
+    values: Callable
+    status: int = 0
+
+
+def told_of(told, is_well=True):
+    """The same of what has one value."""
+    return Told(told.text, lambda: [told.as_json()], 0 if is_well else 1)
+
+
 def registers_of_hexadecimal(inputs):
-    return read_log(read_hexadecimal(inputs.load_standard_input())).registers().text(), 0
+    return told_of(read_log(read_hexadecimal(inputs.load_standard_input())).registers())
 
 
 def registers_command(inputs, values, log):
-    return read_log(inputs.load(log)).registers().text(), 0
+    return told_of(read_log(inputs.load(log)).registers())
 
 
 def events_command(inputs, values, log):
-    return read_log(inputs.load(log)).text(values["--data"]), 0
+    log = read_log(inputs.load(log))
+    return Told(lambda: log.text(values["--data"]), log.values)
 
 
 def show_command(inputs, values, listed):
-    return list_text(read_list(inputs.load(listed))), 0
+    entries, fault = read_front(inputs.load(listed))
+    if fault and not values["--json"]:
+        raise fault
+    ended = [fault.as_json()] if fault else []
+    return Told(lambda: list_text(entries), lambda: entry_values(entries) + ended, fault.status if fault else 0)
 
 
 def replay_command(inputs, values, listed, expected=None):
     if expected is None:
         registers = Registers(ALGORITHMS)
         replay(registers, list_of(*inputs.opened(listed)()))
-        return registers.text(), 0
+        return told_of(registers)
     required = required_by(values)
     expected = read_expected(inputs.load(expected))
-    text, is_well = list_verdict(list_of(*inputs.opened(listed)()), expected, required)
-    return text, 0 if is_well else 1
+    report = list_report(list_of(*inputs.opened(listed)()), expected, required)
+    return told_of(report, report.matches)
 
 
 def required_by(values):
@@ -117,10 +148,10 @@ def expected_command(inputs, values, text):
     rows = [row for row in read_printed(inputs.load(text)) if row.register in values["--registers"]]
     if not rows:
         raise ExpectedFault.NO_REGISTER.of_text()
-    return "".join(row.line() for row in rows), 0
+    return Told(lambda: "".join(row.line() for row in rows), lambda: [registers_value(rows)])
 
 
-def judge(decide):
+def judge(decide, is_well):
     """The command that decides on a log, a list and expected registers."""
 
     def command(inputs, values, log, listed, expected):
@@ -129,8 +160,8 @@ def judge(decide):
         expected = read_expected(inputs.load(expected))
         read = inputs.opened(listed)
         log = read_log(log)
-        text, is_well = decide(log, list_of(*read()), expected, required)
-        return text, 0 if is_well else 1
+        told = decide(log, list_of(*read()), expected, required)
+        return told_of(told, is_well(told))
 
     return command
 
@@ -142,12 +173,12 @@ def measure_command(inputs, values, log, *names):
     files = [(name, algorithm.hash(inputs.load(name))) for name in names]
     entries = measured(log, algorithm, template, values["--limit"], files, values["--workers"])
     if values["--print"] == "ascii":
-        return list_text(entries), 0
+        return Told(lambda: list_text(entries), lambda: entry_values(entries))
     if values["--print"] == "binary":
-        return list_spelling(entries), 0
+        return Told(lambda: list_spelling(entries), list)
     registers = log.registers()
     replay(registers, entries)
-    return registers.text(), 0
+    return told_of(registers)
 
 
 def further_names(inputs, values):
@@ -182,8 +213,8 @@ def measured(log, algorithm, template, limit, files, workers):
 
 COMMANDS = {
     "measure": measure_command,
-    "verify": judge(verdict),
-    "locate": judge(locate),
+    "verify": judge(verdict_report, lambda report: report.matches),
+    "locate": judge(places, lambda places: places.are_located),
     "expected": expected_command,
     "registers": registers_command,
     "events": events_command,
@@ -196,18 +227,26 @@ def answer(words, folder=".", standard_input=b"", most_bytes=MOST_BYTES):
     """The program's status and output for arguments, where names are those of files below the folder; or `Unanswered`. With another
     `most_bytes`, what they would be if inputs had that limit."""
     inputs = Inputs(folder, standard_input, most_bytes)
+    as_json = False
     try:
         if any("\udc80" <= letter <= "\udcff" for letter in "".join(words)):
             raise NO_ARGUMENTS
         if words:
             asked = read_words(words)
-            text, status = COMMANDS[asked.command](inputs, asked.values, *asked.names)
+            as_json = asked.values["--json"]
+            told = COMMANDS[asked.command](inputs, asked.values, *asked.names)
         else:
-            text, status = registers_of_hexadecimal(inputs)
+            told = registers_of_hexadecimal(inputs)
+        text, status = json_lines(told.values()) if as_json else told.text(), told.status
     except Fault as fault:
-        text, status = f"{fault.line}\n", fault.status
+        text, status = json_lines([fault.as_json()]) if as_json else f"{fault.line}\n", fault.status
     except HelpAsked:
         raise Unanswered("help") from None
     finally:
         inputs.close()
     return status, text if isinstance(text, bytes) else text.encode()
+
+
+def json_lines(values):
+    """Values as lines of JSON."""
+    return "".join(json.dumps(value, separators=(",", ":"), ensure_ascii=False) + "\n" for value in values)

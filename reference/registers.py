@@ -63,10 +63,21 @@ class Registers:
         """Each register, as its algorithm, its number and its value."""
         return [(algorithm, register, value) for algorithm, values in self.banks.items() for register, value in enumerate(values)]
 
+    def changed(self):
+        """Each register that does not have its reset value."""
+        return [row for row in self.rows() if row[2] != reset_value(row[0], row[1], self.locality)]
+
     def text(self):
-        """A line for each register that does not have its reset value."""
-        rows = (row for row in self.rows() if row[2] != reset_value(row[0], row[1], self.locality))
-        return "".join(register_line(*row) for row in rows)
+        return "".join(register_line(*row) for row in self.changed())
+
+    def as_json(self):
+        """These registers as JSON ('As JSON')."""
+        return registers_value(self.changed())
+
+
+def registers_value(rows):
+    registers = [{"bank": algorithm.name, "register": register, "value": value.hex()} for algorithm, register, value in rows]
+    return {"registers": registers}
 
 
 def register_line(algorithm, register, value):

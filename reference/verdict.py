@@ -1,45 +1,81 @@
 """The verdict on a log, a list and expected registers ('The verdict'), or on a list alone, and where each has its value ('Places')."""
 
+from __future__ import annotations
+
+from typing import NamedTuple
+
 from .measurement_list import BOOT_AGGREGATE, replay, require_genuine
 from .registers import ALGORITHMS, REGISTERS, Registers
 
 
-def verdict(log, entries, expected, required=None):
-    """The report, and whether the verdict is `match`. Without `--require`, `required` is None."""
+class Report(NamedTuple):
+    """What stands before the rows, by its names; the rows, each an expected register and its state; the required registers that are
+    missing, or None where none is required; and whether the verdict is `match`."""
+
+    counts: dict
+    rows: list
+    missing: list | None
+    matches: bool
+
+    @property
+    def word(self):
+        return "match" if self.matches else "differ"
+
+    def text(self):
+        counts = dict(self.counts)
+        lines = [f"events {counts.pop('events')} locality {counts.pop('locality')}"] if "events" in counts else []
+        lines.append(f"entries {counts.pop('entries')}")
+        lines += [] if self.missing is None else [f"compared {len(self.rows)}"]
+        lines += [f"{name} {value}" for name, value in counts.items()]
+        lines += [f"{row.algorithm.name} {row.register} {' '.join(state)}" for row, state in self.rows]
+        lines += [f"{algorithm.name} {register} missing" for algorithm, register in self.missing or []]
+        return "".join(f"{line}\n" for line in [*lines, f"verdict {self.word}"])
+
+    def as_json(self):
+        """The report as JSON."""
+        rows = [named(row.algorithm, row.register, **dict(zip(("state", "value"), state))) for row, state in self.rows]
+        missing = [named(*register, state="missing") for register in self.missing or []]
+        return {**self.counts, "registers": [*rows, *missing], "verdict": self.word}
+
+
+def named(algorithm, register, **told):
+    """A register as JSON, with what is told of it."""
+    return {"bank": algorithm.name, "register": register, **told}
+
+
+def verdict_report(log, entries, expected, required=None):
     registers = log.registers()
     aggregate = boot_aggregate_state(registers, entries)
     replay(registers, entries)
-    heading = [f"events {len(log.events)} locality {log.locality}", *counts(entries, expected, required), f"boot_aggregate {aggregate}"]
-    return report(heading, registers, expected, required, aggregate == "good")
+    counts = {"events": len(log.events), "locality": log.locality, "entries": len(entries), "boot_aggregate": aggregate}
+    return report(counts, registers, expected, required, aggregate == "good")
 
 
-def list_verdict(entries, expected, required=None):
+def list_report(entries, expected, required=None):
     """The same of a list alone, which never matches without an entry or an expected register ('A list alone')."""
     registers = Registers(ALGORITHMS)
     replay(registers, entries)
-    return report(counts(entries, expected, required), registers, expected, required, bool(entries) and bool(expected))
+    return report({"entries": len(entries)}, registers, expected, required, bool(entries) and bool(expected))
 
 
-def counts(entries, expected, required):
-    """How many entries the list has; where registers are required, also how many are compared."""
-    return [f"entries {len(entries)}", *([] if required is None else [f"compared {len(expected)}"])]
+def report(counts, registers, expected, required, is_well):
+    """The report: the verdict is `match` if all is well before the rows, and in them."""
+    rows = [(row, row_state(registers.value(row.algorithm, row.register), row.value)) for row in expected]
+    missing = None if required is None else missing_rows(expected, required)
+    return Report(counts, rows, missing, is_well and not missing and all(state == ("match",) for _, state in rows))
 
 
-def report(heading, registers, expected, required, is_well):
-    """The text of a report, and whether the verdict is `match`: if all is well before the rows, and in them."""
-    states = [row_state(registers.value(row.algorithm, row.register), row.value) for row in expected]
-    missing = missing_rows(expected, required)
-    matches = is_well and not missing and all(state == "match" for state in states)
-    rows = [f"{row.algorithm.name} {row.register} {state}" for row, state in zip(expected, states)]
-    lines = [*heading, *rows, *missing, f"verdict {'match' if matches else 'differ'}"]
-    return "".join(f"{line}\n" for line in lines), matches
+def verdict(log, entries, expected, required=None):
+    """The text of the report, and whether the verdict is `match`. Without `--require`, `required` is None."""
+    told = verdict_report(log, entries, expected, required)
+    return told.text(), told.matches
 
 
 def missing_rows(expected, required):
-    """A row for each register that is required, but not expected ('Required registers')."""
+    """Each register that is required, but not expected ('Required registers')."""
     lacking = (required or set()) - {(row.algorithm, row.register) for row in expected}
     everywhere = ((algorithm, register) for algorithm in ALGORITHMS for register in range(REGISTERS))
-    return [f"{algorithm.name} {register} missing" for algorithm, register in everywhere if (algorithm, register) in lacking]
+    return [register for register in everywhere if register in lacking]
 
 
 def boot_aggregate_state(registers, entries):
@@ -53,33 +89,64 @@ def boot_aggregate_state(registers, entries):
 
 
 def row_state(value, expected):
+    """A word, and the value where it differs."""
     if value is None:
-        return "absent"
-    return "match" if value == expected else f"differ {value.hex()}"
+        return ("absent",)
+    return ("match",) if value == expected else ("differ", value.hex())
+
+
+class Places(NamedTuple):
+    """Expected registers with their places, each a word and for an event or an entry its number; required registers that are missing."""
+
+    rows: list
+    missing: list
+
+    @property
+    def are_located(self):
+        return not self.missing and all(place[0] not in ("nowhere", "absent") for _, place in self.rows)
+
+    def text(self):
+        lines = [f"{row.algorithm.name} {row.register} {place_text(*place)}" for row, place in self.rows]
+        lines += [f"{algorithm.name} {register} missing" for algorithm, register in self.missing]
+        return "".join(f"{line}\n" for line in [*lines, "located" if self.are_located else "not located"])
+
+    def as_json(self):
+        """The places as JSON."""
+        rows = [named(row.algorithm, row.register, **dict(zip(("place", "number"), place))) for row, place in self.rows]
+        missing = [named(*register, place="missing") for register in self.missing]
+        return {"registers": [*rows, *missing], "located": self.are_located}
+
+
+def place_text(word, number=None):
+    if number is None:
+        return "at reset" if word == "reset" else word
+    return f"after {word} {number}"
+
+
+def places(log, entries, expected, required=None):
+    require_genuine(entries)
+    registers = log.at_reset()
+    found = [None if row.algorithm in registers.banks else ("absent",) for row in expected]
+
+    def look(changed, *point):
+        for place, row in enumerate(expected):
+            is_open = found[place] is None and row.register in changed
+            if is_open and registers.value(row.algorithm, row.register) == row.value:
+                found[place] = point
+
+    look(range(REGISTERS), "reset")
+    for number, event in enumerate(log.events, 1):
+        if event.is_extended:
+            registers.extend(event.register, event.digest_of)
+            look((event.register,), "event", number)
+    for number, entry in enumerate(entries):
+        registers.extend(entry.register, entry.digest_of)
+        look((entry.register,), "entry", number)
+    rows = [(row, place or ("nowhere",)) for row, place in zip(expected, found)]
+    return Places(rows, missing_rows(expected, required))
 
 
 def locate(log, entries, expected, required=None):
     """The text of places, and whether each value was reached and none is missing."""
-    require_genuine(entries)
-    registers = log.at_reset()
-    places = [None if row.algorithm in registers.banks else "absent" for row in expected]
-
-    def look(changed, point):
-        for place, row in enumerate(expected):
-            is_open = places[place] is None and row.register in changed
-            if is_open and registers.value(row.algorithm, row.register) == row.value:
-                places[place] = point
-
-    look(range(REGISTERS), "at reset")
-    for number, event in enumerate(log.events, 1):
-        if event.is_extended:
-            registers.extend(event.register, event.digest_of)
-            look((event.register,), f"after event {number}")
-    for number, entry in enumerate(entries):
-        registers.extend(entry.register, entry.digest_of)
-        look((entry.register,), f"after entry {number}")
-    missing = missing_rows(expected, required)
-    is_located = not missing and all(place not in (None, "absent") for place in places)
-    rows = [f"{row.algorithm.name} {row.register} {place or 'nowhere'}" for row, place in zip(expected, places)]
-    lines = [*rows, *missing, "located" if is_located else "not located"]
-    return "".join(f"{line}\n" for line in lines), is_located
+    told = places(log, entries, expected, required)
+    return told.text(), told.are_located

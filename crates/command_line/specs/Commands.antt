@@ -1,6 +1,6 @@
 -- The commands as they are defined for clap, and how a plan follows from clap's matches. What arguments match is clap's own
 -- definition (`subcommand_of`). All of this is this project's choice.
-use Rattle.std.specs.Prelude.{◌≡◌, ℕ, false, true, List, [], ◌∷◌, codes, map, option_map, unwrap_or, Option, None, Some, String, string_bytes}
+use Rattle.std.specs.Prelude.{◌≡◌, ℕ, Bool, false, true, List, [], ◌∷◌, codes, map, option_map, unwrap_or, Option, None, Some, String, string_bytes}
 use Rattle.std.specs.Global.{Global}
 use Rattle.std.specs.List.{fold}
 use Rattle.std.specs.Str.Parse.{digits_value, without_leading_plus}
@@ -10,12 +10,16 @@ use Rattle.clap.specs.declared.builder.ArgAction.TheVariants.{Append, SetTrue}
 use Rattle.clap.specs.declared.builder.ValueParser.{ValueParser}
 use Rattle.pcr_banks.specs.Hashing.{name_of}
 use Rattle.ima_list.specs.Templates.{template_name}
+use Rattle.command_line.specs.declared.json_plan.JsonPlan.{JsonPlan}
+use Rattle.command_line.specs.declared.json_plan.JsonPlan.TheVariants as jsons
+use Rattle.command_line.specs.declared.json_plan.JsonPrint.{JsonPrint}
+use Rattle.command_line.specs.declared.json_plan.JsonPrint.TheVariants as json_prints
 use Rattle.command_line.specs.declared.plan.DataShown.{DataShown}
 use Rattle.command_line.specs.declared.plan.DataShown.TheVariants.{Size, Bytes}
 use Rattle.command_line.specs.declared.plan.NameEnd.{NameEnd}
 use Rattle.command_line.specs.declared.plan.NameEnd.TheVariants.{LineFeed, Nul}
 use Rattle.command_line.specs.declared.plan.Plan.{Plan}
-use Rattle.command_line.specs.declared.plan.Plan.TheVariants.{Registers, Measure, MeasureListed, Verify, VerifyRequired, Locate, LocateRequired, Expected, RegistersAfter, Events, Show, Replay, ReplayExpected, Help}
+use Rattle.command_line.specs.declared.plan.Plan.TheVariants.{Registers, Measure, MeasureListed, Verify, VerifyRequired, Locate, LocateRequired, Expected, RegistersAfter, Events, Show, Replay, ReplayExpected, Json, Help}
 use Rattle.command_line.specs.declared.plan.Print.{Print}
 use Rattle.command_line.specs.declared.plan.Print.TheVariants as prints
 
@@ -80,17 +84,18 @@ table parsers = (
       ∷ optional (codes "print") (codes "ascii") parsers.prints
       ∷ without_default (codes "files-from")
       ∷ flag_beside (codes "null")
+      ∷ flag (codes "json")
       ∷ required (codes "LOG")
       ∷ repeated (codes "FILE")
       ∷ [],
 )
-    ∷ (codes "verify", without_default (codes "require") ∷ required (codes "LOG") ∷ required (codes "LIST") ∷ required (codes "EXPECTED") ∷ [])
-    ∷ (codes "locate", without_default (codes "require") ∷ required (codes "LOG") ∷ required (codes "LIST") ∷ required (codes "EXPECTED") ∷ [])
-    ∷ (codes "expected", without_default (codes "registers") ∷ required (codes "PCRREAD") ∷ [])
-    ∷ (codes "registers", required (codes "LOG") ∷ [])
-    ∷ (codes "events", flag (codes "data") ∷ required (codes "LOG") ∷ [])
-    ∷ (codes "show", required (codes "LIST") ∷ [])
-    ∷ (codes "replay", without_default_beside (codes "require") ∷ required (codes "LIST") ∷ omittable (codes "EXPECTED") ∷ [])
+    ∷ (codes "verify", without_default (codes "require") ∷ flag (codes "json") ∷ required (codes "LOG") ∷ required (codes "LIST") ∷ required (codes "EXPECTED") ∷ [])
+    ∷ (codes "locate", without_default (codes "require") ∷ flag (codes "json") ∷ required (codes "LOG") ∷ required (codes "LIST") ∷ required (codes "EXPECTED") ∷ [])
+    ∷ (codes "expected", without_default (codes "registers") ∷ flag (codes "json") ∷ required (codes "PCRREAD") ∷ [])
+    ∷ (codes "registers", flag (codes "json") ∷ required (codes "LOG") ∷ [])
+    ∷ (codes "events", flag (codes "data") ∷ flag (codes "json") ∷ required (codes "LOG") ∷ [])
+    ∷ (codes "show", flag (codes "json") ∷ required (codes "LIST") ∷ [])
+    ∷ (codes "replay", without_default_beside (codes "require") ∷ flag (codes "json") ∷ required (codes "LIST") ∷ omittable (codes "EXPECTED") ∷ [])
     ∷ []
 
 -- One command more, of this name and with these arguments.
@@ -114,6 +119,21 @@ abbrev pub print_name : Print → Text
 print_name prints.Ascii = codes "ascii"
 print_name prints.Binary = codes "binary"
 print_name prints.Registers = codes "registers"
+
+-- What `--print` calls what a measurement prints as JSON.
+abbrev pub json_print_name : JsonPrint → Text
+json_print_name json_prints.Entries = codes "ascii"
+json_print_name json_prints.Registers = codes "registers"
+
+-- The value that clap gives a flag: `true` if it is present, else `false`.
+abbrev pub flag_value : Bool → Text
+flag_value false = codes "false"
+flag_value true = codes "true"
+
+-- The plan has its result printed as JSON.
+abbrev pub is_json : Plan → Bool
+is_json (Json plan) = true
+is_json plan = false
 
 -- The value that clap gives `--null`: `true` if it is present, else `false`.
 abbrev pub null_value : NameEnd → Text
@@ -151,6 +171,38 @@ pub record HasEvidence (rows : List Row) (log list expected : Text) : Type 0 whe
 abbrev pub IsGivenAs : Text → List Row → Option (String Global) → Type 0
 IsGivenAs id rows None = all_of id rows ≡ None
 IsGivenAs id rows (Some text) = first_of id rows ≡ Some (string_bytes text)
+
+-- The plan with `--json` has the options and names of these matches. `Measure` requires that neither `--files-from` nor `--null` is
+-- present, and `Replay` that neither EXPECTED nor `--require` is. `Events` has the data with `--data` and without.
+abbrev pub HasJsonValues : List Row → JsonPlan → Type 0
+HasJsonValues rows (jsons.Measure alg template workers limit print log files) =
+    HasMeasure rows (name_of alg) (template_name template) (json_print_name print) (string_bytes log) workers limit (map string_bytes files.items)
+    × (all_of (codes "files-from") rows ≡ None)
+    × (first_of (codes "null") rows ≡ Some (null_value LineFeed))
+HasJsonValues rows (jsons.MeasureListed alg template workers limit print log files names ends) =
+    HasMeasure rows (name_of alg) (template_name template) (json_print_name print) (string_bytes log) workers limit (map string_bytes files.items)
+    × (first_of (codes "files-from") rows ≡ Some (string_bytes names))
+    × (first_of (codes "null") rows ≡ Some (null_value ends))
+HasJsonValues rows (jsons.Verify log list expected required) =
+    HasEvidence rows (string_bytes log) (string_bytes list) (string_bytes expected)
+    × IsGivenAs (codes "require") rows required
+HasJsonValues rows (jsons.Locate log list expected required) =
+    HasEvidence rows (string_bytes log) (string_bytes list) (string_bytes expected)
+    × IsGivenAs (codes "require") rows required
+HasJsonValues rows (jsons.Expected printed registers) =
+    (first_of (codes "PCRREAD") rows ≡ Some (string_bytes printed))
+    × IsGivenAs (codes "registers") rows registers
+HasJsonValues rows (jsons.RegistersAfter log) = first_of (codes "LOG") rows ≡ Some (string_bytes log)
+HasJsonValues rows (jsons.Events log) = first_of (codes "LOG") rows ≡ Some (string_bytes log)
+HasJsonValues rows (jsons.Show list) = first_of (codes "LIST") rows ≡ Some (string_bytes list)
+HasJsonValues rows (jsons.Replay list) =
+    (first_of (codes "LIST") rows ≡ Some (string_bytes list))
+    × (all_of (codes "EXPECTED") rows ≡ None)
+    × (all_of (codes "require") rows ≡ None)
+HasJsonValues rows (jsons.ReplayExpected list expected required) =
+    (first_of (codes "LIST") rows ≡ Some (string_bytes list))
+    × (first_of (codes "EXPECTED") rows ≡ Some (string_bytes expected))
+    × IsGivenAs (codes "require") rows required
 
 -- The plan has the options and names of these matches. `Measure` requires that neither `--files-from` nor `--null` is present,
 -- `Verify`, `Locate` and `Replay` that `--require` is not, and `Replay` also that EXPECTED is not.
@@ -192,12 +244,14 @@ HasValues rows (ReplayExpected list expected required) =
     (first_of (codes "LIST") rows ≡ Some (string_bytes list))
     × (first_of (codes "EXPECTED") rows ≡ Some (string_bytes expected))
     × IsGivenAs (codes "require") rows required
+HasValues rows (Json plan) = HasJsonValues rows plan
 HasValues rows (Help text) = ⊥
 
--- The same of the matches of a command, which was found.
+-- The same of the matches of a command, which was found. With `--json` the result is printed as JSON, and without it it is not.
 pub record HasValuesIn (found : Option (Text × List Row)) (plan : Plan) : Type 0 where
   pub rows : List Row
   pub rows_are : option_map (λ command. command.1) found ≡ Some rows
+  pub json_is : first_of (codes "json") rows ≡ Some (flag_value (is_json plan))
   pub values : HasValues rows plan
 
 -- The plan has the options and names that the arguments match.

@@ -3,10 +3,20 @@ use Rattle.std.specs.Prelude.{◌≡◌, ℕ, ◌≤◌, ◌<◌, ◌^◌, ◌�
 use Rattle.std.specs.List.{list_any, starts_with}
 use Rattle.std.specs.Global.{Global}
 use Rattle.command_line.specs.Commands.{IsMatched}
+use Rattle.command_line.specs.declared.json_plan.JsonPlan.{JsonPlan}
+use Rattle.command_line.specs.declared.json_plan.JsonPlan.TheVariants as jsons
 use Rattle.command_line.specs.declared.plan.Plan.{Plan}
-use Rattle.command_line.specs.declared.plan.Plan.TheVariants.{Registers, Measure, MeasureListed, Verify, VerifyRequired, Locate, LocateRequired, Expected, RegistersAfter, Events, Show, Replay, ReplayExpected, Help}
+use Rattle.command_line.specs.declared.plan.Plan.TheVariants.{Registers, Measure, MeasureListed, Verify, VerifyRequired, Locate, LocateRequired, Expected, RegistersAfter, Events, Show, Replay, ReplayExpected, Json, Help}
 
--- A measurement has 1 to 8 workers, a limit of at least one record, and fewer than 2^32 files named by arguments.
+-- A measurement has 1 to 8 workers, a limit of at least one record, and fewer than 2^32 files named by arguments. Here of a plan with
+-- `--json`, and then of any plan.
+abbrev pub IsWithinJsonRanges : JsonPlan → Type 0
+IsWithinJsonRanges (jsons.Measure alg template workers limit print log files) =
+    (1 ≤ workers) × (workers ≤ 8) × (1 ≤ limit) × (vec_len files < 2 ^ 32)
+IsWithinJsonRanges (jsons.MeasureListed alg template workers limit print log files names ends) =
+    (1 ≤ workers) × (workers ≤ 8) × (1 ≤ limit) × (vec_len files < 2 ^ 32)
+IsWithinJsonRanges plan = Unit {0}
+
 abbrev pub IsWithinRanges : Plan → Type 0
 IsWithinRanges Registers = Unit {0}
 IsWithinRanges (Measure alg template workers limit print log files) =
@@ -23,7 +33,21 @@ IsWithinRanges (Events log shown) = Unit {0}
 IsWithinRanges (Show list) = Unit {0}
 IsWithinRanges (Replay list) = Unit {0}
 IsWithinRanges (ReplayExpected list expected required) = Unit {0}
+IsWithinRanges (Json plan) = IsWithinJsonRanges plan
 IsWithinRanges (Help text) = Unit {0}
+
+-- The name of the command that a plan with `--json` is of.
+abbrev pub json_command : JsonPlan → List ℕ
+json_command (jsons.Measure alg template workers limit print log files) = codes "measure"
+json_command (jsons.MeasureListed alg template workers limit print log files names ends) = codes "measure"
+json_command (jsons.Verify log list expected required) = codes "verify"
+json_command (jsons.Locate log list expected required) = codes "locate"
+json_command (jsons.Expected printed registers) = codes "expected"
+json_command (jsons.RegistersAfter log) = codes "registers"
+json_command (jsons.Events log) = codes "events"
+json_command (jsons.Show list) = codes "show"
+json_command (jsons.Replay list) = codes "replay"
+json_command (jsons.ReplayExpected list expected required) = codes "replay"
 
 -- The plan is of the command with this name.
 abbrev pub IsOfCommand : List ℕ → Plan → Type 0
@@ -40,6 +64,7 @@ IsOfCommand command (Events log shown) = command ≡ codes "events"
 IsOfCommand command (Show list) = command ≡ codes "show"
 IsOfCommand command (Replay list) = command ≡ codes "replay"
 IsOfCommand command (ReplayExpected list expected required) = command ≡ codes "replay"
+IsOfCommand command (Json plan) = command ≡ json_command plan
 IsOfCommand command (Help text) = ⊥
 
 -- The argument requests help: it is `--help`, or short options of which the first is `-h`.

@@ -167,6 +167,13 @@ const LIST: ArgumentRow<'static> = ArgumentRow {
     form: Form::Required,
 };
 
+/// Whether the result is printed as JSON.
+const JSON: ArgumentRow<'static> = ArgumentRow {
+    id: "json",
+    help: "Print the result as JSON, one object on one line",
+    form: Form::Flag,
+};
+
 /// The commands, in the order of the help. `table` of specs/Commands.antt has the same.
 pub(crate) static COMMANDS: [CommandRow; 8] = [
     CommandRow {
@@ -236,6 +243,13 @@ differ from their reset values\n",
                     option: "files-from",
                 },
             },
+            ArgumentRow {
+                id: "json",
+                help: "\
+Print the list as JSON, one object per line for each entry, or the
+registers, one object on one line; not with --print binary",
+                form: Form::Flag,
+            },
             LOG,
             ArgumentRow {
                 id: "FILE",
@@ -256,6 +270,7 @@ differ from their reset values\n",
                     value: REQUIRED_REGISTERS,
                 },
             },
+            JSON,
             LOG,
             LIST,
             ArgumentRow {
@@ -282,6 +297,7 @@ aggregate alone"
                     value: REQUIRED_REGISTERS,
                 },
             },
+            JSON,
             LOG,
             LIST,
             ArgumentRow {
@@ -301,6 +317,7 @@ aggregate alone"
                 help: "Only registers A to B, 0 to 23, for example 0-10; or only A, for example 4",
                 form: Form::Optional { value: "A-B" },
             },
+            JSON,
             ArgumentRow {
                 id: "PCRREAD",
                 help: "Text that tpm2_pcrread or tpm2_checkquote printed, at most 64 MiB; no text tells whether a quote holds",
@@ -312,7 +329,7 @@ aggregate alone"
         name: "registers",
         about: "Prints the registers after a firmware event log that differ from their reset values",
         end: HelpEnd::Registers,
-        arguments: &[LOG],
+        arguments: &[JSON, LOG],
     },
     CommandRow {
         name: "events",
@@ -324,6 +341,11 @@ aggregate alone"
                 help: "Print the data of each event in hexadecimal, not only how many bytes there are",
                 form: Form::Flag,
             },
+            ArgumentRow {
+                id: "json",
+                help: "Print the events as JSON, one object per line, with the data of each event",
+                form: Form::Flag,
+            },
             LOG,
         ],
     },
@@ -331,7 +353,14 @@ aggregate alone"
         name: "show",
         about: "Prints the entries of a measurement list as text",
         end: HelpEnd::Show,
-        arguments: &[LIST],
+        arguments: &[
+            ArgumentRow {
+                id: "json",
+                help: "Print the entries as JSON, one object per line",
+                form: Form::Flag,
+            },
+            LIST,
+        ],
     },
     CommandRow {
         name: "replay",
@@ -346,6 +375,7 @@ aggregate alone"
                     argument: "EXPECTED",
                 },
             },
+            JSON,
             LIST,
             ArgumentRow {
                 id: "EXPECTED",

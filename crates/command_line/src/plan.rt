@@ -1,5 +1,6 @@
 //! What the program's arguments request.
 
+use crate::json_plan::JsonPlan;
 use ima_list::Template;
 use pcr_banks::Alg;
 
@@ -153,6 +154,8 @@ pub enum Plan {
         /// The text of the registers that have to be among them, as `sha256:0-10`, if there is one. It is any text here.
         required: Option<String>,
     },
+    /// Do what this plan says, and print the result as JSON.
+    Json(JsonPlan),
     /// Show this help.
     Help(String),
 }

@@ -9,3 +9,5 @@ pub mod LocatingLaws
 pub mod ListVerifyingLaws
 pub mod ExpectingLaws
 pub mod EscapingLaws
+pub mod EntryLineLaws
+pub mod JsonLaws

@@ -13,7 +13,7 @@ use Rattle.boot_log.specs.declared.header.Row.{Row}
 use Rattle.boot_log.specs.Reading.{log_fault}
 use Rattle.boot_log.specs.Spelling.{LogEvent}
 use Rattle.command_line.specs.declared.plan.NameEnd.{NameEnd}
-use Rattle.command_line.specs.declared.plan.Print.{Print}
+use Rattle.ima_agent.specs.declared.measuring.Printing.{Printing}
 use Rattle.measure_book.specs.declared.op.Outcome.{Outcome}
 use Rattle.measure_book.specs.declared.origin.Origin.{Origin}
 use Rattle.measure_book.specs.Books.{BookState}
@@ -35,10 +35,10 @@ use Rattle.ima_agent.specs.declared.loading.LoadFault.{LoadFault}
 use Rattle.ima_agent.specs.declared.loading.LoadFault.TheVariants as loads
 use Rattle.ima_agent.specs.Faults.{fault_of_log}
 use Rattle.ima_agent.specs.Hashing.{IsHashOfAll}
-use Rattle.ima_agent.specs.Loading.{Holds, Inputs, IsInputFault, IsNotRead, IsTooLong, input_limit}
+use Rattle.ima_agent.specs.Loading.{Holds, Inputs, IsInputFault, IsNotRead, IsTooLong, OfInput, input_limit}
 use Rattle.ima_agent.specs.Measuring.{AreAllDone, Contents, HasFile, HasMeasured, IsFileFault, IsFileMeasure, IsFirstRefusal, IsMeasuringFault, IsNamesFault, IsRecordingFault, IsSetOut, IsUnhashed, Manner, ShowsMeasured, all_names, failing_in, files_in}
 use Rattle.ima_agent.specs.parts.Measuring.{IsFileFaultOf, IsFileFailure, names_lent}
-use Rattle.ima_agent.specs.Program.{IsListedFault, OfInput}
+use Rattle.ima_agent.specs.Program.{IsListedFault}
 use Rattle.ima_agent.specs.parts.NamedFiles.{job_fault_of}
 
 -- No outcome before this one is a refusal.
@@ -229,7 +229,7 @@ not_recorded held Fails log manner files table events origin fault out (inr reco
 })))
 
 -- What is shown of files that several threads read is shown of the inputs that hold the same.
-pub shown_of : (inputs : Inputs) (held : Contents) (log : List ℕ) (manner : Manner) (print : Print) (names : List (List ℕ))
+pub shown_of : (inputs : Inputs) (held : Contents) (log : List ℕ) (manner : Manner) (print : Printing) (names : List (List ℕ))
     (result : Result (Vec ℕ) RunFault) → ((name : List ℕ) → held name ≡ inputs.held (Some name))
     → IfOk result (λ shown. ShowsMeasured held log manner print names shown.items)
     → IfOk result (λ shown. ShowsMeasured (files_in inputs) log manner print names shown.items)

@@ -11,13 +11,12 @@ use Rattle.ima_list.specs.Replaying.{IsReplayed, replayed_value}
 use Rattle.byte_streams.specs.Streams.{SourceState}
 use Rattle.boot_verdict.specs.declared.verifier.VerifyFault.TheVariants as verdicts
 use Rattle.boot_verdict.specs.ListSources.{CameFrom, FailsFor}
-use Rattle.boot_verdict.specs.RegisterTexts.{registers_text}
 use Rattle.boot_verdict.specs.Replays.{IsListReplayFrom, IsListStart}
 use Rattle.ima_agent.specs.declared.fault.RunFault.{RunFault}
 use Rattle.ima_agent.specs.Faults.{IsFaultOfVerdict}
-use Rattle.ima_agent.specs.Loading.{HasFailed, Inputs, input_limit}
-use Rattle.ima_agent.specs.Program.{OfInput}
-use Rattle.ima_agent.specs.Replaying.{IsReplayFaultOf, ShowsReplay}
+use Rattle.ima_agent.specs.Loading.{HasFailed, Inputs, OfInput, input_limit}
+use Rattle.ima_agent.specs.declared.output.Form.{Form}
+use Rattle.ima_agent.specs.Replaying.{IsReplayFaultOf, ShowsReplay, registers_in}
 use Rattle.ima_agent.specs.parts.Replaying.{IsNoReplayFrom, ShowsReplayFrom}
 use Rattle.ima_agent.proofs.VerifyingLaws.{HasAll, held_more, held_whole, longer}
 
@@ -36,9 +35,9 @@ starts_alike first second now entries one other replayed = record {
 }
 
 -- The lines of the registers that were replayed.
-pub replay_text : (old new : Option (List ℕ)) (start now : Banks) (text : List ℕ) → IsListReplayFrom old new input_limit now
-    → IsListStart start → text ≡ registers_text now start → ShowsReplayFrom old new text
-replay_text old new start now text from reset text-is = record {
+pub replay_text : (form : Form) (old new : Option (List ℕ)) (start now : Banks) (text : List ℕ) → IsListReplayFrom old new input_limit now
+    → IsListStart start → text ≡ registers_in form now start → ShowsReplayFrom form old new text
+replay_text form old new start now text from reset text-is = record {
   list = from.list;
   came = from.came;
   replay = record {
@@ -55,12 +54,12 @@ replay_text old new start now text from reset text-is = record {
 
 -- ---- what the program shows
 
-pub replay_shown : (inputs : Inputs) (name : List ℕ) (old new : Option (List ℕ)) (result : Result (Vec ℕ) RunFault)
-    → HasAll (inputs.held (Some name)) old → IfOk result (λ shown. ShowsReplayFrom old new shown.items)
-    → IfOk result (λ shown. OfInput inputs (Some name) (λ bytes. ShowsReplay bytes shown.items))
-replay_shown inputs name old new (Ok shown) has shows =
+pub replay_shown : (form : Form) (inputs : Inputs) (name : List ℕ) (old new : Option (List ℕ)) (result : Result (Vec ℕ) RunFault)
+    → HasAll (inputs.held (Some name)) old → IfOk result (λ shown. ShowsReplayFrom form old new shown.items)
+    → IfOk result (λ shown. OfInput inputs (Some name) (λ bytes. ShowsReplay form bytes shown.items))
+replay_shown form inputs name old new (Ok shown) has shows =
     (shows.list, held_whole (inputs.held (Some name)) old new input_limit shows.list has shows.came, shows.replay)
-replay_shown inputs name old new (Err fault) has shows = tt
+replay_shown form inputs name old new (Err fault) has shows = tt
 
 -- ---- why it shows nothing
 

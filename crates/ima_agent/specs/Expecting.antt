@@ -10,7 +10,11 @@ use Rattle.boot_verdict.specs.RegisterRanges.{IsRangeText, is_within}
 use Rattle.boot_verdict.specs.WrittenTexts.{expected_text, those_within}
 use Rattle.ima_agent.specs.declared.fault.RunFault.{RunFault}
 use Rattle.ima_agent.specs.declared.fault.RunFault.TheVariants as runs
+use Rattle.json_texts.specs.JsonValues.{line_of}
+use Rattle.json_texts.specs.RegisterJson.{expected_json}
 use Rattle.ima_agent.specs.Faults.{fault_of_expected}
+use Rattle.ima_agent.specs.declared.output.Form.{Form}
+use Rattle.ima_agent.specs.declared.output.Form.TheVariants as forms
 
 -- The range of registers that is requested: the one that the text spells; all registers without a text.
 abbrev pub IsRequested : Option (List ℕ) → RegisterRange → Type 0
@@ -22,15 +26,24 @@ abbrev pub SpellsNoRange : Option (List ℕ) → Type 0
 SpellsNoRange None = ⊥
 SpellsNoRange (Some text) = (range : RegisterRange) → IsRangeText text range → ⊥
 
--- The text was printed by tpm2-tools, and what is shown are the lines of the registers that it states within the requested range, at
+-- Those of the registers that are within the range, in this form.
+abbrev pub expected_in : Form → RegisterRange → List Expected → List ℕ
+expected_in forms.Text range expected = expected_text range expected
+expected_in forms.Json range expected = line_of (expected_json range expected)
+
+-- The text was printed by tpm2-tools, and what is shown are, in this form, the registers that it states within the requested range, at
 -- least one.
-pub record ShowsExpected (registers : Option (List ℕ)) (text shown : List ℕ) : Type 0 where
+pub record ShowsExpectedIn (form : Form) (registers : Option (List ℕ)) (text shown : List ℕ) : Type 0 where
   pub range : RegisterRange
   pub expected : List Expected
   pub requested : IsRequested registers range
   pub printed : IsPrintedText text expected
   pub some : 0 < length (those_within range expected)
-  pub text_is : shown ≡ expected_text range expected
+  pub text_is : shown ≡ expected_in form range expected
+
+-- The same as lines of text.
+abbrev pub ShowsExpected : Option (List ℕ) → List ℕ → List ℕ → Type 0
+ShowsExpected registers text shown = ShowsExpectedIn forms.Text registers text shown
 
 -- The text was not printed by tpm2-tools, or states no register, and the fault is its own.
 pub record IsNotPrinted (text : List ℕ) (fault : RunFault) : Type 0 where

@@ -13,6 +13,11 @@ pub mod Requiring
 pub mod ListVerifying
 pub mod Expecting
 pub mod Measuring
+pub mod JsonPlans
+pub mod JsonFaults
+pub mod JsonShowing
+pub mod JsonJudging
+pub mod JsonOutputs
 pub mod Program
 pub mod System
 pub mod parts

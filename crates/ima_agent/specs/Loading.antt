@@ -47,6 +47,10 @@ untold = record { held = λ name. None; may_fail = λ name. true }
 abbrev pub Holds : Inputs → Option (List ℕ) → List ℕ → Type 0
 Holds inputs name bytes = IfSome (inputs.held name) (λ all. bytes ≡ all)
 
+-- This holds of the bytes of the input of this name; of some bytes, if its own are not told.
+abbrev pub OfInput : Inputs → Option (List ℕ) → (List ℕ → Type 0) → Type 0
+OfInput inputs name P = (bytes : List ℕ) × Holds inputs name bytes × P bytes
+
 -- The input of this name is longer than an input may be, if its bytes are told.
 abbrev pub HoldsTooMuch : Inputs → Option (List ℕ) → Type 0
 HoldsTooMuch inputs name = IfSome (inputs.held name) (λ all. input_limit < length all)

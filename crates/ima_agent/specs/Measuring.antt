@@ -25,7 +25,12 @@ use Rattle.hash_workers.specs.Causes.{IsCauseOf}
 use Rattle.boot_verdict.specs.RegisterTexts.{registers_text}
 use Rattle.ima_agent.specs.declared.fault.RunFault.{RunFault}
 use Rattle.ima_agent.specs.declared.fault.RunFault.TheVariants as runs
-use Rattle.command_line.specs.declared.plan.Print.{Print}
+use Rattle.ima_agent.specs.declared.measuring.Printing.{Printing}
+use Rattle.ima_agent.specs.declared.measuring.Printing.TheVariants as printings
+use Rattle.ima_agent.specs.declared.output.Form.TheVariants as forms
+use Rattle.command_line.specs.declared.json_plan.JsonPrint.TheVariants as json_prints
+use Rattle.ima_agent.specs.JsonShowing.{entry_lines}
+use Rattle.ima_agent.specs.Replaying.{registers_in}
 use Rattle.command_line.specs.declared.plan.Print.TheVariants.{Ascii, Binary, Registers}
 use Rattle.ima_agent.specs.Faults.{fault_of_log, fault_of_agent, fault_of_job}
 use Rattle.command_line.specs.declared.plan.NameEnd.{NameEnd}
@@ -70,11 +75,14 @@ pub record HasMeasured (origin : Origin) (count : ℕ) (Makes : ℕ → BookOp �
   pub batch : IsBatchOf origin count Makes workers book outcomes by
   pub done : AreAllDone outcomes
 
--- What is printed of a book: its list as text or binary, or its registers that differ from `reset`.
-abbrev pub printed : Print → Banks → BookState → List ℕ
-printed Ascii reset book = flat_map line_of book.entries
-printed Binary reset book = exported book
-printed Registers reset book = registers_text book.banks reset
+-- What is printed of a book: its list as text or binary, or its registers that differ from `reset`; with `--json` the lines of its
+-- entries, or that of these registers.
+abbrev pub printed : Printing → Banks → BookState → List ℕ
+printed (printings.Text Ascii) reset book = flat_map line_of book.entries
+printed (printings.Text Binary) reset book = exported book
+printed (printings.Text Registers) reset book = registers_text book.banks reset
+printed (printings.Json json_prints.Entries) reset book = entry_lines book.entries
+printed (printings.Json json_prints.Registers) reset book = registers_in forms.Json book.banks reset
 
 -- How files are measured: the algorithm of their digests, the template of their entries, the number of workers and the maximum
 -- number of records.
@@ -94,7 +102,7 @@ pub record IsSetOut (log : List ℕ) (manner : Manner) (table : List Row) (event
 
 -- What is shown is printed of a book that starts with the registers after this log, and in which the files of these names are
 -- measured, each under its name with all that it holds.
-pub record ShowsMeasured (held : Contents) (log : List ℕ) (manner : Manner) (print : Print) (names : List (List ℕ)) (shown : List ℕ)
+pub record ShowsMeasured (held : Contents) (log : List ℕ) (manner : Manner) (print : Printing) (names : List (List ℕ)) (shown : List ℕ)
     : Type 0 where
   pub table : List Row
   pub events : List LogEvent

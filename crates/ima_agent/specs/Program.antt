@@ -5,10 +5,17 @@ use Rattle.byte_streams.specs.declared.streams.Failed.{Failed}
 use Rattle.byte_streams.specs.Streams.{SinkState, Sends}
 use Rattle.ima_agent.specs.declared.fault.RunFault.{RunFault}
 use Rattle.ima_agent.specs.declared.fault.RunFault.TheVariants as runs
+use Rattle.ima_agent.specs.declared.measuring.Printing.TheVariants as printings
+use Rattle.ima_agent.specs.declared.output.Form.TheVariants as forms
+use Rattle.command_line.specs.declared.json_plan.JsonPlan.{JsonPlan}
+use Rattle.command_line.specs.declared.json_plan.JsonPlan.TheVariants as jsons
 use Rattle.command_line.specs.declared.plan.Plan.{Plan}
 use Rattle.command_line.specs.declared.plan.NameEnd.{NameEnd}
-use Rattle.command_line.specs.declared.plan.Plan.TheVariants.{Registers, Measure, MeasureListed, Verify, VerifyRequired, Locate, LocateRequired, Expected, RegistersAfter, Events, Show, Replay, ReplayExpected, Help}
-use Rattle.ima_agent.specs.Loading.{Inputs, Holds, IsInputFault}
+use Rattle.command_line.specs.declared.plan.Plan.TheVariants.{Registers, Measure, MeasureListed, Verify, VerifyRequired, Locate, LocateRequired, Expected, RegistersAfter, Events, Show, Replay, ReplayExpected, Json, Help}
+use Rattle.ima_agent.specs.JsonFaults.{IsFailure}
+use Rattle.ima_agent.specs.JsonOutputs.{IsJsonOutputFor}
+use Rattle.ima_agent.specs.JsonPlans.{plain_of}
+use Rattle.ima_agent.specs.Loading.{Inputs, IsInputFault, OfInput}
 use Rattle.ima_agent.specs.Expecting.{IsNotPrintedFor, IsRangeFault, ShowsExpected}
 use Rattle.ima_agent.specs.ListVerifying.{IsListReportFaultWith, ShowsListReport}
 use Rattle.ima_agent.specs.Locating.{ShowsPlaces}
@@ -17,27 +24,24 @@ use Rattle.ima_agent.specs.Requiring.{IsFaultWith, ShowsRequiredPlaces, ShowsReq
 use Rattle.ima_agent.specs.Showing.{IsNoListFor, IsNoLogFor, IsRefusedFor, ShowsEvents, ShowsList, ShowsRegisters, ShowsRegistersAfter}
 use Rattle.ima_agent.specs.Measuring.{IsMeasuringFault, IsNamesFault, HasLogFault, Manner, ShowsMeasured, all_names, failing_in, files_in}
 use Rattle.ima_agent.specs.Verifying.{IsReportFault, ShowsReport}
+use Rattle.command_line.specs.Commands.{is_json}
 use Rattle.command_line.specs.Plans.{IsAskedBy, IsWithinRanges}
 use Rattle.ima_agent.specs.Faults.{IsWordsFault}
 use Rattle.ima_agent.specs.FaultTexts.{fault_line, fault_status}
 
 -- ---- a plan
 
--- This holds of the bytes of the input of this name; of some bytes, if its own are not told.
-abbrev pub OfInput : Inputs → Option (List ℕ) → (List ℕ → Type 0) → Type 0
-OfInput inputs name P = (bytes : List ℕ) × Holds inputs name bytes × P bytes
-
 -- This text and this exit status are the output of the plan, with these inputs.
 abbrev pub IsOutputFor : Inputs → Plan → List ℕ → ℕ → Type 0
 IsOutputFor inputs Registers shown status = OfInput inputs None (λ text. ShowsRegisters text shown) × (status ≡ 0)
 IsOutputFor inputs (Measure alg template workers limit print log files) shown status =
     OfInput inputs (Some (string_bytes log)) (λ bytes.
-    ShowsMeasured (files_in inputs) bytes (record { alg = alg; template = template; workers = workers; limit = limit }) print
+    ShowsMeasured (files_in inputs) bytes (record { alg = alg; template = template; workers = workers; limit = limit }) (printings.Text print)
     (map string_bytes files.items) shown)
     × (status ≡ 0)
 IsOutputFor inputs (MeasureListed alg template workers limit print log files names ends) shown status =
     OfInput inputs (Some (string_bytes log)) (λ bytes. OfInput inputs (Some (string_bytes names)) (λ text.
-    ShowsMeasured (files_in inputs) bytes (record { alg = alg; template = template; workers = workers; limit = limit }) print
+    ShowsMeasured (files_in inputs) bytes (record { alg = alg; template = template; workers = workers; limit = limit }) (printings.Text print)
     (all_names (map string_bytes files.items) ends text) shown))
     × (status ≡ 0)
 IsOutputFor inputs (Verify log list expected) shown status =
@@ -54,10 +58,11 @@ IsOutputFor inputs (RegistersAfter log) shown status =
     OfInput inputs (Some (string_bytes log)) (λ bytes. ShowsRegistersAfter bytes shown) × (status ≡ 0)
 IsOutputFor inputs (Events log requested) shown status =
     OfInput inputs (Some (string_bytes log)) (λ bytes. ShowsEvents bytes requested shown) × (status ≡ 0)
-IsOutputFor inputs (Replay list) shown status = OfInput inputs (Some (string_bytes list)) (λ bytes. ShowsReplay bytes shown) × (status ≡ 0)
+IsOutputFor inputs (Replay list) shown status = OfInput inputs (Some (string_bytes list)) (λ bytes. ShowsReplay forms.Text bytes shown) × (status ≡ 0)
 IsOutputFor inputs (ReplayExpected list expected required) shown status =
     ShowsListReport inputs (string_bytes list) (string_bytes expected) (option_map string_bytes required) shown status
 IsOutputFor inputs (Show list) shown status = OfInput inputs (Some (string_bytes list)) (λ bytes. ShowsList bytes shown) × (status ≡ 0)
+IsOutputFor inputs (Json plan) shown status = IsJsonOutputFor inputs plan shown status
 IsOutputFor inputs (Help text) shown status = (shown ≡ string_bytes text) × (status ≡ 0)
 
 -- Why nothing is shown of a measurement over this log of the files of these names and of those in the text of this input: the log
@@ -69,43 +74,54 @@ IsListedFault inputs log manner names input ends fault =
     ⊎ IsMeasuringFault (files_in inputs) (failing_in inputs) log manner (all_names names ends text) fault)
     ⊎ (fault ≡ runs.Memory)
 
--- The fault may come of the plan, with these inputs.
-abbrev pub IsFaultOf : Inputs → Plan → RunFault → Type 0
-IsFaultOf inputs Registers fault = IsInputFault inputs None fault ⊎ OfInput inputs None (λ text. IsRefusedFor text fault)
-IsFaultOf inputs (Measure alg template workers limit print log files) fault =
+-- The fault may come of the plan, which is without `--json`, with these inputs.
+abbrev pub IsPlainFaultOf : Inputs → Plan → RunFault → Type 0
+IsPlainFaultOf inputs Registers fault = IsInputFault inputs None fault ⊎ OfInput inputs None (λ text. IsRefusedFor text fault)
+IsPlainFaultOf inputs (Measure alg template workers limit print log files) fault =
     IsInputFault inputs (Some (string_bytes log)) fault
     ⊎ OfInput inputs (Some (string_bytes log)) (λ bytes.
     IsMeasuringFault (files_in inputs) (failing_in inputs) bytes (record { alg = alg; template = template; workers = workers; limit = limit })
     (map string_bytes files.items) fault)
-IsFaultOf inputs (MeasureListed alg template workers limit print log files names ends) fault =
+IsPlainFaultOf inputs (MeasureListed alg template workers limit print log files names ends) fault =
     IsInputFault inputs (Some (string_bytes log)) fault
     ⊎ OfInput inputs (Some (string_bytes log)) (λ bytes.
     IsListedFault inputs bytes (record { alg = alg; template = template; workers = workers; limit = limit })
     (map string_bytes files.items) (string_bytes names) ends fault)
-IsFaultOf inputs (Verify log list expected) fault =
+IsPlainFaultOf inputs (Verify log list expected) fault =
     IsReportFault inputs (string_bytes log) (string_bytes list) (string_bytes expected) fault
-IsFaultOf inputs (VerifyRequired log list expected required) fault =
+IsPlainFaultOf inputs (VerifyRequired log list expected required) fault =
     IsFaultWith (string_bytes required) (IsReportFault inputs (string_bytes log) (string_bytes list) (string_bytes expected)) fault
-IsFaultOf inputs (Locate log list expected) fault =
+IsPlainFaultOf inputs (Locate log list expected) fault =
     IsReportFault inputs (string_bytes log) (string_bytes list) (string_bytes expected) fault
-IsFaultOf inputs (LocateRequired log list expected required) fault =
+IsPlainFaultOf inputs (LocateRequired log list expected required) fault =
     IsFaultWith (string_bytes required) (IsReportFault inputs (string_bytes log) (string_bytes list) (string_bytes expected)) fault
-IsFaultOf inputs (Expected printed registers) fault =
+IsPlainFaultOf inputs (Expected printed registers) fault =
     IsRangeFault (option_map string_bytes registers) fault ⊎ IsInputFault inputs (Some (string_bytes printed)) fault
     ⊎ OfInput inputs (Some (string_bytes printed)) (λ text. IsNotPrintedFor (option_map string_bytes registers) text fault)
-IsFaultOf inputs (RegistersAfter log) fault =
+IsPlainFaultOf inputs (RegistersAfter log) fault =
     IsInputFault inputs (Some (string_bytes log)) fault
     ⊎ OfInput inputs (Some (string_bytes log)) (λ bytes. IsNoLogFor bytes fault)
-IsFaultOf inputs (Events log requested) fault =
+IsPlainFaultOf inputs (Events log requested) fault =
     IsInputFault inputs (Some (string_bytes log)) fault
     ⊎ OfInput inputs (Some (string_bytes log)) (λ bytes. IsNoLogFor bytes fault)
-IsFaultOf inputs (Replay list) fault = IsReplayFaultOf inputs (string_bytes list) fault
-IsFaultOf inputs (ReplayExpected list expected required) fault =
+IsPlainFaultOf inputs (Replay list) fault = IsReplayFaultOf inputs (string_bytes list) fault
+IsPlainFaultOf inputs (ReplayExpected list expected required) fault =
     IsListReportFaultWith inputs (string_bytes list) (string_bytes expected) (option_map string_bytes required) fault
-IsFaultOf inputs (Show list) fault =
+IsPlainFaultOf inputs (Show list) fault =
     IsInputFault inputs (Some (string_bytes list)) fault
     ⊎ OfInput inputs (Some (string_bytes list)) (λ bytes. IsNoListFor bytes fault)
-IsFaultOf inputs (Help text) fault = ⊥
+IsPlainFaultOf inputs (Json plan) fault = ⊥
+IsPlainFaultOf inputs (Help text) fault = ⊥
+
+-- The fault may come of the plan with `--json`: one of the same without it. But a damaged list is shown as far as it goes.
+abbrev pub IsJsonFaultOf : Inputs → JsonPlan → RunFault → Type 0
+IsJsonFaultOf inputs (jsons.Show list) fault = IsInputFault inputs (Some (string_bytes list)) fault
+IsJsonFaultOf inputs plan fault = IsPlainFaultOf inputs (plain_of plan) fault
+
+-- The fault may come of the plan, with these inputs.
+abbrev pub IsFaultOf : Inputs → Plan → RunFault → Type 0
+IsFaultOf inputs (Json plan) fault = IsJsonFaultOf inputs plan fault
+IsFaultOf inputs plan fault = IsPlainFaultOf inputs plan fault
 
 -- ---- arguments
 
@@ -114,30 +130,18 @@ pub record IsPlanOf (words : List (String Global)) (plan : Plan) : Type 0 where
   pub asked : IsAskedBy words plan
   pub within : IsWithinRanges plan
 
--- This text and this exit status are the output of what the arguments request.
-pub record ShowsFor (inputs : Inputs) (words : List (String Global)) (shown : List ℕ) (status : ℕ) : Type 0 where
-  pub plan : Plan
-  pub plan_is : IsPlanOf words plan
-  pub output : IsOutputFor inputs plan shown status
-
--- The fault may come of what the arguments request.
-pub record IsFaultOfPlan (inputs : Inputs) (words : List (String Global)) (fault : RunFault) : Type 0 where
-  pub plan : Plan
-  pub plan_is : IsPlanOf words plan
-  pub cause : IsFaultOf inputs plan fault
-
--- Why the arguments have no output: they were refused, or what they request has this fault.
-abbrev pub IsFaultFor : Inputs → List (String Global) → RunFault → Type 0
-IsFaultFor inputs words fault = IsWordsFault fault ⊎ IsFaultOfPlan inputs words fault
-
 -- ---- outputs that are sent
 
--- The text to be written for the arguments, and the status if the sink takes it all: the output of what they request, or a
--- fault's line and its status.
+-- The text to be written for the plan, and the status if the sink takes it all: its output, or those of a fault that may come of it.
+abbrev pub IsOutcome : Inputs → Plan → List ℕ → ℕ → Type 0
+IsOutcome inputs plan text status =
+    IsOutputFor inputs plan text status ⊎ ((fault : RunFault) × IsFaultOf inputs plan fault × IsFailure (is_json plan) fault text status)
+
+-- The same for the arguments: for what they request; if they are refused, the fault's line and its status.
 abbrev pub IsOutput : Inputs → List (String Global) → List ℕ → ℕ → Type 0
 IsOutput inputs words text status =
-    ShowsFor inputs words text status
-    ⊎ ((fault : RunFault) × IsFaultFor inputs words fault × (text ≡ fault_line fault) × (status ≡ fault_status fault))
+    ((plan : Plan) × IsPlanOf words plan × IsOutcome inputs plan text status)
+    ⊎ ((fault : RunFault) × IsWordsFault fault × (text ≡ fault_line fault) × (status ≡ fault_status fault))
 
 -- The status after an output was sent; 3 if the sink failed.
 abbrev pub status_after : {A E : Type 0} → Result A E → ℕ → ℕ

@@ -6,6 +6,10 @@ use Rattle.ima_list.specs.ListEntry.{ListEntry}
 use Rattle.ima_list.specs.Spelling.{IsReading}
 use Rattle.ima_list.specs.Replaying.{AreGenuine, IsReplayed}
 use Rattle.boot_verdict.specs.RegisterTexts.{registers_text}
+use Rattle.json_texts.specs.JsonValues.{line_of}
+use Rattle.json_texts.specs.RegisterJson.{registers_json}
+use Rattle.ima_agent.specs.declared.output.Form.{Form}
+use Rattle.ima_agent.specs.declared.output.Form.TheVariants as forms
 use Rattle.boot_verdict.specs.Replays.{IsListStart}
 use Rattle.boot_verdict.specs.Verdicts.{IsForged}
 use Rattle.ima_agent.specs.declared.fault.RunFault.{RunFault}
@@ -14,8 +18,13 @@ use Rattle.ima_agent.specs.Loading.{Inputs, Holds, IsReadFailure, IsTooLong}
 use Rattle.ima_agent.specs.Showing.{IsNoList}
 use Rattle.ima_agent.specs.Verifying.{HoldsSoundBytesAndMore}
 
+-- The registers that differ between these banks, in this form.
+abbrev pub registers_in : Form → Banks → Banks → List ℕ
+registers_in forms.Text now start = registers_text now start
+registers_in forms.Json now start = line_of (registers_json now start)
+
 -- The bytes are a list of genuine entries, and what is shown are the registers that differ from their reset values after them.
-pub record ShowsReplay (list shown : List ℕ) : Type 0 where
+pub record ShowsReplay (form : Form) (list shown : List ℕ) : Type 0 where
   pub entries : List ListEntry
   pub start : Banks
   pub now : Banks
@@ -23,7 +32,7 @@ pub record ShowsReplay (list shown : List ℕ) : Type 0 where
   pub genuine : AreGenuine entries
   pub reset : IsListStart start
   pub replayed : IsReplayed start entries now
-  pub text_is : shown ≡ registers_text now start
+  pub text_is : shown ≡ registers_in form now start
 
 -- An entry of the list is not genuine, and the fault is that of the first.
 pub record IsForgedFor (list : List ℕ) (fault : RunFault) : Type 0 where

@@ -25,15 +25,19 @@ use Rattle.ima_agent.specs.declared.showing.Fitted.{Fitted}
 use Rattle.ima_agent.specs.declared.showing.Fitted.TheVariants.{Longer, Text}
 use Rattle.ima_agent.specs.Hexadecimal.{without_white_space}
 
--- The bytes are a firmware event log, and what is shown are the registers that differ from their reset values after its events.
-pub record ShowsRegistersAfter (log shown : List ℕ) : Type 0 where
+-- The bytes are a firmware event log, and these are the registers before its events, at their reset values, and after them.
+pub record AreRegistersAfter (log : List ℕ) (start now : Banks) : Type 0 where
   pub table : List Row
   pub events : List LogEvent
-  pub start : Banks
-  pub now : Banks
   pub log_is : IsLog log table events
   pub reset : IsReset (algs_in table) (startup_locality events) start
   pub firmware : IsFirmware (algs_in table) events now
+
+-- The bytes are a firmware event log, and what is shown are the registers that differ from their reset values after its events.
+pub record ShowsRegistersAfter (log shown : List ℕ) : Type 0 where
+  pub start : Banks
+  pub now : Banks
+  pub registers : AreRegistersAfter log start now
   pub text_is : shown ≡ registers_text now start
 
 -- The bytes are no log, and the fault is their first.

@@ -4,34 +4,36 @@ ghost use Rattle.std.specs.Prelude.{◌≡◌, ◌⊎◌, List, ℕ, Option, Som
 ghost use Rattle.std.specs.List.{list_any};
 ghost use Rattle.boot_verdict.specs.RegisterRanges.{is_within};
 ghost use Rattle.boot_verdict.specs.WrittenTexts.{expected_text};
-ghost use Rattle.ima_agent.specs.Expecting.{IsNotExpectedOn, IsNotPrintedFor, IsRangeFault, IsRequested, ShowsExpected, range_text};
-ghost use Rattle.ima_agent.specs.Loading.{IsInputFault};
-ghost use Rattle.ima_agent.specs.Program.{OfInput};
+ghost use Rattle.ima_agent.specs.Expecting.{IsNotExpectedOn, IsNotPrintedFor, IsRangeFault, IsRequested, ShowsExpected, ShowsExpectedIn, expected_in, range_text};
+ghost use Rattle.ima_agent.specs.Loading.{IsInputFault, OfInput};
 
 use crate::fault::RunFault;
 use crate::files::Files;
 use crate::inputs::loaded;
+use crate::output::Form;
 use boot_verdict::{ExpectFault, Expected, RegisterRange, read_printed, write_expected};
 use byte_streams::{Failed, VecSink};
+use json_texts::append_expected;
 use std::alloc::{AllocError, Global};
 
-/// The lines of the registers that the text in the file of this name states within the range that `registers` spells, or of all
+/// The registers, in this form, that the text in the file of this name states within the range that `registers` spells, or of all
 /// without one.
 pub(crate) fn expected_from<F: Files>(
     alloc: Global,
     files: &mut F,
     printed: &str,
     registers: Option<&str>,
+    form: Form,
 ) -> Result<Vec<u8>, RunFault>
     ensures shown { IfOk result (λ shown. OfInput (F.told files.old) (Some printed.now)
-        (λ text. ShowsExpected (option_map (λ text. text.now) registers.entry) text shown.items)) }
+        (λ text. ShowsExpectedIn form (option_map (λ text. text.now) registers.entry) text shown.items)) }
     ensures fault { IfErr result (λ fault. IsRangeFault (option_map (λ text. text.now) registers.entry) fault
         ⊎ IsInputFault (F.told files.old) (Some printed.now) fault
         ⊎ OfInput (F.told files.old) (Some printed.now) (λ text. IsNotPrintedFor (option_map (λ text. text.now) registers.entry) text fault)) }
 {
     let range = range_of(registers)?;
     let text = loaded(alloc, files, Some(printed))?;
-    expected_in(alloc, &text, range)
+    expected_in(alloc, &text, range, form)
 }
 
 /// The lines of the registers that this text, which tpm2_pcrread or tpm2_checkquote printed, states within the range that `registers`
@@ -44,7 +46,7 @@ pub fn expected_on(alloc: Global, printed: &[u8], registers: &[u8]) -> Result<Ve
     ensures fault { IfErr result (IsNotExpectedOn printed.now registers.now) }
 {
     let range = range_in(registers)?;
-    expected_in(alloc, printed, range)
+    expected_in(alloc, printed, range, Form::Text)
 }
 
 // The range that the text spells; all registers if it is empty.
@@ -69,20 +71,44 @@ fn range_of(text: Option<&str>) -> Result<RegisterRange, RunFault>
     }
 }
 
-// The lines of the registers within the range that this text states.
-fn expected_in(alloc: Global, text: &[u8], range: RegisterRange) -> Result<Vec<u8>, RunFault>
-    ensures shown { IfOk result (λ shown. (registers : Option (List ℕ)) → IsRequested registers range → ShowsExpected registers text.now shown.items) }
+// The registers within the range that this text states, in this form.
+fn expected_in(
+    alloc: Global,
+    text: &[u8],
+    range: RegisterRange,
+    form: Form,
+) -> Result<Vec<u8>, RunFault>
+    ensures shown { IfOk result (λ shown. (registers : Option (List ℕ)) → IsRequested registers range → ShowsExpectedIn form registers text.now shown.items) }
     ensures fault { IfErr result (λ fault. (registers : Option (List ℕ)) → IsRequested registers range → IsNotPrintedFor registers text.now fault) }
 {
     let expected = read_printed(alloc, text)?;
     if !is_any_within(&expected, range) {
         return Err(RunFault::Expect(ExpectFault::NoRegister));
     }
-    Ok(lines_within(alloc, &expected, range)?)
+    Ok(lines_within(alloc, &expected, range, form)?)
 }
 
-// The lines of those of the registers that are within the range.
+// Those of the registers that are within the range, in this form.
 fn lines_within(
+    alloc: Global,
+    expected: &[Expected],
+    range: RegisterRange,
+    form: Form,
+) -> Result<Vec<u8>, AllocError>
+    ensures { IfOk result (λ shown. shown.items ≡ expected_in form range expected.now) }
+{
+    match form {
+        Form::Text => text_within(alloc, expected, range),
+        Form::Json => {
+            let mut line = Vec::new(alloc);
+            append_expected(alloc, expected, range, &mut line)?;
+            Ok(line)
+        }
+    }
+}
+
+// Their lines of text.
+fn text_within(
     alloc: Global,
     expected: &[Expected],
     range: RegisterRange,

@@ -6,6 +6,7 @@ ghost use Rattle.ima_agent.specs.Escaping.{is_shown};
 
 use crate::escaping::{escaped_each, shown_line, shown_lines};
 use crate::fault::RunFault;
+use crate::json_plans::plain_of;
 use crate::words::read_words;
 use command_line::{Plan, refusal_of};
 use measure_book::BookFault;
@@ -130,9 +131,10 @@ fn of_long_input(alloc: Global) -> Result<String, AllocError>
     shown_line(alloc, &format!(in alloc; "{fault}")?)
 }
 
-// What these arguments request. They were read before, so that it fails only for want of memory.
+// What these arguments request, without `--json`. They were read before, so that it fails only for want of memory.
 fn plan_of(alloc: Global, words: &[String]) -> Result<Plan, AllocError> {
     match read_words(alloc, words) {
+        Ok(Plan::Json(plan)) => Ok(plain_of(plan)),
         Ok(plan) => Ok(plan),
         Err(_) => Err(AllocError),
     }

@@ -12,6 +12,8 @@ mod files;
 mod hashing;
 mod hexadecimal;
 mod inputs;
+mod json_outputs;
+mod json_plans;
 mod list_verifying;
 mod listing;
 mod loading;
@@ -37,7 +39,7 @@ pub use boot_verdict::{
     write_events, write_expected, write_places, write_registers, write_report,
     write_required_places, write_required_report,
 };
-pub use command_line::{DataShown, NameEnd, Plan, Print, words_after_name};
+pub use command_line::{DataShown, JsonPlan, JsonPrint, NameEnd, Plan, Print, words_after_name};
 pub use escaping::escaped;
 pub use expecting::expected_on;
 pub use explaining::{Failure, explanation};

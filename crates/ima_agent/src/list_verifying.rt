@@ -103,8 +103,8 @@ pub fn required_list_report_on(
     Ok(required_output(alloc, &report, &requirement)?)
 }
 
-// The report on these files, before it is written.
-fn list_judged<F: Files>(
+/// The report on these files, before it is written.
+pub(crate) fn list_judged<F: Files>(
     alloc: Global,
     files: &mut F,
     list: &str,

@@ -93,8 +93,8 @@ pub fn required_places_on(
     Ok(required_output(alloc, &places, &requirement)?)
 }
 
-// The places of the expected registers in the files of these names, before they are written.
-fn found<F: Files>(
+/// The places of the expected registers in the files of these names, before they are written.
+pub(crate) fn found<F: Files>(
     alloc: Global,
     files: &mut F,
     log: &str,

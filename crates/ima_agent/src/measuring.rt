@@ -2,23 +2,29 @@
 
 ghost use Rattle.std.specs.Prelude.{◌≡◌, ◌<◌, ◌⊎◌, ◌^◌, length, map, string_bytes, Some, IfOk, IfErr, IfSome, IfNone};
 ghost use Rattle.measure_book.specs.Operations.{book_outcome_of};
-ghost use Rattle.ima_agent.specs.Loading.{IsInputFault};
+ghost use Rattle.ima_agent.specs.Loading.{IsInputFault, OfInput};
 ghost use Rattle.ima_agent.specs.Measuring.{AreAllDone, HasMeasured, IsFileFault, IsFileMeasure, IsFirstRefusal, IsFirstRefused, IsMeasuringFault, IsRecordingFault, ShowsMeasured, all_names, failing_in, files_in, printed};
-ghost use Rattle.ima_agent.specs.parts.Measuring.{IsAskedOf, MeasuresFiles, IsReadLog, manner_of, names_lent};
-ghost use Rattle.ima_agent.specs.Program.{IsFaultOf, IsListedFault, IsOutputFor, OfInput};
-ghost use Rattle.command_line.specs.Plans.{IsWithinRanges};
+ghost use Rattle.ima_agent.specs.parts.Measuring.{IsAskedAsJson, IsAskedOf, MeasuresAsJson, MeasuresFiles, IsReadLog, manner_of, names_lent};
+ghost use Rattle.ima_agent.specs.Program.{IsFaultOf, IsListedFault, IsOutputFor, IsPlainFaultOf};
+ghost use Rattle.ima_agent.specs.declared.measuring.Printing.TheVariants.{Text};
+ghost use Rattle.ima_agent.specs.JsonOutputs.{IsJsonOutputFor};
+ghost use Rattle.ima_agent.specs.JsonPlans.{plain_of};
+ghost use Rattle.command_line.specs.Plans.{IsWithinJsonRanges, IsWithinRanges};
 
 use crate::fault::RunFault;
 use crate::files::{Files, SharedFiles};
 use crate::inputs::loaded;
+use crate::json_outputs::entry_lines;
 use crate::listing::{lent, with_names_in};
 use crate::named_files::{NamedFiles, ProgressGate};
+use crate::output::Form;
 use crate::progress::Progress;
+use crate::replaying::registers_in;
 use crate::showing::lines;
 use boot_log::{BootLog, read_log};
 use boot_verdict::write_registers;
 use byte_streams::VecSink;
-use command_line::{NameEnd, Plan, Print};
+use command_line::{JsonPlan, JsonPrint, NameEnd, Plan, Print};
 use hash_workers::{AgentFault, Batch, JobsFault, record_jobs};
 use ima_list::Template;
 use measure_book::{Book, BookFault, Origin, Outcome};
@@ -26,6 +32,15 @@ use pcr_banks::{Alg, Banks};
 use std::alloc::{AllocError, Global};
 use std::sync::Wait;
 use std::thread::Threads;
+
+/// What is printed of a measurement, and in which form.
+#[derive(Clone, Copy, PartialEq, Eq)]
+pub enum Printing {
+    /// Without `--json`.
+    Text(Print),
+    /// With `--json`.
+    Json(JsonPrint),
+}
 
 /// What is measured, and how.
 #[derive(Clone, Copy)]
@@ -39,7 +54,7 @@ pub(crate) struct Measuring<'a> {
     /// The maximum number of records.
     pub limit: u32,
     /// What to print.
-    pub print: Print,
+    pub print: Printing,
     /// The name of the firmware event log.
     pub log: &'a str,
     /// The names of the files.
@@ -76,7 +91,44 @@ impl<'a> Measuring<'a> {
                 template: *template,
                 workers: *workers,
                 limit: *limit,
-                print: *print,
+                print: Printing::Text(*print),
+                log,
+                files,
+            },
+            _ => unreachable!(),
+        }
+    }
+
+    /// The same of a plan with `--json`.
+    pub fn of_json(plan: &'a JsonPlan) -> Self
+        requires { MeasuresAsJson plan.now }
+        ensures { IsAskedAsJson plan.now result }
+    {
+        match plan {
+            JsonPlan::Measure {
+                alg,
+                template,
+                workers,
+                limit,
+                print,
+                log,
+                files,
+            }
+            | JsonPlan::MeasureListed {
+                alg,
+                template,
+                workers,
+                limit,
+                print,
+                log,
+                files,
+                ..
+            } => Measuring {
+                alg: *alg,
+                template: *template,
+                workers: *workers,
+                limit: *limit,
+                print: Printing::Json(*print),
                 log,
                 files,
             },
@@ -101,6 +153,28 @@ pub(crate) fn measured_for<R: Threads + Wait + Sync, F: Files, P: Progress>(
     let asked = Measuring::of(plan);
     match plan {
         Plan::MeasureListed { names, ends, .. } => {
+            measured_listed(rt, alloc, files, asked, names, *ends, progress)
+        }
+        _ => measured(rt, alloc, files, asked, progress),
+    }
+}
+
+/// The same of a plan with `--json`.
+pub(crate) fn measured_as_json<R: Threads + Wait + Sync, F: Files, P: Progress>(
+    rt: &R,
+    alloc: Global,
+    files: &mut F,
+    plan: &JsonPlan,
+    progress: &P,
+) -> Result<Vec<u8>, RunFault>
+    requires measures { MeasuresAsJson plan.now }
+    requires within { IsWithinJsonRanges plan.now }
+    ensures shown { IfOk result (λ shown. IsJsonOutputFor (F.told files.old) plan.now shown.items 0) }
+    ensures fault { IfErr result (IsPlainFaultOf (F.told files.old) (plain_of plan.now)) }
+{
+    let asked = Measuring::of_json(plan);
+    match plan {
+        JsonPlan::MeasureListed { names, ends, .. } => {
             measured_listed(rt, alloc, files, asked, names, *ends, progress)
         }
         _ => measured(rt, alloc, files, asked, progress),
@@ -260,9 +334,32 @@ fn first_refused(outcomes: &[Outcome]) -> Option<(u32, BookFault)>
     None
 }
 
-// What is printed of a book: with `Print::Registers`, the registers that differ from `reset`.
-fn printed(alloc: Global, print: Print, book: &Book, reset: &Banks) -> Result<Vec<u8>, AllocError>
+// What is printed of a book: of its registers those that differ from `reset`.
+fn printed(
+    alloc: Global,
+    print: Printing,
+    book: &Book,
+    reset: &Banks,
+) -> Result<Vec<u8>, AllocError>
     ensures { IfOk result (λ text. text.items ≡ printed print reset.now book.now) }
+{
+    match print {
+        Printing::Text(print) => text_printed(alloc, print, book, reset),
+        Printing::Json(JsonPrint::Entries) => entry_lines(alloc, book.entries()),
+        Printing::Json(JsonPrint::Registers) => {
+            registers_in(alloc, Form::Json, book.banks(), reset)
+        }
+    }
+}
+
+// The same without `--json`.
+fn text_printed(
+    alloc: Global,
+    print: Print,
+    book: &Book,
+    reset: &Banks,
+) -> Result<Vec<u8>, AllocError>
+    ensures { IfOk result (λ text. text.items ≡ printed (Text print) reset.now book.now) }
 {
     let mut text = VecSink::new(Vec::new(alloc));
     match print {

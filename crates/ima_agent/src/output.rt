@@ -5,6 +5,15 @@ ghost use Rattle.byte_streams.specs.Memory.{vec_sink_bytes};
 
 use byte_streams::VecSink;
 
+/// In which form a result is shown.
+#[derive(Clone, Copy, PartialEq, Eq)]
+pub enum Form {
+    /// As lines of text.
+    Text,
+    /// As a line of JSON.
+    Json,
+}
+
 /// A whole output, before its first byte is written.
 #[derive(Drop)]
 pub struct Output {
@@ -27,8 +36,16 @@ impl Output {
         ensures text { result.text.items ≡ vec_sink_bytes text }
         ensures status { result.status ≡ (if is_well then 0 else 1) }
     {
+        Output::told(text.into_bytes(), is_well)
+    }
+
+    /// The same with this text.
+    pub(crate) fn told(text: Vec<u8>, is_well: bool) -> Self
+        ensures text { result.text ≡ text }
+        ensures status { result.status ≡ (if is_well then 0 else 1) }
+    {
         Output {
-            text: text.into_bytes(),
+            text,
             status: if is_well { DONE } else { DIFFERS },
         }
     }

@@ -1,30 +1,33 @@
 //! Runs the program.
 
-ghost use Rattle.std.specs.Prelude.{◌≡◌, IfOk, IfErr, MatchResult};
+ghost use Rattle.std.specs.Prelude.{◌≡◌, true, IfOk, IfErr, MatchResult};
 ghost use Rattle.std.specs.Process.{exit_status};
 ghost use Rattle.ima_agent.specs.FaultTexts.{fault_line, fault_status};
+ghost use Rattle.ima_agent.specs.JsonFaults.{IsFailure, IsFaultAsJson, ToldAsJson};
+ghost use Rattle.command_line.specs.Commands.{is_json};
 ghost use Rattle.command_line.specs.declared.plan.Plan.TheVariants.{Help};
 ghost use Rattle.command_line.specs.Plans.{IsWithinRanges};
-ghost use Rattle.ima_agent.specs.Program.{Answers, IsFaultFor, IsFaultOf, IsOutput, IsOutputFor, IsOutputOf, ShowsFor, status_after};
+ghost use Rattle.ima_agent.specs.Program.{Answers, IsFaultOf, IsOutcome, IsOutput, IsOutputFor, IsOutputOf, status_after};
 ghost use Rattle.ima_agent.specs.parts.Program.{ShowsInputs, ShowsText};
 
 use crate::expecting::expected_from;
 use crate::explaining::Failure;
 use crate::fault::RunFault;
 use crate::files::Files;
+use crate::json_outputs::json_for;
 use crate::list_verifying::list_verified;
 use crate::locating::{located, located_with};
 use crate::measuring::measured_for;
-use crate::output::{FAILED, Output};
+use crate::output::{FAILED, Form, Output};
 use crate::progress::{NoProgress, Progress};
 use crate::replaying::replayed;
 use crate::showing::{registers_after, shown_events, shown_list, shown_registers};
-use crate::texts::{status_of, write_fault};
+use crate::texts::{json_fault_line, json_memory_line, status_of, write_fault};
 use crate::verifying::{verified, verified_with};
 use crate::words::read_words;
 use byte_streams::{Failed, Sink, send};
 use command_line::Plan;
-use std::alloc::Global;
+use std::alloc::{AllocError, Global};
 use std::io;
 use std::process::ExitCode;
 use std::sync::Wait;
@@ -96,24 +99,54 @@ pub fn run_with_progress<R: Threads + Wait + Sync, F: Files, S: Sink, P: Progres
 ) -> u8
     ensures { Answers (IsOutput (F.told files.old) words.now) result (S.state sink.old) (S.state sink.new) }
 {
-    match output_of(rt, alloc, words, files, progress) {
+    match read_words(alloc, words) {
+        Ok(plan) => run_plan(rt, alloc, plan, words, files, sink, progress),
+        Err(fault) => {
+            let status = failed(&fault, sink);
+            explain_fault(alloc, &fault, words, progress);
+            status
+        }
+    }
+}
+
+// Does what this plan, that of the arguments, requests, and returns the exit status.
+fn run_plan<R: Threads + Wait + Sync, F: Files, S: Sink, P: Progress>(
+    rt: &R,
+    alloc: Global,
+    plan: Plan,
+    words: &[String],
+    files: &mut F,
+    sink: &mut S,
+    progress: &P,
+) -> u8
+    requires within { IsWithinRanges plan }
+    ensures { Answers (IsOutcome (F.told files.old) plan) result (S.state sink.old) (S.state sink.new) }
+{
+    let json = is_json(&plan);
+    match output_for(rt, alloc, plan, files, progress) {
         Ok(output) => {
             let sent = send(&output.text, sink);
             explain_unsent(alloc, &sent, progress);
             status_after(sent, output.status)
         }
         Err(fault) => {
-            let status = failed(&fault, sink);
-            progress.explain(
-                alloc,
-                Failure::Fault {
-                    fault: &fault,
-                    words,
-                },
-            );
+            let status = failed_as(alloc, json, &fault, sink);
+            explain_fault(alloc, &fault, words, progress);
             status
         }
     }
+}
+
+// Whether the plan has its result printed as JSON.
+fn is_json(plan: &Plan) -> bool
+    ensures { result ≡ is_json plan.now }
+{
+    matches!(plan, Plan::Json(_))
+}
+
+// Tells why the run with these arguments failed.
+fn explain_fault<P: Progress>(alloc: Global, fault: &RunFault, words: &[String], progress: &P) {
+    progress.explain(alloc, Failure::Fault { fault, words });
 }
 
 // Tells that the output was not written, if it was not.
@@ -130,6 +163,36 @@ fn failed<S: Sink>(fault: &RunFault, sink: &mut S) -> u8
     status_after(write_fault(fault, sink), status_of(fault))
 }
 
+// The same of a fault of a plan, which may be with `--json`.
+fn failed_as<S: Sink>(alloc: Global, json: bool, fault: &RunFault, sink: &mut S) -> u8
+    ensures { Answers (IsFailure json fault.now) result (S.state sink.old) (S.state sink.new) }
+{
+    if json {
+        failed_as_json(alloc, fault, sink)
+    } else {
+        failed(fault, sink)
+    }
+}
+
+// Writes the fault as a line of JSON, or `Memory` if that ran out for the line, and returns the status of what was written, or that of a
+// sink that failed.
+fn failed_as_json<S: Sink>(alloc: Global, fault: &RunFault, sink: &mut S) -> u8
+    ensures { Answers (IsFailure true fault.now) result (S.state sink.old) (S.state sink.new) }
+{
+    match json_fault_line(alloc, fault) {
+        Ok(line) => sent_as_json(&line, fault, sink),
+        Err(AllocError) => sent_as_json(json_memory_line(), &RunFault::Memory, sink),
+    }
+}
+
+// Writes the fault's line of JSON, and returns its status, or that of a sink that failed.
+fn sent_as_json<S: Sink>(line: &[u8], fault: &RunFault, sink: &mut S) -> u8
+    requires { IsFaultAsJson fault.now line.now }
+    ensures { Answers (ToldAsJson fault.now) result (S.state sink.old) (S.state sink.new) }
+{
+    status_after(send(line, sink), status_of(fault))
+}
+
 // The exit status after an output was sent with this result.
 fn status_after(sent: Result<(), Failed>, status: u8) -> u8
     ensures { result ≡ status_after sent status }
@@ -138,21 +201,6 @@ fn status_after(sent: Result<(), Failed>, status: u8) -> u8
         Ok(()) => status,
         Err(Failed) => FAILED,
     }
-}
-
-// The whole output for these arguments.
-fn output_of<R: Threads + Wait + Sync, F: Files, P: Progress>(
-    rt: &R,
-    alloc: Global,
-    words: &[String],
-    files: &mut F,
-    progress: &P,
-) -> Result<Output, RunFault>
-    ensures shown { IfOk result (λ output. ShowsFor (F.told files.old) words.now output.text.items output.status) }
-    ensures fault { IfErr result (IsFaultFor (F.told files.old) words.now) }
-{
-    let plan = read_words(alloc, words)?;
-    output_for(rt, alloc, plan, files, progress)
 }
 
 // The whole output for this plan.
@@ -224,6 +272,7 @@ fn shown_for<R: Threads + Wait + Sync, F: Files, P: Progress>(
             expected,
             required,
         } => list_verified(alloc, files, list, expected, required.as_deref()),
+        Plan::Json(plan) => json_for(rt, alloc, plan, files, progress),
         _ => Ok(Output::done(text_for(rt, alloc, plan, files, progress)?)),
     }
 }
@@ -247,11 +296,11 @@ fn text_for<R: Threads + Wait + Sync, F: Files, P: Progress>(
             measured_for(rt, alloc, files, plan, progress)
         }
         Plan::Expected { printed, registers } => {
-            expected_from(alloc, files, printed, registers.as_deref())
+            expected_from(alloc, files, printed, registers.as_deref(), Form::Text)
         }
         Plan::RegistersAfter { log } => registers_after(alloc, files, log),
         Plan::Events { log, data } => shown_events(alloc, files, log, *data),
-        Plan::Replay { list } => replayed(alloc, files, list),
+        Plan::Replay { list } => replayed(alloc, files, list, Form::Text),
         Plan::Show { list } => shown_list(alloc, files, list),
         _ => unreachable!(),
     }

@@ -2,9 +2,8 @@
 
 ghost use Rattle.std.specs.Prelude.{◌≡◌, ◌⊎◌, ◌++◌, List, ℕ, flat_map, None, Some, IfOk, IfErr, OnOk};
 ghost use Rattle.ima_list.specs.Lines.{line_of};
-ghost use Rattle.ima_agent.specs.Loading.{IsInputFault};
-ghost use Rattle.ima_agent.specs.Program.{OfInput};
-ghost use Rattle.ima_agent.specs.Showing.{IsFitted, IsNoListFor, IsNoLogFor, IsRefusedFor, ShowsEvents, ShowsList, ShowsRegisters, ShowsRegistersAfter, data_of};
+ghost use Rattle.ima_agent.specs.Loading.{IsInputFault, OfInput};
+ghost use Rattle.ima_agent.specs.Showing.{AreRegistersAfter, IsFitted, IsNoListFor, IsNoLogFor, IsRefusedFor, ShowsEvents, ShowsList, ShowsRegisters, ShowsRegistersAfter, data_of};
 ghost use Rattle.ima_agent.specs.parts.Showing.{IsKept};
 
 use crate::fault::RunFault;
@@ -17,6 +16,7 @@ use byte_streams::{Failed, VecSink};
 use command_line::DataShown;
 use ima_list::laws::entries_to_the_end_are_the_reading;
 use ima_list::{Entry, EntryRef};
+use pcr_banks::Banks;
 use std::alloc::{AllocError, Global};
 
 /// The lines of the registers that differ from their reset values after the log in hexadecimal on standard input.
@@ -89,12 +89,33 @@ pub fn registers_on(alloc: Global, log: &[u8]) -> Result<Vec<u8>, RunFault>
     ensures shown { IfOk result (λ shown. ShowsRegistersAfter log.now shown.items) }
     ensures fault { IfErr result (IsNoLogFor log.now) }
 {
-    let log = read_log(alloc, log)?;
+    let registers = registers_of(alloc, log)?;
     let mut shown = VecSink::new(Vec::new(alloc));
-    match write_registers(&log.registers(), &log.reset_registers(), &mut shown) {
+    match write_registers(&registers.now, &registers.start, &mut shown) {
         Ok(()) => Ok(shown.into_bytes()),
         Err(Failed) => Err(RunFault::Memory),
     }
+}
+
+/// The registers of a log.
+#[derive(Clone, Copy)]
+pub(crate) struct LogRegisters {
+    /// Before its events, at their reset values.
+    pub start: Banks,
+    /// After its events.
+    pub now: Banks,
+}
+
+/// The registers of this log, before they are shown.
+pub(crate) fn registers_of(alloc: Global, log: &[u8]) -> Result<LogRegisters, RunFault>
+    ensures registers { IfOk result (λ registers. AreRegistersAfter log.now registers.start registers.now) }
+    ensures fault { IfErr result (IsNoLogFor log.now) }
+{
+    let log = read_log(alloc, log)?;
+    Ok(LogRegisters {
+        start: log.reset_registers(),
+        now: log.registers(),
+    })
 }
 
 /// The lines of the entries of the list in the file of this name.

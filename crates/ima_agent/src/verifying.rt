@@ -95,8 +95,8 @@ pub fn required_report_on(
     Ok(required_output(alloc, &report, &requirement)?)
 }
 
-// The report on the files of these names, before it is written.
-fn judged<F: Files>(
+/// The report on the files of these names, before it is written.
+pub(crate) fn judged<F: Files>(
     alloc: Global,
     files: &mut F,
     log: &str,

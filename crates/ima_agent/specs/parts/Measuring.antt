@@ -10,7 +10,10 @@ use Rattle.hash_workers.specs.declared.fault.JobFault.{JobFault}
 use Rattle.hash_workers.specs.declared.fault.JobFault.TheVariants as faults
 use Rattle.command_line.specs.declared.plan.Plan.{Plan}
 use Rattle.command_line.specs.declared.plan.Plan.TheVariants as plans
-use Rattle.command_line.specs.declared.plan.Print.{Print}
+use Rattle.command_line.specs.declared.json_plan.JsonPlan.{JsonPlan}
+use Rattle.command_line.specs.declared.json_plan.JsonPlan.TheVariants as jsons
+use Rattle.ima_agent.specs.declared.measuring.Printing.{Printing}
+use Rattle.ima_agent.specs.declared.measuring.Printing.TheVariants as printings
 use Rattle.ima_agent.specs.declared.fault.RunFault.{RunFault}
 use Rattle.ima_agent.specs.declared.measuring.Measuring.{Measuring}
 use Rattle.ima_agent.specs.declared.fault.RunFault.TheVariants as runs
@@ -60,10 +63,11 @@ MeasuresFiles (plans.Events log requested) = ⊥
 MeasuresFiles (plans.Show list) = ⊥
 MeasuresFiles (plans.Replay list) = ⊥
 MeasuresFiles (plans.ReplayExpected list expected required) = ⊥
+MeasuresFiles (plans.Json plan) = ⊥
 MeasuresFiles (plans.Help text) = ⊥
 
 -- These are the parts of a plan that measures files.
-abbrev pub HasParts : Measuring → Manner → Print → List ℕ → List (String Global) → Type 0
+abbrev pub HasParts : Measuring → Manner → Printing → List ℕ → List (String Global) → Type 0
 HasParts asked manner print log files =
     (manner_of asked ≡ manner) × (asked.print ≡ print) × (asked.log.now ≡ log) × (asked.files.now ≡ files)
 
@@ -71,9 +75,9 @@ HasParts asked manner print log files =
 abbrev pub IsAskedOf : Plan → Measuring → Type 0
 IsAskedOf plans.Registers asked = ⊥
 IsAskedOf (plans.Measure alg template workers limit print log files) asked =
-    HasParts asked (record { alg = alg; template = template; workers = workers; limit = limit }) print (string_bytes log) files.items
+    HasParts asked (record { alg = alg; template = template; workers = workers; limit = limit }) (printings.Text print) (string_bytes log) files.items
 IsAskedOf (plans.MeasureListed alg template workers limit print log files names ends) asked =
-    HasParts asked (record { alg = alg; template = template; workers = workers; limit = limit }) print (string_bytes log) files.items
+    HasParts asked (record { alg = alg; template = template; workers = workers; limit = limit }) (printings.Text print) (string_bytes log) files.items
 IsAskedOf (plans.Verify log list expected) asked = ⊥
 IsAskedOf (plans.VerifyRequired log list expected required) asked = ⊥
 IsAskedOf (plans.Locate log list expected) asked = ⊥
@@ -84,4 +88,23 @@ IsAskedOf (plans.Events log requested) asked = ⊥
 IsAskedOf (plans.Show list) asked = ⊥
 IsAskedOf (plans.Replay list) asked = ⊥
 IsAskedOf (plans.ReplayExpected list expected required) asked = ⊥
+IsAskedOf (plans.Json plan) asked = ⊥
 IsAskedOf (plans.Help text) asked = ⊥
+
+-- ---- with `--json`
+
+-- The plan is to measure files.
+abbrev pub MeasuresAsJson : JsonPlan → Type 0
+MeasuresAsJson (jsons.Measure alg template workers limit print log files) = Unit {0}
+MeasuresAsJson (jsons.MeasureListed alg template workers limit print log files names ends) = Unit {0}
+MeasuresAsJson plan = ⊥
+
+-- This is what a plan that measures files asks for.
+abbrev pub IsAskedAsJson : JsonPlan → Measuring → Type 0
+IsAskedAsJson (jsons.Measure alg template workers limit print log files) asked =
+    HasParts asked (record { alg = alg; template = template; workers = workers; limit = limit }) (printings.Json print) (string_bytes log)
+    files.items
+IsAskedAsJson (jsons.MeasureListed alg template workers limit print log files names ends) asked =
+    HasParts asked (record { alg = alg; template = template; workers = workers; limit = limit }) (printings.Json print) (string_bytes log)
+    files.items
+IsAskedAsJson plan asked = ⊥

@@ -1,6 +1,6 @@
 -- Plans by what they show.
 use Rattle.command_line.specs.declared.plan.Plan.{Plan}
-use Rattle.command_line.specs.declared.plan.Plan.TheVariants.{Verify, VerifyRequired, Locate, LocateRequired, ReplayExpected, Help}
+use Rattle.command_line.specs.declared.plan.Plan.TheVariants.{Verify, VerifyRequired, Locate, LocateRequired, ReplayExpected, Json, Help}
 
 -- The plan shows something of its inputs: it is not the help.
 abbrev pub ShowsInputs : Plan → Type 0
@@ -15,4 +15,5 @@ ShowsText (VerifyRequired log list expected required) = ⊥
 ShowsText (Locate log list expected) = ⊥
 ShowsText (LocateRequired log list expected required) = ⊥
 ShowsText (ReplayExpected list expected required) = ⊥
+ShowsText (Json plan) = ⊥
 ShowsText plan = Unit {0}

@@ -6,16 +6,17 @@ use Rattle.boot_verdict.specs.declared.verifier.VerifyFault.TheVariants as verdi
 use Rattle.boot_verdict.specs.ListSources.{CameWhole}
 use Rattle.boot_verdict.specs.Replays.{IsListReplayFault}
 use Rattle.ima_agent.specs.declared.fault.RunFault.{RunFault}
+use Rattle.ima_agent.specs.declared.output.Form.{Form}
 use Rattle.ima_agent.specs.declared.fault.RunFault.TheVariants as runs
 use Rattle.ima_agent.specs.Faults.{IsFaultOfVerdict}
 use Rattle.ima_agent.specs.Loading.{HasFailed, input_limit}
 use Rattle.ima_agent.specs.Replaying.{ShowsReplay}
 
 -- What is shown are the registers of all that the source had left.
-pub record ShowsReplayFrom (old new : Option (List ℕ)) (shown : List ℕ) : Type 0 where
+pub record ShowsReplayFrom (form : Form) (old new : Option (List ℕ)) (shown : List ℕ) : Type 0 where
   pub list : List ℕ
   pub came : CameWhole old new input_limit list
-  pub replay : ShowsReplay list shown
+  pub replay : ShowsReplay form list shown
 
 -- There are no registers of what the source of this name had left, and the fault is the first cause; or memory ran out.
 abbrev pub IsNoReplayFrom : List ℕ → SourceState → SourceState → RunFault → Type 0

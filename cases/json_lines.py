@@ -1,0 +1,138 @@
+#!/usr/bin/env python3
+"""Reads back what the program shows with `--json`, by Python's own json.
+
+cases/json_lines.py [PROGRAM]: by default the program that was built in this tree.
+
+Each line must be one value of ASCII or UTF-8 that json writes in the same way, without white space, and has no byte below 32. All lines
+must be what `reference/` answers, and each must tell what the same command's text tells: of the sample, of lists of all templates whose paths
+and payloads are hostile, of damaged ones, and of a list of 12,000 entries. The last line is 'N passed, M failed', of commands."""
+
+import json
+import random
+import subprocess
+import sys
+import tempfile
+from pathlib import Path
+
+ROOT = Path(__file__).resolve().parent.parent
+sys.path.insert(0, str(ROOT))
+import reference  # noqa: E402
+from reference.measurement_list import IMA, IMA_NG, IMA_SIG, VIOLATION, Entry, entry_of, list_spelling  # noqa: E402
+from reference.registers import ALGORITHMS, SHA1, SHA256  # noqa: E402
+
+PROGRAM = ROOT / "crates/ima_agent_program/out/ima_agent_program"
+SECONDS = 60
+ENTRIES = 12_000
+HOSTILE = [
+    *(bytes([byte]) for byte in range(1, 256)),
+    b"\n\n", b'"', b"\\", b'\\"', b"\x1b[2J\x1b[31m", b"\r\n", b"/bin/x 030204", "\u2028\u202e\ufeff".encode(), "\U0001f600".encode(),
+    b"\xed\xa0\x80", b"\xc0\x80", b"\xf4\x90\x80\x80", b"\xff", b"a" * 255,
+]  # fmt: skip
+
+
+def hostile_entries():
+    """Entries of each template with each path, and payloads and names of templates that have no fields."""
+    for template in (IMA, IMA_NG, IMA_SIG):
+        for path in HOSTILE:
+            yield entry_of(template, SHA1 if template == IMA else SHA256, bytes(SHA1.size if template == IMA else SHA256.size), path)
+    for name in (*HOSTILE, b"ima-modsig", b"", IMA_NG, IMA_SIG):
+        for payload in (b"", b"\0\n\x1b", bytes(range(256))):
+            yield Entry(23, bytes(range(20)), name, payload)
+            yield Entry(0, VIOLATION, name, payload)
+
+
+def many_entries():
+    drawn = random.Random(1)
+    for number in range(ENTRIES):
+        algorithm = drawn.choice(ALGORITHMS)
+        path = drawn.randbytes(drawn.randrange(1, 40)).replace(b"\0", b"/") + b" %d" % number
+        entry = entry_of(drawn.choice((IMA_NG, IMA_SIG)), algorithm, drawn.randbytes(algorithm.size), path)
+        yield entry._replace(template_digest=drawn.choice((entry.template_digest, VIOLATION, drawn.randbytes(20))))
+
+
+def commands(folder):
+    """Words, and files that they name in the folder."""
+    sample = ROOT / "samples/real-boot"
+    for name in ("firmware.log", "ima.list", "expected.txt", "tpm2_pcrread.txt"):
+        (folder / name).write_bytes((sample / name).read_bytes())
+    (folder / "hostile").write_bytes(list_spelling(hostile_entries()))
+    (folder / "many").write_bytes(list_spelling(many_entries()))
+    (folder / "cut").write_bytes((folder / "many").read_bytes()[:-1])
+    (folder / "damaged.log").write_bytes((folder / "firmware.log").read_bytes()[:-1])
+    (folder / "few").write_text("sha256 10 " + "00" * 32 + "\nsha384 1 " + "11" * 48 + "\n")
+    evidence = ["firmware.log", "ima.list"]
+    yield from (["show", "ima.list"], ["show", "hostile"], ["show", "many"], ["show", "cut"], ["show", "firmware.log"])
+    yield from (["registers", "firmware.log"], ["events", "firmware.log"], ["events", "--data", "firmware.log"], ["events", "damaged.log"])
+    yield from (["replay", "ima.list"], ["replay", "many"], ["replay", "ima.list", "few"], ["expected", "tpm2_pcrread.txt"])
+    for command in ("verify", "locate"):
+        yield from ([command, *evidence, "expected.txt"], [command, *evidence, "few"], [command, "--require", "sha1:0-23", *evidence, "few"])
+    yield ["measure", "--workers", "1", "firmware.log", "many", "few", "ima.list"]
+    yield ["measure", "--workers", "1", "--print", "registers", "firmware.log", "many"]
+
+
+def run(program, words, folder):
+    done = subprocess.run([program, *words], cwd=folder, stdin=subprocess.DEVNULL, capture_output=True, timeout=SECONDS)
+    return done.returncode, done.stdout
+
+
+def fault_of_line(line):
+    """What is wrong with a line, or None."""
+    if any(byte < 32 for byte in line):
+        return "a byte below 32"
+    try:
+        value = json.loads(line.decode())
+    except ValueError as cause:
+        return f"not JSON: {cause}"
+    written = json.dumps(value, separators=(",", ":"), ensure_ascii=False).encode()
+    return None if written == line else f"json writes it as {written[:100]!r}"
+
+
+def is_told(words, values, text):
+    """Whether values tell what the text without `--json` does: as many entries and events, the same words of registers."""
+    rows = text.decode(errors="surrogateescape").splitlines()
+    if "fault" in values[-1]:
+        return values[-1]["fault"]["message"] == rows[0]
+    if words[0] in ("registers", "expected") or words[0] == "replay" and "registers" in values[0] and "verdict" not in values[0]:
+        return [f"{row['bank']} {row['register']} {row['value']}" for row in values[0]["registers"]] == rows
+    if words[0] == "verify" or "verdict" in values[0]:
+        told = [" ".join(str(word) for word in row.values()) for row in values[0]["registers"]]
+        return rows[-1] == f"verdict {values[0]['verdict']}" and told == rows[-1 - len(told) : -1]
+    if words[0] == "locate":
+        return (rows[-1] == "located") == values[0]["located"] and len(rows) - 1 == len(values[0]["registers"])
+    if words[0] == "events":
+        return len(rows) == len(values) and all(row.split()[0] == str(value["event"]) for row, value in zip(rows[1:], values[1:]))
+    return True
+
+
+def fault_of_command(program, words, folder):
+    as_json = [words[0], "--json", *words[1:]]
+    status, output = run(program, as_json, folder)
+    if (status, output) != reference.answer(as_json, folder):
+        return "not what the reference answers"
+    if not output.endswith(b"\n"):
+        return "no line end"
+    lines = output[:-1].split(b"\n")
+    for number, line in enumerate(lines):
+        if fault := fault_of_line(line):
+            return f"line {number}: {fault}"
+    plain_status, text = run(program, words, folder)
+    if plain_status != status:
+        return f"status {status}, and {plain_status} without --json"
+    return None if is_told(words, [json.loads(line) for line in lines], text) else "not what the text tells"
+
+
+def main():
+    program = Path(sys.argv[1] if len(sys.argv) > 1 else PROGRAM).resolve()
+    passed = failed = 0
+    with tempfile.TemporaryDirectory() as folder:
+        for words in commands(Path(folder)):
+            fault = fault_of_command(program, words, Path(folder))
+            passed, failed = (passed, failed + 1) if fault else (passed + 1, failed)
+            if fault:
+                print(f"$ ima-agent {' '.join(words)}\n    {fault}")
+    print(f"{passed} passed, {failed} failed")
+    return 1 if failed else 0
+
+
+if __name__ == "__main__":
+    sys.exit(main())

@@ -1,0 +1,233 @@
+//! The values of arguments, from clap's matches.
+
+ghost use Rattle.std.specs.Prelude.{◌≡◌, ◌<◌, ◌≤◌, ◌^◌, [], Some, codes, map, string_bytes, unwrap_or, vec_len, IfOk};
+ghost use Rattle.clap.specs.Words.{all_of, first_of, found_of, rows_of};
+ghost use Rattle.command_line.specs.Commands.{HasEvidence, HasMeasure, HasNumber, IsGivenAs, data_value, flag_value, null_value, print_name};
+ghost use Rattle.command_line.specs.parts.Plans.{AreFurtherNames};
+ghost use Rattle.pcr_banks.specs.Hashing.{name_of};
+ghost use Rattle.ima_list.specs.Templates.{template_name};
+
+use crate::command_table::MOST_WORKERS;
+use crate::fault::WordsFault;
+use crate::plan::{DataShown, NameEnd, Print};
+use clap::ArgMatches;
+use ima_list::Template;
+use pcr_banks::Alg;
+use std::alloc::{AllocError, Global};
+
+/// What `measure` takes with and without `--files-from`.
+#[derive(Drop)]
+pub(crate) struct Measurement {
+    pub(crate) alg: Alg,
+    pub(crate) template: Template,
+    pub(crate) workers: usize,
+    pub(crate) limit: u32,
+    pub(crate) print: Print,
+    pub(crate) log: String,
+    pub(crate) files: Vec<String>,
+}
+
+/// The options and names of `measure`, except `--files-from` and `--null`.
+pub(crate) fn measurement_of(alloc: Global, matches: &ArgMatches) -> Result<Measurement, WordsFault>
+    ensures values { IfOk result (λ asked. HasMeasure (rows_of (found_of matches.now)) (name_of asked.alg) (template_name asked.template) (print_name asked.print) (string_bytes asked.log) asked.workers asked.limit (map string_bytes asked.files.items)) }
+    ensures within { IfOk result (λ asked. (1 ≤ asked.workers) × (asked.workers ≤ 8) × (1 ≤ asked.limit) × (vec_len asked.files < 2 ^ 32)) }
+{
+    let alg = alg_of(matches)?;
+    let template = template_of(matches)?;
+    let workers = workers_of(matches)?;
+    let limit = limit_of(matches)?;
+    let print = print_of(matches)?;
+    let log = name_of(alloc, matches, "LOG")?;
+    let files = files_within(alloc, matches)?;
+    Ok(Measurement {
+        alg,
+        template,
+        workers,
+        limit,
+        print,
+        log,
+        files,
+    })
+}
+
+/// The name of the text of further names and what ends each there, if there is one. Refuses `--null` without `--files-from`.
+pub(crate) fn further_names_of(
+    alloc: Global,
+    matches: &ArgMatches,
+) -> Result<Option<(String, NameEnd)>, WordsFault>
+    ensures { IfOk result (AreFurtherNames (rows_of (found_of matches.now))) }
+{
+    match (
+        text_if_given(alloc, matches, "files-from")?,
+        ends_of(matches)?,
+    ) {
+        (Some(names), ends) => Ok(Some((names, ends))),
+        (None, NameEnd::LineFeed) => Ok(None),
+        (None, NameEnd::Nul) => Err(WordsFault::Usage),
+    }
+}
+
+/// What `verify` and `locate` take.
+#[derive(Drop)]
+pub(crate) struct Evidence {
+    pub(crate) log: String,
+    pub(crate) list: String,
+    pub(crate) expected: String,
+    pub(crate) required: Option<String>,
+}
+
+/// The names that `verify` and `locate` take, and the text of `--require`, if it is present.
+pub(crate) fn evidence_of(alloc: Global, matches: &ArgMatches) -> Result<Evidence, WordsFault>
+    ensures names { IfOk result (λ asked. HasEvidence (rows_of (found_of matches.now)) (string_bytes asked.log) (string_bytes asked.list) (string_bytes asked.expected)) }
+    ensures required { IfOk result (λ asked. IsGivenAs (codes "require") (rows_of (found_of matches.now)) asked.required) }
+{
+    Ok(Evidence {
+        log: name_of(alloc, matches, "LOG")?,
+        list: name_of(alloc, matches, "LIST")?,
+        expected: name_of(alloc, matches, "EXPECTED")?,
+        required: text_if_given(alloc, matches, "require")?,
+    })
+}
+
+// What `--print` with this value prints.
+fn print_named(name: &str) -> Result<Print, WordsFault>
+    ensures { IfOk result (λ print. print_name print ≡ name.now) }
+{
+    match name {
+        "ascii" => Ok(Print::Ascii),
+        "binary" => Ok(Print::Binary),
+        "registers" => Ok(Print::Registers),
+        _ => Err(WordsFault::Usage),
+    }
+}
+
+/// What ends each name in the text of `--files-from`. `clap` gives `--null` the value `true` if it is present, else `false`.
+pub(crate) fn ends_of(matches: &ArgMatches) -> Result<NameEnd, WordsFault>
+    ensures { IfOk result (λ ends. first_of (codes "null") (rows_of (found_of matches.now)) ≡ Some (null_value ends)) }
+{
+    match text_of(matches, "null")? {
+        "true" => Ok(NameEnd::Nul),
+        "false" => Ok(NameEnd::LineFeed),
+        _ => Err(WordsFault::Usage),
+    }
+}
+
+/// What is shown of the data of events. `clap` gives `--data` the value `true` if it is present, else `false`.
+pub(crate) fn data_of(matches: &ArgMatches) -> Result<DataShown, WordsFault>
+    ensures { IfOk result (λ shown. first_of (codes "data") (rows_of (found_of matches.now)) ≡ Some (data_value shown)) }
+{
+    match text_of(matches, "data")? {
+        "true" => Ok(DataShown::Bytes),
+        "false" => Ok(DataShown::Size),
+        _ => Err(WordsFault::Usage),
+    }
+}
+
+/// Whether this flag is present. `clap` then gives it the value `true`, else `false`.
+pub(crate) fn flag_of(matches: &ArgMatches, id: &str) -> Result<bool, WordsFault>
+    ensures { IfOk result (λ given. first_of id.now (rows_of (found_of matches.now)) ≡ Some (flag_value given)) }
+{
+    match text_of(matches, id)? {
+        "true" => Ok(true),
+        "false" => Ok(false),
+        _ => Err(WordsFault::Usage),
+    }
+}
+
+// The algorithm of the files' digests.
+fn alg_of(matches: &ArgMatches) -> Result<Alg, WordsFault>
+    ensures { IfOk result (λ alg. first_of (codes "alg") (rows_of (found_of matches.now)) ≡ Some (name_of alg)) }
+{
+    Alg::from_name(text_of(matches, "alg")?.as_bytes()).ok_or(WordsFault::Usage)
+}
+
+// The template of the entries.
+fn template_of(matches: &ArgMatches) -> Result<Template, WordsFault>
+    ensures { IfOk result (λ template. first_of (codes "template") (rows_of (found_of matches.now)) ≡ Some (template_name template)) }
+{
+    Template::from_name(text_of(matches, "template")?.as_bytes()).ok_or(WordsFault::Usage)
+}
+
+// What is printed.
+fn print_of(matches: &ArgMatches) -> Result<Print, WordsFault>
+    ensures { IfOk result (λ print. first_of (codes "print") (rows_of (found_of matches.now)) ≡ Some (print_name print)) }
+{
+    print_named(text_of(matches, "print")?)
+}
+
+// The number of workers, 1 to 8.
+fn workers_of(matches: &ArgMatches) -> Result<usize, WordsFault>
+    ensures { IfOk result (λ workers. HasNumber (codes "workers") (rows_of (found_of matches.now)) workers × (1 ≤ workers) × (workers ≤ 8)) }
+{
+    match matches.get_one("workers") {
+        Some(workers) if workers != 0 && workers <= MOST_WORKERS => Ok(workers),
+        _ => Err(WordsFault::Usage),
+    }
+}
+
+// The maximum number of records, at least 1.
+fn limit_of(matches: &ArgMatches) -> Result<u32, WordsFault>
+    ensures { IfOk result (λ limit. HasNumber (codes "limit") (rows_of (found_of matches.now)) limit × (1 ≤ limit)) }
+{
+    match matches.get_one("limit") {
+        Some(limit) if limit != 0 => Ok(limit),
+        _ => Err(WordsFault::Usage),
+    }
+}
+
+// The names of the files.
+fn files_of(alloc: Global, matches: &ArgMatches) -> Result<Vec<String>, AllocError>
+    ensures { IfOk result (λ names. unwrap_or (all_of (codes "FILE") (rows_of (found_of matches.now))) [] ≡ map string_bytes names.items) }
+{
+    names_of(alloc, matches.get_strs("FILE").unwrap_or(&[]))
+}
+
+// The names of the files, fewer than 2^32.
+fn files_within(alloc: Global, matches: &ArgMatches) -> Result<Vec<String>, WordsFault>
+    ensures { IfOk result (λ names. (unwrap_or (all_of (codes "FILE") (rows_of (found_of matches.now))) [] ≡ map string_bytes names.items) × (vec_len names < 2 ^ 32)) }
+{
+    let files = files_of(alloc, matches)?;
+    if files.len() > u32::MAX as usize {
+        return Err(WordsFault::Usage);
+    }
+    Ok(files)
+}
+
+/// The first value of this argument.
+pub(crate) fn text_of<'a>(matches: &ArgMatches<'a>, id: &str) -> Result<&'a str, WordsFault>
+    ensures { IfOk result (λ text. first_of id.now (rows_of (found_of matches.now)) ≡ Some text.now) }
+{
+    matches.get_str(id).ok_or(WordsFault::Usage)
+}
+
+/// A copy of the first value of this argument.
+pub(crate) fn name_of(alloc: Global, matches: &ArgMatches, id: &str) -> Result<String, WordsFault>
+    ensures { IfOk result (λ name. first_of id.now (rows_of (found_of matches.now)) ≡ Some (string_bytes name)) }
+{
+    Ok(String::from_str(alloc, text_of(matches, id)?)?)
+}
+
+/// A copy of the first value of this argument, if it is present.
+pub(crate) fn text_if_given(
+    alloc: Global,
+    matches: &ArgMatches,
+    id: &str,
+) -> Result<Option<String>, WordsFault>
+    ensures { IfOk result (λ text. IsGivenAs id.now (rows_of (found_of matches.now)) text) }
+{
+    if matches.contains_id(id) {
+        return Ok(Some(name_of(alloc, matches, id)?));
+    }
+    Ok(None)
+}
+
+// A copy of each value.
+fn names_of(alloc: Global, words: &[&str]) -> Result<Vec<String>, AllocError>
+    ensures { IfOk result (λ names. map string_bytes names.items ≡ map (λ word. word.now) words.now) }
+{
+    let mut names = Vec::new(alloc);
+    for word in words {
+        names.push(String::from_str(alloc, word)?)?;
+    }
+    Ok(names)
+}

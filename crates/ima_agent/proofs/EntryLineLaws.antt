@@ -1,0 +1,122 @@
+-- The lines of a list whose entries are read in place, with `--json`.
+use Rattle.std.proofs.Common.{◌≡◌, ℕ, ◌+◌, ◌<◌, ◌≤◌, List, [], ◌∷◌, ◌++◌, length, get_or, take, map, Some, Ok, Err, refl, sym, ap, subst, ◌∙◌, append_assoc, arith, inl, inr}
+use Rattle.std.proofs.lemmas.List.{length-append, append-nil, length-take-le, take_more}
+use Rattle.std.proofs.Math.Seq.{take-length}
+use Rattle.std.proofs.lemmas.Option.{same_Some}
+use Rattle.ima_list.specs.declared.fault.ListFault.{ListFault}
+use Rattle.ima_list.specs.declared.fault.ListFault.TheVariants as lists
+use Rattle.ima_list.specs.ListEntry.{ListEntry}
+use Rattle.ima_list.specs.ListFaults.{list_fault_entry}
+use Rattle.ima_list.specs.Spelling.{BeginsWith, IsFaultOf, IsReading}
+use Rattle.json_texts.specs.EntryJson.{entry_json}
+use Rattle.json_texts.specs.JsonValues.{line_of}
+use Rattle.ima_agent.specs.declared.fault.RunFault.TheVariants as runs
+use Rattle.ima_agent.specs.JsonFaults.{ToldAsJson}
+use Rattle.ima_agent.specs.JsonShowing.{ShowsEntries, entry_lines, numbered_lines}
+
+-- ---- items one after another
+
+pub numbered_last : {A : Type 0} (line : ℕ → A → List ℕ) (number : ℕ) (items : List A) (item : A)
+    → numbered_lines line number (items ++ item ∷ []) ≡ numbered_lines line number items ++ line (number + length items) item
+numbered_last {A} line number [] item =
+    let same : number ≡ number + length {A = A} [] = omega arith in
+    append-nil (line number item) ∙ ap (λ (n : ℕ). line n item) same
+numbered_last {A} line number (first ∷ items) item =
+    let same : (number + 1) + length items ≡ number + length (first ∷ items) = omega arith in
+    ap (λ (t : List ℕ). line number first ++ t)
+    (numbered_last line (number + 1) items item ∙ ap (λ (n : ℕ). numbered_lines line (number + 1) items ++ line n item) same)
+    ∙ sym (append_assoc (line number first) (numbered_lines line (number + 1) items) (line (number + length (first ∷ items)) item))
+
+-- One line more, whose number is `at`.
+pub numbered_more : {A : Type 0} (line : ℕ → A → List ℕ) (start now next : List ℕ) (number at : ℕ) (items : List A) (i : ℕ) (d : A)
+    → at ≡ number + i → i < length items → now ≡ start ++ numbered_lines line number (take i items)
+    → next ≡ now ++ line at (get_or items i d) → next ≡ start ++ numbered_lines line number (take (i + 1) items)
+numbered_more {A} line start now next number at items i d is lt before more =
+    let size : number + length (take i items) ≡ at = omega (arith, is, length-take-le i items (omega (arith, lt))) in
+    more ∙ ap (λ (t : List ℕ). t ++ line at (get_or items i d)) before
+    ∙ append_assoc start (numbered_lines line number (take i items)) (line at (get_or items i d))
+    ∙ ap (λ (t : List ℕ). start ++ t)
+    (ap (λ (n : ℕ). numbered_lines line number (take i items) ++ line n (get_or items i d)) (sym size)
+    ∙ sym (numbered_last line number (take i items) (get_or items i d))
+    ∙ ap (numbered_lines line number) (sym (take_more items i d lt)))
+
+-- All lines.
+pub numbered_all : {A : Type 0} (line : ℕ → A → List ℕ) (start now : List ℕ) (number : ℕ) (items : List A) (i : ℕ) → i ≡ length items
+    → now ≡ start ++ numbered_lines line number (take i items) → now ≡ start ++ numbered_lines line number items
+numbered_all {A} line start now number items i all before =
+    before ∙ ap (λ (n : ℕ). start ++ numbered_lines line number (take n items)) all
+    ∙ ap (λ (xs : List A). start ++ numbered_lines line number xs) (take-length items)
+
+-- The lines of what items are.
+pub numbered_of : {A B : Type 0} (line : ℕ → B → List ℕ) (of : A → B) (number : ℕ) (items : List A)
+    → numbered_lines (λ n item. line n (of item)) number items ≡ numbered_lines line number (map of items)
+numbered_of line of number [] = refl
+numbered_of line of number (first ∷ items) = ap (λ (t : List ℕ). line number (of first) ++ t) (numbered_of line of (number + 1) items)
+
+-- ---- a list that is read in place
+
+-- The text has the lines of the entries so far, and `rest` is left of the list.
+pub record HasLines (list text rest : List ℕ) (number : ℕ) : Type 0 where
+  pub entries : List ListEntry
+  pub begins : BeginsWith list entries rest
+  pub text_is : text ≡ entry_lines entries
+  pub count : number ≡ length entries
+  pub few : number + length rest ≤ length list
+
+pub lines_none : (list : List ℕ) → HasLines list [] list 0
+lines_none list = record { entries = []; begins = record { are = tt; parts = refl }; text_is = refl; count = refl; few = omega arith }
+
+pub lines_more : (list text rest more after : List ℕ) (number : ℕ) (entry : ListEntry) → HasLines list text rest number
+    → ((list : List ℕ) (before : List ListEntry) → BeginsWith list before rest → BeginsWith list (before ++ entry ∷ []) after)
+    → more ≡ text ++ line_of (entry_json number entry) → length after < length rest → HasLines list more after (number + 1)
+lines_more list text rest more after number entry lines read line shorter =
+    let same : number ≡ 0 + length lines.entries = omega (arith, lines.count) in
+    record {
+      entries = lines.entries ++ entry ∷ [];
+      begins = read list lines.entries lines.begins;
+      text_is =
+          line ∙ ap (λ (t : List ℕ). t ++ line_of (entry_json number entry)) lines.text_is
+          ∙ ap (λ (n : ℕ). entry_lines lines.entries ++ line_of (entry_json n entry)) same
+          ∙ sym (numbered_last (λ number entry. line_of (entry_json number entry)) 0 lines.entries entry);
+      count = omega (arith, lines.count, length-append lines.entries (entry ∷ []));
+      few = omega (arith, lines.few, shorter);
+    }
+
+pub all_lines : (list text rest : List ℕ) (number : ℕ) → HasLines list text rest number → rest ≡ []
+    → ((bytes : List ℕ) (entries : List ListEntry) → BeginsWith bytes entries [] → IsReading bytes (Ok entries)) → ShowsEntries list text 0
+all_lines list text rest number lines none law = inl (record {
+  entries = lines.entries;
+  reading = law list lines.entries (subst (BeginsWith list lines.entries) none lines.begins);
+  text_is = lines.text_is;
+  status_is = refl;
+})
+
+-- A fault that names an entry is after as many entries.
+fault_count : (rest : List ℕ) (count number : ℕ) (fault : ListFault) → IsFaultOf rest count fault
+    → list_fault_entry fault ≡ Some number → number ≡ count
+fault_count rest count number (lists.Truncated entry) is names = sym (same_Some entry number names) ∙ is.0
+fault_count rest count number (lists.BadRegister entry) is names = sym (same_Some entry number names) ∙ is.0
+fault_count rest count number (lists.NameTooLong entry) is names = sym (same_Some entry number names) ∙ is.0
+fault_count rest count number lists.Memory is names = absurd is
+
+pub lines_to_fault : (list text rest last shown : List ℕ) (number status : ℕ) (fault : ListFault) → HasLines list text rest number
+    → 0 < length rest
+    → ((list : List ℕ) (before : List ListEntry) → BeginsWith list before rest → length before ≡ number → 0 < length rest
+    → IsReading list (Err fault))
+    → list_fault_entry fault ≡ Some number → ToldAsJson (runs.List fault) last status → shown ≡ text ++ last → ShowsEntries list shown status
+lines_to_fault list text rest last shown number status fault lines some read names told text_is =
+    let failed = read list lines.entries lines.begins (sym lines.count) some in
+    let count = fault_count failed.rest (length failed.entries) number fault failed.fault_is names in
+    inr (record {
+      entries = lines.entries;
+      rest = rest;
+      fault = fault;
+      last = last;
+      longest = record {
+        begins = lines.begins;
+        longest = λ others left begins. omega (arith, count, lines.count, failed.longest.longest others left begins);
+      };
+      reading = failed;
+      told = told;
+      text_is = text_is ∙ ap (λ (t : List ℕ). t ++ last) lines.text_is;
+    })

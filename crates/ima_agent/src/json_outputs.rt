@@ -1,0 +1,91 @@
+//! What the commands show with `--json`.
+
+ghost use Rattle.std.specs.Prelude.{IfOk, IfErr};
+ghost use Rattle.command_line.specs.Plans.{IsWithinJsonRanges};
+ghost use Rattle.ima_agent.specs.JsonOutputs.{IsJsonOutputFor};
+ghost use Rattle.ima_agent.specs.Program.{IsJsonFaultOf};
+ghost use Rattle.ima_agent.specs.parts.JsonOutputs.{ShowsLines};
+
+mod entries;
+mod events;
+mod judging;
+mod registers;
+
+use crate::expecting::expected_from;
+use crate::fault::RunFault;
+use crate::files::Files;
+use crate::measuring::measured_as_json;
+use crate::output::{Form, Output};
+use crate::progress::Progress;
+use crate::replaying::replayed;
+use command_line::JsonPlan;
+pub(crate) use entries::entry_lines;
+use entries::shown_entries;
+use events::shown_events;
+use judging::{list_report, places, report};
+use registers::log_registers;
+use std::alloc::Global;
+use std::sync::Wait;
+use std::thread::Threads;
+
+/// The whole output for this plan.
+pub(crate) fn json_for<R: Threads + Wait + Sync, F: Files, P: Progress>(
+    rt: &R,
+    alloc: Global,
+    plan: &JsonPlan,
+    files: &mut F,
+    progress: &P,
+) -> Result<Output, RunFault>
+    requires within { IsWithinJsonRanges plan.now }
+    ensures shown { IfOk result (λ output. IsJsonOutputFor (F.told files.old) plan.now output.text.items output.status) }
+    ensures fault { IfErr result (IsJsonFaultOf (F.told files.old) plan.now) }
+{
+    match plan {
+        JsonPlan::Verify {
+            log,
+            list,
+            expected,
+            required,
+        } => report(alloc, files, log, list, expected, required.as_deref()),
+        JsonPlan::Locate {
+            log,
+            list,
+            expected,
+            required,
+        } => places(alloc, files, log, list, expected, required.as_deref()),
+        JsonPlan::ReplayExpected {
+            list,
+            expected,
+            required,
+        } => list_report(alloc, files, list, expected, required.as_deref()),
+        JsonPlan::Show { list } => shown_entries(alloc, files, list),
+        _ => Ok(Output::done(lines_for(rt, alloc, plan, files, progress)?)),
+    }
+}
+
+// The lines that this plan shows, with status 0.
+fn lines_for<R: Threads + Wait + Sync, F: Files, P: Progress>(
+    rt: &R,
+    alloc: Global,
+    plan: &JsonPlan,
+    files: &mut F,
+    progress: &P,
+) -> Result<Vec<u8>, RunFault>
+    requires lines { ShowsLines plan.now }
+    requires within { IsWithinJsonRanges plan.now }
+    ensures shown { IfOk result (λ shown. IsJsonOutputFor (F.told files.old) plan.now shown.items 0) }
+    ensures fault { IfErr result (IsJsonFaultOf (F.told files.old) plan.now) }
+{
+    match plan {
+        JsonPlan::Measure { .. } | JsonPlan::MeasureListed { .. } => {
+            measured_as_json(rt, alloc, files, plan, progress)
+        }
+        JsonPlan::Expected { printed, registers } => {
+            expected_from(alloc, files, printed, registers.as_deref(), Form::Json)
+        }
+        JsonPlan::RegistersAfter { log } => log_registers(alloc, files, log),
+        JsonPlan::Events { log } => shown_events(alloc, files, log),
+        JsonPlan::Replay { list } => replayed(alloc, files, list, Form::Json),
+        _ => unreachable!(),
+    }
+}

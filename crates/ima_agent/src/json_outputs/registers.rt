@@ -1,0 +1,37 @@
+//! The registers of a log with `--json`.
+
+ghost use Rattle.std.specs.Prelude.{◌≡◌, ◌⊎◌, Some, IfOk, IfErr};
+ghost use Rattle.ima_agent.specs.JsonShowing.{ShowsJsonRegisters};
+ghost use Rattle.ima_agent.specs.Loading.{IsInputFault, OfInput};
+ghost use Rattle.ima_agent.specs.Showing.{IsNoLogFor};
+
+use crate::fault::RunFault;
+use crate::files::Files;
+use crate::inputs::loaded;
+use crate::output::Form;
+use crate::replaying::registers_in;
+use crate::showing::registers_of;
+use std::alloc::Global;
+
+/// The line of the registers that differ from their reset values after the log in the file of this name.
+pub(super) fn log_registers<F: Files>(
+    alloc: Global,
+    files: &mut F,
+    log: &str,
+) -> Result<Vec<u8>, RunFault>
+    ensures shown { IfOk result (λ shown. OfInput (F.told files.old) (Some log.now) (λ bytes. ShowsJsonRegisters bytes shown.items)) }
+    ensures fault { IfErr result (λ fault. IsInputFault (F.told files.old) (Some log.now) fault
+        ⊎ OfInput (F.told files.old) (Some log.now) (λ bytes. IsNoLogFor bytes fault)) }
+{
+    let bytes = loaded(alloc, files, Some(log))?;
+    registers_on(alloc, &bytes)
+}
+
+// The same of these bytes.
+fn registers_on(alloc: Global, log: &[u8]) -> Result<Vec<u8>, RunFault>
+    ensures shown { IfOk result (λ shown. ShowsJsonRegisters log.now shown.items) }
+    ensures fault { IfErr result (IsNoLogFor log.now) }
+{
+    let registers = registers_of(alloc, log)?;
+    Ok(registers_in(alloc, Form::Json, &registers.now, &registers.start)?)
+}

@@ -1,0 +1,115 @@
+//! Plans with `--json`, and the same without it.
+
+ghost use Rattle.std.specs.Prelude.{◌≡◌};
+ghost use Rattle.ima_agent.specs.JsonPlans.{plain_of, plain_print};
+
+use command_line::{DataShown, JsonPlan, JsonPrint, Plan, Print};
+
+/// The plan that requests the same without `--json`.
+pub(crate) fn plain_of(plan: JsonPlan) -> Plan
+    ensures { result ≡ plain_of plan }
+{
+    match plan {
+        JsonPlan::Measure {
+            alg,
+            template,
+            workers,
+            limit,
+            print,
+            log,
+            files,
+        } => Plan::Measure {
+            alg,
+            template,
+            workers,
+            limit,
+            print: plain_print(print),
+            log,
+            files,
+        },
+        JsonPlan::MeasureListed {
+            alg,
+            template,
+            workers,
+            limit,
+            print,
+            log,
+            files,
+            names,
+            ends,
+        } => Plan::MeasureListed {
+            alg,
+            template,
+            workers,
+            limit,
+            print: plain_print(print),
+            log,
+            files,
+            names,
+            ends,
+        },
+        JsonPlan::Verify {
+            log,
+            list,
+            expected,
+            required,
+        } => match required {
+            None => Plan::Verify {
+                log,
+                list,
+                expected,
+            },
+            Some(required) => Plan::VerifyRequired {
+                log,
+                list,
+                expected,
+                required,
+            },
+        },
+        JsonPlan::Locate {
+            log,
+            list,
+            expected,
+            required,
+        } => match required {
+            None => Plan::Locate {
+                log,
+                list,
+                expected,
+            },
+            Some(required) => Plan::LocateRequired {
+                log,
+                list,
+                expected,
+                required,
+            },
+        },
+        JsonPlan::Expected { printed, registers } => Plan::Expected { printed, registers },
+        JsonPlan::RegistersAfter { log } => Plan::RegistersAfter { log },
+        JsonPlan::Events { log } => Plan::Events {
+            log,
+            data: DataShown::Bytes,
+        },
+        JsonPlan::Show { list } => Plan::Show { list },
+        JsonPlan::Replay { list } => Plan::Replay { list },
+        JsonPlan::ReplayExpected {
+            list,
+            expected,
+            required,
+        } => Plan::ReplayExpected {
+            list,
+            expected,
+            required,
+        },
+    }
+}
+
+// What is printed without `--json`.
+fn plain_print(print: JsonPrint) -> Print
+    ensures { result ≡ plain_print print }
+{
+    match print {
+        JsonPrint::Entries => Print::Ascii,
+        JsonPrint::Registers => Print::Registers,
+    }
+}

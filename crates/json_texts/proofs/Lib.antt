@@ -1,0 +1,5 @@
+pub mod LineLaws
+pub mod WrittenLaws
+pub mod EntryLaws
+pub mod SameEntryLaws
+pub mod ValueLaws

@@ -1,0 +1,36 @@
+-- A refusal as JSON. The members and their order are this project's choice.
+use Rattle.std.specs.Prelude.{ℕ, List, [], ◌∷◌, ◌++◌, codes, Option, Some, None}
+use Rattle.json.specs.Json.{Json}
+use Rattle.json.specs.Json as json
+use Rattle.json_texts.specs.declared.faults.FaultPlace.{FaultPlace}
+use Rattle.json_texts.specs.declared.faults.FaultPlace.TheVariants.{Event, Entry}
+use Rattle.json_texts.specs.JsonValues.{Member, number_json, object_of}
+
+abbrev pub kind_members : Option (List ℕ) → List Member
+kind_members None = []
+kind_members (Some kind) = (codes "kind", json.string kind) ∷ []
+
+abbrev pub number_members : Option ℕ → List Member
+number_members None = []
+number_members (Some number) = (codes "number", number_json number) ∷ []
+
+-- The event or the entry at which the fault is.
+abbrev pub place_members : Option FaultPlace → List Member
+place_members None = []
+place_members (Some (Event number)) = (codes "event", number_json number) ∷ []
+place_members (Some (Entry number)) = (codes "entry", number_json number) ∷ []
+
+-- The number of the event or of the entry.
+abbrev pub number_at : FaultPlace → ℕ
+number_at (Event number) = number
+number_at (Entry number) = number
+
+-- What is told of the fault.
+abbrev pub fault_members : Option (List ℕ) → Option ℕ → Option FaultPlace → List ℕ → List Member
+fault_members kind number place message =
+    kind_members kind ++ (number_members number ++ (place_members place ++ (codes "message", json.string message) ∷ []))
+
+-- A fault, in an object of its own: no other line has a member `fault`.
+abbrev pub fault_json : Option (List ℕ) → Option ℕ → Option FaultPlace → List ℕ → Json
+fault_json kind number place message =
+    object_of ((codes "fault", object_of (fault_members kind number place message)) ∷ [])

@@ -1,0 +1,9 @@
+pub mod JsonValues
+pub mod EntryJson
+pub mod FaultJson
+pub mod RegisterJson
+pub mod MissingJson
+pub mod ReportJson
+pub mod PlaceJson
+pub mod EventJson
+pub mod parts

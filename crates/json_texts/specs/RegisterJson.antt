@@ -1,0 +1,57 @@
+-- Registers as JSON. The members and their order are this project's choice.
+use Rattle.std.specs.Prelude.{ℕ, List, [], ◌∷◌, ◌++◌, codes, flat_map, if◌then◌else◌, Option, Some, None}
+use Rattle.json.specs.Json.{Json}
+use Rattle.json.specs.Json as json
+use Rattle.pcr_banks.specs.declared.alg.Alg.{Alg}
+use Rattle.pcr_banks.specs.declared.banks.Banks.{Banks}
+use Rattle.pcr_banks.specs.Hashing.{all_algs, name_of}
+use Rattle.pcr_banks.specs.Registers.{value_at}
+use Rattle.pcr_banks.specs.Digests.{bytes_of}
+use Rattle.boot_verdict.specs.declared.expected.Expected.{Expected}
+use Rattle.boot_verdict.specs.declared.register_range.RegisterRange.{RegisterRange}
+use Rattle.boot_verdict.specs.RegisterRanges.{is_within}
+use Rattle.boot_verdict.specs.RegisterTexts.{all_registers, differs}
+use Rattle.json_texts.specs.JsonValues.{Member, array_of, hex_json, number_json, object_of}
+
+-- Which register it is: the bank's algorithm by name, and the number.
+abbrev pub register_members : Alg → ℕ → List Member
+register_members alg register = (codes "bank", json.string (name_of alg)) ∷ (codes "register", number_json register) ∷ []
+
+abbrev pub register_json : Alg → ℕ → List ℕ → Json
+register_json alg register value = object_of (register_members alg register ++ (codes "value", hex_json value) ∷ [])
+
+-- The register, if its value differs from the one before, or there was none; nothing if it has no value now.
+abbrev pub change_values : Alg → ℕ → Option (List ℕ) → Option (List ℕ) → List Json
+change_values alg register before None = []
+change_values alg register before (Some value) = if differs before value then register_json alg register value ∷ [] else []
+
+-- The register of a bank, if it differs from the start.
+abbrev pub changed_register : Banks → Banks → Alg → ℕ → List Json
+changed_register now start alg register = change_values alg register (value_at start alg register) (value_at now alg register)
+
+-- Those of a bank, by ascending register.
+abbrev pub changed_in : Banks → Banks → Alg → List Json
+changed_in now start alg = flat_map (changed_register now start alg) all_registers
+
+-- Those of all banks, in the order of algorithms: the ones of which `registers_text` has a line.
+abbrev pub changed_registers : Banks → Banks → List Json
+changed_registers now start = flat_map (changed_in now start) all_algs
+
+abbrev pub registers_json : Banks → Banks → Json
+registers_json now start = object_of ((codes "registers", array_of (changed_registers now start)) ∷ [])
+
+-- ---- expected registers
+
+-- An expected register within the range; nothing if it is not within it.
+abbrev pub value_within : RegisterRange → Expected → List Json
+value_within range expected =
+    if is_within range expected.register
+    then register_json expected.alg expected.register (bytes_of expected.value) ∷ []
+    else []
+
+-- Those within the range, in order: the ones of which `expected_text` has a line.
+abbrev pub values_within : RegisterRange → List Expected → List Json
+values_within range expected = flat_map (value_within range) expected
+
+abbrev pub expected_json : RegisterRange → List Expected → Json
+expected_json range expected = object_of ((codes "registers", array_of (values_within range expected)) ∷ [])

@@ -1,0 +1,63 @@
+-- Reports as JSON, with the words of their texts. The members and their order are this project's choice.
+use Rattle.std.specs.Prelude.{ℕ, Bool, true, false, List, [], ◌∷◌, ◌++◌, codes, map, Option, Some, None}
+use Rattle.json.specs.Json.{Json}
+use Rattle.json.specs.Json as json
+use Rattle.pcr_banks.specs.Digests.{bytes_of}
+use Rattle.boot_verdict.specs.declared.report.Row.{Row}
+use Rattle.boot_verdict.specs.declared.report.State.{State}
+use Rattle.boot_verdict.specs.declared.report.State.TheVariants.{Match, Differ, Absent}
+use Rattle.boot_verdict.specs.declared.requirement.BankRange.{BankRange}
+use Rattle.boot_verdict.specs.ListVerdicts.{ListVerdict, list_matches, required_list_matches}
+use Rattle.boot_verdict.specs.ReportTexts.{aggregate_word}
+use Rattle.boot_verdict.specs.Requirements.{expected_of_rows, required_matches}
+use Rattle.boot_verdict.specs.Verdicts.{Verdict, matches}
+use Rattle.json_texts.specs.JsonValues.{Member, array_of, hex_json, number_json, object_of}
+use Rattle.json_texts.specs.MissingJson.{missing_among}
+use Rattle.json_texts.specs.RegisterJson.{register_members}
+
+-- How a register compares, and its value if it is another one.
+abbrev pub state_members : State → List Member
+state_members Match = (codes "state", json.string (codes "match")) ∷ []
+state_members (Differ value) = (codes "state", json.string (codes "differ")) ∷ (codes "value", hex_json (bytes_of value)) ∷ []
+state_members Absent = (codes "state", json.string (codes "absent")) ∷ []
+
+abbrev pub row_json : Row → Json
+row_json row = object_of (register_members row.expected.alg row.expected.register ++ state_members row.state)
+
+-- The rows, and then the required registers that have none.
+abbrev pub rows_values : Option (List BankRange) → List Row → List Json
+rows_values required rows = map row_json rows ++ missing_among (codes "state") required (expected_of_rows rows)
+
+abbrev pub verdict_word : Bool → List ℕ
+verdict_word true = codes "match"
+verdict_word false = codes "differ"
+
+-- ---- a report on a log, a list and expected registers
+
+-- Whether the verdict is 'match', and no register is missing.
+abbrev pub meets : Option (List BankRange) → Verdict → Bool
+meets None verdict = matches verdict
+meets (Some ranges) verdict = required_matches ranges verdict
+
+abbrev pub report_json : Option (List BankRange) → Verdict → Json
+report_json required verdict = object_of (
+    (codes "events", number_json verdict.events)
+    ∷ (codes "locality", number_json verdict.locality)
+    ∷ (codes "entries", number_json verdict.entries)
+    ∷ (codes "boot_aggregate", json.string (aggregate_word verdict.aggregate))
+    ∷ (codes "registers", array_of (rows_values required verdict.rows))
+    ∷ (codes "verdict", json.string (verdict_word (meets required verdict)))
+    ∷ [])
+
+-- ---- a report on a list alone
+
+abbrev pub list_meets : Option (List BankRange) → ListVerdict → Bool
+list_meets None verdict = list_matches verdict
+list_meets (Some ranges) verdict = required_list_matches ranges verdict
+
+abbrev pub list_report_json : Option (List BankRange) → ListVerdict → Json
+list_report_json required verdict = object_of (
+    (codes "entries", number_json verdict.entries)
+    ∷ (codes "registers", array_of (rows_values required verdict.rows))
+    ∷ (codes "verdict", json.string (verdict_word (list_meets required verdict)))
+    ∷ [])

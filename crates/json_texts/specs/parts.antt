@@ -1,0 +1,2 @@
+pub mod WrittenParts
+pub mod KnownEntries

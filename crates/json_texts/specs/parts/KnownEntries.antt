@@ -1,0 +1,14 @@
+-- What is known of an entry that code holds.
+use Rattle.std.specs.Prelude.{◌≡◌, Some}
+use Rattle.hex.specs.Hex.{IsBytes}
+use Rattle.ima_list.specs.ListEntry.{ListEntry, IsEntry}
+use Rattle.ima_list.specs.FieldKinds.{FileFields}
+use Rattle.ima_list.specs.Fields.{HasFields, fields_of}
+
+-- Its parts are bytes, and the fields that are read from its payload are those that the payload is made of.
+pub record IsKnown (entry : ListEntry) : Type 0 where
+  pub is : IsEntry entry
+  pub digest_bytes : IsBytes entry.digest
+  pub name_bytes : IsBytes entry.name
+  pub payload_bytes : IsBytes entry.payload
+  pub has : (fields : FileFields) → fields_of entry ≡ Some fields → HasFields entry fields

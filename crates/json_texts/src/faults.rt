@@ -1,0 +1,116 @@
+//! The line of a fault.
+
+ghost use Rattle.std.specs.Prelude.{◌≡◌, [], ◌∷◌, ◌++◌, option_map, OnOk, OnErr};
+ghost use Rattle.std.specs.Str.{IsUtf8};
+ghost use Rattle.json.specs.Tree.{json_tokens};
+ghost use Rattle.json_texts.specs.JsonValues.{line_of};
+ghost use Rattle.json_texts.specs.FaultJson.{fault_json, fault_members, kind_members, number_members, place_members};
+ghost use Rattle.json_texts.specs.parts.WrittenParts.{members_written};
+
+use crate::lines::{begin_line, end_line};
+use crate::members::{write_number, write_text};
+use json::Writer;
+use std::alloc::{AllocError, Global};
+
+/// Where in its input a fault is.
+#[derive(Clone, Copy, PartialEq, Eq)]
+pub enum FaultPlace {
+    /// At this event of a log, counted from 1.
+    Event(usize),
+    /// At this entry of a list, counted from 0.
+    Entry(usize),
+}
+
+/// What a fault's line tells.
+#[derive(Clone, Copy)]
+pub struct FaultText<'a> {
+    /// The kind of the fault, where it has one: the word of the program's own line for it, such as `replay`.
+    pub kind: Option<&'a str>,
+    /// Its number among the faults of its kind, where it has one.
+    pub number: Option<u32>,
+    /// Where it is, if it names a place.
+    pub place: Option<FaultPlace>,
+    /// What is wrong, in words.
+    pub message: &'a str,
+}
+
+/// Appends the line of a fault: an object with the one member `fault`, which is an object with `kind`, `number`, `event` or `entry`, each
+/// where the fault has it, and `message`.
+///
+/// Fails only if memory runs out; the vector then is as before.
+pub fn append_fault(
+    alloc: Global,
+    fault: &FaultText<'_>,
+    line: &mut Vec<u8>,
+) -> Result<(), AllocError>
+    ensures ok { OnOk result (line.new.items ≡ line.old.items ++ line_of
+        (fault_json (option_map (λ kind. kind.now) fault.now.kind) fault.now.number fault.now.place fault.now.message.now)) }
+    ensures utf8 { OnOk result (IsUtf8 (line_of
+        (fault_json (option_map (λ kind. kind.now) fault.now.kind) fault.now.number fault.now.place fault.now.message.now))) }
+    ensures err { OnErr result (line.new.items ≡ line.old.items) }
+{
+    let start = line.len();
+    let mut writer = begin_line(alloc, line);
+    let written = write_fault(fault, &mut writer);
+    end_line(written, writer, start, line)
+}
+
+fn write_fault(fault: &FaultText<'_>, writer: &mut Writer) -> Result<(), AllocError>
+    ensures before { writer.new.before ≡ writer.old.before }
+    ensures tokens { OnOk result (writer.new.tokens ≡ writer.old.tokens ++ json_tokens
+        (fault_json (option_map (λ kind. kind.now) fault.now.kind) fault.now.number fault.now.place fault.now.message.now)) }
+{
+    writer.begin_object()?;
+    writer.key("fault")?;
+    writer.begin_object()?;
+    write_members(fault, writer)?;
+    writer.end_object()?;
+    writer.end_object()?;
+    Ok(())
+}
+
+// Writes what is told of the fault.
+fn write_members(fault: &FaultText<'_>, writer: &mut Writer) -> Result<(), AllocError>
+    ensures before { writer.new.before ≡ writer.old.before }
+    ensures tokens { OnOk result (writer.new.tokens ≡ writer.old.tokens ++ members_written
+        (fault_members (option_map (λ kind. kind.now) fault.now.kind) fault.now.number fault.now.place fault.now.message.now)) }
+{
+    write_kind(fault.kind, writer)?;
+    write_fault_number(fault.number, writer)?;
+    write_place(fault.place, writer)?;
+    write_text("message", fault.message, writer)?;
+    Ok(())
+}
+
+fn write_kind(kind: Option<&str>, writer: &mut Writer) -> Result<(), AllocError>
+    ensures before { writer.new.before ≡ writer.old.before }
+    ensures tokens { OnOk result (writer.new.tokens
+        ≡ writer.old.tokens ++ members_written (kind_members (option_map (λ kind. kind.now) kind.entry))) }
+{
+    match kind {
+        Some(kind) => write_text("kind", kind, writer),
+        None => Ok(()),
+    }
+}
+
+fn write_fault_number(number: Option<u32>, writer: &mut Writer) -> Result<(), AllocError>
+    ensures before { writer.new.before ≡ writer.old.before }
+    ensures tokens { OnOk result (writer.new.tokens ≡ writer.old.tokens ++ members_written (number_members number)) }
+{
+    match number {
+        Some(number) => write_number("number", number as u64, writer),
+        None => Ok(()),
+    }
+}
+
+// Writes the event or the entry at which the fault is.
+fn write_place(place: Option<FaultPlace>, writer: &mut Writer) -> Result<(), AllocError>
+    ensures before { writer.new.before ≡ writer.old.before }
+    ensures tokens { OnOk result (writer.new.tokens ≡ writer.old.tokens ++ members_written (place_members place)) }
+{
+    match place {
+        Some(FaultPlace::Event(number)) => write_number("event", number as u64, writer),
+        Some(FaultPlace::Entry(number)) => write_number("entry", number as u64, writer),
+        None => Ok(()),
+    }
+}

@@ -1,0 +1,81 @@
+//! Laws: consequences of the definitions, each the contract of a function that does nothing, or only reads.
+
+ghost use Rattle.std.specs.Prelude.{◌≡◌, ℕ, ◌↔◌, List, Option, IfSome, IsTrue};
+ghost use Rattle.std.specs.List.{AllByRecursion};
+ghost use Rattle.hex.specs.Hex.{IsBytes};
+ghost use Rattle.pcr_banks.specs.declared.banks.Banks.{Banks};
+ghost use Rattle.boot_log.specs.declared.header.Row.{Row as TableRow};
+ghost use Rattle.boot_log.specs.Spelling.{IsRow, LogEvent};
+ghost use Rattle.ima_list.specs.ListEntry.{IsEntry, ListEntry};
+ghost use Rattle.ima_list.specs.Digesting.{IsGenuine};
+ghost use Rattle.boot_verdict.specs.declared.expected.Expected.{Expected};
+ghost use Rattle.boot_verdict.specs.declared.register_range.RegisterRange.{RegisterRange};
+ghost use Rattle.boot_verdict.specs.declared.places.Located.{Located};
+ghost use Rattle.boot_verdict.specs.declared.requirement.BankRange.{BankRange};
+ghost use Rattle.boot_verdict.specs.ListVerdicts.{ListVerdict};
+ghost use Rattle.boot_verdict.specs.Verdicts.{Verdict};
+ghost use Rattle.json_texts.specs.declared.faults.FaultPlace.{FaultPlace};
+ghost use Rattle.json_texts.specs.JsonValues.{IsCount, IsOneLine, line_of};
+ghost use Rattle.json_texts.specs.EntryJson.{entry_json, is_genuine};
+ghost use Rattle.json_texts.specs.EventJson.{algorithms_json, event_json};
+ghost use Rattle.json_texts.specs.FaultJson.{fault_json, number_at};
+ghost use Rattle.json_texts.specs.PlaceJson.{IsCountedPlace, places_json};
+ghost use Rattle.json_texts.specs.RegisterJson.{expected_json, registers_json};
+ghost use Rattle.json_texts.specs.ReportJson.{list_report_json, report_json};
+ghost use Rattle.json_texts.specs.parts.KnownEntries.{IsKnown};
+
+use ima_list::EntryRef;
+
+/// Each value is one line: its text reads back as the value, and has no line feed. Its numbers are such as code holds (`IsCount`).
+pub fn each_value_is_one_line()
+    ensures entry { (number : ℕ) (entry : ListEntry) → IsCount number → IsEntry entry → IsOneLine (entry_json number entry) }
+    ensures event { (number : ℕ) (event : LogEvent) → IsCount number → IsCount event.register → IsCount event.kind
+        → IsOneLine (event_json number event) }
+    ensures algorithms { (rows : List TableRow) → AllByRecursion IsRow rows → IsOneLine (algorithms_json rows) }
+    ensures registers { (now start : Banks) → IsOneLine (registers_json now start) }
+    ensures expected { (range : RegisterRange) (expected : List Expected) → AllByRecursion (λ e. IsCount e.register) expected
+        → IsOneLine (expected_json range expected) }
+    ensures report { (required : Option (List BankRange)) (verdict : Verdict)
+        → IsCount verdict.events → IsCount verdict.locality → IsCount verdict.entries
+        → AllByRecursion (λ row. IsCount row.expected.register) verdict.rows → IsOneLine (report_json required verdict) }
+    ensures list_report { (required : Option (List BankRange)) (verdict : ListVerdict) → IsCount verdict.entries
+        → AllByRecursion (λ row. IsCount row.expected.register) verdict.rows → IsOneLine (list_report_json required verdict) }
+    ensures places { (required : Option (List BankRange)) (located : List Located)
+        → AllByRecursion (λ row. IsCount row.expected.register × IsCountedPlace row.place) located
+        → IsOneLine (places_json required located) }
+    ensures fault { (kind : Option (List ℕ)) (number : Option ℕ) (place : Option FaultPlace) (message : List ℕ)
+        → IfSome number IsCount → IfSome place (λ at. IsCount (number_at at)) → IsOneLine (fault_json kind number place message) }
+{}
+
+/// An entry's line says that it is genuine exactly where it is.
+pub fn genuine_is_genuine()
+    ensures { (entry : ListEntry) → IsTrue (is_genuine entry) ↔ IsGenuine entry }
+{}
+
+/// An entry's line tells all of it: entries with one line have the same number, and are the same entry.
+pub fn lines_tell_entries(first: &EntryRef<'_>, second: &EntryRef<'_>)
+    ensures { (number other : ℕ) → IsCount number → IsCount other
+        → line_of (entry_json number first.now) ≡ line_of (entry_json other second.now)
+        → (number ≡ other) × (first.now ≡ second.now) }
+{
+    known(first);
+    known(second);
+}
+
+// What is known of an entry that code holds.
+fn known(entry: &EntryRef<'_>)
+    ensures { IsKnown entry.now }
+{
+    let digest = entry.digest();
+    are_bytes(&digest);
+    are_bytes(entry.name());
+    are_bytes(entry.payload());
+    let _has_fields = entry.fields().is_some();
+}
+
+// Bytes are below 256.
+fn are_bytes(bytes: &[u8])
+    ensures { IsBytes bytes.now }
+{
+    let _ = bytes;
+}

@@ -1,0 +1,26 @@
+//! What this project tells, as lines of JSON (RFC 8259): reports, places, registers, a log's events, a list's entries, and faults.
+//!
+//! Each value is an object on one line, in UTF-8. Its members have a fixed order. Numbers are JSON numbers; digests and data are strings
+//! of lower case hexadecimal digits. A line is appended to a vector of the caller's, which [`send_line`] empties into a sink.
+#![tactic(auto)]
+
+mod entries;
+mod events;
+mod expected;
+mod faults;
+pub mod laws;
+mod lines;
+mod members;
+mod missing;
+mod places;
+mod registers;
+mod reports;
+
+pub use entries::append_entry;
+pub use events::{append_algorithms, append_event};
+pub use expected::append_expected;
+pub use faults::{FaultPlace, FaultText, append_fault};
+pub use lines::send_line;
+pub use places::append_places;
+pub use registers::append_registers;
+pub use reports::{append_list_report, append_report};

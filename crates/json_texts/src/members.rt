@@ -1,0 +1,82 @@
+//! Writers of members.
+
+ghost use Rattle.std.specs.Prelude.{◌≡◌, [], ◌∷◌, ◌++◌, OnOk};
+ghost use Rattle.json.specs.Json.{boolean, string};
+ghost use Rattle.json_texts.specs.JsonValues.{hex_json, number_json, shown_member};
+ghost use Rattle.json_texts.specs.parts.WrittenParts.{members_written};
+
+use json::Writer;
+use std::alloc::{AllocError, Global};
+
+/// Writes a member with a number.
+pub(crate) fn write_number(name: &str, number: u64, writer: &mut Writer) -> Result<(), AllocError>
+    ensures before { writer.new.before ≡ writer.old.before }
+    ensures tokens { OnOk result (writer.new.tokens
+        ≡ writer.old.tokens ++ members_written ((name.now, number_json number) ∷ [])) }
+{
+    writer.key(name)?;
+    writer.u64(number)?;
+    Ok(())
+}
+
+/// Writes a member with a truth value.
+pub(crate) fn write_flag(name: &str, flag: bool, writer: &mut Writer) -> Result<(), AllocError>
+    ensures before { writer.new.before ≡ writer.old.before }
+    ensures tokens { OnOk result (writer.new.tokens
+        ≡ writer.old.tokens ++ members_written ((name.now, boolean flag) ∷ [])) }
+{
+    writer.key(name)?;
+    writer.boolean(flag)?;
+    Ok(())
+}
+
+/// Writes a member with a text.
+pub(crate) fn write_text(name: &str, text: &str, writer: &mut Writer) -> Result<(), AllocError>
+    ensures before { writer.new.before ≡ writer.old.before }
+    ensures tokens { OnOk result (writer.new.tokens
+        ≡ writer.old.tokens ++ members_written ((name.now, string text.now) ∷ [])) }
+{
+    writer.key(name)?;
+    writer.string(text)?;
+    Ok(())
+}
+
+/// Writes a member with bytes in hexadecimal.
+pub(crate) fn write_hex(
+    alloc: Global,
+    name: &str,
+    bytes: &[u8],
+    writer: &mut Writer,
+) -> Result<(), AllocError>
+    ensures before { writer.new.before ≡ writer.old.before }
+    ensures tokens { OnOk result (writer.new.tokens
+        ≡ writer.old.tokens ++ members_written ((name.now, hex_json bytes.now) ∷ [])) }
+{
+    let digits = hex::encode(alloc, bytes)?;
+    write_text(name, &digits, writer)?;
+    Ok(())
+}
+
+/// Writes a member that shows bytes: as text, or under the other name in hexadecimal where they are not UTF-8.
+pub(crate) fn write_shown(
+    alloc: Global,
+    name: &str,
+    hex_name: &str,
+    bytes: &[u8],
+    writer: &mut Writer,
+) -> Result<(), AllocError>
+    ensures before { writer.new.before ≡ writer.old.before }
+    ensures tokens { OnOk result (writer.new.tokens
+        ≡ writer.old.tokens ++ members_written (shown_member name.now hex_name.now bytes.now ∷ [])) }
+{
+    match std::str::from_utf8(bytes) {
+        Ok(text) => {
+            write_text(name, text, writer)?;
+            Ok(())
+        }
+        Err(_) => {
+            write_hex(alloc, hex_name, bytes, writer)?;
+            Ok(())
+        }
+    }
+}
