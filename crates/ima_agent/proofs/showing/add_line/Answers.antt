@@ -7,6 +7,6 @@ pub returns : goal.returns
 returns c =
     on_ok_weaker c.count_longer.result
     (λ counts lines kept. counts lines (line_of c.args.entry.now)
-    (added c.args.room lines (line_of c.args.entry.now) c.args.text.now.items c.line.new.text.items c.args.size.now kept
+    (added c.args.room lines (line_of c.args.entry.now) c.args.text.now.items c.line.new.out.items c.args.size.now kept
     c.in_ok-line.ensures.ok))
     c.count_longer.ensures
