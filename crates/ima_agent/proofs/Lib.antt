@@ -10,4 +10,5 @@ pub mod ListVerifyingLaws
 pub mod ExpectingLaws
 pub mod EscapingLaws
 pub mod EntryLineLaws
+pub mod EventLineLaws
 pub mod JsonLaws

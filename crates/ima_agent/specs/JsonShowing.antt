@@ -5,6 +5,8 @@ use Rattle.ima_list.specs.declared.fault.ListFault.{ListFault}
 use Rattle.ima_list.specs.ListEntry.{ListEntry}
 use Rattle.ima_list.specs.Spelling.{IsLongest, IsReading}
 use Rattle.boot_log.specs.declared.header.Row.{Row}
+use Rattle.boot_log.specs.declared.fault.LogFault.{LogFault}
+use Rattle.boot_log.specs.LogReading.{FailsAfter, FailsFirst}
 use Rattle.boot_log.specs.Spelling.{LogEvent, IsLog}
 use Rattle.json_texts.specs.EntryJson.{entry_json}
 use Rattle.json_texts.specs.EventJson.{algorithms_json, event_json}
@@ -35,12 +37,39 @@ entry_lines entries = numbered_lines (λ number entry. line_of (entry_json numbe
 abbrev pub event_lines : List LogEvent → List ℕ
 event_lines events = numbered_lines (λ number event. line_of (event_json number event)) 1 events
 
--- The bytes are a firmware event log, and what is shown are the line of the algorithms that its header declares, and those of its events.
-pub record ShowsJsonEvents (log shown : List ℕ) : Type 0 where
+-- The lines of a log: that of the algorithms which its header declares, and those of its events.
+abbrev pub log_lines : List Row → List LogEvent → List ℕ
+log_lines table events = line_of (algorithms_json table) ++ event_lines events
+
+-- The bytes are a firmware event log, and what is shown are its lines.
+pub record ShowsAllEvents (log shown : List ℕ) (status : ℕ) : Type 0 where
   pub table : List Row
   pub events : List LogEvent
   pub log_is : IsLog log table events
-  pub text_is : shown ≡ line_of (algorithms_json table) ++ event_lines events
+  pub text_is : shown ≡ log_lines table events
+  pub status_is : status ≡ 0
+
+-- After a header and some events the bytes have a fault, and what is shown are the lines of the header and of these events, and then
+-- that of the fault, with its status.
+pub record ShowsEventsToFault (log shown : List ℕ) (status : ℕ) : Type 0 where
+  pub table : List Row
+  pub events : List LogEvent
+  pub fault : LogFault
+  pub last : List ℕ
+  pub fails : FailsAfter log table events fault
+  pub told : ToldAsJson (runs.Log fault) last status
+  pub text_is : shown ≡ log_lines table events ++ last
+
+-- The bytes begin with no header, and what is shown is the line of the fault, with its status.
+pub record ShowsHeaderFault (log shown : List ℕ) (status : ℕ) : Type 0 where
+  pub fault : LogFault
+  pub fails : FailsFirst log fault
+  pub told : ToldAsJson (runs.Log fault) shown status
+
+-- What can be read of the bytes as a log is shown.
+abbrev pub ShowsJsonEvents : List ℕ → List ℕ → ℕ → Type 0
+ShowsJsonEvents log shown status =
+    ShowsAllEvents log shown status ⊎ ShowsEventsToFault log shown status ⊎ ShowsHeaderFault log shown status
 
 -- The bytes are a measurement list, and what is shown are the lines of its entries.
 pub record ShowsAllEntries (bytes shown : List ℕ) (status : ℕ) : Type 0 where

@@ -113,8 +113,9 @@ IsPlainFaultOf inputs (Show list) fault =
 IsPlainFaultOf inputs (Json plan) fault = ⊥
 IsPlainFaultOf inputs (Help text) fault = ⊥
 
--- The fault may come of the plan with `--json`: one of the same without it. But a damaged list is shown as far as it goes.
+-- The fault may come of the plan with `--json`: one of the same without it. But a damaged list or log is shown as far as it goes.
 abbrev pub IsJsonFaultOf : Inputs → JsonPlan → RunFault → Type 0
+IsJsonFaultOf inputs (jsons.Events log) fault = IsInputFault inputs (Some (string_bytes log)) fault
 IsJsonFaultOf inputs (jsons.Show list) fault = IsInputFault inputs (Some (string_bytes list)) fault
 IsJsonFaultOf inputs plan fault = IsPlainFaultOf inputs (plain_of plan) fault
 

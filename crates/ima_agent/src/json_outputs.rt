@@ -58,6 +58,7 @@ pub(crate) fn json_for<R: Threads + Wait + Sync, F: Files, P: Progress>(
             expected,
             required,
         } => list_report(alloc, files, list, expected, required.as_deref()),
+        JsonPlan::Events { log } => shown_events(alloc, files, log),
         JsonPlan::Show { list } => shown_entries(alloc, files, list),
         _ => Ok(Output::done(lines_for(rt, alloc, plan, files, progress)?)),
     }
@@ -84,7 +85,6 @@ fn lines_for<R: Threads + Wait + Sync, F: Files, P: Progress>(
             expected_from(alloc, files, printed, registers.as_deref(), Form::Json)
         }
         JsonPlan::RegistersAfter { log } => log_registers(alloc, files, log),
-        JsonPlan::Events { log } => shown_events(alloc, files, log),
         JsonPlan::Replay { list } => replayed(alloc, files, list, Form::Json),
         _ => unreachable!(),
     }

@@ -51,8 +51,8 @@ fn entries_of(alloc: Global, list: &[u8]) -> Result<Output, AllocError>
     Ok(Output::done(text))
 }
 
-// These lines, and then that of the fault, with its status.
-fn ended(alloc: Global, lines: Vec<u8>, fault: &RunFault) -> Result<Output, AllocError>
+/// These lines, and then that of the fault, with its status.
+pub(super) fn ended(alloc: Global, lines: Vec<u8>, fault: &RunFault) -> Result<Output, AllocError>
     ensures { IfOk result (λ output. (last : List ℕ) × ToldAsJson fault.now last output.status × (output.text.items ≡ lines.items ++ last)) }
 {
     let mut text = lines;

@@ -1,50 +1,48 @@
 //! The events of a log with `--json`.
 
-ghost use Rattle.std.specs.Prelude.{◌≡◌, ◌++◌, ◌⊎◌, map, Some, IfOk, IfErr, OnOk};
-ghost use Rattle.boot_log.specs.Spelling.{log_event_of};
-ghost use Rattle.ima_agent.specs.JsonShowing.{ShowsJsonEvents, event_lines};
+ghost use Rattle.std.specs.Prelude.{Some, IfOk, IfErr};
+ghost use Rattle.ima_agent.specs.JsonShowing.{ShowsJsonEvents};
 ghost use Rattle.ima_agent.specs.Loading.{IsInputFault, OfInput};
-ghost use Rattle.ima_agent.specs.Showing.{IsNoLogFor};
 
 use crate::fault::RunFault;
 use crate::files::Files;
 use crate::inputs::loaded;
-use boot_log::{Event, read_log};
+use crate::json_outputs::entries::ended;
+use crate::output::Output;
+use boot_log::LogReader;
 use json_texts::{append_algorithms, append_event};
 use std::alloc::{AllocError, Global};
 
-/// The line of the algorithms that the log in the file of this name declares, and the lines of its events.
+/// The line of the algorithms that the log in the file of this name declares, and the lines of its events; of a damaged one those before
+/// its fault, and then the fault's, with its status.
 pub(super) fn shown_events<F: Files>(
     alloc: Global,
     files: &mut F,
     log: &str,
-) -> Result<Vec<u8>, RunFault>
-    ensures shown { IfOk result (λ shown. OfInput (F.told files.old) (Some log.now) (λ bytes. ShowsJsonEvents bytes shown.items)) }
-    ensures fault { IfErr result (λ fault. IsInputFault (F.told files.old) (Some log.now) fault
-        ⊎ OfInput (F.told files.old) (Some log.now) (λ bytes. IsNoLogFor bytes fault)) }
+) -> Result<Output, RunFault>
+    ensures shown { IfOk result (λ output. OfInput (F.told files.old) (Some log.now)
+        (λ bytes. ShowsJsonEvents bytes output.text.items output.status)) }
+    ensures fault { IfErr result (IsInputFault (F.told files.old) (Some log.now)) }
 {
     let bytes = loaded(alloc, files, Some(log))?;
-    events_of(alloc, &bytes)
+    Ok(events_of(alloc, &bytes)?)
 }
 
 // The same of these bytes.
-fn events_of(alloc: Global, bytes: &[u8]) -> Result<Vec<u8>, RunFault>
-    ensures shown { IfOk result (λ shown. ShowsJsonEvents bytes.now shown.items) }
-    ensures fault { IfErr result (IsNoLogFor bytes.now) }
+fn events_of(alloc: Global, log: &[u8]) -> Result<Output, AllocError>
+    ensures { IfOk result (λ output. ShowsJsonEvents log.now output.text.items output.status) }
 {
-    let log = read_log(alloc, bytes)?;
     let mut text = Vec::new(alloc);
-    append_algorithms(alloc, log.declared(), &mut text)?;
-    append_events(alloc, log.events(), &mut text)?;
-    Ok(text)
-}
-
-// Appends the lines of events, one after another.
-fn append_events(alloc: Global, events: &[Event<'_>], text: &mut Vec<u8>) -> Result<(), AllocError>
-    ensures { OnOk result (text.new.items ≡ text.old.items ++ event_lines (map log_event_of events.now)) }
-{
-    for number in 0..events.len() {
-        append_event(alloc, number + 1, &events[number], text)?;
+    let mut reader = match LogReader::new(log) {
+        Ok(reader) => reader,
+        Err(fault) => return ended(alloc, text, &RunFault::Log(fault)),
+    };
+    append_algorithms(alloc, reader.declared(), &mut text)?;
+    loop {
+        match reader.next_event() {
+            Ok(Some(event)) => append_event(alloc, reader.count(), &event, &mut text)?,
+            Ok(None) => return Ok(Output::done(text)),
+            Err(fault) => return ended(alloc, text, &RunFault::Log(fault)),
+        }
     }
-    Ok(())
 }

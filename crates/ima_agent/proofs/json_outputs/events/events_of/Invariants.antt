@@ -1,0 +1,10 @@
+use Rattle.std.proofs.Common.{length}
+use Rattle.boot_log.specs.LogReading.{left_of}
+use Rattle.ima_agent.proofs.EventLineLaws.{HasEventLines}
+use Rattle.ima_agent.proofs.json_outputs.events.events_of.Given as goal
+
+abbrev pub invariant-loop : goal.invariant-loop
+invariant-loop l = HasEventLines l.log l.text.items l.reader
+
+abbrev pub decreases-loop : goal.decreases-loop
+decreases-loop l = length (left_of l.reader)
