@@ -3,3 +3,4 @@ pub mod WrittenLaws
 pub mod EntryLaws
 pub mod SameEntryLaws
 pub mod ValueLaws
+pub mod SentLaws

@@ -1,2 +1,3 @@
 pub mod WrittenParts
 pub mod KnownEntries
+pub mod EntryLinesParts
