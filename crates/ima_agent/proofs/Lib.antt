@@ -11,4 +11,5 @@ pub mod ExpectingLaws
 pub mod EscapingLaws
 pub mod EntryLineLaws
 pub mod EventLineLaws
+pub mod EventStreamingLaws
 pub mod JsonLaws

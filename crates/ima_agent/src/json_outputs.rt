@@ -5,6 +5,7 @@ ghost use Rattle.command_line.specs.Plans.{IsWithinJsonRanges};
 ghost use Rattle.ima_agent.specs.JsonOutputs.{IsJsonOutputFor};
 ghost use Rattle.ima_agent.specs.Program.{IsJsonFaultOf};
 ghost use Rattle.ima_agent.specs.parts.JsonOutputs.{ShowsLines};
+ghost use Rattle.ima_agent.specs.parts.Program.{IsWholeJson};
 
 mod entries;
 mod events;
@@ -19,16 +20,15 @@ use crate::output::{Form, Output};
 use crate::progress::Progress;
 use crate::replaying::replayed;
 use command_line::JsonPlan;
-pub(crate) use entries::entry_lines;
-use entries::shown_entries;
-use events::shown_events;
+pub(crate) use entries::{entries_sent, entry_lines};
+pub(crate) use events::events_sent;
 use judging::{list_report, places, report};
 use registers::log_registers;
 use std::alloc::Global;
 use std::sync::Wait;
 use std::thread::Threads;
 
-/// The whole output for this plan.
+/// The whole output for this plan, which is prepared whole.
 pub(crate) fn json_for<R: Threads + Wait + Sync, F: Files, P: Progress>(
     rt: &R,
     alloc: Global,
@@ -36,6 +36,7 @@ pub(crate) fn json_for<R: Threads + Wait + Sync, F: Files, P: Progress>(
     files: &mut F,
     progress: &P,
 ) -> Result<Output, RunFault>
+    requires whole { IsWholeJson plan.now }
     requires within { IsWithinJsonRanges plan.now }
     ensures shown { IfOk result (λ output. IsJsonOutputFor (F.told files.old) plan.now output.text.items output.status) }
     ensures fault { IfErr result (IsJsonFaultOf (F.told files.old) plan.now) }
@@ -58,8 +59,6 @@ pub(crate) fn json_for<R: Threads + Wait + Sync, F: Files, P: Progress>(
             expected,
             required,
         } => list_report(alloc, files, list, expected, required.as_deref()),
-        JsonPlan::Events { log } => shown_events(alloc, files, log),
-        JsonPlan::Show { list } => shown_entries(alloc, files, list),
         _ => Ok(Output::done(lines_for(rt, alloc, plan, files, progress)?)),
     }
 }

@@ -51,8 +51,8 @@ impl Output {
     }
 }
 
-// The exit status of success.
-const DONE: u8 = 0;
+/// The exit status of success.
+pub(crate) const DONE: u8 = 0;
 
 // The exit status of a report that does not match.
 const DIFFERS: u8 = 1;

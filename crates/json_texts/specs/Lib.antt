@@ -7,5 +7,6 @@ pub mod ReportJson
 pub mod PlaceJson
 pub mod EventJson
 pub mod ItemLines
+pub mod SentEntries
 pub mod SentEvents
 pub mod parts

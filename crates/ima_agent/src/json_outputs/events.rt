@@ -1,35 +1,52 @@
 //! The events of a log with `--json`.
 
-ghost use Rattle.std.specs.Prelude.{Some, IfOk, IfErr};
-ghost use Rattle.ima_agent.specs.JsonShowing.{ShowsJsonEvents};
-ghost use Rattle.ima_agent.specs.Loading.{IsInputFault, OfInput};
+ghost use Rattle.std.specs.Prelude.{IfOk};
+ghost use Rattle.ima_agent.specs.JsonShowing.{ShowsEventsOf, ShowsJsonEvents};
+ghost use Rattle.ima_agent.specs.Streaming.{Streams};
+ghost use Rattle.ima_agent.specs.parts.Streaming.{ShowsEventsIn};
 
 use crate::fault::RunFault;
 use crate::files::Files;
 use crate::inputs::loaded;
 use crate::json_outputs::entries::ended;
 use crate::output::Output;
+use crate::streaming::StreamFault;
 use boot_log::LogReader;
-use json_texts::{append_algorithms, append_event};
+use byte_streams::{Failed, Sink};
+use json_texts::{EventsFault, append_algorithms, append_event, send_events};
 use std::alloc::{AllocError, Global};
 
-/// The line of the algorithms that the log in the file of this name declares, and the lines of its events; of a damaged one those before
-/// its fault, and then the fault's, with its status.
-pub(super) fn shown_events<F: Files>(
+/// Sends the line of the algorithms that the log in the file of this name declares, and the lines of its events while they are read; of a
+/// damaged one those before its fault.
+pub(crate) fn events_sent<F: Files, S: Sink>(
     alloc: Global,
     files: &mut F,
     log: &str,
-) -> Result<Output, RunFault>
-    ensures shown { IfOk result (λ output. OfInput (F.told files.old) (Some log.now)
-        (λ bytes. ShowsJsonEvents bytes output.text.items output.status)) }
-    ensures fault { IfErr result (IsInputFault (F.told files.old) (Some log.now)) }
+    sink: &mut S,
+) -> Result<(), StreamFault>
+    ensures { Streams (ShowsEventsOf (F.told files.old) log.now) (S.state sink.old) (S.state sink.new) result }
 {
-    let bytes = loaded(alloc, files, Some(log))?;
-    Ok(events_of(alloc, &bytes)?)
+    match loaded(alloc, files, Some(log)) {
+        Ok(bytes) => events_in(alloc, &bytes, sink),
+        Err(fault) => Err(StreamFault::Run(fault)),
+    }
 }
 
-// The same of these bytes.
-fn events_of(alloc: Global, log: &[u8]) -> Result<Output, AllocError>
+// The same of the log in these bytes.
+fn events_in<S: Sink>(alloc: Global, log: &[u8], sink: &mut S) -> Result<(), StreamFault>
+    ensures { Streams (ShowsEventsIn log.now) (S.state sink.old) (S.state sink.new) result }
+{
+    match send_events(alloc, log, sink) {
+        Ok(()) => Ok(()),
+        Err(EventsFault::Sink) => Err(StreamFault::Sink(Failed)),
+        Err(EventsFault::Log(fault)) => Err(StreamFault::Run(RunFault::Log(fault))),
+        Err(EventsFault::Memory) => Err(StreamFault::Run(RunFault::Memory)),
+    }
+}
+
+/// The line of the algorithms that the log in these bytes declares, and the lines of its events; of a damaged one those before its fault,
+/// and then the fault's, with its status.
+pub(crate) fn events_of(alloc: Global, log: &[u8]) -> Result<Output, AllocError>
     ensures { IfOk result (λ output. ShowsJsonEvents log.now output.text.items output.status) }
 {
     let mut text = Vec::new(alloc);

@@ -3,8 +3,8 @@ use Rattle.boot_log.specs.LogReading.{left_of}
 use Rattle.ima_agent.proofs.EventLineLaws.{HasEventLines}
 use Rattle.ima_agent.proofs.json_outputs.events.events_of.Given as goal
 
-abbrev pub invariant-loop : goal.invariant-loop
-invariant-loop l = HasEventLines l.log l.text.items l.reader
+abbrev pub invariant-loop-text : goal.invariant-loop-text
+invariant-loop-text l = HasEventLines l.log l.text.items l.reader
 
-abbrev pub decreases-loop : goal.decreases-loop
-decreases-loop l = length (left_of l.reader)
+abbrev pub decreases-loop-text : goal.decreases-loop-text
+decreases-loop-text l = length (left_of l.reader)
