@@ -11,3 +11,4 @@ pub mod ExpectingLaws
 pub mod EscapingLaws
 pub mod EntryLineLaws
 pub mod JsonLaws
+pub mod StreamingLaws
