@@ -7,7 +7,7 @@ use Rattle.ima_list.specs.declared.fault.ListFault.{ListFault}
 use Rattle.ima_list.specs.declared.fault.ListFault.TheVariants as lists
 use Rattle.ima_list.specs.ListEntry.{ListEntry}
 use Rattle.ima_list.specs.ListFaults.{list_fault_entry}
-use Rattle.ima_list.specs.Spelling.{BeginsWith, IsFaultOf, IsReading}
+use Rattle.ima_list.specs.Spelling.{BeginsWith, IsFaultOfRest, IsReading}
 use Rattle.json_texts.specs.EntryJson.{entry_json}
 use Rattle.json_texts.specs.JsonValues.{line_of}
 use Rattle.ima_agent.specs.declared.fault.RunFault.TheVariants as runs
@@ -92,7 +92,7 @@ all_lines list text rest number lines none law = inl (record {
 })
 
 -- A fault that names an entry is after as many entries.
-fault_count : (rest : List ℕ) (count number : ℕ) (fault : ListFault) → IsFaultOf rest count fault
+pub fault_count : (rest : List ℕ) (count number : ℕ) (fault : ListFault) → IsFaultOfRest rest count fault
     → list_fault_entry fault ≡ Some number → number ≡ count
 fault_count rest count number (lists.Truncated entry) is names = sym (same_Some entry number names) ∙ is.0
 fault_count rest count number (lists.BadRegister entry) is names = sym (same_Some entry number names) ∙ is.0

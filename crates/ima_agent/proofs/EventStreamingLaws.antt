@@ -1,5 +1,7 @@
 -- A log whose events are sent while they are read: what was sent is what the program is asked for.
 use Rattle.std.proofs.Common.{ℕ, List, [], ◌++◌, None, Some, Ok, Err, Result, refl, inl, inr, codes, true}
+use Rattle.std.specs.Prelude.{String, string_bytes}
+use Rattle.std.specs.Global.{Global}
 use Rattle.byte_streams.specs.declared.streams.Failed.{Failed}
 use Rattle.byte_streams.specs.Streams.{SinkState}
 use Rattle.byte_streams.proofs.SinkLaws.{Sends-none, Sends-ok}
@@ -9,6 +11,8 @@ use Rattle.json_texts.specs.declared.event_lines.EventsFault.TheVariants as even
 use Rattle.json_texts.specs.FaultJson.{fault_json}
 use Rattle.json_texts.specs.JsonValues.{line_of}
 use Rattle.json_texts.specs.SentEvents.{SendsEvents, SendsLines, SendsNothing, log_lines}
+use Rattle.command_line.specs.declared.json_plan.JsonPlan.TheVariants as jsons
+use Rattle.command_line.specs.declared.plan.Plan.TheVariants as plans
 use Rattle.ima_agent.specs.declared.fault.RunFault.{RunFault}
 use Rattle.ima_agent.specs.declared.fault.RunFault.TheVariants as runs
 use Rattle.ima_agent.specs.declared.streaming.StreamFault.{StreamFault}
@@ -16,15 +20,13 @@ use Rattle.ima_agent.specs.declared.streaming.StreamFault.TheVariants as streams
 use Rattle.ima_agent.specs.JsonFaults.{IsFailure, ToldAsJson}
 use Rattle.ima_agent.specs.JsonShowing.{ShowsEventsOf}
 use Rattle.ima_agent.specs.Loading.{Holds, Inputs, IsInputFault}
+use Rattle.ima_agent.specs.Program.{IsOutcome}
 use Rattle.ima_agent.specs.Streaming.{Streams}
 use Rattle.ima_agent.specs.parts.Streaming.{ShowsEventsIn}
+use Rattle.ima_agent.proofs.StreamingLaws.{memory_told, streams_so}
 
 abbrev memory_line : List ℕ
 memory_line = line_of (fault_json (Some (codes "memory")) None None (codes "failed: memory"))
-
--- There is always a line of `Memory`.
-memory_told : ToldAsJson runs.Memory memory_line 3
-memory_told = (record { message = codes "failed: memory"; message_is = refl; text_is = refl }, refl)
 
 abbrev failed_with : RunFault → Result (Unit {0}) StreamFault
 failed_with fault = Err (streams.Run fault)
@@ -125,19 +127,13 @@ module _ (inputs : Inputs) (name : List ℕ) where
 
   pub loaded_shown : (log : List ℕ) (old new : SinkState) (result : Result (Unit {0}) StreamFault) → Holds inputs (Some name) log
       → Streams (ShowsEventsIn log) old new result → Streams (ShowsEventsOf inputs name) old new result
-  loaded_shown log old new (Ok tt) held sent =
-      record { text = sent.text; sends = sent.sends; goes_on = of_bytes log held sent.text 0 sent.goes_on }
-  loaded_shown log old new (Err (streams.Sink failed)) held sent = record {
-    text = sent.text;
-    sends = sent.sends;
-    goes_on = (
-      sent.goes_on.0,
-      sent.goes_on.1,
-      of_bytes log held (sent.text ++ sent.goes_on.0) sent.goes_on.1 sent.goes_on.2,
-    );
-  }
-  loaded_shown log old new (Err (streams.Run fault)) held sent = record {
-    text = sent.text;
-    sends = sent.sends;
-    goes_on = λ last status failure. of_bytes log held (sent.text ++ last) status (sent.goes_on last status failure);
-  }
+  loaded_shown log old new result held sent =
+      streams_so (ShowsEventsIn log) (ShowsEventsOf inputs name) old new result (of_bytes log held) sent
+
+-- ---- the outcome of a plan
+
+pub events_outcome : (inputs : Inputs) (log : String Global) (text : List ℕ) (status : ℕ)
+    → ShowsEventsOf inputs (string_bytes log) text status → IsOutcome inputs (plans.Json (jsons.Events log)) text status
+events_outcome inputs log text status (inl (bytes, held, inl shown)) = inl (bytes, held, shown)
+events_outcome inputs log text status (inl (bytes, held, inr out)) = inr (inr (bytes, held, out))
+events_outcome inputs log text status (inr (fault, is, told)) = inr (inl (fault, is, inl told))

@@ -13,3 +13,4 @@ pub mod EntryLineLaws
 pub mod EventLineLaws
 pub mod EventStreamingLaws
 pub mod JsonLaws
+pub mod StreamingLaws

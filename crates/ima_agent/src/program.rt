@@ -146,7 +146,7 @@ fn run_streamed<F: Files, S: Sink, P: Progress>(
 {
     match streamed_for(alloc, plan, files, sink) {
         Ok(()) => DONE,
-        Err(StreamFault::Sink(_)) => {
+        Err(StreamFault::Sink(Failed)) => {
             progress.explain(alloc, Failure::Output);
             FAILED
         }
