@@ -5,7 +5,7 @@ cases/json_lines.py [PROGRAM]: by default the program that was built in this tre
 
 Each line must be one value of ASCII or UTF-8 that json writes in the same way, without white space, and has no byte below 32. All lines
 must be what `reference/` answers, and each must tell what the same command's text tells: of the sample, of lists of all templates whose paths
-and payloads are hostile, of damaged ones, and of a list of 12,000 entries. The last line is 'N passed, M failed', of commands."""
+and payloads are hostile, of damaged lists and logs, and of a list of 12,000 entries. The last line is 'N passed, M failed', of commands."""
 
 import json
 import random
@@ -17,6 +17,7 @@ from pathlib import Path
 ROOT = Path(__file__).resolve().parent.parent
 sys.path.insert(0, str(ROOT))
 import reference  # noqa: E402
+from reference.log import read_log  # noqa: E402
 from reference.measurement_list import IMA, IMA_NG, IMA_SIG, VIOLATION, Entry, entry_of, list_spelling  # noqa: E402
 from reference.registers import ALGORITHMS, SHA1, SHA256  # noqa: E402
 
@@ -50,6 +51,28 @@ def many_entries():
         yield entry._replace(template_digest=drawn.choice((entry.template_digest, VIOLATION, drawn.randbytes(20))))
 
 
+def damaged_logs(log):
+    """The sample's log cut within its header and each event and between them, and with a register, an algorithm, a digest or a header that
+    is refused, each with a name."""
+    read = read_log(log)
+    header = len(log) - sum(len(event.spelling()) for event in read.events)
+    ends = [header]
+    for event in read.events:
+        ends.append(ends[-1] + len(event.spelling()))
+    for size in (0, 31, header - 1, *(end + more for end in ends[:-1] for more in (0, 1, 12, 40)), len(log) - 1):
+        yield f"damaged-cut-{size}", log[:size]
+    extended = [number for number, event in enumerate(read.events) if event.is_extended]
+    for number in (extended[0], extended[-1]):
+        start = ends[number]
+        yield f"damaged-register-{number}", log[:start] + (24).to_bytes(4, "little") + log[start + 4 :]
+        yield f"damaged-undeclared-{number}", log[: start + 12] + b"\x04\0" + log[start + 14 :]
+        yield f"damaged-no-digest-{number}", log[: start + 8] + bytes(8) + log[start:]
+        yield f"damaged-twice-{number}", log[: start + 8] + b"\2\0\0\0" + 2 * log[start + 12 : start + 46] + log[start + 46 :]
+    yield "damaged-signature", log.replace(b"Spec ID Event03", b"Spec ID Event02", 1)
+    yield "damaged-no-bank", read._replace(declared={0x12: 32}).spelling()
+    yield "damaged-size", read._replace(declared={SHA256.identifier: 20}).spelling()
+
+
 def commands(folder):
     """Words, and files that they name in the folder."""
     sample = ROOT / "samples/real-boot"
@@ -58,11 +81,13 @@ def commands(folder):
     (folder / "hostile").write_bytes(list_spelling(hostile_entries()))
     (folder / "many").write_bytes(list_spelling(many_entries()))
     (folder / "cut").write_bytes((folder / "many").read_bytes()[:-1])
-    (folder / "damaged.log").write_bytes((folder / "firmware.log").read_bytes()[:-1])
+    for name, log in damaged_logs((folder / "firmware.log").read_bytes()):
+        (folder / name).write_bytes(log)
     (folder / "few").write_text("sha256 10 " + "00" * 32 + "\nsha384 1 " + "11" * 48 + "\n")
     evidence = ["firmware.log", "ima.list"]
     yield from (["show", "ima.list"], ["show", "hostile"], ["show", "many"], ["show", "cut"], ["show", "firmware.log"])
-    yield from (["registers", "firmware.log"], ["events", "firmware.log"], ["events", "--data", "firmware.log"], ["events", "damaged.log"])
+    yield from (["registers", "firmware.log"], ["events", "firmware.log"], ["events", "--data", "firmware.log"])
+    yield from (["events", path.name] for path in sorted(folder.glob("damaged-*")))
     yield from (["replay", "ima.list"], ["replay", "many"], ["replay", "ima.list", "few"], ["expected", "tpm2_pcrread.txt"])
     for command in ("verify", "locate"):
         yield from ([command, *evidence, "expected.txt"], [command, *evidence, "few"], [command, "--require", "sha1:0-23", *evidence, "few"])

@@ -237,14 +237,12 @@ def unread(name, folder):
 
 
 def fault_line_of(words, text):
-    """The line of the fault that these words' output is, as it is without `--json`; or None. (A damaged list that is shown as JSON is an
-    output that ends with its fault's line.)"""
+    """The line of the fault that these words' output is, as it is without `--json`; or None. (The lines of a list's entries as JSON may
+    stand before it.)"""
     if text.startswith((b"refused: ", b"failed: ")):
         return text[:-1]
-    if not text.startswith(b'{"fault":'):
-        return None
-    fault = json.loads(text)["fault"]
-    return None if words[0] == "show" and fault["kind"] == "list" else fault["message"].encode()
+    last = text.splitlines()[-1] if words[0] == "show" and text else text
+    return json.loads(last)["fault"]["message"].encode() if last.startswith(b'{"fault":') else None
 
 
 def is_of_usage(said):

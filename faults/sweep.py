@@ -20,6 +20,7 @@ order of the cases, that names no file of the system, in a case whose files have
 Before that, the program measures 50 files of 40 MiB within 64 MiB of address space. The last line, 'N passed, M failed', counts
 both."""
 
+import json
 import os
 import re
 import resource
@@ -56,6 +57,8 @@ LARGE_FILES = 50
 LARGE_FILE_BYTES = 40 * MEBIBYTE
 ADDRESS_SPACE = 64 * MEBIBYTE
 LARGE_SECONDS = 600
+LARGE_LIST_BYTES = 64 * MEBIBYTE
+MOST_ABOVE_EMPTY = 8 * MEBIBYTE
 
 
 @dataclass(frozen=True)
@@ -96,11 +99,19 @@ class CommandRun:
         """The answers of which one is due out of memory: with `--json` the plain one while the arguments are read."""
         return (OUT_OF_MEMORY, OUT_OF_MEMORY_AS_JSON) if "--json" in self.command.words else (OUT_OF_MEMORY,)
 
+    def output_of_memory(self, output):
+        """What is due out of memory, of an output: of a list as JSON without the lines of entries, which come before a fault's. (That these
+        are the list's is seen of the answers without a refusal; here only that they are whole.)"""
+        if self.command.words[:1] != ["show"] or "--json" not in self.command.words:
+            return output
+        return b"".join(line for line in output.splitlines(keepends=True) if not (line.startswith(b'{"entry":') and line.endswith(b"}\n")))
+
     def fault(self, settings, met):
         """What is wrong with a run under these settings, in which an allocation was refused if the file `met` is there, or None."""
         with tempfile.TemporaryDirectory() as name:
             answer = answer_of(self.program, self.command, self.folder, Path(name, "output"), settings)
-            if met.exists() and (answer.status, answer.output.read_bytes(), answer.errors) in self.wants_of_memory():
+            output = self.output_of_memory(answer.output.read_bytes())
+            if met.exists() and (answer.status, output, answer.errors) in self.wants_of_memory():
                 return None
             return fault_of(self.command, answer, self.folder)
 
@@ -239,6 +250,39 @@ def large_files_fault(root, program, folder):
     return f"status {ended.returncode}, {(ended.stdout + ended.stderr)[-500:]!r}"
 
 
+def peak_of(words, folder, output):
+    """The exit status of a command, whose output goes to a file, and its peak memory in bytes."""
+    with open(output, "wb") as sink:
+        told = subprocess.run([sys.executable, "-S", "-E", HERE.parent / "bench/peak.py", *words], cwd=folder, stdin=subprocess.DEVNULL,
+                              stdout=sink, stderr=subprocess.PIPE, timeout=LARGE_SECONDS).stderr
+    status, kibibytes = map(int, told.split())
+    return status, kibibytes * 1024
+
+
+def large_list_fault(program, folder):
+    """What is wrong with a list of 64 MiB as JSON, in little more memory than an empty one takes, or None."""
+    entry = entry_of(IMA_NG, SHA256, SHA256.hash(b""), b"/usr/bin/program")
+    count = LARGE_LIST_BYTES // len(entry.spelling())
+    (folder / "empty-list").write_bytes(b"")
+    (folder / "large-list").write_bytes(entry.spelling() * count)
+    wanted = json.dumps({**entry.as_json(0), "entry": "N"}, separators=(",", ":")).replace('"N"', "%d").encode() + b"\n"
+    output = folder / "large-list.json"
+    try:
+        (empty_status, least), (status, peak) = (
+            peak_of([program, "show", "--json", name], folder, output) for name in ("empty-list", "large-list"))
+    except (subprocess.TimeoutExpired, ValueError) as fault:
+        return repr(fault)
+    with open(output, "rb") as lines:
+        wrong = next((number for number, line in enumerate(lines) if line != wanted % number), None)
+        size = lines.tell()
+    output.unlink()
+    if (empty_status, status) != (0, 0):
+        return f"status {empty_status} of an empty list, and {status}"
+    if wrong is not None or size != sum(len(wanted % number) for number in range(count)):
+        return f"{size} bytes, and a wrong line: {wrong}"
+    return None if peak <= least + MOST_ABOVE_EMPTY else f"{(peak - least) / MEBIBYTE:.1f} MiB more than an empty list"
+
+
 def main():
     root = Path(sys.argv[1] if len(sys.argv) > 1 else HERE.parent).resolve()
     program = root / "crates/ima_agent_program/out/ima_agent_program"
@@ -246,13 +290,15 @@ def main():
         folder = Path(name)
         large_fault = large_files_fault(root, program, folder)
         print(f"{large_fault or 'ok'}: {LARGE_FILES} files of 40 MiB measured within 64 MiB of address space", flush=True)
+        list_fault = large_list_fault(program, folder)
+        print(f"{list_fault or 'ok'}: a list of 64 MiB as JSON within 8 MiB more than an empty one", flush=True)
         library = folder / "refuse.so"
         subprocess.run(["cc", "-O2", "-shared", "-fPIC", "-o", library, HERE / "refuse.c", "-ldl"], check=True)
         (tests, faults), (commands, wrong_cases) = test_runs(root, library, folder), command_runs(program, folder)
         faults += wrong_cases + help_faults(commands)
         faults += [f"no {what} is made to have an allocation refused" for what, runs in (("test", tests), ("case", commands)) if not runs]
-        failed = len(faults) + (large_fault is not None)
-        total, passed = 0, large_fault is None
+        failed = len(faults) + (large_fault is not None) + (list_fault is not None)
+        total, passed = 0, (large_fault is None) + (list_fault is None)
         for run, (refusals, fault) in zip([*tests, *commands], pool.map(lambda run: sweep(run, library, folder), [*tests, *commands])):
             total += refusals
             failed += fault is not None

@@ -6,7 +6,7 @@ from typing import Callable, NamedTuple
 
 from .command_line import HelpAsked, read_words
 from .faults import NO_ARGUMENTS, USAGE, BookFault, ExpectedFault, Fault, ListFault, not_read, not_utf8, too_long
-from .log import read_log
+from .log import read_log, read_log_front
 from .measurement_list import (
     BOOT_AGGREGATE,
     IMA,
@@ -110,8 +110,12 @@ def registers_command(inputs, values, log):
 
 
 def events_command(inputs, values, log):
-    log = read_log(inputs.load(log))
-    return Told(lambda: log.text(values["--data"]), log.values)
+    log, fault = read_log_front(inputs.load(log))
+    if fault and not values["--json"]:
+        raise fault
+    shown = log.values() if log else []
+    ended = [fault.as_json()] if fault else []
+    return Told(lambda: log.text(values["--data"]), lambda: shown + ended, fault.status if fault else 0)
 
 
 def show_command(inputs, values, listed):

@@ -93,7 +93,7 @@ all_lines list text rest number lines none law = inl (record {
 })
 
 -- A fault that names an entry is after as many entries.
-fault_count : (rest : List ℕ) (count number : ℕ) (fault : ListFault) → IsFaultOfRest rest count fault
+pub fault_count : (rest : List ℕ) (count number : ℕ) (fault : ListFault) → IsFaultOfRest rest count fault
     → list_fault_entry fault ≡ Some number → number ≡ count
 fault_count rest count number (lists.Truncated entry) is names = sym (same_Some entry number names) ∙ is.0
 fault_count rest count number (lists.BadRegister entry) is names = sym (same_Some entry number names) ∙ is.0

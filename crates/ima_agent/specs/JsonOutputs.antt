@@ -33,7 +33,7 @@ IsJsonOutputFor inputs (Expected printed registers) shown status =
 IsJsonOutputFor inputs (RegistersAfter log) shown status =
     OfInput inputs (Some (string_bytes log)) (λ bytes. ShowsJsonRegisters bytes shown) × (status ≡ 0)
 IsJsonOutputFor inputs (Events log) shown status =
-    OfInput inputs (Some (string_bytes log)) (λ bytes. ShowsJsonEvents bytes shown) × (status ≡ 0)
+    OfInput inputs (Some (string_bytes log)) (λ bytes. ShowsJsonEvents bytes shown status)
 IsJsonOutputFor inputs (Show list) shown status =
     OfInput inputs (Some (string_bytes list)) (λ bytes. ShowsEntries bytes shown status)
 IsJsonOutputFor inputs (Replay list) shown status =

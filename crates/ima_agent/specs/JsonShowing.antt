@@ -1,17 +1,22 @@
 -- The registers and the events of a log, and the entries of a list, as the program shows them with `--json`. All of this is this project's choice.
-use Rattle.std.specs.Prelude.{◌≡◌, ℕ, ◌+◌, ◌⊎◌, List, [], ◌∷◌, ◌++◌, Ok, Err}
+use Rattle.std.specs.Prelude.{◌≡◌, ℕ, ◌⊎◌, List, ◌++◌, Some, Ok, Err}
 use Rattle.pcr_banks.specs.declared.banks.Banks.{Banks}
 use Rattle.ima_list.specs.declared.fault.ListFault.{ListFault}
 use Rattle.ima_list.specs.ListEntry.{ListEntry}
-use Rattle.ima_list.specs.Spelling.{IsLongest, IsReading}
+use Rattle.ima_list.specs.Spelling.{BeginsWith, IsLongest, IsReading}
 use Rattle.boot_log.specs.declared.header.Row.{Row}
+use Rattle.boot_log.specs.declared.fault.LogFault.{LogFault}
+use Rattle.boot_log.specs.LogReading.{FailsAfter, FailsFirst}
 use Rattle.boot_log.specs.Spelling.{LogEvent, IsLog}
-use Rattle.json_texts.specs.EntryJson.{entry_json}
-use Rattle.json_texts.specs.EventJson.{algorithms_json, event_json}
+use Rattle.boot_log.specs.Spelling as spelled
+pub use Rattle.json_texts.specs.ItemLines.{entry_lines, event_lines, numbered_lines}
+pub use Rattle.json_texts.specs.SentEvents.{log_lines}
 use Rattle.json_texts.specs.JsonValues.{line_of}
 use Rattle.json_texts.specs.RegisterJson.{registers_json}
+use Rattle.ima_agent.specs.declared.fault.RunFault.{RunFault}
 use Rattle.ima_agent.specs.declared.fault.RunFault.TheVariants as runs
 use Rattle.ima_agent.specs.JsonFaults.{ToldAsJson}
+use Rattle.ima_agent.specs.Loading.{Holds, Inputs, IsInputFault, OfInput}
 use Rattle.ima_agent.specs.Showing.{AreRegistersAfter}
 
 -- The bytes are a firmware event log, and what is shown is the line of the registers that differ from their reset values after its
@@ -22,25 +27,52 @@ pub record ShowsJsonRegisters (log shown : List ℕ) : Type 0 where
   pub registers : AreRegistersAfter log start now
   pub text_is : shown ≡ line_of (registers_json now start)
 
--- The lines of items one after another, of which the first has this number.
-abbrev pub numbered_lines : {A : Type 0} → (ℕ → A → List ℕ) → ℕ → List A → List ℕ
-numbered_lines line number [] = []
-numbered_lines line number (first ∷ items) = line number first ++ numbered_lines line (number + 1) items
-
--- The lines of entries; they count from 0.
-abbrev pub entry_lines : List ListEntry → List ℕ
-entry_lines entries = numbered_lines (λ number entry. line_of (entry_json number entry)) 0 entries
-
--- The lines of events; they count from 1.
-abbrev pub event_lines : List LogEvent → List ℕ
-event_lines events = numbered_lines (λ number event. line_of (event_json number event)) 1 events
-
--- The bytes are a firmware event log, and what is shown are the line of the algorithms that its header declares, and those of its events.
-pub record ShowsJsonEvents (log shown : List ℕ) : Type 0 where
+-- The bytes are a firmware event log, and what is shown are its lines.
+pub record ShowsAllEvents (log shown : List ℕ) (status : ℕ) : Type 0 where
   pub table : List Row
   pub events : List LogEvent
   pub log_is : IsLog log table events
-  pub text_is : shown ≡ line_of (algorithms_json table) ++ event_lines events
+  pub text_is : shown ≡ log_lines table events
+  pub status_is : status ≡ 0
+
+-- After a header and some events the bytes have a fault, and what is shown are the lines of the header and of these events, and then
+-- that of the fault, with its status.
+pub record ShowsEventsToFault (log shown : List ℕ) (status : ℕ) : Type 0 where
+  pub table : List Row
+  pub events : List LogEvent
+  pub fault : LogFault
+  pub last : List ℕ
+  pub fails : FailsAfter log table events fault
+  pub told : ToldAsJson (runs.Log fault) last status
+  pub text_is : shown ≡ log_lines table events ++ last
+
+-- The bytes begin with no header, and what is shown is the line of the fault, with its status.
+pub record ShowsHeaderFault (log shown : List ℕ) (status : ℕ) : Type 0 where
+  pub fault : LogFault
+  pub fails : FailsFirst log fault
+  pub told : ToldAsJson (runs.Log fault) shown status
+
+-- What can be read of the bytes as a log is shown.
+abbrev pub ShowsJsonEvents : List ℕ → List ℕ → ℕ → Type 0
+ShowsJsonEvents log shown status =
+    ShowsAllEvents log shown status ⊎ ShowsEventsToFault log shown status ⊎ ShowsHeaderFault log shown status
+
+-- The bytes begin with a header and these events, and then memory ran out. What is shown are their lines, and then that of the fault, with
+-- its status.
+pub record RunsOutAfterEvents (log shown : List ℕ) (status : ℕ) : Type 0 where
+  pub table : List Row
+  pub events : List LogEvent
+  pub rest : List ℕ
+  pub last : List ℕ
+  pub begins : spelled.BeginsWith log table events rest
+  pub told : ToldAsJson runs.Memory last status
+  pub text_is : shown ≡ log_lines table events ++ last
+
+-- The log in the file of this name is shown while its events are read, or why it was not loaded.
+abbrev pub ShowsEventsOf : Inputs → List ℕ → List ℕ → ℕ → Type 0
+ShowsEventsOf inputs name shown status =
+    OfInput inputs (Some name) (λ bytes. ShowsJsonEvents bytes shown status ⊎ RunsOutAfterEvents bytes shown status)
+    ⊎ ((fault : RunFault) × IsInputFault inputs (Some name) fault × ToldAsJson fault shown status)
 
 -- The bytes are a measurement list, and what is shown are the lines of its entries.
 pub record ShowsAllEntries (bytes shown : List ℕ) (status : ℕ) : Type 0 where
@@ -63,3 +95,22 @@ pub record ShowsEntriesToFault (bytes shown : List ℕ) (status : ℕ) : Type 0 
 -- What can be read of the bytes as a list is shown.
 abbrev pub ShowsEntries : List ℕ → List ℕ → ℕ → Type 0
 ShowsEntries bytes shown status = ShowsAllEntries bytes shown status ⊎ ShowsEntriesToFault bytes shown status
+
+-- The file of this name begins with these entries, and then its input failed, is longer than an input may be, or memory ran out. What is
+-- shown are the lines of the entries, and then that of the fault, with its status.
+pub record FailsAfterEntries (inputs : Inputs) (name shown : List ℕ) (status : ℕ) : Type 0 where
+  pub bytes : List ℕ
+  pub entries : List ListEntry
+  pub rest : List ℕ
+  pub fault : RunFault
+  pub last : List ℕ
+  pub held : Holds inputs (Some name) bytes
+  pub begins : BeginsWith bytes entries rest
+  pub fault_is : IsInputFault inputs (Some name) fault
+  pub told : ToldAsJson fault last status
+  pub text_is : shown ≡ entry_lines entries ++ last
+
+-- The list in the file of this name is shown while it is read, as far as it comes.
+abbrev pub ShowsEntriesOf : Inputs → List ℕ → List ℕ → ℕ → Type 0
+ShowsEntriesOf inputs name shown status =
+    OfInput inputs (Some name) (λ bytes. ShowsEntries bytes shown status) ⊎ FailsAfterEntries inputs name shown status

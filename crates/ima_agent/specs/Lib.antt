@@ -18,6 +18,7 @@ pub mod JsonFaults
 pub mod JsonShowing
 pub mod JsonJudging
 pub mod JsonOutputs
+pub mod Streaming
 pub mod Program
 pub mod System
 pub mod parts

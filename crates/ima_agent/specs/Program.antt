@@ -15,6 +15,7 @@ use Rattle.command_line.specs.declared.plan.Plan.TheVariants.{Registers, Measure
 use Rattle.ima_agent.specs.JsonFaults.{IsFailure}
 use Rattle.ima_agent.specs.JsonOutputs.{IsJsonOutputFor}
 use Rattle.ima_agent.specs.JsonPlans.{plain_of}
+use Rattle.ima_agent.specs.JsonShowing.{FailsAfterEntries, RunsOutAfterEvents}
 use Rattle.ima_agent.specs.Loading.{Inputs, IsInputFault, OfInput}
 use Rattle.ima_agent.specs.Expecting.{IsNotPrintedFor, IsRangeFault, ShowsExpected}
 use Rattle.ima_agent.specs.ListVerifying.{IsListReportFaultWith, ShowsListReport}
@@ -113,8 +114,9 @@ IsPlainFaultOf inputs (Show list) fault =
 IsPlainFaultOf inputs (Json plan) fault = ⊥
 IsPlainFaultOf inputs (Help text) fault = ⊥
 
--- The fault may come of the plan with `--json`: one of the same without it. But a damaged list is shown as far as it goes.
+-- The fault may come of the plan with `--json`: one of the same without it. But a damaged list or log is shown as far as it goes.
 abbrev pub IsJsonFaultOf : Inputs → JsonPlan → RunFault → Type 0
+IsJsonFaultOf inputs (jsons.Events log) fault = IsInputFault inputs (Some (string_bytes log)) fault
 IsJsonFaultOf inputs (jsons.Show list) fault = IsInputFault inputs (Some (string_bytes list)) fault
 IsJsonFaultOf inputs plan fault = IsPlainFaultOf inputs (plain_of plan) fault
 
@@ -132,10 +134,20 @@ pub record IsPlanOf (words : List (String Global)) (plan : Plan) : Type 0 where
 
 -- ---- outputs that are sent
 
--- The text to be written for the plan, and the status if the sink takes it all: its output, or those of a fault that may come of it.
+-- The output of a plan that is written while its input is read, if it fails in between: what was read till then, and then the fault.
+abbrev pub IsBrokenOff : Inputs → Plan → List ℕ → ℕ → Type 0
+IsBrokenOff inputs (Json (jsons.Events log)) text status =
+    OfInput inputs (Some (string_bytes log)) (λ bytes. RunsOutAfterEvents bytes text status)
+IsBrokenOff inputs (Json (jsons.Show list)) text status = FailsAfterEntries inputs (string_bytes list) text status
+IsBrokenOff inputs plan text status = ⊥
+
+-- The text to be written for the plan, and the status if the sink takes it all: its output, or those of a fault that may come of it; or
+-- the output as far as it came, and the fault.
 abbrev pub IsOutcome : Inputs → Plan → List ℕ → ℕ → Type 0
 IsOutcome inputs plan text status =
-    IsOutputFor inputs plan text status ⊎ ((fault : RunFault) × IsFaultOf inputs plan fault × IsFailure (is_json plan) fault text status)
+    IsOutputFor inputs plan text status
+    ⊎ ((fault : RunFault) × IsFaultOf inputs plan fault × IsFailure (is_json plan) fault text status)
+    ⊎ IsBrokenOff inputs plan text status
 
 -- The same for the arguments: for what they request; if they are refused, the fault's line and its status.
 abbrev pub IsOutput : Inputs → List (String Global) → List ℕ → ℕ → Type 0

@@ -8,3 +8,4 @@ pub mod Verifying
 pub mod Replaying
 pub mod Showing
 pub mod Program
+pub mod Streaming

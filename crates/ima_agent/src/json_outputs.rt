@@ -5,6 +5,7 @@ ghost use Rattle.command_line.specs.Plans.{IsWithinJsonRanges};
 ghost use Rattle.ima_agent.specs.JsonOutputs.{IsJsonOutputFor};
 ghost use Rattle.ima_agent.specs.Program.{IsJsonFaultOf};
 ghost use Rattle.ima_agent.specs.parts.JsonOutputs.{ShowsLines};
+ghost use Rattle.ima_agent.specs.parts.Program.{IsWholeJson};
 
 mod entries;
 mod entries_within;
@@ -21,10 +22,9 @@ use crate::output::{Form, Output};
 use crate::progress::Progress;
 use crate::replaying::replayed;
 use command_line::JsonPlan;
-pub(crate) use entries::entry_lines;
-use entries::shown_entries;
+pub(crate) use entries::{entries_sent, entry_lines};
 pub use entries_within::{FittedOutput, json_entries_within};
-use events::shown_events;
+pub(crate) use events::events_sent;
 use judging::{list_report, places, report};
 pub use judging_bytes::{json_list_report_on, json_places_on, json_report_on};
 pub use registers::json_registers_on;
@@ -33,7 +33,7 @@ use std::alloc::Global;
 use std::sync::Wait;
 use std::thread::Threads;
 
-/// The whole output for this plan.
+/// The whole output for this plan, which is prepared whole.
 pub(crate) fn json_for<R: Threads + Wait + Sync, F: Files, P: Progress>(
     rt: &R,
     alloc: Global,
@@ -41,6 +41,7 @@ pub(crate) fn json_for<R: Threads + Wait + Sync, F: Files, P: Progress>(
     files: &mut F,
     progress: &P,
 ) -> Result<Output, RunFault>
+    requires whole { IsWholeJson plan.now }
     requires within { IsWithinJsonRanges plan.now }
     ensures shown { IfOk result (λ output. IsJsonOutputFor (F.told files.old) plan.now output.text.items output.status) }
     ensures fault { IfErr result (IsJsonFaultOf (F.told files.old) plan.now) }
@@ -63,7 +64,6 @@ pub(crate) fn json_for<R: Threads + Wait + Sync, F: Files, P: Progress>(
             expected,
             required,
         } => list_report(alloc, files, list, expected, required.as_deref()),
-        JsonPlan::Show { list } => shown_entries(alloc, files, list),
         _ => Ok(Output::done(lines_for(rt, alloc, plan, files, progress)?)),
     }
 }
@@ -89,7 +89,6 @@ fn lines_for<R: Threads + Wait + Sync, F: Files, P: Progress>(
             expected_from(alloc, files, printed, registers.as_deref(), Form::Json)
         }
         JsonPlan::RegistersAfter { log } => log_registers(alloc, files, log),
-        JsonPlan::Events { log } => shown_events(alloc, files, log),
         JsonPlan::Replay { list } => replayed(alloc, files, list, Form::Json),
         _ => unreachable!(),
     }

@@ -27,6 +27,7 @@ mod progress;
 mod replaying;
 mod requiring;
 mod showing;
+mod streaming;
 mod system;
 mod texts;
 mod verifying;

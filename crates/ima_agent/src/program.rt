@@ -8,7 +8,7 @@ ghost use Rattle.command_line.specs.Commands.{is_json};
 ghost use Rattle.command_line.specs.declared.plan.Plan.TheVariants.{Help};
 ghost use Rattle.command_line.specs.Plans.{IsWithinRanges};
 ghost use Rattle.ima_agent.specs.Program.{Answers, IsFaultOf, IsOutcome, IsOutput, IsOutputFor, IsOutputOf, status_after};
-ghost use Rattle.ima_agent.specs.parts.Program.{ShowsInputs, ShowsText};
+ghost use Rattle.ima_agent.specs.parts.Program.{IsStreamed, IsWhole, ShowsInputs, ShowsText};
 
 use crate::expecting::expected_from;
 use crate::explaining::Failure;
@@ -18,10 +18,11 @@ use crate::json_outputs::json_for;
 use crate::list_verifying::list_verified;
 use crate::locating::{located, located_with};
 use crate::measuring::measured_for;
-use crate::output::{FAILED, Form, Output};
+use crate::output::{DONE, FAILED, Form, Output};
 use crate::progress::{NoProgress, Progress};
 use crate::replaying::replayed;
 use crate::showing::{registers_after, shown_events, shown_list, shown_registers};
+use crate::streaming::{StreamFault, is_streamed, streamed_for};
 use crate::texts::{json_fault_line, json_memory_line, status_of, write_fault};
 use crate::verifying::{verified, verified_with};
 use crate::words::read_words;
@@ -73,7 +74,9 @@ fn exits_with(status: u8) -> ExitCode
 /// or the report on the list alone and expected registers; `events` writes the lines of a log's events, and `show` those of a list's
 /// entries; and `--help` writes the help.
 ///
-/// The whole output is prepared before its first byte is written; a fault is written as one line. The status is 0 on success, 1
+/// The whole output is prepared before its first byte is written; a fault is written as one line. But `show --json` writes the lines of
+/// the entries while it reads the list, so that memory does not grow with the list, and `events --json` those of the events while it
+/// reads the loaded log: a fault's line then comes after those of the entries or events before it, whatever the fault. The status is 0 on success, 1
 /// if the report does not match, a register's value was not reached or a required register is missing, 2 for refused input, and 3 if
 /// memory ran out, outcomes do not account for the book, or a device failed. After the sink fails, nothing more is written.
 pub fn run<R: Threads + Wait + Sync, F: Files, S: Sink>(
@@ -119,6 +122,53 @@ fn run_plan<R: Threads + Wait + Sync, F: Files, S: Sink, P: Progress>(
     sink: &mut S,
     progress: &P,
 ) -> u8
+    requires within { IsWithinRanges plan }
+    ensures { Answers (IsOutcome (F.told files.old) plan) result (S.state sink.old) (S.state sink.new) }
+{
+    if is_streamed(&plan) {
+        run_streamed(alloc, &plan, words, files, sink, progress)
+    } else {
+        run_whole(rt, alloc, plan, words, files, sink, progress)
+    }
+}
+
+// The same of a plan whose output is written while its input is read.
+fn run_streamed<F: Files, S: Sink, P: Progress>(
+    alloc: Global,
+    plan: &Plan,
+    words: &[String],
+    files: &mut F,
+    sink: &mut S,
+    progress: &P,
+) -> u8
+    requires { IsStreamed plan.now }
+    ensures { Answers (IsOutcome (F.told files.old) plan.now) result (S.state sink.old) (S.state sink.new) }
+{
+    match streamed_for(alloc, plan, files, sink) {
+        Ok(()) => DONE,
+        Err(StreamFault::Sink(Failed)) => {
+            progress.explain(alloc, Failure::Output);
+            FAILED
+        }
+        Err(StreamFault::Run(fault)) => {
+            let status = failed_as_json(alloc, &fault, sink);
+            explain_fault(alloc, &fault, words, progress);
+            status
+        }
+    }
+}
+
+// The same of a plan whose output is prepared whole.
+fn run_whole<R: Threads + Wait + Sync, F: Files, S: Sink, P: Progress>(
+    rt: &R,
+    alloc: Global,
+    plan: Plan,
+    words: &[String],
+    files: &mut F,
+    sink: &mut S,
+    progress: &P,
+) -> u8
+    requires whole { IsWhole plan }
     requires within { IsWithinRanges plan }
     ensures { Answers (IsOutcome (F.told files.old) plan) result (S.state sink.old) (S.state sink.new) }
 {
@@ -211,6 +261,7 @@ fn output_for<R: Threads + Wait + Sync, F: Files, P: Progress>(
     files: &mut F,
     progress: &P,
 ) -> Result<Output, RunFault>
+    requires whole { IsWhole plan }
     requires within { IsWithinRanges plan }
     ensures shown { IfOk result (λ output. IsOutputFor (F.told files.old) plan output.text.items output.status) }
     ensures fault { IfErr result (IsFaultOf (F.told files.old) plan) }
@@ -240,6 +291,7 @@ fn shown_for<R: Threads + Wait + Sync, F: Files, P: Progress>(
     progress: &P,
 ) -> Result<Output, RunFault>
     requires inputs { ShowsInputs plan.now }
+    requires whole { IsWhole plan.now }
     requires within { IsWithinRanges plan.now }
     ensures shown { IfOk result (λ output. IsOutputFor (F.told files.old) plan.now output.text.items output.status) }
     ensures fault { IfErr result (IsFaultOf (F.told files.old) plan.now) }

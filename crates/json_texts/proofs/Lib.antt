@@ -3,3 +3,5 @@ pub mod WrittenLaws
 pub mod EntryLaws
 pub mod SameEntryLaws
 pub mod ValueLaws
+pub mod SentLaws
+pub mod SentEventLaws

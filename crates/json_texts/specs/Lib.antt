@@ -6,4 +6,7 @@ pub mod MissingJson
 pub mod ReportJson
 pub mod PlaceJson
 pub mod EventJson
+pub mod ItemLines
+pub mod SentEntries
+pub mod SentEvents
 pub mod parts

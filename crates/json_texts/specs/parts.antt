@@ -1,2 +1,4 @@
 pub mod WrittenParts
 pub mod KnownEntries
+pub mod EntryLinesParts
+pub mod EventLinesParts

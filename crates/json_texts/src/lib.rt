@@ -1,10 +1,13 @@
 //! What this project tells, as lines of JSON (RFC 8259): reports, places, registers, a log's events, a list's entries, and faults.
 //!
 //! Each value is an object on one line, in UTF-8. Its members have a fixed order. Numbers are JSON numbers; digests and data are strings
-//! of lower case hexadecimal digits. A line is appended to a vector of the caller's, which [`send_line`] empties into a sink.
+//! of lower case hexadecimal digits. A line is appended to a vector of the caller's, which [`send_line`] empties into a sink;
+//! [`send_entries`] sends the lines of a list, and [`send_events`] those of a log, while it is read.
 #![tactic(auto)]
 
 mod entries;
+mod entry_lines;
+mod event_lines;
 mod events;
 mod expected;
 mod faults;
@@ -17,6 +20,8 @@ mod registers;
 mod reports;
 
 pub use entries::append_entry;
+pub use entry_lines::{EntriesFault, send_entries};
+pub use event_lines::{EventsFault, send_events};
 pub use events::{append_algorithms, append_event};
 pub use expected::append_expected;
 pub use faults::{FaultPlace, FaultText, append_fault};

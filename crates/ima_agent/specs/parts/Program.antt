@@ -1,4 +1,6 @@
 -- Plans by what they show.
+use Rattle.command_line.specs.declared.json_plan.JsonPlan.{JsonPlan}
+use Rattle.command_line.specs.declared.json_plan.JsonPlan.TheVariants as jsons
 use Rattle.command_line.specs.declared.plan.Plan.{Plan}
 use Rattle.command_line.specs.declared.plan.Plan.TheVariants.{Verify, VerifyRequired, Locate, LocateRequired, ReplayExpected, Json, Help}
 
@@ -17,3 +19,20 @@ ShowsText (LocateRequired log list expected required) = ⊥
 ShowsText (ReplayExpected list expected required) = ⊥
 ShowsText (Json plan) = ⊥
 ShowsText plan = Unit {0}
+
+-- The output of the plan is written while its input is read.
+abbrev pub IsStreamed : Plan → Type 0
+IsStreamed (Json (jsons.Events log)) = Unit {0}
+IsStreamed (Json (jsons.Show list)) = Unit {0}
+IsStreamed plan = ⊥
+
+-- The output of the plan with `--json` is prepared whole.
+abbrev pub IsWholeJson : JsonPlan → Type 0
+IsWholeJson (jsons.Events log) = ⊥
+IsWholeJson (jsons.Show list) = ⊥
+IsWholeJson plan = Unit {0}
+
+-- The output of the plan is prepared whole.
+abbrev pub IsWhole : Plan → Type 0
+IsWhole (Json plan) = IsWholeJson plan
+IsWhole plan = Unit {0}

@@ -1,37 +1,70 @@
 //! The entries of a list with `--json`.
 
-ghost use Rattle.std.specs.Prelude.{◌≡◌, ◌++◌, List, ℕ, Some, IfOk, IfErr, OnOk};
+ghost use Rattle.std.specs.Prelude.{◌≡◌, ◌++◌, List, ℕ, IfOk};
 ghost use Rattle.ima_agent.specs.JsonFaults.{ToldAsJson};
-ghost use Rattle.ima_agent.specs.JsonShowing.{ShowsEntries, entry_lines};
-ghost use Rattle.ima_agent.specs.Loading.{IsInputFault, OfInput};
+ghost use Rattle.ima_agent.specs.JsonShowing.{ShowsEntries, ShowsEntriesOf, entry_lines};
+ghost use Rattle.ima_agent.specs.Streaming.{Streams};
+ghost use Rattle.ima_agent.specs.parts.Streaming.{IsStreamFaultOf, SendsEntriesOf};
 
 use crate::fault::RunFault;
 use crate::files::Files;
-use crate::inputs::loaded;
+use crate::inputs::{INPUT_LIMIT, not_read, too_long};
 use crate::output::Output;
+use crate::streaming::StreamFault;
 use crate::texts::{append_json_fault, status_of};
+use byte_streams::{Failed, Sink, Source};
 use ima_list::laws::entries_to_the_end_are_the_reading;
 use ima_list::{Entry, EntryRef};
-use json_texts::append_entry;
+use json_texts::{EntriesFault, append_entry, send_entries};
 use std::alloc::{AllocError, Global};
 
-/// The lines of the entries of the list in the file of this name; of a damaged one those of the entries before its fault, and then the
-/// fault's, with its status.
-pub(super) fn shown_entries<F: Files>(
+/// Sends the lines of the entries of the list in the file of this name while it is read; of a damaged one those of the entries before
+/// its fault.
+pub(crate) fn entries_sent<F: Files, S: Sink>(
     alloc: Global,
     files: &mut F,
     list: &str,
-) -> Result<Output, RunFault>
-    ensures shown { IfOk result (λ output. OfInput (F.told files.old) (Some list.now)
-        (λ bytes. ShowsEntries bytes output.text.items output.status)) }
-    ensures fault { IfErr result (IsInputFault (F.told files.old) (Some list.now)) }
+    sink: &mut S,
+) -> Result<(), StreamFault>
+    ensures { Streams (ShowsEntriesOf (F.told files.old) list.now) (S.state sink.old) (S.state sink.new) result }
 {
-    let bytes = loaded(alloc, files, Some(list))?;
-    Ok(entries_of(alloc, &bytes)?)
+    match files.source(Some(list)) {
+        Ok(mut source) => entries_from(alloc, &mut source, list, sink),
+        Err(Failed) => Err(StreamFault::Run(not_read(alloc, list))),
+    }
 }
 
-// The same of these bytes.
-fn entries_of(alloc: Global, list: &[u8]) -> Result<Output, AllocError>
+// The same of the list that the source of this name has left.
+fn entries_from<R: Source, S: Sink>(
+    alloc: Global,
+    source: &mut R,
+    name: &str,
+    sink: &mut S,
+) -> Result<(), StreamFault>
+    ensures { SendsEntriesOf name.now (R.state source.old) (R.state source.new) (S.state sink.old) (S.state sink.new) result }
+{
+    match send_entries(alloc, source, INPUT_LIMIT, sink) {
+        Ok(()) => Ok(()),
+        Err(fault) => Err(stream_fault(alloc, name, fault)),
+    }
+}
+
+// Why not all entries of the input of this name were sent.
+fn stream_fault(alloc: Global, name: &str, fault: EntriesFault) -> StreamFault
+    ensures { IsStreamFaultOf name.now fault result }
+{
+    match fault {
+        EntriesFault::Sink => StreamFault::Sink(Failed),
+        EntriesFault::List(fault) => StreamFault::Run(fault.into()),
+        EntriesFault::Source => StreamFault::Run(not_read(alloc, name)),
+        EntriesFault::TooLong => StreamFault::Run(too_long(alloc, name)),
+        EntriesFault::Memory => StreamFault::Run(RunFault::Memory),
+    }
+}
+
+/// The lines of the entries of the list in these bytes; of a damaged one those of the entries before its fault, and then the fault's,
+/// with its status.
+pub(crate) fn entries_of(alloc: Global, list: &[u8]) -> Result<Output, AllocError>
     ensures { IfOk result (λ output. ShowsEntries list.now output.text.items output.status) }
 {
     entries_to_the_end_are_the_reading();
@@ -51,8 +84,8 @@ fn entries_of(alloc: Global, list: &[u8]) -> Result<Output, AllocError>
     Ok(Output::done(text))
 }
 
-// These lines, and then that of the fault, with its status.
-fn ended(alloc: Global, lines: Vec<u8>, fault: &RunFault) -> Result<Output, AllocError>
+/// These lines, and then that of the fault, with its status.
+pub(super) fn ended(alloc: Global, lines: Vec<u8>, fault: &RunFault) -> Result<Output, AllocError>
     ensures { IfOk result (λ output. (last : List ℕ) × ToldAsJson fault.now last output.status × (output.text.items ≡ lines.items ++ last)) }
 {
     let mut text = lines;

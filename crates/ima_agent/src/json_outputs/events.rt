@@ -1,50 +1,65 @@
 //! The events of a log with `--json`.
 
-ghost use Rattle.std.specs.Prelude.{◌≡◌, ◌++◌, ◌⊎◌, map, Some, IfOk, IfErr, OnOk};
-ghost use Rattle.boot_log.specs.Spelling.{log_event_of};
-ghost use Rattle.ima_agent.specs.JsonShowing.{ShowsJsonEvents, event_lines};
-ghost use Rattle.ima_agent.specs.Loading.{IsInputFault, OfInput};
-ghost use Rattle.ima_agent.specs.Showing.{IsNoLogFor};
+ghost use Rattle.std.specs.Prelude.{IfOk};
+ghost use Rattle.ima_agent.specs.JsonShowing.{ShowsEventsOf, ShowsJsonEvents};
+ghost use Rattle.ima_agent.specs.Streaming.{Streams};
+ghost use Rattle.ima_agent.specs.parts.Streaming.{ShowsEventsIn};
 
 use crate::fault::RunFault;
 use crate::files::Files;
 use crate::inputs::loaded;
-use boot_log::{Event, read_log};
-use json_texts::{append_algorithms, append_event};
+use crate::json_outputs::entries::ended;
+use crate::output::Output;
+use crate::streaming::StreamFault;
+use boot_log::LogReader;
+use byte_streams::{Failed, Sink};
+use json_texts::{EventsFault, append_algorithms, append_event, send_events};
 use std::alloc::{AllocError, Global};
 
-/// The line of the algorithms that the log in the file of this name declares, and the lines of its events.
-pub(super) fn shown_events<F: Files>(
+/// Sends the line of the algorithms that the log in the file of this name declares, and the lines of its events while they are read; of a
+/// damaged one those before its fault.
+pub(crate) fn events_sent<F: Files, S: Sink>(
     alloc: Global,
     files: &mut F,
     log: &str,
-) -> Result<Vec<u8>, RunFault>
-    ensures shown { IfOk result (λ shown. OfInput (F.told files.old) (Some log.now) (λ bytes. ShowsJsonEvents bytes shown.items)) }
-    ensures fault { IfErr result (λ fault. IsInputFault (F.told files.old) (Some log.now) fault
-        ⊎ OfInput (F.told files.old) (Some log.now) (λ bytes. IsNoLogFor bytes fault)) }
+    sink: &mut S,
+) -> Result<(), StreamFault>
+    ensures { Streams (ShowsEventsOf (F.told files.old) log.now) (S.state sink.old) (S.state sink.new) result }
 {
-    let bytes = loaded(alloc, files, Some(log))?;
-    events_of(alloc, &bytes)
-}
-
-// The same of these bytes.
-fn events_of(alloc: Global, bytes: &[u8]) -> Result<Vec<u8>, RunFault>
-    ensures shown { IfOk result (λ shown. ShowsJsonEvents bytes.now shown.items) }
-    ensures fault { IfErr result (IsNoLogFor bytes.now) }
-{
-    let log = read_log(alloc, bytes)?;
-    let mut text = Vec::new(alloc);
-    append_algorithms(alloc, log.declared(), &mut text)?;
-    append_events(alloc, log.events(), &mut text)?;
-    Ok(text)
-}
-
-// Appends the lines of events, one after another.
-fn append_events(alloc: Global, events: &[Event<'_>], text: &mut Vec<u8>) -> Result<(), AllocError>
-    ensures { OnOk result (text.new.items ≡ text.old.items ++ event_lines (map log_event_of events.now)) }
-{
-    for number in 0..events.len() {
-        append_event(alloc, number + 1, &events[number], text)?;
+    match loaded(alloc, files, Some(log)) {
+        Ok(bytes) => events_in(alloc, &bytes, sink),
+        Err(fault) => Err(StreamFault::Run(fault)),
     }
-    Ok(())
+}
+
+// The same of the log in these bytes.
+fn events_in<S: Sink>(alloc: Global, log: &[u8], sink: &mut S) -> Result<(), StreamFault>
+    ensures { Streams (ShowsEventsIn log.now) (S.state sink.old) (S.state sink.new) result }
+{
+    match send_events(alloc, log, sink) {
+        Ok(()) => Ok(()),
+        Err(EventsFault::Sink) => Err(StreamFault::Sink(Failed)),
+        Err(EventsFault::Log(fault)) => Err(StreamFault::Run(RunFault::Log(fault))),
+        Err(EventsFault::Memory) => Err(StreamFault::Run(RunFault::Memory)),
+    }
+}
+
+/// The line of the algorithms that the log in these bytes declares, and the lines of its events; of a damaged one those before its fault,
+/// and then the fault's, with its status.
+pub(crate) fn events_of(alloc: Global, log: &[u8]) -> Result<Output, AllocError>
+    ensures { IfOk result (λ output. ShowsJsonEvents log.now output.text.items output.status) }
+{
+    let mut text = Vec::new(alloc);
+    let mut reader = match LogReader::new(log) {
+        Ok(reader) => reader,
+        Err(fault) => return ended(alloc, text, &RunFault::Log(fault)),
+    };
+    append_algorithms(alloc, reader.declared(), &mut text)?;
+    loop {
+        match reader.next_event() {
+            Ok(Some(event)) => append_event(alloc, reader.count(), &event, &mut text)?,
+            Ok(None) => return Ok(Output::done(text)),
+            Err(fault) => return ended(alloc, text, &RunFault::Log(fault)),
+        }
+    }
 }

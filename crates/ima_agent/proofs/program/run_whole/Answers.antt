@@ -1,5 +1,5 @@
 use Rattle.std.proofs.Common.{inl, inr}
-use Rattle.ima_agent.proofs.program.run_plan.Goals as goal
+use Rattle.ima_agent.proofs.program.run_whole.Goals as goal
 
 pub returns-in-Ok : goal.returns-in-Ok
 returns-in-Ok g c = record {
@@ -18,7 +18,7 @@ returns-in-Err g c =
       text = said.text;
       status = said.status;
       sent = said.sent;
-      output = inr (c.in-Err.fault, c.in-Err.ensures.fault, rw c.is_json-json.ensures at said.output);
+      output = inr (inl (c.in-Err.fault, c.in-Err.ensures.fault, rw c.is_json-json.ensures at said.output));
       sends = said.sends;
       answer_is = said.answer_is;
     }

@@ -1,0 +1,331 @@
+-- Outputs that are written while their input is read: what was sent of a list is what the program is asked for.
+use Rattle.std.proofs.Common.{◌≡◌, ◌⊎◌, ℕ, ◌+◌, ◌<◌, ◌≤◌, true, List, [], ◌++◌, length, Option, None, Some, Result, Ok, Err, refl, sym, ap, subst, ◌∙◌, append_assoc, append-nil, arith, inl, inr, codes, string_bytes}
+use Rattle.std.specs.Prelude.{IfSome, IsTrue, String}
+use Rattle.std.specs.Global.{Global}
+use Rattle.std.specs.Io.KnownBytes.{IsAtEnd}
+use Rattle.std.proofs.lemmas.List.{length-append}
+use Rattle.std.proofs.lemmas.Option.{same_Some}
+use Rattle.byte_streams.specs.declared.streams.Failed.{Failed}
+use Rattle.byte_streams.specs.Streams.{Sends, SinkState, SourceState, TakesPart}
+use Rattle.byte_streams.proofs.SinkLaws.{Sends-none, Sends-then}
+use Rattle.ima_list.specs.declared.fault.ListFault.{ListFault}
+use Rattle.ima_list.specs.declared.fault.ListFault.TheVariants as lists
+use Rattle.ima_list.specs.ListEntry.{ListEntry}
+use Rattle.ima_list.specs.ListFaults.{list_fault_entry}
+use Rattle.ima_list.specs.Spelling.{BeginsWith, IsLongest, IsReading, list_spelling}
+use Rattle.boot_verdict.specs.ListSources.{CameFrom, FailsFor}
+use Rattle.json_texts.specs.declared.entry_lines.EntriesFault.{EntriesFault}
+use Rattle.json_texts.specs.declared.entry_lines.EntriesFault.TheVariants as entries
+use Rattle.json_texts.specs.FaultJson.{fault_json}
+use Rattle.json_texts.specs.ItemLines.{entry_lines}
+use Rattle.json_texts.specs.JsonValues.{line_of}
+use Rattle.json_texts.specs.SentEntries.{SendsEntries}
+use Rattle.command_line.specs.declared.json_plan.JsonPlan.TheVariants as jsons
+use Rattle.command_line.specs.declared.plan.Plan.TheVariants.{Json}
+use Rattle.ima_agent.specs.declared.fault.RunFault.{RunFault}
+use Rattle.ima_agent.specs.declared.fault.RunFault.TheVariants as runs
+use Rattle.ima_agent.specs.declared.streaming.StreamFault.{StreamFault}
+use Rattle.ima_agent.specs.declared.streaming.StreamFault.TheVariants as streams
+use Rattle.ima_agent.specs.JsonFaults.{IsFailure, IsFaultAsJson, ToldAsJson}
+use Rattle.ima_agent.specs.JsonShowing.{FailsAfterEntries, ShowsEntries, ShowsEntriesOf}
+use Rattle.ima_agent.specs.Faults.{fault_of_list}
+use Rattle.ima_agent.specs.Loading.{HasFailed, Holds, HoldsTooMuch, Inputs, IsInputFault, IsNotRead, IsTooLong, input_limit}
+use Rattle.ima_agent.specs.Program.{Answers, IsOutcome}
+use Rattle.ima_agent.specs.Streaming.{GoesOn, Streams, as_sent}
+use Rattle.ima_agent.specs.parts.Streaming.{IsStreamFaultOf, IsStreamResultOf, SendsEntriesOf}
+use Rattle.ima_agent.proofs.EntryLineLaws.{fault_count}
+use Rattle.ima_agent.proofs.VerifyingLaws.{HasAll, held_more, held_whole, longer}
+
+-- ---- sinks
+
+-- A text that was sent, whatever value or fault the call returns.
+sent_ok : {A B E F : Type 0} (old new : SinkState) (value : A) (other : B) (text : List ℕ) → Sends {A = A} {E = E} old new (Ok value) text
+    → Sends {A = B} {E = F} old new (Ok other) text
+sent_ok old new value other text sends = record { ok = sends.ok; part = sends.part; telling = sends.telling; counts = sends.counts }
+
+sent_err : {A B E F : Type 0} (old new : SinkState) (fault : E) (other : F) (text : List ℕ) → Sends {A = A} {E = E} old new (Err fault) text
+    → Sends {A = B} {E = F} old new (Err other) text
+sent_err old new fault other text sends = record { ok = tt; part = sends.part; telling = sends.telling; counts = sends.counts }
+
+-- A sink that failed in a text did not take more.
+pub sent_less : {A B E F : Type 0} (old new : SinkState) (fault : E) (other : F) (text more : List ℕ)
+    → Sends {A = A} {E = E} old new (Err fault) text → Sends {A = B} {E = F} old new (Err other) (text ++ more)
+sent_less old new fault other text more sends = record {
+  ok = tt;
+  part = record {
+    front = sends.part.front;
+    rest = sends.part.rest ++ more;
+    whole = ap (λ (t : List ℕ). t ++ more) sends.part.whole ∙ append_assoc sends.part.front sends.part.rest more;
+    taken = sends.part.taken;
+  };
+  telling = sends.telling;
+  counts = sends.counts;
+}
+
+-- ---- the line of `Memory`, of which there is always one
+
+pub memory_told : ToldAsJson runs.Memory (line_of (fault_json (Some (codes "memory")) None None (codes "failed: memory"))) 3
+memory_told = (record { message = codes "failed: memory"; message_is = refl; text_is = refl }, refl)
+
+-- ---- the entries of a list
+
+held_any : (told : Option (List ℕ)) → (all : List ℕ) × IfSome told (λ bytes. all ≡ bytes)
+held_any None = ([], tt)
+held_any (Some bytes) = (bytes, refl)
+
+too_much : (told old new : Option (List ℕ)) (limit : ℕ) (list over : List ℕ) → HasAll told old → CameFrom old new limit list over
+    → length list ≡ limit → 0 < length over → IfSome told (λ all. limit < length all)
+too_much None old new limit list over has came size some = tt
+too_much (Some all) old new limit list over has came size some =
+    let more = longer (Some all) old new limit list over has came some in
+    omega (arith, size, more.1, ap length more.2, length-append list more.0)
+
+module _ (inputs : Inputs) (name : List ℕ) where
+  -- The line of a fault of the input, or of memory, follows the lines of entries.
+  fails_after : (bytes : List ℕ) (es : List ListEntry) (rest : List ℕ) (fault : RunFault) → Holds inputs (Some name) bytes
+      → BeginsWith bytes es rest → IsInputFault inputs (Some name) fault → (last : List ℕ) (status : ℕ) → IsFailure true fault last status
+      → ShowsEntriesOf inputs name (entry_lines es ++ last) status
+  fails_after bytes es rest fault held begins is last status (inl told) = inr (record {
+    bytes = bytes;
+    entries = es;
+    rest = rest;
+    fault = fault;
+    last = last;
+    held = held;
+    begins = begins;
+    fault_is = is;
+    told = told;
+    text_is = refl;
+  })
+  fails_after bytes es rest fault held begins is last status (inr told) = inr (record {
+    bytes = bytes;
+    entries = es;
+    rest = rest;
+    fault = runs.Memory;
+    last = last;
+    held = held;
+    begins = begins;
+    fault_is = inr (inr refl);
+    told = told;
+    text_is = refl;
+  })
+
+  -- The input was not opened.
+  pub not_opened : (sink : SinkState) (fault : RunFault) → IsNotRead name fault ⊎ (fault ≡ runs.Memory) → IsTrue (inputs.may_fail (Some name))
+      → Streams (ShowsEntriesOf inputs name) sink sink (Err (streams.Run fault))
+  not_opened sink fault cause may =
+      let any = held_any (inputs.held (Some name)) in
+      let is : IsInputFault inputs (Some name) fault = elim cause [
+        | inl says ↦ inr (inl (says, may))
+        | inr memory ↦ inr (inr memory)
+      ] in
+      record {
+        text = [];
+        sends = Sends-none sink tt;
+        goes_on = fails_after any.0 [] any.0 fault any.1 (record { are = tt; parts = refl }) is;
+      }
+
+  -- The line of the list's fault, or of memory, follows those of the entries before it.
+  damaged : (bytes : List ℕ) (es : List ListEntry) (rest : List ℕ) (first : ListFault) → Holds inputs (Some name) bytes
+      → BeginsWith bytes es rest → IsReading bytes (Err first) → list_fault_entry first ≡ Some (length es)
+      → (last : List ℕ) (status : ℕ) → IsFailure true (runs.List first) last status → ShowsEntriesOf inputs name (entry_lines es ++ last) status
+  damaged bytes es rest first held begins reading names last status (inl told) =
+      let count = fault_count reading.rest (length reading.entries) (length es) first reading.fault_is names in
+      inl (
+        bytes,
+        held,
+        inr (record {
+          entries = es;
+          rest = rest;
+          fault = first;
+          last = last;
+          longest = record {
+            begins = begins;
+            longest = λ others left starts. omega (arith, count, reading.longest.longest others left starts);
+          };
+          reading = reading;
+          told = told;
+          text_is = refl;
+        }),
+      )
+  damaged bytes es rest first held begins reading names last status (inr told) =
+      fails_after bytes es rest runs.Memory held begins (inr (inr refl)) last status (inl told)
+
+  module _ (old new : SourceState) (sink_old sink_new : SinkState) (has : HasAll (inputs.held (Some name)) old.remaining)
+      (failing : HasFailed old new → IsTrue (inputs.may_fail (Some name))) where
+    -- What came of the input, and its entries.
+    record Came (list over : List ℕ) (es : List ListEntry) : Type 0 where
+      all : List ℕ
+      more : List ℕ
+      rest : List ℕ
+      held : Holds inputs (Some name) all
+      parts : all ≡ list ++ more
+      begins : BeginsWith all es rest
+
+    came_of : (list over : List ℕ) (es : List ListEntry) (rest : List ℕ) → CameFrom old.remaining new.remaining input_limit list over
+        → BeginsWith list es rest → Came list over es
+    came_of list over es rest came begins =
+        let more = held_more (inputs.held (Some name)) old.remaining new.remaining input_limit list over has came in
+        record {
+          all = more.all;
+          more = more.more;
+          rest = rest ++ more.more;
+          held = more.held;
+          parts = more.parts;
+          begins = record {
+            are = begins.are;
+            parts = more.parts ∙ ap (λ (l : List ℕ). l ++ more.more) begins.parts ∙ append_assoc (list_spelling es) rest more.more;
+          };
+        }
+
+    whole_of : (list over : List ℕ) → CameFrom old.remaining new.remaining input_limit list over → over ≡ [] → IsAtEnd new.remaining
+        → Holds inputs (Some name) list
+    whole_of list over came none end =
+        held_whole (inputs.held (Some name)) old.remaining new.remaining input_limit list has
+        (record { came = subst (CameFrom old.remaining new.remaining input_limit list) none came; end = end })
+
+    -- Another fault than `Truncated`, which no more bytes mend.
+    lasting : (first : ListFault) (sends : SendsEntries old.remaining new.remaining input_limit sink_old sink_new (Err (entries.List first)))
+        → FailsFor sends.list first → list_fault_entry first ≡ Some (length sends.entries)
+        → Sends {A = Unit {0}} {E = EntriesFault} sink_old sink_new (Ok tt) (entry_lines sends.entries)
+        → Streams (ShowsEntriesOf inputs name) sink_old sink_new (Err (streams.Run (runs.List first)))
+    lasting first sends fails names sent =
+        let came = came_of sends.list sends.over sends.entries sends.rest sends.came sends.begins in
+        record {
+          text = entry_lines sends.entries;
+          sends = sent_ok sink_old sink_new tt tt (entry_lines sends.entries) sent;
+          goes_on = damaged came.all sends.entries came.rest first came.held came.begins
+              (subst (λ (l : List ℕ). IsReading l (Err first)) (sym came.parts) (fails.1 came.more)) names;
+        }
+
+    -- The input, or memory, failed.
+    breaks_off : (list over : List ℕ) (es : List ListEntry) (rest : List ℕ) (fault : RunFault)
+        → CameFrom old.remaining new.remaining input_limit list over → BeginsWith list es rest
+        → Sends {A = Unit {0}} {E = EntriesFault} sink_old sink_new (Ok tt) (entry_lines es) → IsInputFault inputs (Some name) fault
+        → Streams (ShowsEntriesOf inputs name) sink_old sink_new (Err (streams.Run fault))
+    breaks_off list over es rest fault from begins sent is =
+        let came = came_of list over es rest from begins in
+        record {
+          text = entry_lines es;
+          sends = sent_ok sink_old sink_new tt tt (entry_lines es) sent;
+          goes_on = fails_after came.all es came.rest fault came.held came.begins is;
+        }
+
+    source_fault : (fault : RunFault) → HasFailed old new → IsNotRead name fault ⊎ (fault ≡ runs.Memory) → IsInputFault inputs (Some name) fault
+    source_fault fault failed (inl says) = inr (inl (says, failing failed))
+    source_fault fault failed (inr memory) = inr (inr memory)
+
+    long_fault : (fault : RunFault) → HoldsTooMuch inputs (Some name) → IsTooLong name fault ⊎ (fault ≡ runs.Memory)
+        → IsInputFault inputs (Some name) fault
+    long_fault fault long (inl says) = inl (says, long)
+    long_fault fault long (inr memory) = inr (inr memory)
+
+    -- What was sent of the entries is what is asked for.
+    shown : (first : Result (Unit {0}) EntriesFault) (result : Result (Unit {0}) StreamFault)
+        → SendsEntries old.remaining new.remaining input_limit sink_old sink_new first → IsStreamResultOf name first result
+        → (first ≡ Err entries.Source → HasFailed old new) → Streams (ShowsEntriesOf inputs name) sink_old sink_new result
+    shown (Ok tt) result sends is failed = rw is (record {
+      text = entry_lines sends.entries;
+      sends = sent_ok sink_old sink_new tt tt (entry_lines sends.entries) sends.sends;
+      goes_on = inl (
+        sends.list,
+        whole_of sends.list sends.over sends.came sends.ends.0 sends.ends.1,
+        inl (record { entries = sends.entries; reading = sends.ends.2; text_is = refl; status_is = refl }),
+      );
+    })
+    shown (Err entries.Sink) result sends (fault, is, says) failed =
+        let came = came_of sends.list sends.over sends.entries sends.rest sends.came sends.begins in
+        rw (is, says.1) (record {
+          text = entry_lines sends.entries;
+          sends = sent_err sink_old sink_new entries.Sink says.0 (entry_lines sends.entries) sends.sends;
+          goes_on = (
+            line_of (fault_json (Some (codes "memory")) None None (codes "failed: memory")),
+            3,
+            fails_after came.all sends.entries came.rest runs.Memory came.held came.begins (inr (inr refl))
+            (line_of (fault_json (Some (codes "memory")) None None (codes "failed: memory"))) 3 (inl memory_told),
+          );
+        })
+    shown (Err (entries.List (lists.Truncated entry))) result sends (fault, is, says) failed =
+        rw (is, says) (record {
+          text = entry_lines sends.entries;
+          sends = sent_ok sink_old sink_new tt tt (entry_lines sends.entries) sends.sends;
+          goes_on = damaged sends.list sends.entries sends.rest (lists.Truncated entry)
+              (whole_of sends.list sends.over sends.came sends.ends.0 sends.ends.1) sends.begins sends.ends.2
+              (ap (λ (n : ℕ). Some n) sends.ends.3);
+        })
+    shown (Err (entries.List (lists.BadRegister entry))) result sends (fault, is, says) failed =
+        rw (is, says) (lasting (lists.BadRegister entry) sends sends.ends.0 sends.ends.1 sends.sends)
+    shown (Err (entries.List (lists.NameTooLong entry))) result sends (fault, is, says) failed =
+        rw (is, says) (lasting (lists.NameTooLong entry) sends sends.ends.0 sends.ends.1 sends.sends)
+    shown (Err (entries.List lists.Memory)) result sends (fault, is, says) failed = absurd sends.ends.0.0
+    shown (Err entries.Source) result sends (fault, is, says) failed =
+        rw (is, says.1) (breaks_off sends.list sends.over sends.entries sends.rest says.0 sends.came sends.begins sends.sends
+        (source_fault says.0 (failed refl) says.2))
+    shown (Err entries.TooLong) result sends (fault, is, says) failed =
+        rw (is, says.1) (breaks_off sends.list sends.over sends.entries sends.rest says.0 sends.came sends.begins sends.sends
+        (long_fault says.0 (too_much (inputs.held (Some name)) old.remaining new.remaining input_limit sends.list sends.over has sends.came sends.ends.0
+        sends.ends.1) says.2))
+    shown (Err entries.Memory) result sends (fault, is, says) failed =
+        rw (is, says) (breaks_off sends.list sends.over sends.entries sends.rest runs.Memory sends.came sends.begins sends.sends (inr (inr refl)))
+
+    pub entries_shown : (result : Result (Unit {0}) StreamFault) → SendsEntriesOf name old new sink_old sink_new result
+        → Streams (ShowsEntriesOf inputs name) sink_old sink_new result
+    entries_shown result of = shown of.first result of.sends of.result_is of.failed
+
+-- ---- the outcome of a plan
+
+-- What is asked for in one way is asked for in another.
+pub streams_so : (P Q : List ℕ → ℕ → Type 0) (old new : SinkState) (result : Result (Unit {0}) StreamFault)
+    → ((text : List ℕ) (status : ℕ) → P text status → Q text status) → Streams P old new result → Streams Q old new result
+streams_so P Q old new (Ok tt) so sent = record { text = sent.text; sends = sent.sends; goes_on = so sent.text 0 sent.goes_on }
+streams_so P Q old new (Err (streams.Sink failed)) so sent =
+    record {
+      text = sent.text;
+      sends = sent.sends;
+      goes_on = (sent.goes_on.0, sent.goes_on.1, so (sent.text ++ sent.goes_on.0) sent.goes_on.1 sent.goes_on.2);
+    }
+streams_so P Q old new (Err (streams.Run fault)) so sent =
+    record {
+      text = sent.text;
+      sends = sent.sends;
+      goes_on = λ last status failure. so (sent.text ++ last) status (sent.goes_on last status failure);
+    }
+
+pub entries_outcome : (inputs : Inputs) (list : String Global) (text : List ℕ) (status : ℕ)
+    → ShowsEntriesOf inputs (string_bytes list) text status → IsOutcome inputs (Json (jsons.Show list)) text status
+entries_outcome inputs list text status (inl shows) = inl shows
+entries_outcome inputs list text status (inr fails) = inr (inr fails)
+
+-- ---- the answer to what was sent
+
+pub answers_done : (P : List ℕ → ℕ → Type 0) (old new : SinkState) → Streams P old new (Ok tt) → Answers P 0 old new
+answers_done P old new sent = record {
+  text = sent.text;
+  status = 0;
+  sent = Ok tt;
+  output = sent.goes_on;
+  sends = sent.sends;
+  answer_is = refl;
+}
+
+pub answers_cut : (P : List ℕ → ℕ → Type 0) (old new : SinkState) (failed : Failed) → Streams P old new (Err (streams.Sink failed))
+    → Answers P 3 old new
+answers_cut P old new failed sent = record {
+  text = sent.text ++ sent.goes_on.0;
+  status = sent.goes_on.1;
+  sent = Err failed;
+  output = sent.goes_on.2;
+  sends = sent_less old new failed failed sent.text sent.goes_on.0 sent.sends;
+  answer_is = refl;
+}
+
+pub answers_failed : (P : List ℕ → ℕ → Type 0) (old mid new : SinkState) (fault : RunFault) (answer : ℕ)
+    → Streams P old mid (Err (streams.Run fault)) → Answers (IsFailure true fault) answer mid new → Answers P answer old new
+answers_failed P old mid new fault answer sent told = record {
+  text = sent.text ++ told.text;
+  status = told.status;
+  sent = told.sent;
+  output = sent.goes_on told.text told.status told.output;
+  sends = Sends-then old mid new tt told.sent sent.text told.text sent.sends told.sends;
+  answer_is = told.answer_is;
+}

@@ -1,0 +1,50 @@
+//! Outputs that are written while their input is read.
+
+ghost use Rattle.std.specs.Prelude.{◌≡◌, true, false};
+ghost use Rattle.ima_agent.specs.Program.{IsOutcome};
+ghost use Rattle.ima_agent.specs.Streaming.{Streams};
+ghost use Rattle.ima_agent.specs.parts.Program.{IsStreamed, IsWhole};
+
+use crate::fault::RunFault;
+use crate::files::Files;
+use crate::json_outputs::{entries_sent, events_sent};
+use byte_streams::{Failed, Sink};
+use command_line::{JsonPlan, Plan};
+use std::alloc::Global;
+
+/// Why an output that is written while its input is read was not written to its end.
+#[derive(Debug, Drop)]
+pub(crate) enum StreamFault {
+    /// The sink failed.
+    Sink(Failed),
+    /// The run failed after what was written.
+    Run(RunFault),
+}
+
+/// Whether the output of the plan is written while its input is read. Each other is prepared whole.
+pub(crate) fn is_streamed(plan: &Plan) -> bool
+    ensures streamed { result ≡ true → IsStreamed plan.now }
+    ensures whole { result ≡ false → IsWhole plan.now }
+{
+    matches!(
+        plan,
+        Plan::Json(JsonPlan::Events { .. } | JsonPlan::Show { .. })
+    )
+}
+
+/// Writes the output of the plan while its input is read; at a fault of the run what comes before the fault's line.
+pub(crate) fn streamed_for<F: Files, S: Sink>(
+    alloc: Global,
+    plan: &Plan,
+    files: &mut F,
+    sink: &mut S,
+) -> Result<(), StreamFault>
+    requires { IsStreamed plan.now }
+    ensures { Streams (IsOutcome (F.told files.old) plan.now) (S.state sink.old) (S.state sink.new) result }
+{
+    match plan {
+        Plan::Json(JsonPlan::Events { log }) => events_sent(alloc, files, log, sink),
+        Plan::Json(JsonPlan::Show { list }) => entries_sent(alloc, files, list, sink),
+        _ => unreachable!(),
+    }
+}
