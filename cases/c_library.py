@@ -32,6 +32,7 @@ JSON_FUNCTIONS = {
     ("replay", 1, False): "replay_json",
     ("replay", 2, True): "replay_required_json",
     ("registers", 1, False): "registers_json",
+    ("events", 1, False): "events_json",
     ("show", 1, False): "entries_json",
 }
 ROOM = 16 * 1024

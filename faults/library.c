@@ -176,6 +176,7 @@ static int inputs_of(const char *function) {
         {"entries_json", 1},
         {"registers_json", 1},
         {"replay_json", 1},
+        {"events_json", 1},
         {"verify_json", 4},
         {"locate_json", 4},
         {"replay_required_json", 3},
@@ -203,6 +204,8 @@ static int32_t call_json(const char *function, const struct bytes *in, uint8_t *
         return ima_replay_json(a.at, a.size, out, room, needed);
     if (strcmp(function, "registers_json") == 0)
         return ima_registers_json(a.at, a.size, out, room, needed);
+    if (strcmp(function, "events_json") == 0)
+        return ima_events_json(a.at, a.size, out, room, needed);
     return ima_entries_json(a.at, a.size, out, room, needed);
 }
 

@@ -153,10 +153,10 @@ def cases(files):
     ):
         yield Case("expected", title, [files[name] for name in names], "--registers")
     for functions, title, name in (
-        (("registers", "registers_json"), "the real boot", "log"),
-        (("registers", "registers_json"), "one event", "one event"),
-        (("registers", "registers_json"), "a log that is cut short", "cut log"),
-        (("registers", "registers_json"), "an empty log", "empty"),
+        (("registers", "registers_json", "events_json"), "the real boot", "log"),
+        (("registers", "registers_json", "events_json"), "one event", "one event"),
+        (("registers", "registers_json", "events_json"), "a log that is cut short", "cut log"),
+        (("registers", "registers_json", "events_json"), "an empty log", "empty"),
         (("show", "entries_json", "replay_json"), "the real boot", "list"),
         (("show", "entries_json", "replay_json"), "a changed list", "changed list"),
         (("show", "entries_json", "replay_json"), "a list that is cut short", "cut list"),

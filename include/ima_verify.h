@@ -151,6 +151,12 @@ int32_t ima_replay_json(const uint8_t *list, size_t list_size, uint8_t *out, siz
 /* The registers of ima_registers as a line of JSON. (Version 2.) */
 int32_t ima_registers_json(const uint8_t *log, size_t log_size, uint8_t *out, size_t out_size, size_t *needed);
 
+/* The algorithms that a firmware event log declares, and then its events, each as a line of JSON: what
+ * `events --json` prints. Of a damaged log the text has the lines before the fault, and then the fault's, and the
+ * function returns IMA_REFUSED. The whole text is in memory, also where `out_size` is 0: some two bytes for each
+ * byte of the log, and twice that while it grows. (Version 2.) */
+int32_t ima_events_json(const uint8_t *log, size_t log_size, uint8_t *out, size_t out_size, size_t *needed);
+
 /* The entries of a measurement list, each as a line of JSON: what `show --json` prints. Whether an entry is genuine
  * is one of its members, and refuses nothing. Of a damaged list the text has the entries before the fault, and
  * then the fault's line, and the function returns IMA_REFUSED: so look at what it returns, not for a line alone. If

@@ -7,7 +7,7 @@ use Rattle.ima_agent.specs.Expecting.{IsNotExpectedOn, ShowsExpected, range_text
 use Rattle.ima_agent.specs.FaultTexts.{fault_line, fault_status}
 use Rattle.ima_agent.specs.JsonFaults.{ToldAsJson}
 use Rattle.ima_agent.specs.JsonJudging.{ShowsJsonListReportOn, ShowsJsonPlacesOn, ShowsJsonReportOn}
-use Rattle.ima_agent.specs.JsonShowing.{ShowsEntries, ShowsJsonRegisters}
+use Rattle.ima_agent.specs.JsonShowing.{ShowsEntries, ShowsJsonEvents, ShowsJsonRegisters}
 use Rattle.ima_agent.specs.ListVerifying.{IsNoListReportOn, ShowsListReportOn}
 use Rattle.ima_agent.specs.Replaying.{IsNoReplayOn, ShowsReplay}
 use Rattle.ima_agent.specs.Showing.{IsNoListFor, IsNoLogFor, ShowsList, ShowsRegistersAfter}
@@ -130,6 +130,10 @@ IsJsonRegistersAnswer log text status = (ShowsJsonRegisters log text × (status 
 -- The registers after this list alone; or why there are none.
 abbrev pub IsJsonReplayAnswer : List ℕ → List ℕ → ℕ → Type 0
 IsJsonReplayAnswer list text status = (ShowsReplay Json list text × (status ≡ 0)) ⊎ IsJsonRefusal (IsNoReplayOn list) text status
+
+-- What can be read of these bytes as a log, with its status; or that memory ran out.
+abbrev pub IsJsonEventsAnswer : List ℕ → List ℕ → ℕ → Type 0
+IsJsonEventsAnswer log text status = ShowsJsonEvents log text status ⊎ ToldAsJson Memory text status
 
 -- What can be read of these bytes as a list, with its status; or that memory ran out.
 abbrev pub IsJsonEntriesAnswer : List ℕ → List ℕ → ℕ → Type 0

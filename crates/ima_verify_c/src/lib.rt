@@ -10,13 +10,13 @@
 mod giving;
 
 ghost use Rattle.std.specs.Prelude.{◌≡◌};
-ghost use Rattle.ima_verify_c.specs.Answers.{Answers, IsPlacesAnswer, IsEntriesAnswer, IsExpectedAnswer, IsJsonEntriesAnswer, IsJsonListReportAnswer, IsJsonPlacesAnswer, IsJsonRegistersAnswer, IsJsonReplayAnswer, IsJsonReportAnswer, IsRegistersAnswer, IsReportAnswer, IsRequiredListReportAnswer, IsRequiredPlacesAnswer, IsRequiredReportAnswer, interface_version};
+ghost use Rattle.ima_verify_c.specs.Answers.{Answers, IsPlacesAnswer, IsEntriesAnswer, IsExpectedAnswer, IsJsonEntriesAnswer, IsJsonEventsAnswer, IsJsonListReportAnswer, IsJsonPlacesAnswer, IsJsonRegistersAnswer, IsJsonReplayAnswer, IsJsonReportAnswer, IsRegistersAnswer, IsReportAnswer, IsRequiredListReportAnswer, IsRequiredPlacesAnswer, IsRequiredReportAnswer, interface_version};
 
 use crate::giving::{give, give_fitted, give_json, give_json_fitted, give_text};
 use ima_agent::{
-    entries_within, expected_on, json_entries_within, json_list_report_on, json_places_on,
-    json_registers_on, json_replay_on, json_report_on, places_on, registers_on, report_on,
-    required_list_report_on, required_places_on, required_report_on,
+    entries_within, expected_on, json_entries_within, json_events_on, json_list_report_on,
+    json_places_on, json_registers_on, json_replay_on, json_report_on, places_on, registers_on,
+    report_on, required_list_report_on, required_places_on, required_report_on,
 };
 use std::alloc::Global;
 
@@ -226,6 +226,20 @@ pub extern "C" fn ima_registers_json(
     ensures { Answers (IsJsonRegistersAnswer log.now) result needed.new out.old out.new }
 {
     give_json(alloc, json_registers_on(alloc, log), out, needed)
+}
+
+/// The algorithms and the events of a firmware event log, as `events --json` writes them: of a damaged one those before its fault, and
+/// then the fault, with status 2.
+#[unsafe(no_mangle)]
+pub extern "C" fn ima_events_json(
+    alloc: Global,
+    log: &[u8],
+    out: &mut [u8],
+    needed: &mut usize,
+) -> i32
+    ensures { Answers (IsJsonEventsAnswer log.now) result needed.new out.old out.new }
+{
+    give_json(alloc, json_events_on(alloc, log), out, needed)
 }
 
 /// The entries of a measurement list, as `show --json` writes them: of a damaged one those before its fault, and then the fault, with
