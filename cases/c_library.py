@@ -11,15 +11,28 @@ sys.path.insert(0, str(ROOT / "bindings/python"))
 
 # What the program takes; the library takes more.
 MOST_BYTES = 64 << 20
-# For each command that the library has a function for: how many files it takes, the function of these alone, its option, and the function
-# that takes the text of the option after the files.
-INPUTS = {
-    "verify": (3, "verify", "--require", "verify_required"),
-    "locate": (3, "locate", "--require", "locate_required"),
-    "replay": (2, None, "--require", "replay_required"),
-    "expected": (1, "expected", "--registers", "expected"),
-    "registers": (1, "registers", None, None),
-    "show": (1, "show", None, None),
+# The option of a command that a function takes as a text after the files.
+OPTIONS = {"verify": "--require", "locate": "--require", "replay": "--require", "expected": "--registers"}
+# For a command, with how many files and whether with its option, the function without `ima_`.
+FUNCTIONS = {
+    ("verify", 3, False): "verify",
+    ("verify", 3, True): "verify_required",
+    ("locate", 3, False): "locate",
+    ("locate", 3, True): "locate_required",
+    ("replay", 2, True): "replay_required",
+    ("expected", 1, False): "expected",
+    ("expected", 1, True): "expected",
+    ("registers", 1, False): "registers",
+    ("show", 1, False): "show",
+}
+# The same with `--json`.
+JSON_FUNCTIONS = {
+    ("verify", 3, True): "verify_json",
+    ("locate", 3, True): "locate_json",
+    ("replay", 1, False): "replay_json",
+    ("replay", 2, True): "replay_required_json",
+    ("registers", 1, False): "registers_json",
+    ("show", 1, False): "entries_json",
 }
 ROOM = 16 * 1024
 
@@ -30,6 +43,8 @@ class Library:
     def __init__(self, file):
         os.environ["IMA_VERIFY_LIBRARY"] = str(file)
         self.package = importlib.import_module("ima_verify._library")
+        for (_, files, has_option), function in JSON_FUNCTIONS.items():
+            self.package.INPUTS.setdefault(f"ima_{function}", files + has_option)
         self.functions = self.package.load()
 
     def takes(self, words, folder, most_bytes=MOST_BYTES):
@@ -56,19 +71,18 @@ class Call:
 def call_of(words):
     """The call that answers what a command does, or None."""
     name, *rest = words or [""]
-    count, alone, option, with_option = INPUTS.get(name, (None, None, None, None))
-    files, values, rest = [], [], iter(rest)
+    functions = JSON_FUNCTIONS if "--json" in rest else FUNCTIONS
+    option, files, values, rest = OPTIONS.get(name), [], [], (word for word in rest if word != "--json")
     for word in rest:
         if option and word.partition("=")[0] == option:
             values.append(word.partition("=")[2] if "=" in word else next(rest, ""))
         else:
             files.append(word)
-    if len(files) != count or len(values) > 1 or "" in values:
+    function = functions.get((name, len(files), bool(values)))
+    if function is None or len(values) > 1 or "" in values or words.count("--json") > 1:
         return None
     # (`ima_expected` takes a range each time, and an empty one is of all registers)
-    texts = values or ([""] if with_option == alone else [])
-    function = with_option if texts else alone
-    return Call(function, files, texts) if function else None
+    return Call(function, files, values or ([""] if function == "expected" else []))
 
 
 def is_input(name, folder, most_bytes):

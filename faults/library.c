@@ -161,17 +161,55 @@ static struct bytes load(const char *name) {
 
 /* How many inputs a function takes, or 0 if there is no such function. */
 static int inputs_of(const char *function) {
-    static const char *const names[] = {"show", "registers", "expected", "verify", "locate", "verify_required", "locate_required",
-                                        "replay_required"};
-    static const int inputs[] = {1, 1, 2, 3, 3, 4, 4, 3};
-    for (size_t i = 0; i < sizeof inputs / sizeof inputs[0]; i++)
-        if (strcmp(function, names[i]) == 0)
-            return inputs[i];
+    static const struct {
+        const char *name;
+        int inputs;
+    } functions[] = {
+        {"show", 1},
+        {"registers", 1},
+        {"expected", 2},
+        {"verify", 3},
+        {"locate", 3},
+        {"verify_required", 4},
+        {"locate_required", 4},
+        {"replay_required", 3},
+        {"entries_json", 1},
+        {"registers_json", 1},
+        {"replay_json", 1},
+        {"verify_json", 4},
+        {"locate_json", 4},
+        {"replay_required_json", 3},
+    };
+    for (size_t i = 0; i < sizeof functions / sizeof functions[0]; i++)
+        if (strcmp(function, functions[i].name) == 0)
+            return functions[i].inputs;
     return 0;
+}
+
+static int is_json(const char *function) {
+    size_t size = strlen(function);
+    return size > 5 && strcmp(function + size - 5, "_json") == 0;
+}
+
+static int32_t call_json(const char *function, const struct bytes *in, uint8_t *out, size_t room, size_t *needed) {
+    struct bytes a = in[0], b = in[1], c = in[2], d = in[3];
+    if (strcmp(function, "verify_json") == 0)
+        return ima_verify_json(a.at, a.size, b.at, b.size, c.at, c.size, d.at, d.size, out, room, needed);
+    if (strcmp(function, "locate_json") == 0)
+        return ima_locate_json(a.at, a.size, b.at, b.size, c.at, c.size, d.at, d.size, out, room, needed);
+    if (strcmp(function, "replay_required_json") == 0)
+        return ima_replay_required_json(a.at, a.size, b.at, b.size, c.at, c.size, out, room, needed);
+    if (strcmp(function, "replay_json") == 0)
+        return ima_replay_json(a.at, a.size, out, room, needed);
+    if (strcmp(function, "registers_json") == 0)
+        return ima_registers_json(a.at, a.size, out, room, needed);
+    return ima_entries_json(a.at, a.size, out, room, needed);
 }
 
 static int32_t call(const char *function, const struct bytes *in, uint8_t *out, size_t room, size_t *needed) {
     struct bytes a = in[0], b = in[1], c = in[2], d = in[3];
+    if (is_json(function))
+        return call_json(function, in, out, room, needed);
     if (strcmp(function, "verify") == 0)
         return ima_verify(a.at, a.size, b.at, b.size, c.at, c.size, out, room, needed);
     if (strcmp(function, "verify_required") == 0)
@@ -211,8 +249,9 @@ static int is_given(struct answer answer, int32_t status, size_t needed, const u
 
 /* Calls once. The answer is the right one or, if an allocation was refused, that memory ran out. Returns whether one was. */
 static int turn(const char *function, const struct bytes *in, size_t room, struct answer right) {
-    static const char line[] = "failed: memory\n";
-    struct answer memory = {IMA_OUT_OF_MEMORY, {(const uint8_t *)line, sizeof line - 1}};
+    static const char plain[] = "failed: memory\n", json[] = "{\"fault\":{\"kind\":\"memory\",\"message\":\"failed: memory\"}}\n";
+    const char *line = is_json(function) ? json : plain;
+    struct answer memory = {IMA_OUT_OF_MEMORY, {(const uint8_t *)line, strlen(line)}};
     uint8_t *buffer = malloc(room + 2 * MARGIN);
     size_t needed = SIZE_MAX;
     if (buffer == NULL)

@@ -18,11 +18,15 @@ import sys
 import tempfile
 from concurrent.futures import ThreadPoolExecutor
 from dataclasses import dataclass
+from itertools import product
 from pathlib import Path
 
 ROOT = Path(__file__).resolve().parent.parent
 SECONDS = 60
 MEMORY = b"failed: memory\n"
+JSON_MEMORY = b'{"fault":{"kind":"memory","message":"failed: memory"}}\n'
+# The command of each function whose name does not begin with it.
+COMMANDS = {"entries": "show"}
 REPLACED = {"rattle_alloc", "rattle_realloc", "rattle_dealloc"}
 ELSEWHERE = {"malloc", "calloc", "realloc", "reallocarray", "free", "posix_memalign", "aligned_alloc", "memalign", "valloc"}
 ELSEWHERE |= {"mmap", "munmap", "mremap", "brk", "sbrk", "strdup", "strndup"}
@@ -37,13 +41,23 @@ class Case:
     inputs: list
     option: str = ""
 
+    def is_json(self):
+        return self.function.endswith("_json")
+
     def words(self):
         """What asks the program for the same."""
+        name = self.function.partition("_")[0]
+        command = [COMMANDS.get(name, name), *(["--json"] if self.is_json() else [])]
         if not self.option:
-            return [self.function, *self.inputs]
+            return [*command, *self.inputs]
         *files, value = self.inputs
         text = value.read_text()
-        return [self.function.partition("_")[0], *([f"{self.option}={text}"] if text else []), *files]
+        return [*command, *([f"{self.option}={text}"] if text else []), *files]
+
+    def rooms(self, size):
+        """Sizes of the buffer for a text of that size: too little, just enough and more, and so for the line that says that memory ran out."""
+        memory = len(JSON_MEMORY if self.is_json() else MEMORY)
+        return sorted({size + 64, size, size - 1, memory, memory - 1, 0}, reverse=True)
 
 
 @dataclass
@@ -106,7 +120,7 @@ def cases(files):
             ("expected registers of which one is wrong", "log", "list", "wrong line"),
         ):
             yield Case(function, title, [files[name] for name in names])
-    for function in ("verify_required", "locate_required"):
+    for function in ("verify_required", "locate_required", "verify_json", "locate_json"):
         for title, *names in (
             ("the real boot", "log", "list", "expected", "all"),
             ("a longer list", "log", "longer list", "expected", "all"),
@@ -116,18 +130,21 @@ def cases(files):
             ("a list that is cut short", "log", "cut list", "expected", "more"),
         ):
             yield Case(function, title, [files[name] for name in names], "--require")
-    for title, *names in (
-        ("the real boot", "list", "tenth", "ten"),
-        ("a longer list", "longer list", "tenth", "ten"),
-        ("a changed list", "changed list", "tenth", "ten"),
-        ("registers that are missing", "list", "tenth", "more"),
-        ("an empty list", "empty", "tenth", "ten"),
-        ("no expected registers", "list", "empty", "ten"),
-        ("expected registers of which one is wrong", "list", "wrong line", "ten"),
-        ("a requirement that names none", "list", "tenth", "no registers"),
-        ("a list that is cut short", "cut list", "tenth", "ten"),
+    for function, (title, *names) in product(
+        ("replay_required", "replay_required_json"),
+        (
+            ("the real boot", "list", "tenth", "ten"),
+            ("a longer list", "longer list", "tenth", "ten"),
+            ("a changed list", "changed list", "tenth", "ten"),
+            ("registers that are missing", "list", "tenth", "more"),
+            ("an empty list", "empty", "tenth", "ten"),
+            ("no expected registers", "list", "empty", "ten"),
+            ("expected registers of which one is wrong", "list", "wrong line", "ten"),
+            ("a requirement that names none", "list", "tenth", "no registers"),
+            ("a list that is cut short", "cut list", "tenth", "ten"),
+        ),
     ):
-        yield Case("replay_required", title, [files[name] for name in names], "--require")
+        yield Case(function, title, [files[name] for name in names], "--require")
     for title, *names in (
         ("what was printed", "printed", "empty"),
         ("a range of it", "printed", "range"),
@@ -135,16 +152,17 @@ def cases(files):
         ("another text", "expected", "range"),
     ):
         yield Case("expected", title, [files[name] for name in names], "--registers")
-    for function, title, name in (
-        ("registers", "the real boot", "log"),
-        ("registers", "one event", "one event"),
-        ("registers", "a log that is cut short", "cut log"),
-        ("registers", "an empty log", "empty"),
-        ("show", "the real boot", "list"),
-        ("show", "a changed list", "changed list"),
-        ("show", "a list that is cut short", "cut list"),
+    for functions, title, name in (
+        (("registers", "registers_json"), "the real boot", "log"),
+        (("registers", "registers_json"), "one event", "one event"),
+        (("registers", "registers_json"), "a log that is cut short", "cut log"),
+        (("registers", "registers_json"), "an empty log", "empty"),
+        (("show", "entries_json", "replay_json"), "the real boot", "list"),
+        (("show", "entries_json", "replay_json"), "a changed list", "changed list"),
+        (("show", "entries_json", "replay_json"), "a list that is cut short", "cut list"),
     ):
-        yield Case(function, title, [files[name]])
+        for function in functions:
+            yield Case(function, title, [files[name]])
 
 
 def runs_of(case, program, file):
@@ -154,7 +172,7 @@ def runs_of(case, program, file):
         sys.exit(f"{program} {case.function} of {case.title}: status {answer.returncode}, {answer.stderr[-500:]!r}")
     file.write_bytes(answer.stdout)
     size = len(answer.stdout)
-    for room in sorted({size + 64, size, size - 1, len(MEMORY), len(MEMORY) - 1, 0}, reverse=True):
+    for room in case.rooms(size):
         yield Run(case, room, answer.returncode, file)
 
 

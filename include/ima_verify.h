@@ -7,11 +7,12 @@
  * `sha256 10 <64 hexadecimal digits>`.
  *
  * What a function gives is the text that the program `ima-agent` prints for the command of the same name,
- * except that inputs may also be longer than 64 MiB. docs/formats.md has the formats, and what each fault
- * number means.
+ * except that inputs may also be longer than 64 MiB. A function whose name ends in _json gives the lines that
+ * the command prints with --json, each a JSON text and a line feed. docs/formats.md has the formats, and what
+ * each fault number means.
  *
  * A verdict speaks of the registers that are expected, and of no others: ima_verify says `match` of none at all.
- * So say which registers a verdict must cover, and call ima_verify_required.
+ * So say which registers a verdict must cover, and call ima_verify_required, or ima_verify_json.
  *
  * Pointers. None may be null, `out` and `needed` included, even where its size is 0: give the address of any
  * byte then. To ask for the size alone, give `out` such an address, and an `out_size` of 0. Nothing may change
@@ -25,12 +26,13 @@
  *
  * Memory. What a call allocates by malloc and realloc it gives back by free before it returns; if you replace
  * them, replace all three. If a call gets no memory, it returns IMA_OUT_OF_MEMORY with the line
- * `failed: memory`, or IMA_TOO_SHORT where `out` has no room for these 15 bytes.
+ * `failed: memory`, or IMA_TOO_SHORT where `out` has no room for these 15 bytes. With _json the line is
+ * `{"fault":{"kind":"memory","message":"failed: memory"}}`, of 55 bytes.
  *
  * A call keeps some 300 bytes for each event of the log, and the text that it gives: a log of 1 GiB of the
  * shortest events has taken 15 GB. So limit the size of what comes from elsewhere (a firmware's log has some
- * 100 KB). A text of ima_show that is longer than `out_size` is counted, and no more of it is kept than that and
- * one entry's line. It takes more than 64 KiB of stack: give a thread at least 256 KiB.
+ * 100 KB). A text of ima_show or ima_entries_json that is longer than `out_size` is counted, and no more of it
+ * is kept than that and one entry's line. A call takes more than 64 KiB of stack: give a thread at least 256 KiB.
  *
  * Threads. Nothing is kept between calls, so any number of threads may call at once, each with its own `out`
  * and `needed`. Do not call from a signal handler, nor in the forked child of a process with threads.
@@ -57,7 +59,8 @@ enum ima_status {
     /* The text is complete. A verdict is `differ`; of places, a value was not reached or one is missing. */
     IMA_DIFFERS = 1,
     /* An input is refused; `out` has the line that says why, as `refused: log fault 1 at event 0`. It is
-     * `refused: command line` if `require` or `registers` is not of its form. */
+     * `refused: command line` if `require` or `registers` is not of its form. With _json the line is an object
+     * whose one member is `fault`; no other line has such a member. */
     IMA_REFUSED = 2,
     /* Memory ran out. */
     IMA_OUT_OF_MEMORY = 3,
@@ -121,6 +124,38 @@ int32_t ima_registers(const uint8_t *log, size_t log_size, uint8_t *out, size_t 
 /* The entries of a measurement list, each in the kernel's form. Paths stand as they are: they may have line
  * feeds and control bytes. */
 int32_t ima_show(const uint8_t *list, size_t list_size, uint8_t *out, size_t out_size, size_t *needed);
+
+/* The verdict as a line of JSON, where `require` is as in ima_verify_required: it names at least one register,
+ * and an empty one is refused. Each that is not among the expected ones has the state `missing`, and then the
+ * verdict is `differ`. Statuses and refusals are those of ima_verify_required. (Version 2.) */
+int32_t ima_verify_json(const uint8_t *log, size_t log_size, const uint8_t *list, size_t list_size,
+                        const uint8_t *expected, size_t expected_size, const uint8_t *require,
+                        size_t require_size, uint8_t *out, size_t out_size, size_t *needed);
+
+/* The places as a line of JSON, where `require` is as in ima_verify_json. Statuses and refusals are those of
+ * ima_locate_required. (Version 2.) */
+int32_t ima_locate_json(const uint8_t *log, size_t log_size, const uint8_t *list, size_t list_size,
+                        const uint8_t *expected, size_t expected_size, const uint8_t *require,
+                        size_t require_size, uint8_t *out, size_t out_size, size_t *needed);
+
+/* The verdict of ima_replay_required as a line of JSON, with its statuses and refusals. (Version 2.) */
+int32_t ima_replay_required_json(const uint8_t *list, size_t list_size, const uint8_t *expected,
+                                 size_t expected_size, const uint8_t *require, size_t require_size,
+                                 uint8_t *out, size_t out_size, size_t *needed);
+
+/* The registers that differ from their reset values after a measurement list without a log, as a line of JSON:
+ * what `replay --json` prints of a list alone. It is no verdict. The list is replayed as by ima_replay_required,
+ * and refused as there. (Version 2.) */
+int32_t ima_replay_json(const uint8_t *list, size_t list_size, uint8_t *out, size_t out_size, size_t *needed);
+
+/* The registers of ima_registers as a line of JSON. (Version 2.) */
+int32_t ima_registers_json(const uint8_t *log, size_t log_size, uint8_t *out, size_t out_size, size_t *needed);
+
+/* The entries of a measurement list, each as a line of JSON: what `show --json` prints. Whether an entry is genuine
+ * is one of its members, and refuses nothing. Of a damaged list the text has the entries before the fault, and
+ * then the fault's line, and the function returns IMA_REFUSED: so look at what it returns, not for a line alone. If
+ * memory runs out, the text is that fault's line alone. (Version 2.) */
+int32_t ima_entries_json(const uint8_t *list, size_t list_size, uint8_t *out, size_t out_size, size_t *needed);
 
 #ifdef __cplusplus
 }

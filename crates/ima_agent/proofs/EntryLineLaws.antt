@@ -13,6 +13,7 @@ use Rattle.json_texts.specs.JsonValues.{line_of}
 use Rattle.ima_agent.specs.declared.fault.RunFault.TheVariants as runs
 use Rattle.ima_agent.specs.JsonFaults.{ToldAsJson}
 use Rattle.ima_agent.specs.JsonShowing.{ShowsEntries, entry_lines, numbered_lines}
+use Rattle.ima_agent.specs.parts.Showing.{IsKept}
 
 -- ---- items one after another
 
@@ -120,3 +121,28 @@ lines_to_fault list text rest last shown number status fault lines some read nam
       told = told;
       text_is = text_is ∙ ap (λ (t : List ℕ). t ++ last) lines.text_is;
     })
+
+-- ---- lines that are kept while they fit
+
+-- The lines so far, of which all are kept, or all are counted.
+pub record HasCountedLines (room : ℕ) (list text rest : List ℕ) (size number : ℕ) : Type 0 where
+  pub lines : List ℕ
+  pub shown : HasLines list lines rest number
+  pub kept : IsKept room lines text size
+
+pub counted_none : (room : ℕ) (list : List ℕ) → HasCountedLines room list [] list 0 0
+counted_none room list = record { lines = []; shown = lines_none list; kept = inl (refl, refl, omega arith) }
+
+pub counted_more : (room : ℕ) (list text more rest after : List ℕ) (size next number : ℕ) (entry : ListEntry)
+    → HasCountedLines room list text rest size number
+    → ((list : List ℕ) (before : List ListEntry) → BeginsWith list before rest → BeginsWith list (before ++ entry ∷ []) after)
+    → length after < length rest
+    → ((lines : List ℕ) → IsKept room lines text size → IsKept room (lines ++ line_of (entry_json number entry)) more next)
+    → HasCountedLines room list more after next (number + 1)
+counted_more room list text more rest after size next number entry counted read shorter keeps =
+    let line = line_of (entry_json number entry) in
+    record {
+      lines = counted.lines ++ line;
+      shown = lines_more list counted.lines rest (counted.lines ++ line) after number entry counted.shown read refl shorter;
+      kept = keeps counted.lines counted.kept;
+    }

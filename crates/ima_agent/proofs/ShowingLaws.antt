@@ -12,7 +12,7 @@ use Rattle.ima_list.specs.Spelling.{BeginsWith, IsReading}
 use Rattle.ima_agent.specs.Faults.{fault_of_list}
 use Rattle.ima_agent.specs.declared.fault.RunFault.{RunFault}
 use Rattle.ima_agent.specs.Hexadecimal.{without_white_space}
-use Rattle.ima_agent.specs.parts.Showing.{IsKept}
+use Rattle.ima_agent.specs.parts.Showing.{HasAdded, IsKept}
 use Rattle.ima_agent.specs.Showing.{IsNoListFor, IsNoLogFor, IsRefusedFor, ShowsList}
 
 -- The text has the lines of the entries so far, and `rest` is left of the list.
@@ -56,6 +56,11 @@ shows_none list text rest number fault shown some read =
     inl (record { first = fault; reading = read list shown.entries shown.begins (sym shown.count) some; says = refl })
 
 -- ---- lines that are kept while they fit
+
+pub added : (room : ℕ) (lines last old new : List ℕ) (size : ℕ) → IsKept room lines old size → new ≡ old ++ last
+    → HasAdded room lines last new size
+added room lines last old new size (inl kept) more = inl (more ∙ ap (λ (t : List ℕ). t ++ last) kept.0, kept.1)
+added room lines last old new size (inr kept) more = inr (more ∙ ap (λ (t : List ℕ). t ++ last) kept.0, kept.1, kept.2)
 
 -- The lines so far, of which all are kept, or all are counted.
 pub record HasCounted (room : ℕ) (list text rest : List ℕ) (size number : ℕ) : Type 0 where

@@ -9,11 +9,11 @@ use Rattle.json_texts.specs.JsonValues.{line_of}
 use Rattle.json_texts.specs.PlaceJson.{finds, places_json}
 use Rattle.json_texts.specs.ReportJson.{list_meets, list_report_json, meets, report_json}
 use Rattle.ima_agent.specs.declared.fault.RunFault.{RunFault}
-use Rattle.ima_agent.specs.ListVerifying.{HasListVerdict}
+use Rattle.ima_agent.specs.ListVerifying.{HasListVerdict, IsListVerdictOn}
 use Rattle.ima_agent.specs.Loading.{Inputs}
-use Rattle.ima_agent.specs.Locating.{HasPlaces}
+use Rattle.ima_agent.specs.Locating.{ArePlacesIn, HasPlaces}
 use Rattle.ima_agent.specs.Requiring.{IsFaultWith}
-use Rattle.ima_agent.specs.Verifying.{HasVerdict}
+use Rattle.ima_agent.specs.Verifying.{HasVerdict, IsVerdictOn}
 
 -- These registers are required: those that the text spells; none are without a text.
 abbrev pub IsRequired : Option (List ℕ) → Option (List BankRange) → Type 0
@@ -65,3 +65,40 @@ ShowsJsonPlaces inputs log list text required shown status =
 abbrev pub ShowsJsonListReport : Inputs → List ℕ → List ℕ → Option (List ℕ) → List ℕ → ℕ → Type 0
 ShowsJsonListReport inputs list text required shown status =
     (ranges : Option (List BankRange)) × IsRequired required ranges × IsJsonListReport inputs list text ranges shown status
+
+-- ---- of bytes in memory
+
+-- What is shown is the report on this log, this list and the registers that the text states, where these registers are required, with
+-- its status.
+pub record IsJsonReportOn (log list text : List ℕ) (ranges : Option (List BankRange)) (shown : List ℕ) (status : ℕ) : Type 0 where
+  pub verdict : Verdict
+  pub verdict_is : IsVerdictOn log list text verdict
+  pub text_is : shown ≡ line_of (report_json ranges verdict)
+  pub status_is : status ≡ judged_status (meets ranges verdict)
+
+-- The same of their places.
+pub record AreJsonPlacesOn (log list text : List ℕ) (ranges : Option (List BankRange)) (shown : List ℕ) (status : ℕ) : Type 0 where
+  pub located : List Located
+  pub located_are : ArePlacesIn log list text located
+  pub text_is : shown ≡ line_of (places_json ranges located)
+  pub status_is : status ≡ judged_status (finds ranges located)
+
+-- The same of the report on the list alone.
+pub record IsJsonListReportOn (list text : List ℕ) (ranges : Option (List BankRange)) (shown : List ℕ) (status : ℕ) : Type 0 where
+  pub verdict : ListVerdict
+  pub verdict_is : IsListVerdictOn list text verdict
+  pub text_is : shown ≡ line_of (list_report_json ranges verdict)
+  pub status_is : status ≡ judged_status (list_meets ranges verdict)
+
+-- The same, where the registers are required that a text spells, if it is given.
+abbrev pub ShowsJsonReportOn : List ℕ → List ℕ → List ℕ → Option (List ℕ) → List ℕ → ℕ → Type 0
+ShowsJsonReportOn log list text required shown status =
+    (ranges : Option (List BankRange)) × IsRequired required ranges × IsJsonReportOn log list text ranges shown status
+
+abbrev pub ShowsJsonPlacesOn : List ℕ → List ℕ → List ℕ → Option (List ℕ) → List ℕ → ℕ → Type 0
+ShowsJsonPlacesOn log list text required shown status =
+    (ranges : Option (List BankRange)) × IsRequired required ranges × AreJsonPlacesOn log list text ranges shown status
+
+abbrev pub ShowsJsonListReportOn : List ℕ → List ℕ → Option (List ℕ) → List ℕ → ℕ → Type 0
+ShowsJsonListReportOn list text required shown status =
+    (ranges : Option (List BankRange)) × IsRequired required ranges × IsJsonListReportOn list text ranges shown status

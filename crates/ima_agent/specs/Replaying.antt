@@ -56,3 +56,7 @@ abbrev pub IsReplayFaultOf : Inputs → List ℕ → RunFault → Type 0
 IsReplayFaultOf inputs name fault =
     (IsTooLong name fault × HoldsSoundBytesAndMore inputs name) ⊎ IsReadFailure inputs (Some name) fault ⊎ IsListRefused inputs name fault
     ⊎ (fault ≡ runs.Memory)
+
+-- Why no registers of these bytes are shown: they are refused as a list, or memory ran out.
+abbrev pub IsNoReplayOn : List ℕ → RunFault → Type 0
+IsNoReplayOn list fault = IsRefusedList list fault ⊎ (fault ≡ runs.Memory)

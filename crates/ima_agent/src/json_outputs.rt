@@ -8,8 +8,10 @@ ghost use Rattle.ima_agent.specs.parts.JsonOutputs.{ShowsLines};
 ghost use Rattle.ima_agent.specs.parts.Program.{IsWholeJson};
 
 mod entries;
+mod entries_within;
 mod events;
 mod judging;
+mod judging_bytes;
 mod registers;
 
 use crate::expecting::expected_from;
@@ -21,8 +23,11 @@ use crate::progress::Progress;
 use crate::replaying::replayed;
 use command_line::JsonPlan;
 pub(crate) use entries::{entries_sent, entry_lines};
+pub use entries_within::{FittedOutput, json_entries_within};
 pub(crate) use events::events_sent;
 use judging::{list_report, places, report};
+pub use judging_bytes::{json_list_report_on, json_places_on, json_report_on};
+pub use registers::json_registers_on;
 use registers::log_registers;
 use std::alloc::Global;
 use std::sync::Wait;

@@ -47,14 +47,19 @@ pub use explaining::{Failure, explanation};
 pub use fault::RunFault;
 pub use files::{Files, SharedFiles};
 pub use hashing::hash_from;
+pub use json_outputs::{
+    FittedOutput, json_entries_within, json_list_report_on, json_places_on, json_registers_on,
+    json_report_on,
+};
 pub use list_verifying::{list_report_on, required_list_report_on};
 pub use loading::{LoadFault, load};
 pub use locating::{places_on, required_places_on};
 pub use output::Output;
 pub use program::{exit_code, run, run_with_progress};
 pub use progress::{NoProgress, Progress, SystemProgress};
+pub use replaying::json_replay_on;
 pub use showing::{Fitted, entries_within, registers_on};
 pub use system::{Input, ReadSource, SystemFiles, WriteSink};
-pub use texts::{status_of, write_fault};
+pub use texts::{json_fault_line, json_memory_line, status_of, write_fault};
 pub use verifying::{report_on, required_report_on};
 pub use words::read_words;

@@ -121,8 +121,12 @@ pub(crate) fn list_judged<F: Files>(
     }
 }
 
-// The report on this list and the registers that the text states, before it is written.
-fn list_judged_on(alloc: Global, list: &[u8], expected: &[u8]) -> Result<ListReport, RunFault>
+/// The report on this list and the registers that the text states, before it is written.
+pub(crate) fn list_judged_on(
+    alloc: Global,
+    list: &[u8],
+    expected: &[u8],
+) -> Result<ListReport, RunFault>
     ensures report { IfOk result (λ report. IsListVerdictOn list.now expected.now (list_verdict_of report)) }
     ensures fault { IfErr result (IsNoListReportOn list.now expected.now) }
 {

@@ -112,8 +112,8 @@ pub(crate) fn found<F: Files>(
     found_from(alloc, &log, &mut source, list, &expected)
 }
 
-// The places in this log and this list of the registers that the text states, before they are written.
-fn found_on(
+/// The places in this log and this list of the registers that the text states, before they are written.
+pub(crate) fn found_on(
     alloc: Global,
     log: &[u8],
     list: &[u8],

@@ -3,16 +3,17 @@
 ghost use Rattle.std.specs.Prelude.{◌≡◌, Some, IfOk, IfErr};
 ghost use Rattle.boot_verdict.specs.RegisterTexts.{registers_text};
 ghost use Rattle.ima_agent.specs.Loading.{OfInput};
-ghost use Rattle.ima_agent.specs.Replaying.{IsReplayFaultOf, ShowsReplay, registers_in};
-ghost use Rattle.ima_agent.specs.parts.Replaying.{IsNoReplayFrom, ShowsReplayFrom};
+ghost use Rattle.ima_agent.specs.Replaying.{IsNoReplayOn, IsReplayFaultOf, ShowsReplay, registers_in};
+ghost use Rattle.ima_agent.specs.declared.output.Form.TheVariants.{Json};
+ghost use Rattle.ima_agent.specs.parts.Replaying.{AreListRegisters, IsNoReplayFrom, ShowsReplayFrom};
 
 use crate::fault::RunFault;
 use crate::files::Files;
 use crate::inputs::{INPUT_LIMIT, not_read};
-use crate::output::Form;
-use crate::verifying::verdict_fault;
+use crate::output::{Form, Output};
+use crate::verifying::{first_cause, verdict_fault};
 use boot_verdict::{list_start, replay_from, write_registers};
-use byte_streams::{Failed, Source, VecSink};
+use byte_streams::{Failed, SliceSource, Source, VecSink};
 use json_texts::append_registers;
 use pcr_banks::Banks;
 use std::alloc::{AllocError, Global};
@@ -47,6 +48,32 @@ fn registers_from<R: Source>(
     match replay_from(alloc, list, INPUT_LIMIT) {
         Ok(now) => Ok(registers_in(alloc, form, &now, &list_start())?),
         Err(fault) => Err(verdict_fault(alloc, name, fault)),
+    }
+}
+
+/// The line of the registers that differ from their reset values after this list alone: what `replay --json` shows of a file with these
+/// bytes, here of any size.
+///
+/// Fails with [`RunFault::List`] if the bytes are no list, with [`RunFault::Replay`] if an entry is not genuine, and with
+/// [`RunFault::Memory`] if memory runs out.
+pub fn json_replay_on(alloc: Global, list: &[u8]) -> Result<Output, RunFault>
+    ensures shown { IfOk result (λ output. ShowsReplay Json list.now output.text.items × (output.status ≡ 0)) }
+    ensures fault { IfErr result (IsNoReplayOn list.now) }
+{
+    let now = banks_after(alloc, list)?;
+    let line = registers_in(alloc, Form::Json, &now, &list_start())?;
+    Ok(Output::done(line))
+}
+
+// The registers after this list alone.
+fn banks_after(alloc: Global, list: &[u8]) -> Result<Banks, RunFault>
+    ensures now { IfOk result (AreListRegisters list.now) }
+    ensures fault { IfErr result (IsNoReplayOn list.now) }
+{
+    let mut source = SliceSource::new(list);
+    match replay_from(alloc, &mut source, u64::MAX) {
+        Ok(now) => Ok(now),
+        Err(fault) => Err(first_cause(fault)),
     }
 }
 

@@ -4,7 +4,7 @@ ghost use Rattle.std.specs.Prelude.{◌≡◌, ◌⊎◌, ◌++◌, List, ℕ, f
 ghost use Rattle.ima_list.specs.Lines.{line_of};
 ghost use Rattle.ima_agent.specs.Loading.{IsInputFault, OfInput};
 ghost use Rattle.ima_agent.specs.Showing.{AreRegistersAfter, IsFitted, IsNoListFor, IsNoLogFor, IsRefusedFor, ShowsEvents, ShowsList, ShowsRegisters, ShowsRegistersAfter, data_of};
-ghost use Rattle.ima_agent.specs.parts.Showing.{IsKept};
+ghost use Rattle.ima_agent.specs.parts.Showing.{HasAdded, IsKept};
 
 use crate::fault::RunFault;
 use crate::files::Files;
@@ -174,8 +174,8 @@ pub fn entries_within(alloc: Global, list: &[u8], room: usize) -> Result<Fitted,
     Ok(as_kept(text, size))
 }
 
-// What is kept of lines: their text, unless they are counted.
-fn as_kept(text: Vec<u8>, size: usize) -> Fitted
+/// What is kept of lines: their text, unless they are counted.
+pub(crate) fn as_kept(text: Vec<u8>, size: usize) -> Fitted
     ensures { (room : ℕ) (lines : List ℕ) → IsKept room lines text.items size → IsFitted room lines result }
 {
     if size == 0 {
@@ -195,6 +195,18 @@ fn add_line(
         → IsKept room (lines ++ line_of entry.now) text.new.items size.new) }
 {
     entry.line(text)?;
+    count_longer(text, size, room)
+}
+
+/// Counts lines that do not fit into the room, and keeps none of them, after a line was added to the text.
+pub(crate) fn count_longer(
+    text: &mut Vec<u8>,
+    size: &mut usize,
+    room: usize,
+) -> Result<(), AllocError>
+    ensures { OnOk result ((lines last : List ℕ) → HasAdded room lines last text.old.items size.old
+        → IsKept room (lines ++ last) text.new.items size.new) }
+{
     if *size > 0 || text.len() > room {
         *size = size.checked_add(text.len()).ok_or(AllocError)?;
         text.clear();

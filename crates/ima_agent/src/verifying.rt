@@ -114,8 +114,13 @@ pub(crate) fn judged<F: Files>(
     judged_from(alloc, &log, &mut source, list, &expected)
 }
 
-// The report on this log, this list and the registers that the text states, before it is written.
-fn judged_on(alloc: Global, log: &[u8], list: &[u8], expected: &[u8]) -> Result<Report, RunFault>
+/// The report on this log, this list and the registers that the text states, before it is written.
+pub(crate) fn judged_on(
+    alloc: Global,
+    log: &[u8],
+    list: &[u8],
+    expected: &[u8],
+) -> Result<Report, RunFault>
     ensures report { IfOk result (λ report. IsVerdictOn log.now list.now expected.now (verdict_of report)) }
     ensures fault { IfErr result (IsNoReportOn log.now list.now expected.now) }
 {

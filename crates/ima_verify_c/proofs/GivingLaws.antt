@@ -1,14 +1,17 @@
 -- What was made, once it is given, is an answer.
-use Rattle.std.proofs.Common.{◌≡◌, ℕ, List, length, Ok, Err, refl, sym, subst, inl, inr, Result}
+use Rattle.std.proofs.Common.{◌≡◌, ℕ, List, length, true, Ok, Err, refl, sym, subst, inl, inr, Result}
 use Rattle.std.specs.Prelude.{ℤ, ◌⊎◌, IfOk, IfErr}
 use Rattle.std.specs.Global.{Vec}
 use Rattle.ima_agent.specs.declared.fault.RunFault.{RunFault}
 use Rattle.ima_agent.specs.declared.fault.RunFault.TheVariants.{Memory}
 use Rattle.ima_agent.specs.declared.output.Output.{Output}
+use Rattle.ima_agent.specs.declared.json_outputs.entries_within.FittedOutput.{FittedOutput}
 use Rattle.ima_agent.specs.declared.showing.Fitted.{Fitted}
+use Rattle.ima_agent.specs.JsonFaults.{IsFailure, ToldAsJson}
+use Rattle.ima_agent.specs.JsonShowing.{ShowsEntries}
 use Rattle.ima_agent.specs.Showing.{IsFitted, IsNoListFor, ShowsList}
-use Rattle.ima_verify_c.specs.Answers.{Answers, IsEntriesAnswer, IsGiven, IsRefusal}
-use Rattle.ima_verify_c.specs.parts.Givings.{IsFaultText, IsOf, IsTextOf}
+use Rattle.ima_verify_c.specs.Answers.{Answers, IsEntriesAnswer, IsGiven, IsJsonEntriesAnswer, IsJsonRefusal, IsRefusal}
+use Rattle.ima_verify_c.specs.parts.Givings.{IsFaultText, IsJsonOf, IsOf, IsTextOf}
 
 -- What holds of a text and a status holds of equal ones.
 same_answer : (P : List ℕ → ℕ → Type 0) (text shown : List ℕ) (status exit : ℕ) → text ≡ shown → status ≡ exit → P shown exit
@@ -69,5 +72,54 @@ gives_fitted list (Err fault) answer needed old new shows cause given refused = 
   text = refused.text;
   status = refused.status;
   is_answer = inr (refusal (IsNoListFor list) fault refused.text refused.status (inr refl) cause refused.is_answer);
+  given = refused.given;
+}
+
+-- ---- as JSON
+
+-- The line of a fault as JSON is a refusal, and so is that of `Memory`.
+json_refusal : (Cause : RunFault → Type 0) (fault : RunFault) (text : List ℕ) (status : ℕ) → Cause Memory → Cause fault
+    → IsFailure true fault text status → IsJsonRefusal Cause text status
+json_refusal Cause fault text status memory cause (inl told) = record { fault = fault; cause = cause; told = told }
+json_refusal Cause fault text status memory cause (inr told) = record { fault = Memory; cause = memory; told = told }
+
+-- An output, or the line of a fault as JSON, was given.
+pub gives_json : (Shows : List ℕ → ℕ → Type 0) (Cause : RunFault → Type 0) (made : Result Output RunFault) (answer : ℤ) (needed : ℕ)
+    (old new : List ℕ) → Cause Memory → IfOk made (λ output. Shows output.text.items output.status) → IfErr made Cause
+    → Answers (IsJsonOf made) answer needed old new
+    → Answers (λ text status. Shows text status ⊎ IsJsonRefusal Cause text status) answer needed old new
+gives_json Shows Cause (Ok output) answer needed old new memory shows none given = record {
+  text = given.text;
+  status = given.status;
+  is_answer =
+      inl (same_answer Shows given.text output.text.items given.status output.status given.is_answer.0 given.is_answer.1 shows);
+  given = given.given;
+}
+gives_json Shows Cause (Err fault) answer needed old new memory shows cause given = record {
+  text = given.text;
+  status = given.status;
+  is_answer = inr (json_refusal Cause fault given.text given.status memory cause given.is_answer);
+  given = given.given;
+}
+
+-- What a line of JSON tells of memory alone.
+memory_told : (fault : RunFault) (text : List ℕ) (status : ℕ) → fault ≡ Memory → IsFailure true fault text status
+    → ToldAsJson Memory text status
+memory_told fault text status memory (inl told) = subst (λ (f : RunFault). ToldAsJson f text status) memory told
+memory_told fault text status memory (inr told) = told
+
+-- The lines of a list, as far as there is room, or that memory ran out, were given.
+pub gives_json_fitted : (list : List ℕ) (made : Result FittedOutput RunFault) (answer : ℤ) (needed : ℕ) (old new : List ℕ)
+    → IfOk made (λ output. (shown : List ℕ) × ShowsEntries list shown output.status × IsFitted (length old) shown output.text)
+    → IfErr made (λ fault. fault ≡ Memory)
+    → IfOk made (λ output. (text : List ℕ) → IsFitted (length old) text output.text → IsGiven text output.status answer needed old new)
+    → IfErr made (λ fault. Answers (IsFailure true fault) answer needed old new)
+    → Answers (IsJsonEntriesAnswer list) answer needed old new
+gives_json_fitted list (Ok output) answer needed old new shows memory given refused =
+    record { text = shows.0; status = output.status; is_answer = inl shows.1; given = given shows.0 shows.2 }
+gives_json_fitted list (Err fault) answer needed old new shows memory given refused = record {
+  text = refused.text;
+  status = refused.status;
+  is_answer = inr (memory_told fault refused.text refused.status memory refused.is_answer);
   given = refused.given;
 }

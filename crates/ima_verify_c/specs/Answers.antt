@@ -1,9 +1,15 @@
 -- What a caller in C finds after a call. All of this is this project's choice.
 use Rattle.std.specs.Prelude.{◌≡◌, ℕ, ℤ, pos, ◌<◌, ◌≤◌, ◌⊎◌, List, ◌++◌, length, drop, Some}
 use Rattle.ima_agent.specs.declared.fault.RunFault.{RunFault}
+use Rattle.ima_agent.specs.declared.fault.RunFault.TheVariants.{Memory}
+use Rattle.ima_agent.specs.declared.output.Form.TheVariants.{Json}
 use Rattle.ima_agent.specs.Expecting.{IsNotExpectedOn, ShowsExpected, range_text}
 use Rattle.ima_agent.specs.FaultTexts.{fault_line, fault_status}
+use Rattle.ima_agent.specs.JsonFaults.{ToldAsJson}
+use Rattle.ima_agent.specs.JsonJudging.{ShowsJsonListReportOn, ShowsJsonPlacesOn, ShowsJsonReportOn}
+use Rattle.ima_agent.specs.JsonShowing.{ShowsEntries, ShowsJsonRegisters}
 use Rattle.ima_agent.specs.ListVerifying.{IsNoListReportOn, ShowsListReportOn}
+use Rattle.ima_agent.specs.Replaying.{IsNoReplayOn, ShowsReplay}
 use Rattle.ima_agent.specs.Showing.{IsNoListFor, IsNoLogFor, ShowsList, ShowsRegistersAfter}
 use Rattle.ima_agent.specs.Locating.{ShowsPlacesOn}
 use Rattle.ima_agent.specs.Requiring.{IsFaultWith, ShowsRequiredPlacesOn, ShowsRequiredReportOn}
@@ -87,3 +93,44 @@ IsRegistersAnswer log text status = (ShowsRegistersAfter log text × (status ≡
 -- The lines of this list's entries; or why there are none.
 abbrev pub IsEntriesAnswer : List ℕ → List ℕ → ℕ → Type 0
 IsEntriesAnswer list text status = (ShowsList list text × (status ≡ 0)) ⊎ IsRefusal (IsNoListFor list) text status
+
+-- ---- answers as lines of JSON
+
+-- The text is the line of JSON of a fault that has this cause, and the status is that of the fault.
+pub record IsJsonRefusal (HasCause : RunFault → Type 0) (text : List ℕ) (status : ℕ) : Type 0 where
+  pub fault : RunFault
+  pub cause : HasCause fault
+  pub told : ToldAsJson fault text status
+
+-- The report on this log, this list and the registers that the text `expected` states, where the text `required` requires registers, with
+-- the status of its verdict; or why there is none.
+abbrev pub IsJsonReportAnswer : List ℕ → List ℕ → List ℕ → List ℕ → List ℕ → ℕ → Type 0
+IsJsonReportAnswer log list expected required text status =
+    ShowsJsonReportOn log list expected (Some required) text status
+    ⊎ IsJsonRefusal (IsFaultWith required (IsNoReportOn log list expected)) text status
+
+-- The places in this log and this list of the registers that the text `expected` states, where the text `required` requires registers, with
+-- their status; or why there are none.
+abbrev pub IsJsonPlacesAnswer : List ℕ → List ℕ → List ℕ → List ℕ → List ℕ → ℕ → Type 0
+IsJsonPlacesAnswer log list expected required text status =
+    ShowsJsonPlacesOn log list expected (Some required) text status
+    ⊎ IsJsonRefusal (IsFaultWith required (IsNoReportOn log list expected)) text status
+
+-- The report on this list alone and the registers that the text `expected` states, where the text `required` requires registers, with the
+-- status of its verdict; or why there is none.
+abbrev pub IsJsonListReportAnswer : List ℕ → List ℕ → List ℕ → List ℕ → ℕ → Type 0
+IsJsonListReportAnswer list expected required text status =
+    ShowsJsonListReportOn list expected (Some required) text status
+    ⊎ IsJsonRefusal (IsFaultWith required (IsNoListReportOn list expected)) text status
+
+-- The registers after this log; or why there are none.
+abbrev pub IsJsonRegistersAnswer : List ℕ → List ℕ → ℕ → Type 0
+IsJsonRegistersAnswer log text status = (ShowsJsonRegisters log text × (status ≡ 0)) ⊎ IsJsonRefusal (IsNoLogFor log) text status
+
+-- The registers after this list alone; or why there are none.
+abbrev pub IsJsonReplayAnswer : List ℕ → List ℕ → ℕ → Type 0
+IsJsonReplayAnswer list text status = (ShowsReplay Json list text × (status ≡ 0)) ⊎ IsJsonRefusal (IsNoReplayOn list) text status
+
+-- What can be read of these bytes as a list, with its status; or that memory ran out.
+abbrev pub IsJsonEntriesAnswer : List ℕ → List ℕ → ℕ → Type 0
+IsJsonEntriesAnswer list text status = ShowsEntries list text status ⊎ ToldAsJson Memory text status

@@ -1,13 +1,16 @@
 //! Gives an answer to the caller: a text in the caller's buffer, its size, and a number.
 
-ghost use Rattle.std.specs.Prelude.{◌≡◌, ℕ, List, length, IfOk, IfErr};
+ghost use Rattle.std.specs.Prelude.{◌≡◌, ℕ, List, length, true, IfOk, IfErr};
 ghost use Rattle.ima_agent.specs.FaultTexts.{fault_line};
+ghost use Rattle.ima_agent.specs.JsonFaults.{IsFailure};
 ghost use Rattle.ima_agent.specs.Showing.{IsFitted};
 ghost use Rattle.ima_verify_c.specs.Answers.{Answers, IsGiven};
-ghost use Rattle.ima_verify_c.specs.parts.Givings.{IsFaultText, IsOf, IsTextOf};
+ghost use Rattle.ima_verify_c.specs.parts.Givings.{IsFaultText, IsJsonOf, IsOf, IsTextOf};
 
 use byte_streams::{Failed, VecSink};
-use ima_agent::{Fitted, Output, RunFault, status_of, write_fault};
+use ima_agent::{
+    Fitted, FittedOutput, Output, RunFault, json_fault_line, json_memory_line, status_of, write_fault,
+};
 use std::alloc::{AllocError, Global};
 
 /// What a call returns if memory ran out.
@@ -61,12 +64,40 @@ pub(crate) fn give_fitted(
     ensures fault { IfErr asked (λ fault. Answers (IsFaultText fault) result needed.new out.old out.new) }
 {
     match asked {
-        Ok(Fitted::Text(text)) => put(&text, 0, out, needed),
-        Ok(Fitted::Longer(size)) => {
-            *needed = size;
-            TOO_SHORT
-        }
+        Ok(text) => put_fitted(&text, 0, out, needed),
         Err(fault) => give_fault(alloc, &fault, out, needed),
+    }
+}
+
+/// Gives an output, or the line of a fault as JSON.
+pub(crate) fn give_json(
+    alloc: Global,
+    asked: Result<Output, RunFault>,
+    out: &mut [u8],
+    needed: &mut usize,
+) -> i32
+    ensures { Answers (IsJsonOf asked) result needed.new out.old out.new }
+{
+    match asked {
+        Ok(lines) => put(&lines.text, lines.status, out, needed),
+        Err(fault) => give_json_fault(alloc, &fault, out, needed),
+    }
+}
+
+/// Gives an output for whose text the caller's buffer is the room, or its size, or the line of a fault as JSON.
+pub(crate) fn give_json_fitted(
+    alloc: Global,
+    asked: Result<FittedOutput, RunFault>,
+    out: &mut [u8],
+    needed: &mut usize,
+) -> i32
+    ensures given { IfOk asked (λ output. (text : List ℕ) → IsFitted (length out.old) text output.text
+        → IsGiven text output.status result needed.new out.old out.new) }
+    ensures fault { IfErr asked (λ fault. Answers (IsFailure true fault) result needed.new out.old out.new) }
+{
+    match asked {
+        Ok(output) => put_fitted(&output.text, output.status, out, needed),
+        Err(fault) => give_json_fault(alloc, &fault, out, needed),
     }
 }
 
@@ -77,6 +108,16 @@ fn give_fault(alloc: Global, fault: &RunFault, out: &mut [u8], needed: &mut usiz
     match line_of(alloc, fault) {
         Ok(line) => put(&line, status_of(fault), out, needed),
         Err(AllocError) => put(MEMORY_LINE, OUT_OF_MEMORY, out, needed),
+    }
+}
+
+// Gives the line of a fault as JSON; that of `Memory`, if there is no memory for it.
+fn give_json_fault(alloc: Global, fault: &RunFault, out: &mut [u8], needed: &mut usize) -> i32
+    ensures { Answers (IsFailure true fault.now) result needed.new out.old out.new }
+{
+    match json_fault_line(alloc, fault) {
+        Ok(json) => put(&json, status_of(fault), out, needed),
+        Err(AllocError) => put(json_memory_line(), OUT_OF_MEMORY, out, needed),
     }
 }
 
@@ -101,4 +142,17 @@ fn put(text: &[u8], status: u8, out: &mut [u8], needed: &mut usize) -> i32
     }
     out[..text.len()].copy_from_slice(text);
     i32::from(status)
+}
+
+// Puts a text for which the caller's buffer is the room, or tells its size.
+fn put_fitted(fitted: &Fitted, status: u8, out: &mut [u8], needed: &mut usize) -> i32
+    ensures { (text : List ℕ) → IsFitted (length out.old) text fitted.now → IsGiven text status result needed.new out.old out.new }
+{
+    match fitted {
+        Fitted::Text(text) => put(text, status, out, needed),
+        Fitted::Longer(size) => {
+            *needed = *size;
+            TOO_SHORT
+        }
+    }
 }

@@ -3,18 +3,20 @@
 //!
 //! Each call returns a number: 0 or 1 as the command of the same name exits, with its output in the buffer; 2 if an input is refused,
 //! or 3 if memory ran out, with the line of the fault in the buffer; or 4 if the buffer is too short, and then it is as it was. In
-//! any case `needed` is the size of the text in bytes.
+//! any case `needed` is the size of the text in bytes. A call whose name ends in `_json` gives the lines of the command with `--json`, and
+//! so it gives the line of a fault.
 #![tactic(auto)]
 
 mod giving;
 
 ghost use Rattle.std.specs.Prelude.{◌≡◌};
-ghost use Rattle.ima_verify_c.specs.Answers.{Answers, IsPlacesAnswer, IsEntriesAnswer, IsExpectedAnswer, IsRegistersAnswer, IsReportAnswer, IsRequiredListReportAnswer, IsRequiredPlacesAnswer, IsRequiredReportAnswer, interface_version};
+ghost use Rattle.ima_verify_c.specs.Answers.{Answers, IsPlacesAnswer, IsEntriesAnswer, IsExpectedAnswer, IsJsonEntriesAnswer, IsJsonListReportAnswer, IsJsonPlacesAnswer, IsJsonRegistersAnswer, IsJsonReplayAnswer, IsJsonReportAnswer, IsRegistersAnswer, IsReportAnswer, IsRequiredListReportAnswer, IsRequiredPlacesAnswer, IsRequiredReportAnswer, interface_version};
 
-use crate::giving::{give, give_fitted, give_text};
+use crate::giving::{give, give_fitted, give_json, give_json_fitted, give_text};
 use ima_agent::{
-    entries_within, expected_on, places_on, registers_on, report_on, required_list_report_on,
-    required_places_on, required_report_on,
+    entries_within, expected_on, json_entries_within, json_list_report_on, json_places_on,
+    json_registers_on, json_replay_on, json_report_on, places_on, registers_on, report_on,
+    required_list_report_on, required_places_on, required_report_on,
 };
 use std::alloc::Global;
 
@@ -145,4 +147,98 @@ pub extern "C" fn ima_show(alloc: Global, list: &[u8], out: &mut [u8], needed: &
 {
     let asked = entries_within(alloc, list, out.len());
     give_fitted(alloc, asked, out, needed)
+}
+
+/// The verdict on a firmware event log, a measurement list and expected registers, where `require` is as in [`ima_verify_required`], as
+/// `verify --json` writes it: 0 if it is `match`, 1 if it is `differ`.
+#[unsafe(no_mangle)]
+pub extern "C" fn ima_verify_json(
+    alloc: Global,
+    log: &[u8],
+    list: &[u8],
+    expected: &[u8],
+    require: &[u8],
+    out: &mut [u8],
+    needed: &mut usize,
+) -> i32
+    ensures { Answers (IsJsonReportAnswer log.now list.now expected.now require.now) result needed.new out.old out.new }
+{
+    let asked = json_report_on(alloc, log, list, expected, Some(require));
+    give_json(alloc, asked, out, needed)
+}
+
+/// Where expected registers first have their values, where `require` is as in [`ima_locate_required`], as `locate --json` writes it: 0 if
+/// each was reached and none is missing, else 1.
+#[unsafe(no_mangle)]
+pub extern "C" fn ima_locate_json(
+    alloc: Global,
+    log: &[u8],
+    list: &[u8],
+    expected: &[u8],
+    require: &[u8],
+    out: &mut [u8],
+    needed: &mut usize,
+) -> i32
+    ensures { Answers (IsJsonPlacesAnswer log.now list.now expected.now require.now) result needed.new out.old out.new }
+{
+    let asked = json_places_on(alloc, log, list, expected, Some(require));
+    give_json(alloc, asked, out, needed)
+}
+
+/// The verdict on a measurement list without a log and expected registers, where `require` is as in [`ima_replay_required`], as
+/// `replay --json` writes it: 0 if it is `match`, 1 if it is `differ`.
+#[unsafe(no_mangle)]
+pub extern "C" fn ima_replay_required_json(
+    alloc: Global,
+    list: &[u8],
+    expected: &[u8],
+    require: &[u8],
+    out: &mut [u8],
+    needed: &mut usize,
+) -> i32
+    ensures { Answers (IsJsonListReportAnswer list.now expected.now require.now) result needed.new out.old out.new }
+{
+    let asked = json_list_report_on(alloc, list, expected, Some(require));
+    give_json(alloc, asked, out, needed)
+}
+
+/// The registers that differ from their reset values after a measurement list without a log, as `replay --json` writes them.
+#[unsafe(no_mangle)]
+pub extern "C" fn ima_replay_json(
+    alloc: Global,
+    list: &[u8],
+    out: &mut [u8],
+    needed: &mut usize,
+) -> i32
+    ensures { Answers (IsJsonReplayAnswer list.now) result needed.new out.old out.new }
+{
+    give_json(alloc, json_replay_on(alloc, list), out, needed)
+}
+
+/// The registers that differ from their reset values after a firmware event log, as `registers --json` writes them.
+#[unsafe(no_mangle)]
+pub extern "C" fn ima_registers_json(
+    alloc: Global,
+    log: &[u8],
+    out: &mut [u8],
+    needed: &mut usize,
+) -> i32
+    ensures { Answers (IsJsonRegistersAnswer log.now) result needed.new out.old out.new }
+{
+    give_json(alloc, json_registers_on(alloc, log), out, needed)
+}
+
+/// The entries of a measurement list, as `show --json` writes them: of a damaged one those before its fault, and then the fault, with
+/// status 2. A text that is longer than the buffer is counted, and never whole in memory.
+#[unsafe(no_mangle)]
+pub extern "C" fn ima_entries_json(
+    alloc: Global,
+    list: &[u8],
+    out: &mut [u8],
+    needed: &mut usize,
+) -> i32
+    ensures { Answers (IsJsonEntriesAnswer list.now) result needed.new out.old out.new }
+{
+    let asked = json_entries_within(alloc, list, out.len());
+    give_json_fitted(alloc, asked, out, needed)
 }

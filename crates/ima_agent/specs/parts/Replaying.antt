@@ -1,10 +1,14 @@
 -- The registers that a list from a source alone makes, and why there are none.
-use Rattle.std.specs.Prelude.{◌≡◌, ℕ, ◌⊎◌, List, Option}
+use Rattle.std.specs.Prelude.{◌≡◌, ℕ, ◌⊎◌, List, Option, Ok}
+use Rattle.pcr_banks.specs.declared.banks.Banks.{Banks}
+use Rattle.ima_list.specs.ListEntry.{ListEntry}
+use Rattle.ima_list.specs.Replaying.{AreGenuine}
+use Rattle.ima_list.specs.Spelling.{IsReading}
 use Rattle.byte_streams.specs.Streams.{SourceState}
 use Rattle.boot_verdict.specs.declared.verifier.VerifyFault.{VerifyFault}
 use Rattle.boot_verdict.specs.declared.verifier.VerifyFault.TheVariants as verdicts
 use Rattle.boot_verdict.specs.ListSources.{CameWhole}
-use Rattle.boot_verdict.specs.Replays.{IsListReplayFault}
+use Rattle.boot_verdict.specs.Replays.{IsListReplay, IsListReplayFault}
 use Rattle.ima_agent.specs.declared.fault.RunFault.{RunFault}
 use Rattle.ima_agent.specs.declared.output.Form.{Form}
 use Rattle.ima_agent.specs.declared.fault.RunFault.TheVariants as runs
@@ -23,3 +27,10 @@ abbrev pub IsNoReplayFrom : List ℕ → SourceState → SourceState → RunFaul
 IsNoReplayFrom name old new fault =
     ((first : VerifyFault) × IsListReplayFault old.remaining new.remaining input_limit first × IsFaultOfVerdict name first fault
     × (first ≡ verdicts.Source → HasFailed old new)) ⊎ (fault ≡ runs.Memory)
+
+-- The bytes are a list of genuine entries, and these are the registers that it makes.
+pub record AreListRegisters (list : List ℕ) (now : Banks) : Type 0 where
+  pub entries : List ListEntry
+  pub list_is : IsReading list (Ok entries)
+  pub genuine : AreGenuine entries
+  pub replay : IsListReplay entries now

@@ -62,7 +62,8 @@ fn report_with<F: Files>(
     Ok(report_line(alloc, &report, requirement)?)
 }
 
-fn report_line(
+/// The line of a report, and its status.
+pub(super) fn report_line(
     alloc: Global,
     report: &Report,
     requirement: Option<&Requirement>,
@@ -128,7 +129,8 @@ fn places_with<F: Files>(
     Ok(places_line(alloc, &places, requirement)?)
 }
 
-fn places_line(
+/// The line of places, and their status.
+pub(super) fn places_line(
     alloc: Global,
     places: &[Located],
     requirement: Option<&Requirement>,
@@ -192,7 +194,8 @@ fn list_report_with<F: Files>(
     Ok(list_report_line(alloc, &report, requirement)?)
 }
 
-fn list_report_line(
+/// The line of a report on a list alone, and its status.
+pub(super) fn list_report_line(
     alloc: Global,
     report: &ListReport,
     requirement: Option<&Requirement>,

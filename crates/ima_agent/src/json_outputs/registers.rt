@@ -8,7 +8,7 @@ ghost use Rattle.ima_agent.specs.Showing.{IsNoLogFor};
 use crate::fault::RunFault;
 use crate::files::Files;
 use crate::inputs::loaded;
-use crate::output::Form;
+use crate::output::{Form, Output};
 use crate::replaying::registers_in;
 use crate::showing::registers_of;
 use std::alloc::Global;
@@ -34,4 +34,15 @@ fn registers_on(alloc: Global, log: &[u8]) -> Result<Vec<u8>, RunFault>
 {
     let registers = registers_of(alloc, log)?;
     Ok(registers_in(alloc, Form::Json, &registers.now, &registers.start)?)
+}
+
+/// The line of the registers that differ from their reset values after this firmware event log: what `registers --json` shows of a file
+/// with these bytes, here of any size.
+///
+/// Fails with [`RunFault::Log`] if the bytes are no log, and with [`RunFault::Memory`] if memory runs out.
+pub fn json_registers_on(alloc: Global, log: &[u8]) -> Result<Output, RunFault>
+    ensures shown { IfOk result (λ output. ShowsJsonRegisters log.now output.text.items × (output.status ≡ 0)) }
+    ensures fault { IfErr result (IsNoLogFor log.now) }
+{
+    Ok(Output::done(registers_on(alloc, log)?))
 }

@@ -77,8 +77,11 @@ pub(crate) fn append_json_fault(
     append_fault(alloc, &told, text)
 }
 
-/// The line of a fault, as JSON.
-pub(crate) fn json_fault_line(alloc: Global, fault: &RunFault) -> Result<Vec<u8>, AllocError>
+/// The line of a fault, as JSON, with its line feed. Its members are `kind`, one word; `number` and `event` or `entry`, each where the fault
+/// has it; and `message`, the line that [`crate::write_fault`] writes. Out of memory, even inside another fault, is of the kind `memory`.
+///
+/// Fails only if memory runs out.
+pub fn json_fault_line(alloc: Global, fault: &RunFault) -> Result<Vec<u8>, AllocError>
     ensures { IfOk result (λ line. IsFaultAsJson fault.now line.items) }
 {
     let mut line = Vec::new(alloc);
@@ -87,7 +90,7 @@ pub(crate) fn json_fault_line(alloc: Global, fault: &RunFault) -> Result<Vec<u8>
 }
 
 /// The line of [`RunFault::Memory`] as JSON, which takes no memory.
-pub(crate) fn json_memory_line() -> &'static [u8]
+pub fn json_memory_line() -> &'static [u8]
     ensures { IsFaultAsJson Memory result.now }
 {
     b"{\"fault\":{\"kind\":\"memory\",\"message\":\"failed: memory\"}}\n"

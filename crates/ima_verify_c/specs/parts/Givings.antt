@@ -1,10 +1,11 @@
 -- The text and the status of what was computed.
-use Rattle.std.specs.Prelude.{◌≡◌, ℕ, ◌⊎◌, List, Result, Ok, Err}
+use Rattle.std.specs.Prelude.{◌≡◌, ℕ, ◌⊎◌, true, List, Result, Ok, Err}
 use Rattle.std.specs.Global.{Vec}
 use Rattle.ima_agent.specs.declared.fault.RunFault.{RunFault}
 use Rattle.ima_agent.specs.declared.fault.RunFault.TheVariants.{Memory}
 use Rattle.ima_agent.specs.declared.output.Output.{Output}
 use Rattle.ima_agent.specs.FaultTexts.{fault_line, fault_status}
+use Rattle.ima_agent.specs.JsonFaults.{IsFailure}
 
 -- The line of this fault and its status; or those of `Memory`.
 abbrev pub IsFaultText : RunFault → List ℕ → ℕ → Type 0
@@ -20,3 +21,8 @@ IsOf (Err fault) text status = IsFaultText fault text status
 abbrev pub IsTextOf : Result (Vec ℕ) RunFault → List ℕ → ℕ → Type 0
 IsTextOf (Ok shown) text status = (text ≡ shown.items) × (status ≡ 0)
 IsTextOf (Err fault) text status = IsFaultText fault text status
+
+-- The text and the status of this output, or of this fault as JSON.
+abbrev pub IsJsonOf : Result Output RunFault → List ℕ → ℕ → Type 0
+IsJsonOf (Ok output) text status = (text ≡ output.text.items) × (status ≡ output.status)
+IsJsonOf (Err fault) text status = IsFailure true fault text status
