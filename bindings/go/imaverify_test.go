@@ -76,12 +76,12 @@ func locate(t *testing.T, log, list, expected []byte) Places {
 
 func TestVerdictOnTheSampleIsAMatch(t *testing.T) {
 	wanted := Verdict{Events: 24, Entries: 99, BootAggregate: AggregateGood, Matches: true}
-	wanted.Text = "events 24 locality 0\nentries 99\nboot_aggregate good\n"
+	var rows []string
 	for k := 0; k < 24; k++ {
 		wanted.Rows = append(wanted.Rows, Row{SHA256, k, StateMatch, nil})
-		wanted.Text += fmt.Sprintf("sha256 %d match\n", k)
+		rows = append(rows, fmt.Sprintf(`{"bank":"sha256","register":%d,"state":"match"}`, k))
 	}
-	wanted.Text += "verdict match\n"
+	wanted.JSON = `{"events":24,"locality":0,"entries":99,"boot_aggregate":"good","registers":[` + strings.Join(rows, ",") + `],"verdict":"match"}`
 	equal(t, verify(t, bootLog, bootList, bootTPM), wanted)
 }
 
@@ -155,7 +155,6 @@ func TestAllRequiredRegistersAreExpected(t *testing.T) {
 		verdict := verifyRequired(t, bootLog, bootList, bootTPM, require)
 		equal(t, []interface{}{verdict.Matches, verdict.Compared(), verdict.Entries}, []interface{}{true, 24, uint64(99)})
 		equal(t, verdict.Rows, verify(t, bootLog, bootList, bootTPM).Rows)
-		equal(t, strings.Split(verdict.Text, "\n")[2], "compared 24")
 		equal(t, locateRequired(t, bootLog, bootList, bootTPM, require), locate(t, bootLog, bootList, bootTPM))
 	}
 	verdict := verifyRequired(t, bootLog, longer, bootTPM, "sha256:10")
@@ -200,7 +199,7 @@ var tenth = bootTPM[bytes.Index(bootTPM, []byte("sha256 10 ")):bytes.Index(bootT
 func TestRegisterOfTheListAloneMatches(t *testing.T) {
 	rows := []Row{{SHA256, 10, StateMatch, nil}}
 	equal(t, replayRequired(t, bootList, tenth, "sha256:10"),
-		ListVerdict{99, rows, true, "entries 99\ncompared 1\nsha256 10 match\nverdict match\n"})
+		ListVerdict{99, rows, true, `{"entries":99,"registers":[{"bank":"sha256","register":10,"state":"match"}],"verdict":"match"}`})
 	verdict := replayRequired(t, longer, tenth, "sha256:10")
 	equal(t, []interface{}{verdict.Matches, verdict.Entries, fmt.Sprintf("%x", verdict.Rows[0].Value)},
 		[]interface{}{false, uint64(100), afterLonger})
@@ -346,10 +345,10 @@ func TestInputsWithoutBytes(t *testing.T) {
 		equal(t, err, nil)
 		equal(t, len(shown), 0)
 		equal(t, verify(t, bootLog, empty, empty), Verdict{24, 0, 0, AggregateMissing, nil, false,
-			"events 24 locality 0\nentries 0\nboot_aggregate missing\nverdict differ\n"})
+			`{"events":24,"locality":0,"entries":0,"boot_aggregate":"missing","registers":[],"verdict":"differ"}`})
 		equal(t, verify(t, bootLog, bootList, empty), Verdict{24, 0, 99, AggregateGood, nil, true,
-			"events 24 locality 0\nentries 99\nboot_aggregate good\nverdict match\n"})
-		equal(t, locate(t, bootLog, bootList, empty), Places{nil, true, "located\n"})
+			`{"events":24,"locality":0,"entries":99,"boot_aggregate":"good","registers":[],"verdict":"match"}`})
+		equal(t, locate(t, bootLog, bootList, empty), Places{nil, true, `{"registers":[],"located":true}`})
 	}
 }
 
@@ -367,8 +366,20 @@ func TestTextLongerThanTheBufferTakesASecondCall(t *testing.T) {
 }
 
 func TestLineOfAFaultLongerThanTheBuffer(t *testing.T) {
-	_, err := ask(5, func(out []byte, needed *uint64) int32 { return callRegisters(nil, out, needed) })
-	checkRefused(t, err, RefusedError{"refused: log fault 1 at event 0", KindLog, 1, 0, true})
+	given, err := ask(5, func(out []byte, needed *uint64) int32 { return callRegisters(nil, out, needed) })
+	equal(t, err, nil)
+	checkRefused(t, given.refusal(false), RefusedError{"refused: log fault 1 at event 0", KindLog, 1, 0, true})
+}
+
+func TestEntriesLongerThanTheBufferTakeASecondCall(t *testing.T) {
+	// (a path of control bytes is six times as long as JSON)
+	path := strings.Repeat("\x01", 4000)
+	found, err := drained(Entries(bytes.Repeat(entryOf("ima-ng", ng("sha1", make([]byte, 20), path)), 3)))
+	equal(t, err, nil)
+	for _, entry := range found {
+		equal(t, entry.File.Path, path)
+	}
+	equal(t, len(found), 3)
 }
 
 func TestFirstBufferIsLargeEnough(t *testing.T) {
@@ -419,10 +430,4 @@ func TestCallsAtOnceGiveWhatTheyGiveAlone(t *testing.T) {
 
 func called(result interface{}, err error) interface{} {
 	return []interface{}{result, err}
-}
-
-func ExampleVerifyRequired() {
-	verdict, err := VerifyRequired(bootLog, bootList, bootTPM, "sha256:0-10")
-	fmt.Println(verdict.Matches, verdict.Entries, verdict.Compared(), err)
-	// Output: true 99 24 <nil>
 }
