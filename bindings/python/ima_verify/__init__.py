@@ -6,7 +6,7 @@ are compared with expected ones. Each function takes bytes: what /sys/kernel/sec
 bytes-like type; a bytearray, or other memory that can be written, may not change during a call.
 
 Say which registers a verdict must cover: `verify(log, list, expected, require="sha256:0-10")`. Without `require` only those count that
-`expected` names, and if it names none, the boot aggregate alone. `entries(list)` and `events(log)` go through the inputs themselves.
+`expected` names; a verdict on none is no match. `entries(list)` and `events(log)` go through the inputs themselves.
 
 An input that is refused raises `Refused`, and a `require` or `registers` that is not of its form ValueError; if memory runs out, that
 is MemoryError; an answer that the library's header does not describe raises `LibraryError`. Nothing else that the library answers is
@@ -18,6 +18,7 @@ call in the forked child of a process with threads.
 The shared library is the file that the environment variable IMA_VERIFY_LIBRARY names, else `libima_verify.so` in this package's
 folder, else what the system's loader finds as `libima_verify.so.1`. It is loaded when this module is imported."""
 
+import re
 from enum import Enum
 from typing import Any, Callable, Optional, Sequence, Tuple, Union
 
@@ -31,7 +32,7 @@ from ._results import (
 __all__ = [
     "Algorithm", "BootAggregate", "BytesLike", "Entries", "Entry", "Event", "Events", "Kind", "LibraryError", "ListVerdict",
     "LogAlgorithm", "Place", "PlaceRow", "Places", "Refused", "Register", "Row", "State", "Verdict", "entries", "events", "expected",
-    "locate", "registers", "replay", "show", "verify", "version",
+    "list_registers", "locate", "registers", "replay", "show", "verify", "version",
 ]
 
 Text = Union[BytesLike, str]
@@ -46,6 +47,8 @@ class _Default(Enum):
 # 4 banks have 96 registers, and no row of these has more than 256 bytes.
 _ROOM = 32 * 1024
 
+_NAMED = re.compile(rb"^(sha1|sha256|sha384|sha512) (1?[0-9]|2[0-3]) ", re.MULTILINE)
+
 _LIBRARY = _library.load()
 
 
@@ -58,15 +61,16 @@ def verify(log: BytesLike, list: BytesLike, expected: Text, *, require: Union[Te
     """The verdict on a firmware event log, a measurement list and the expected registers that a text states.
 
     `require` names the registers that must be among these, as `sha256:0-10` or `sha256:0-7,sha1:10`. Each that is not has a row whose
-    state is MISSING, and then the verdict is no match. None is a TypeError."""
-    answer = _answer_to(require, _LIBRARY.ima_verify_json, (log, list, _bytes_of(expected)))
-    return _answers.read_verdict(*answer, require is not _Default.NOTHING)
+    state is MISSING, and then the verdict is no match. None is a TypeError. If it is not given, those are required that the text names, and
+    `sha256:0` if it names none."""
+    text = _bytes_of(expected)
+    return _answers.read_verdict(*_answer_to(_required(require, text), _LIBRARY.ima_verify_json, (log, list, text)))
 
 
 def locate(log: BytesLike, list: BytesLike, expected: Text, *, require: Union[Text, _Default] = _Default.NOTHING) -> Places:
     """Where each expected register first has its value. Inputs, `require` and refusals are those of `verify`."""
-    answer = _answer_to(require, _LIBRARY.ima_locate_json, (log, list, _bytes_of(expected)))
-    return _answers.read_places(*answer, require is not _Default.NOTHING)
+    text = _bytes_of(expected)
+    return _answers.read_places(*_answer_to(_required(require, text), _LIBRARY.ima_locate_json, (log, list, text)))
 
 
 def replay(list: BytesLike, expected: Text, *, require: Text) -> ListVerdict:
@@ -74,7 +78,7 @@ def replay(list: BytesLike, expected: Text, *, require: Text) -> ListVerdict:
 
     The list is replayed from the registers' reset values, so a register that the firmware extends too differs. `require` is as in
     `verify`, and has to be given. A list without entries is no match."""
-    return _answers.read_list_verdict(*_answer_to(require, _LIBRARY.ima_replay_json, (list, _bytes_of(expected))))
+    return _answers.read_list_verdict(*_answer_to(require, _LIBRARY.ima_replay_required_json, (list, _bytes_of(expected))))
 
 
 def expected(printed: Text, registers: Optional[Text] = None) -> bytes:
@@ -90,9 +94,12 @@ def expected(printed: Text, registers: Optional[Text] = None) -> bytes:
 
 def registers(log: BytesLike) -> Tuple[Register, ...]:
     """The registers that differ from their reset values after a firmware event log."""
-    status, text = _library.ask(_LIBRARY.ima_registers_json, (log,), _ROOM)
-    _answers.raise_failure(status, text)
-    return _answers.read_registers(status, text)
+    return _registers_of(_LIBRARY.ima_registers_json, log)
+
+
+def list_registers(list: BytesLike) -> Tuple[Register, ...]:
+    """The registers, in banks of all algorithms, that differ from their reset values after a measurement list without a log."""
+    return _registers_of(_LIBRARY.ima_replay_json, list)
 
 
 def entries(list: BytesLike) -> Entries:
@@ -131,18 +138,22 @@ def _room_of_lines(data: BytesLike) -> int:
     return 4 * memoryview(data).nbytes + 1024
 
 
-def _answer_to(require: Union[Text, _Default], function: Callable[..., Any], inputs: Sequence[BytesLike]) -> Tuple[int, bytes]:
-    """The answer of a function whose last input is what the caller requires: a ValueError says that this is not of its form.
+def _registers_of(function: Callable[..., Any], data: BytesLike) -> Tuple[Register, ...]:
+    status, text = _library.ask(function, (data,), _ROOM)
+    _answers.raise_failure(status, text)
+    return _answers.read_registers(status, text)
 
-    For the library an empty text requires nothing; from a caller it is of no form."""
+
+def _required(require: Union[Text, _Default], expected: BytesLike) -> Text:
+    """What is required: if nothing is given, each register that the expected text names, so that none of these is missing."""
     if isinstance(require, _Default):
-        status, text = _library.ask(function, (*inputs, b""), _ROOM)
-        _answers.raise_failure(status, text)
-        return status, text
-    given = _bytes_of(require)
-    if memoryview(given).nbytes == 0:
-        raise ValueError(f"not of its form: {require!r}")
-    status, text = _library.ask(function, (*inputs, given), _ROOM)
+        return b",".join(dict.fromkeys(map(b":".join, _NAMED.findall(memoryview(expected).tobytes())))) or b"sha256:0"
+    return require
+
+
+def _answer_to(require: Text, function: Callable[..., Any], inputs: Sequence[BytesLike]) -> Tuple[int, bytes]:
+    """The answer of a function whose last input is what is required: a ValueError says that this is not of its form."""
+    status, text = _library.ask(function, (*inputs, _bytes_of(require)), _ROOM)
     _answers.raise_failure(status, text, require)
     return status, text
 

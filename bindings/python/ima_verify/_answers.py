@@ -36,10 +36,10 @@ def unexpected(status: int, text: bytes) -> NoReturn:
     raise LibraryError(f"libima_verify answered status {status} with {len(text)} bytes that begin {text[:200]!r}")
 
 
-def read_verdict(status: int, text: bytes, requires: bool) -> Verdict:
-    """The verdict that a report states. Where registers are required, it has a row."""
+def read_verdict(status: int, text: bytes) -> Verdict:
+    """The verdict that a report states."""
     def read(report: Object) -> Verdict:
-        aggregate, rows = BootAggregate(_member(report, "boot_aggregate", str)), _rows_of(report, requires)
+        aggregate, rows = BootAggregate(_member(report, "boot_aggregate", str)), _rows_of(report)
         matches = _says(status, report, aggregate is BootAggregate.GOOD and all(row.state is State.MATCH for row in rows))
         events, locality, entries = _number(report, "events"), _number(report, "locality", 255), _number(report, "entries")
         return Verdict(events, locality, entries, aggregate, rows, matches, _line_of(text))
@@ -48,9 +48,9 @@ def read_verdict(status: int, text: bytes, requires: bool) -> Verdict:
 
 
 def read_list_verdict(status: int, text: bytes) -> ListVerdict:
-    """The verdict on a list alone that a report states, where registers are required. A list has registers in all banks."""
+    """The verdict on a list alone that a report states. A list has registers in all banks."""
     def read(report: Object) -> ListVerdict:
-        entries, rows = _number(report, "entries"), _rows_of(report, True)
+        entries, rows = _number(report, "entries"), _rows_of(report)
         _require(all(row.state is not State.ABSENT for row in rows))
         matches = _says(status, report, entries > 0 and all(row.state is State.MATCH for row in rows))
         return ListVerdict(entries, rows, matches, _line_of(text))
@@ -58,11 +58,11 @@ def read_list_verdict(status: int, text: bytes) -> ListVerdict:
     return _read(read, status, text)
 
 
-def read_places(status: int, text: bytes, requires: bool) -> Places:
-    """The places that an answer states. Where registers are required, it has a row."""
+def read_places(status: int, text: bytes) -> Places:
+    """The places that an answer states."""
     def read(answer: Object) -> Places:
         rows = tuple(map(_place_row_of, _objects(answer, "registers")))
-        _require_missing_last([row.place is Place.MISSING for row in rows], requires)
+        _require_missing_last([row.place is Place.MISSING for row in rows])
         located = all(row.place not in (Place.NOWHERE, Place.ABSENT, Place.MISSING) for row in rows)
         _require(_member(answer, "located", bool) == located and status == (DONE if located else DIFFERS))
         return Places(rows, located, _line_of(text))
@@ -171,15 +171,15 @@ def _refused_of(line: str) -> Refused:
     return Refused(line, Kind(kind), int(number), int(place[0]) if place else None)
 
 
-def _rows_of(report: Object, requires: bool) -> Tuple[Row, ...]:
+def _rows_of(report: Object) -> Tuple[Row, ...]:
     rows = tuple(map(_row_of, _objects(report, "registers")))
-    _require_missing_last([row.state is State.MISSING for row in rows], requires)
+    _require_missing_last([row.state is State.MISSING for row in rows])
     return rows
 
 
-def _require_missing_last(are_missing: List[bool], requires: bool) -> None:
-    """Where registers are required, there is a row, and rows of missing registers come after the others; else none is missing."""
-    _require(are_missing == sorted(are_missing) and (len(are_missing) > 0 if requires else not any(are_missing)))
+def _require_missing_last(are_missing: List[bool]) -> None:
+    """Since something is required, there is a row. Those of missing registers come after the others."""
+    _require(len(are_missing) > 0 and are_missing == sorted(are_missing))
 
 
 def _says(status: int, report: Object, matches: bool) -> bool:

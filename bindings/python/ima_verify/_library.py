@@ -18,8 +18,8 @@ SYSTEM_NAME = "libima_verify.so.1"
 VARIABLE = "IMA_VERIFY_LIBRARY"
 
 # How many inputs each function takes.
-INPUTS = {"ima_verify_json": 4, "ima_locate_json": 4, "ima_replay_json": 3, "ima_registers_json": 1, "ima_events_json": 1,
-          "ima_entries_json": 1, "ima_expected": 2, "ima_show": 1}
+INPUTS = {"ima_verify_json": 4, "ima_locate_json": 4, "ima_replay_required_json": 3, "ima_replay_json": 1, "ima_registers_json": 1,
+          "ima_events_json": 1, "ima_entries_json": 1, "ima_expected": 2, "ima_show": 1}
 
 _INPUT = [c_void_p, c_size_t]
 _OUTPUT = [c_void_p, c_size_t, ctypes.POINTER(c_size_t)]

@@ -101,9 +101,8 @@ class _Judged:
 class Verdict(_Judged):
     """The verdict on a log, a list and expected registers; as a condition, it is true exactly if it is a match.
 
-    `matches` says that the boot aggregate is good, that each expected register has its value, and that no required one is missing. If
-    none is required, it says nothing of registers that have no row; without any row the boot aggregate alone decides. `json` is the
-    report as `ima-agent verify --json` prints it, without the line feed."""
+    `matches` says that the boot aggregate is good, that each expected register has its value, and that no required one is missing. It says
+    nothing of registers that have no row. `json` is the report as `ima-agent verify --json` prints it, without the line feed."""
 
     events: int
     locality: int

@@ -91,8 +91,8 @@ class Buffers(unittest.TestCase):
         self.assertEqual(counted.calls, 1)
 
     def test_report_longer_than_the_buffer(self):
-        status, text = _library.ask(ima_verify._LIBRARY.ima_verify_json, (LOG, LIST, EXPECTED, b""), 100)
-        self.assertEqual(_answers.read_verdict(status, text, False), ima_verify.verify(LOG, LIST, EXPECTED))
+        status, text = _library.ask(ima_verify._LIBRARY.ima_verify_json, (LOG, LIST, EXPECTED, b"sha256:0"), 100)
+        self.assertEqual(_answers.read_verdict(status, text), ima_verify.verify(LOG, LIST, EXPECTED))
 
     def test_entries_longer_than_the_buffer(self):
         # (a path of control bytes is six times as long as JSON)
@@ -116,8 +116,8 @@ class Buffers(unittest.TestCase):
         every_register = "".join(f"{name} {number} {digits * '1'}\n" for name, digits in
                                  (("sha1", 40), ("sha256", 64), ("sha384", 96), ("sha512", 128)) for number in range(24)).encode()
         counted = Counted(ima_verify._LIBRARY.ima_verify_json)
-        status, text = _library.ask(counted, (LOG, LIST, every_register, b""), ima_verify._ROOM)
-        self.assertEqual((status, counted.calls, len(_answers.read_verdict(status, text, False).rows)), (1, 1, 96))
+        status, text = _library.ask(counted, (LOG, LIST, every_register, b"sha1:0"), ima_verify._ROOM)
+        self.assertEqual((status, counted.calls, len(_answers.read_verdict(status, text).rows)), (1, 1, 96))
         row = '{"bank":"sha512","register":23,"state":"differ","value":"' + 128 * "0" + '"},'
         self.assertLess(256 + 96 * len(row), ima_verify._ROOM)
 
@@ -135,23 +135,22 @@ class Answers(unittest.TestCase):
             self.check_wrong(read, status, text.replace(old, new, 1), *more)
 
     def test_right_answers_are_read(self):
-        self.assertTrue(_answers.read_verdict(0, REPORT, False).matches)
-        self.assertTrue(_answers.read_verdict(0, REPORT, True).matches)
-        self.assertEqual(_answers.read_verdict(1, DIFFERING, False).rows[0].value, bytes(32))
-        self.assertTrue(_answers.read_places(0, PLACES, True).located)
-        self.assertFalse(_answers.read_places(1, NOT_LOCATED, False).located)
+        self.assertTrue(_answers.read_verdict(0, REPORT).matches)
+        self.assertEqual(_answers.read_verdict(1, DIFFERING).rows[0].value, bytes(32))
+        self.assertTrue(_answers.read_places(0, PLACES).located)
+        self.assertFalse(_answers.read_places(1, NOT_LOCATED).located)
         self.assertEqual(_answers.read_registers(0, REGISTERS)[0].value, 20 * b"\xaa")
         self.assertEqual(_answers.read_expected(0, LINES + LINES), LINES + LINES)
 
     def test_right_answers_with_missing_registers_are_read(self):
-        lacking = _answers.read_verdict(1, LACKING, True)
+        lacking = _answers.read_verdict(1, LACKING)
         self.assertEqual((lacking.matches, lacking.compared, len(lacking.rows)), (False, 1, 2))
-        places = _answers.read_places(1, LACKING_PLACES, True)
+        places = _answers.read_places(1, LACKING_PLACES)
         self.assertEqual((places.located, places.rows[-1].place), (False, ima_verify.Place.MISSING))
 
     def test_members_may_stand_in_any_order_and_be_more(self):
         text = b'{"x":[null],' + REPORT[1:-2].replace(b'"events":1,', b"") + b',"events":1}\n'
-        self.assertEqual(_answers.read_verdict(0, text, False).rows, _answers.read_verdict(0, REPORT, False).rows)
+        self.assertEqual(_answers.read_verdict(0, text).rows, _answers.read_verdict(0, REPORT).rows)
 
     def test_wrong_reports_are_no_verdicts(self):
         match = b'"state":"match"'
@@ -170,26 +169,23 @@ class Answers(unittest.TestCase):
             (b"match", b"match\xff"), (REPORT, b""), (REPORT, b"\n"), (REPORT, b"{}\n"), (REPORT, b"[]\n"), (REPORT, b"null\n"),
             (REPORT, b'"match"\n'), (REPORT, b"0\n"), (REPORT, 100_000 * b"[" + b"\n"), (REPORT, FAULT), (REPORT, REPORT.rstrip() + REPORT),
         )
-        for requires in (False, True):
-            self.check_changes(_answers.read_verdict, 0, REPORT, changes, requires)
-            self.check_wrong(_answers.read_verdict, 1, REPORT, requires)
-            self.check_wrong(_answers.read_verdict, 0, DIFFERING, requires)
-            for size in range(len(REPORT)):
-                self.check_wrong(_answers.read_verdict, 0, REPORT[:size], requires)
+        self.check_changes(_answers.read_verdict, 0, REPORT, changes)
+        self.check_wrong(_answers.read_verdict, 1, REPORT)
+        self.check_wrong(_answers.read_verdict, 0, DIFFERING)
+        for size in range(len(REPORT)):
+            self.check_wrong(_answers.read_verdict, 0, REPORT[:size])
         for value in (63 * b"0" + b"A", 62 * b"0", 66 * b"0", b"", 62 * b"0" + b" 0", 63 * b"0" + b"g"):
-            self.check_wrong(_answers.read_verdict, 1, DIFFERING.replace(64 * b"0", value), False)
+            self.check_wrong(_answers.read_verdict, 1, DIFFERING.replace(64 * b"0", value))
 
-    def test_wrong_reports_with_required_registers_are_no_verdicts(self):
+    def test_wrong_reports_with_missing_registers_are_no_verdicts(self):
         row = b'{"bank":"sha256","register":10,"state":"match"}'
         self.check_changes(_answers.read_verdict, 1, LACKING, (
             (row + b"," + MISSING, MISSING + b"," + row), (b'"verdict":"differ"', b'"verdict":"match"'),
             (b'"missing"', b'"missing","value":"' + 40 * b"0" + b'"'), (b'"register":4', b'"register":24'),
-        ), True)
-        self.check_wrong(_answers.read_verdict, 1, LACKING, False)
-        self.check_wrong(_answers.read_verdict, 0, LACKING, True)
-        self.check_wrong(_answers.read_verdict, 0, LACKING.replace(b'"differ"', b'"match"'), True)
-        self.check_wrong(_answers.read_verdict, 0, REPORT.replace(row, b""), True)
-        self.assertTrue(_answers.read_verdict(0, REPORT.replace(row, b""), False))
+        ))
+        self.check_wrong(_answers.read_verdict, 0, LACKING)
+        self.check_wrong(_answers.read_verdict, 0, LACKING.replace(b'"differ"', b'"match"'))
+        self.check_wrong(_answers.read_verdict, 0, REPORT.replace(row, b""))
 
     def test_right_reports_on_a_list_alone_are_read(self):
         verdict = _answers.read_list_verdict(0, LIST_REPORT)
@@ -215,18 +211,17 @@ class Answers(unittest.TestCase):
         self.check_wrong(_answers.read_list_verdict, 1, absent)
 
     def test_wrong_answers_are_no_places(self):
-        for requires in (False, True):
-            self.check_changes(_answers.read_places, 0, PLACES, (
-                (b'"reset"', b'"event"'), (b'"reset"', b'"reset","number":1'), (b',"number":18', b""), (b'"number":18', b'"number":"18"'),
-                (b'"entry"', b'"line"'), (b'"sha256"', b'"sha257"'), (b":4,", b":44,"), (b"}\n", b"}"), (b"true", b"false"),
-                (b"true", b"1"), (b"true", b'"true"'), (b',"located":true', b""), (b'"reset"', b'"nowhere"'), (PLACES, b""),
-            ), requires)
-            self.check_wrong(_answers.read_places, 1, PLACES, requires)
-            self.check_wrong(_answers.read_places, 0, NOT_LOCATED, requires)
-            self.check_wrong(_answers.read_places, 0, LACKING_PLACES, requires)
-        self.check_wrong(_answers.read_places, 1, LACKING_PLACES, False)
-        self.check_wrong(_answers.read_places, 0, b'{"registers":[],"located":true}\n', True)
-        self.assertTrue(_answers.read_places(0, b'{"registers":[],"located":true}\n', False))
+        self.check_changes(_answers.read_places, 0, PLACES, (
+            (b'"reset"', b'"event"'), (b'"reset"', b'"reset","number":1'), (b',"number":18', b""), (b'"number":18', b'"number":"18"'),
+            (b'"entry"', b'"line"'), (b'"sha256"', b'"sha257"'), (b":4,", b":44,"), (b"}\n", b"}"), (b"true", b"false"),
+            (b"true", b"1"), (b"true", b'"true"'), (b',"located":true', b""), (b'"reset"', b'"nowhere"'), (PLACES, b""),
+        ))
+        missing = b'{"bank":"sha1","register":4,"place":"missing"}'
+        self.check_changes(_answers.read_places, 1, LACKING_PLACES, ((b",%b]" % missing, b"]"), (b"[", b"[%b," % missing)))
+        self.check_wrong(_answers.read_places, 1, PLACES)
+        self.check_wrong(_answers.read_places, 0, NOT_LOCATED)
+        self.check_wrong(_answers.read_places, 0, LACKING_PLACES)
+        self.check_wrong(_answers.read_places, 0, b'{"registers":[],"located":true}\n')
 
     def test_wrong_answers_are_no_registers_and_no_lines(self):
         self.check_changes(_answers.read_registers, 0, REGISTERS, (

@@ -154,6 +154,27 @@ class Required(unittest.TestCase):
         self.assertRaises(TypeError, ima_verify.verify, LOG, LIST, EXPECTED, "sha256:10")
 
 
+class NothingRequired(unittest.TestCase):
+    """Without `require` all expected registers count, and no others."""
+
+    BANKS = "".join(f"{bank.value} {number} {ZERO[bank]}\r\n" for bank in Algorithm for number in range(24))
+
+    def test_registers_that_are_expected_have_rows(self):
+        for text in (EXPECTED, EXPECTED.splitlines(True)[4], b"\n\n" + b"".join(EXPECTED.splitlines(True)[::-1]), self.BANKS, memoryview(EXPECTED)):
+            verdict, places = ima_verify.verify(LOG, LIST, text), ima_verify.locate(LOG, LIST, text)
+            lines = [line.split() for line in (text.encode() if isinstance(text, str) else bytes(text)).splitlines() if line]
+            wanted = [(bank.decode(), int(number)) for bank, number, _ in lines]
+            self.assertEqual([(row.algorithm.value, row.register) for row in verdict.rows], wanted)
+            self.assertEqual([(row.algorithm.value, row.register) for row in places.rows], wanted)
+            self.assertNotIn(State.MISSING, [row.state for row in verdict.rows])
+
+    def test_texts_of_another_form_are_refused(self):
+        for text, place in (("sha256 10", 1), (" sha256 10 " + 64 * "0", 1), (EXPECTED + b"x", 25), ("sha256 10 0\n" * 100, 1)):
+            with self.assertRaises(ima_verify.Refused) as caught:
+                ima_verify.verify(LOG, LIST, text)
+            self.assertEqual((caught.exception.kind, caught.exception.place), (Kind.EXPECTED, place))
+
+
 class ListAlone(unittest.TestCase):
     """A list that is compared without a log. Register 10 of the sample is the list's alone."""
 
@@ -166,6 +187,15 @@ class ListAlone(unittest.TestCase):
         for listed, expected, require in ((LIST, self.TENTH, "sha256:10"), (bytearray(LIST), self.TENTH.decode(), b"sha256:10")):
             verdict = ima_verify.replay(listed, expected, require=require)
             self.assertEqual((verdict, bool(verdict), verdict.compared), (wanted, True, 1))
+
+    def test_registers_after_the_list_alone(self):
+        found = {register.algorithm: register for register in ima_verify.list_registers(LIST)}
+        self.assertEqual({register.register for register in found.values()}, {10})
+        self.assertEqual((len(ima_verify.list_registers(LIST)), list(found)), (4, list(Algorithm)))
+        self.assertEqual(f"sha256 10 {found[Algorithm.SHA256].value.hex()}\n".encode(), self.TENTH)
+        self.assertEqual(ima_verify.list_registers(b""), ())
+        with self.assertRaisesRegex(ima_verify.Refused, "^refused: replay fault 1 at entry 5$"):
+            ima_verify.list_registers(CHANGED)
 
     def test_registers_of_the_firmware_differ(self):
         verdict = ima_verify.replay(LIST, EXPECTED, require="sha256:0-23")
@@ -525,14 +555,16 @@ class EmptyInputs(unittest.TestCase):
         for empty in (b"", bytearray()):
             self.assertEqual(ima_verify.show(empty), b"")
             verdict = ima_verify.verify(LOG, empty, empty)
-            self.assertEqual((verdict.entries, verdict.boot_aggregate, verdict.rows), (0, BootAggregate.MISSING, ()))
+            self.assertEqual((verdict.entries, verdict.boot_aggregate, verdict.compared), (0, BootAggregate.MISSING, 0))
             self.assertFalse(verdict.matches)
 
-    def test_without_expected_registers_there_are_no_rows(self):
-        for empty in (b"", "", bytearray()):
+    def test_nothing_expected_and_nothing_required_is_no_match(self):
+        for empty in (b"", "", bytearray(), "\n", b"\r\n\n"):
             verdict, places = ima_verify.verify(LOG, LIST, empty), ima_verify.locate(LOG, LIST, empty)
-            self.assertEqual((verdict.rows, verdict.matches, verdict.entries), ((), True, 99))
-            self.assertEqual((places.rows, places.located, places.json), ((), True, '{"registers":[],"located":true}'))
+            self.assertEqual((verdict.compared, verdict.matches, verdict.boot_aggregate), (0, False, BootAggregate.GOOD))
+            self.assertEqual((verdict.rows, verdict.entries), ((Row(Algorithm.SHA256, 0, State.MISSING),), 99))
+            self.assertEqual((places.rows, places.located), ((PlaceRow(Algorithm.SHA256, 0, Place.MISSING),), False))
+            self.assertFalse(verdict or places)
 
 
 class BytesLike(unittest.TestCase):

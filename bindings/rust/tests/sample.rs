@@ -66,9 +66,11 @@ fn refused(line: &str, kind: Kind, number: u64, place: Option<u64>) -> Error {
 #[test]
 fn verdict_on_the_sample_is_a_match() {
     let rows: Vec<_> = (0..24).map(matching).collect();
-    let lines: String = (0..24).map(|register| format!("sha256 {register} match\n")).collect();
-    let text = format!("events 24 locality 0\nentries 99\nboot_aggregate good\n{lines}verdict match\n");
-    let wanted = Verdict { events: 24, locality: 0, entries: 99, boot_aggregate: BootAggregate::Good, rows, matches: true, text };
+    let row = |register| format!(r#"{{"bank":"sha256","register":{register},"state":"match"}}"#);
+    let lines = (0..24).map(row).collect::<Vec<_>>().join(",");
+    let front = r#"{"events":24,"locality":0,"entries":99,"boot_aggregate":"good","registers":["#;
+    let json = format!("{front}{lines}],\"verdict\":\"match\"}}");
+    let wanted = Verdict { events: 24, locality: 0, entries: 99, boot_aggregate: BootAggregate::Good, rows, matches: true, json };
     assert_eq!(verify(&log(), &list(), &expected()).unwrap(), wanted);
 }
 
@@ -126,7 +128,6 @@ fn all_required_registers_are_expected() {
         let verdict = verify_required(&log(), &list(), &expected(), require).unwrap();
         assert_eq!((verdict.matches, verdict.compared(), verdict.entries), (true, 24, 99));
         assert_eq!(verdict.rows, verify(&log(), &list(), &expected()).unwrap().rows);
-        assert_eq!(verdict.text.lines().nth(2), Some("compared 24"));
         assert_eq!(locate_required(&log(), &list(), &expected(), require), locate(&log(), &list(), &expected()));
     }
     let verdict = verify_required(&log(), &longer(), &expected(), "sha256:10").unwrap();
@@ -168,8 +169,8 @@ fn tenth() -> Vec<u8> {
 fn register_of_the_list_alone_matches() {
     let verdict = replay_required(&list(), &tenth(), "sha256:10").unwrap();
     assert_eq!((verdict.matches, verdict.entries, verdict.compared()), (true, 99, 1));
-    let text = "entries 99\ncompared 1\nsha256 10 match\nverdict match\n";
-    assert_eq!((verdict.rows, verdict.text.as_str()), (vec![matching(10)], text));
+    let json = r#"{"entries":99,"registers":[{"bank":"sha256","register":10,"state":"match"}],"verdict":"match"}"#;
+    assert_eq!((verdict.rows, verdict.json.as_str()), (vec![matching(10)], json));
     let verdict = replay_required(&longer(), &tenth(), "sha256:10").unwrap();
     assert_eq!((verdict.matches, verdict.entries, &verdict.rows[0].state), (false, 100, &State::Differ(from_hex(AFTER_LONGER))));
 }
@@ -221,7 +222,8 @@ fn wrong_requirement_or_range_is_malformed() {
 #[test]
 fn inputs_are_refused_as_without_a_requirement() {
     let (log, list, expected) = (log(), list(), expected());
-    for (log, list, expected) in [(&log[..], &changed()[..], &expected[..]), (&log[..31], &list, &expected), (&log, &list, b"x")] {
+    for (log, list, expected) in [(&log[..], &changed()[..], &expected[..]), (&log[..31], &list, &expected), (&log, &list, b"x")]
+    {
         assert_eq!(verify_required(log, list, expected, "sha256:0"), verify(log, list, expected));
         assert_eq!(locate_required(log, list, expected, "sha256:0"), locate(log, list, expected));
     }
@@ -318,7 +320,7 @@ fn inputs_without_bytes() {
     let verdict = verify(&log(), &list(), &[]).unwrap();
     assert_eq!((verdict.matches, verdict.entries, verdict.boot_aggregate), (true, 99, BootAggregate::Good));
     let places = locate(&log(), &list(), &[]).unwrap();
-    assert_eq!((places.located, places.rows.len(), places.text.as_str()), (true, 0, "located\n"));
+    assert_eq!((places.located, places.rows.len(), places.json.as_str()), (true, 0, r#"{"registers":[],"located":true}"#));
 }
 
 #[test]
