@@ -47,20 +47,20 @@ func ask(room int, call func(out []byte, needed *uint64) int32) (answer, error) 
 	return answer{}, given.unexpected()
 }
 
-// The answer to a call with a text that names registers, or with none, which is one line of JSON. It is no refusal.
-func askFor(request string, call func(out []byte, needed *uint64) int32) (answer, error) {
+// The answer to a call, which is one line of JSON. It is no refusal. Of a call that requests registers, that may be malformed.
+func askFor(requests bool, call func(out []byte, needed *uint64) int32) (answer, error) {
 	given, err := ask(room, call)
 	if err == nil && given.status == refused {
-		return answer{}, given.refusal(request != "")
+		return answer{}, given.refusal(requests)
 	}
 	return given, err
 }
 
-// The answer to a call with such a text, or with none, which is text. It is no refusal.
-func askForText(room int, request string, call func(out []byte, needed *uint64) int32) (answer, error) {
+// The same of an answer that is text.
+func askForText(room int, requests bool, call func(out []byte, needed *uint64) int32) (answer, error) {
 	given, err := ask(room, call)
 	if err == nil && given.status == refused {
-		return answer{}, given.refusalOfText(request != "")
+		return answer{}, given.refusalOfText(requests)
 	}
 	return given, err
 }
@@ -94,23 +94,23 @@ func (a answer) line() string {
 	return string(bytes.TrimSuffix(a.text, []byte("\n")))
 }
 
-func (a answer) verdict(requires bool) (Verdict, error) {
+func (a answer) verdict() (Verdict, error) {
 	return read(a, func(r *reader, o object) Verdict {
 		v := Verdict{Events: r.number(o, "events", math.MaxUint64), Locality: uint8(r.number(o, "locality", math.MaxUint8)),
 			Entries: r.number(o, "entries", math.MaxUint64), JSON: a.line()}
 		v.BootAggregate = oneOf(r, o, "boot_aggregate", AggregateGood, AggregateWrong, AggregateNoBank, AggregateMissing)
-		v.Rows, v.Matches = r.rows(o, requires)
+		v.Rows, v.Matches = r.rows(o)
 		v.Matches = v.Matches && v.BootAggregate == AggregateGood
 		r.require(a.says(v.Matches) && r.saysMatch(o) == v.Matches)
 		return v
 	})
 }
 
-// The verdict on a list alone, where registers are required. A list has registers in all banks.
+// The verdict on a list alone. A list has registers in all banks.
 func (a answer) listVerdict() (ListVerdict, error) {
 	return read(a, func(r *reader, o object) ListVerdict {
 		v := ListVerdict{Entries: r.number(o, "entries", math.MaxUint64), JSON: a.line()}
-		v.Rows, v.Matches = r.rows(o, true)
+		v.Rows, v.Matches = r.rows(o)
 		v.Matches = v.Matches && v.Entries > 0
 		for _, row := range v.Rows {
 			r.require(row.State != StateAbsent)
@@ -120,20 +120,16 @@ func (a answer) listVerdict() (ListVerdict, error) {
 	})
 }
 
-func (a answer) places(requires bool) (Places, error) {
+func (a answer) places() (Places, error) {
 	return read(a, func(r *reader, o object) Places {
-		p, missing := Places{Located: true, JSON: a.line()}, 0
+		p, missing := Places{Located: true, JSON: a.line()}, false
 		for _, row := range member[[]object](r, o, "registers") {
 			place := r.placeRow(row)
-			switch place.Place.Kind {
-			case PlaceMissing:
-				missing++
-			default:
-				r.require(missing == 0)
-			}
+			r.require(place.Place.Kind == PlaceMissing || !missing)
+			missing = place.Place.Kind == PlaceMissing
 			p.Rows, p.Located = append(p.Rows, place), p.Located && place.Place.isReached()
 		}
-		r.require(requires && len(p.Rows) > 0 || !requires && missing == 0)
+		r.require(len(p.Rows) > 0)
 		r.require(a.says(p.Located) && member[bool](r, o, "located") == p.Located)
 		return p
 	})
@@ -252,7 +248,7 @@ func (a answer) shown() ([]byte, error) {
 	return append(make([]byte, 0, len(a.text)), a.text...), nil
 }
 
-// The error of a refusal. What the caller asked for is malformed only if it was something.
+// The error of a refusal.
 func (a answer) refusal(requests bool) error {
 	fault, err := read(a, func(r *reader, o object) error {
 		if f := member[object](r, o, "fault"); requests && member[string](r, f, "kind") == "command_line" {

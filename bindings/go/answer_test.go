@@ -44,25 +44,21 @@ func of(status int32, text string) answer {
 	return answer{status, []byte(text)}
 }
 
-// What is read from a status and a text, where registers are required or not.
-func readVerdict(requires bool) func(status int32, text string) error {
-	return func(status int32, text string) error {
-		verdict, err := of(status, text).verdict(requires)
-		if err != nil && (verdict.Matches || verdict.Rows != nil) {
-			panic("a verdict with an error")
-		}
-		return err
+// What is read from a status and a text.
+func readVerdict(status int32, text string) error {
+	verdict, err := of(status, text).verdict()
+	if err != nil && (verdict.Matches || verdict.Rows != nil) {
+		panic("a verdict with an error")
 	}
+	return err
 }
 
-func readPlaces(requires bool) func(status int32, text string) error {
-	return func(status int32, text string) error {
-		places, err := of(status, text).places(requires)
-		if err != nil && (places.Located || places.Rows != nil) {
-			panic("places with an error")
-		}
-		return err
+func readPlaces(status int32, text string) error {
+	places, err := of(status, text).places()
+	if err != nil && (places.Located || places.Rows != nil) {
+		panic("places with an error")
 	}
+	return err
 }
 
 func readListVerdict(status int32, text string) error {
@@ -115,7 +111,7 @@ func readEvents(status int32, text string) error {
 
 // What is made of an answer to a call with room for 1000 bytes.
 func answered(status int32, text string, needed uint64) error {
-	_, err := askFor("", func(out []byte, length *uint64) int32 {
+	_, err := askFor(false, func(out []byte, length *uint64) int32 {
 		copy(out, text)
 		*length = needed
 		return status
@@ -144,70 +140,63 @@ func checkChanges(t *testing.T, read func(status int32, text string) error, stat
 }
 
 func TestRightAnswersAreRead(t *testing.T) {
-	for _, requires := range []bool{false, true} {
-		equal(t, readVerdict(requires)(done, report), nil)
-		equal(t, readVerdict(requires)(differs, differing), nil)
-		equal(t, readPlaces(requires)(done, placesLine), nil)
-		equal(t, readPlaces(requires)(differs, notLocated), nil)
-	}
+	equal(t, readVerdict(done, report), nil)
+	equal(t, readVerdict(differs, differing), nil)
+	equal(t, readPlaces(done, placesLine), nil)
+	equal(t, readPlaces(differs, notLocated), nil)
 	equal(t, readRegisters(done, register), nil)
 	lines, err := of(done, expectedLine+expectedLine).expected()
 	equal(t, []interface{}{string(lines), err}, []interface{}{expectedLine + expectedLine, nil})
 }
 
 func TestRightAnswersWithMissingRegistersAreRead(t *testing.T) {
-	verdict, err := of(differs, lacking).verdict(true)
+	verdict, err := of(differs, lacking).verdict()
 	equal(t, []interface{}{verdict.Matches, verdict.Compared(), len(verdict.Rows), err}, []interface{}{false, 1, 2, nil})
-	places, err := of(differs, lackingPlaces).places(true)
+	places, err := of(differs, lackingPlaces).places()
 	equal(t, []interface{}{places.Located, places.Rows[3].Place.Kind, err}, []interface{}{false, PlaceMissing, nil})
 }
 
 func TestMembersMayStandInAnyOrderAndBeMore(t *testing.T) {
 	text := strings.Replace(strings.Replace(report, `"events":1,`, `"x":[null],`, 1), "}\n", `,"events":1}`+"\n", 1)
-	equal(t, readVerdict(false)(done, text), nil)
+	equal(t, readVerdict(done, text), nil)
 }
 
 func TestWrongReportsAreNoVerdicts(t *testing.T) {
 	match := `"state":"match"`
-	for _, requires := range []bool{false, true} {
-		read := readVerdict(requires)
-		checkChanges(t, read, done, report, [][2]string{
-			{`"events":1`, `"events":01`}, {`"events":1`, `"events":-1`}, {`"events":1`, `"events":1.5`}, {`"events":1`, `"events":true`},
-			{`"events":1`, `"events":null`}, {`"events":1`, `"events":"1"`}, {`"events":1`, `"events":18446744073709551616`}, {`"events":1,`, ``},
-			{`"events":1`, `"Events":1`}, {`"locality":0`, `"locality":256`}, {`"entries":3,`, ``}, {`"good"`, `"fine"`}, {`"good"`, `"wrong"`},
-			{`"good"`, `{}`}, {`"boot_aggregate":"good",`, ``}, {`"sha256"`, `"md5"`}, {`"bank":"sha256",`, ``}, {`:10,`, `:24,`}, {`:10,`, `:-1,`},
-			{`"register":10,`, ``}, {match, `"state":"differ"`}, {match, strings.Replace(differingState, "00", "", 1)},
-			{match, strings.Replace(differingState, "differ", "match", 1)}, {match, `"state":"absent"`}, {match, `"state":"missing"`},
-			{match, `"state":"Match"`}, {`,` + match, ``}, {`"verdict":"match"`, `"verdict":"differ"`}, {`,"verdict":"match"`, ``},
-			{`"verdict":"match"`, `"verdict":true`}, {`"registers":[`, `"registers":[1,`}, {`"registers":[`, `"registers":[null,`},
-			{`"registers"`, `"rows"`}, {`[` + matchingRow + `]`, `null`}, {"}\n", "}"}, {"}\n", "}\n\n"}, {"}\n", "\n"}, {"}\n", "}}\n"},
-			{"}\n", "}x\n"}, {"}\n", "}\n{}\n"}, {"match", "match\xff"}, {report, ""}, {report, "\n"}, {report, "{}\n"}, {report, "[]\n"},
-			{report, "null\n"}, {report, `"match"` + "\n"}, {report, "0\n"}, {report, strings.Repeat("[", 100000) + "\n"}, {report, listFault},
-		})
-		checkUnexpected(t, read(differs, report), report)
-		checkUnexpected(t, read(done, differing), differing)
-		for size := range report {
-			checkUnexpected(t, read(done, report[:size]), report[:size])
-		}
+	checkChanges(t, readVerdict, done, report, [][2]string{
+		{`"events":1`, `"events":01`}, {`"events":1`, `"events":-1`}, {`"events":1`, `"events":1.5`}, {`"events":1`, `"events":true`},
+		{`"events":1`, `"events":null`}, {`"events":1`, `"events":"1"`}, {`"events":1`, `"events":18446744073709551616`}, {`"events":1,`, ``},
+		{`"events":1`, `"Events":1`}, {`"locality":0`, `"locality":256`}, {`"entries":3,`, ``}, {`"good"`, `"fine"`}, {`"good"`, `"wrong"`},
+		{`"good"`, `{}`}, {`"boot_aggregate":"good",`, ``}, {`"sha256"`, `"md5"`}, {`"bank":"sha256",`, ``}, {`:10,`, `:24,`}, {`:10,`, `:-1,`},
+		{`"register":10,`, ``}, {match, `"state":"differ"`}, {match, strings.Replace(differingState, "00", "", 1)},
+		{match, strings.Replace(differingState, "differ", "match", 1)}, {match, `"state":"absent"`}, {match, `"state":"missing"`},
+		{match, `"state":"Match"`}, {`,` + match, ``}, {`"verdict":"match"`, `"verdict":"differ"`}, {`,"verdict":"match"`, ``},
+		{`"verdict":"match"`, `"verdict":true`}, {`"registers":[`, `"registers":[1,`}, {`"registers":[`, `"registers":[null,`},
+		{`"registers"`, `"rows"`}, {`[` + matchingRow + `]`, `null`}, {"}\n", "}"}, {"}\n", "}\n\n"}, {"}\n", "\n"}, {"}\n", "}}\n"},
+		{"}\n", "}x\n"}, {"}\n", "}\n{}\n"}, {"match", "match\xff"}, {report, ""}, {report, "\n"}, {report, "{}\n"}, {report, "[]\n"},
+		{report, "null\n"}, {report, `"match"` + "\n"}, {report, "0\n"}, {report, strings.Repeat("[", 100000) + "\n"}, {report, listFault},
+	})
+	checkUnexpected(t, readVerdict(differs, report), report)
+	checkUnexpected(t, readVerdict(done, differing), differing)
+	for size := range report {
+		checkUnexpected(t, readVerdict(done, report[:size]), report[:size])
 	}
 	zeros := strings.Repeat("0", 64)
 	for _, value := range []string{zeros[1:] + "A", zeros[2:], zeros + "00", "", zeros[1:] + "g", zeros[1:]} {
 		text := strings.Replace(differing, zeros, value, 1)
-		checkUnexpected(t, readVerdict(false)(differs, text), text)
+		checkUnexpected(t, readVerdict(differs, text), text)
 	}
 }
 
-func TestWrongReportsWithRequiredRegistersAreNoVerdicts(t *testing.T) {
-	checkChanges(t, readVerdict(true), differs, lacking, [][2]string{
+func TestWrongReportsWithMissingRegistersAreNoVerdicts(t *testing.T) {
+	checkChanges(t, readVerdict, differs, lacking, [][2]string{
 		{matchingRow + "," + missingRow, missingRow + "," + matchingRow}, {`"verdict":"differ"`, `"verdict":"match"`},
 		{`"missing"`, `"missing","value":"` + strings.Repeat("0", 40) + `"`}, {`"register":4`, `"register":24`},
 	})
 	matching := strings.Replace(lacking, `"differ"`, `"match"`, 1)
 	for _, text := range []string{lacking, matching, strings.Replace(report, matchingRow, "", 1)} {
-		checkUnexpected(t, readVerdict(true)(done, text), text)
+		checkUnexpected(t, readVerdict(done, text), text)
 	}
-	checkUnexpected(t, readVerdict(false)(differs, lacking), lacking)
-	equal(t, readVerdict(false)(done, strings.Replace(report, matchingRow, "", 1)), nil)
 }
 
 func TestRightReportsOnAListAloneAreRead(t *testing.T) {
@@ -237,24 +226,19 @@ func TestWrongReportsOnAListAloneAreNoVerdicts(t *testing.T) {
 }
 
 func TestWrongAnswersAreNoPlaces(t *testing.T) {
-	for _, requires := range []bool{false, true} {
-		read := readPlaces(requires)
-		checkChanges(t, read, done, placesLine, [][2]string{
-			{`"reset"`, `"event"`}, {`"reset"`, `"reset","number":1`}, {`,"number":18`, ``}, {`"number":18`, `"number":"18"`},
-			{`"entry"`, `"line"`}, {`"sha256"`, `"sha257"`}, {`:4,`, `:44,`}, {"}\n", "}"}, {`true`, `false`}, {`true`, `1`},
-			{`true`, `"true"`}, {`true`, `null`}, {`,"located":true`, ``}, {`"reset"`, `"nowhere"`}, {placesLine, ""},
-		})
-		checkUnexpected(t, read(differs, placesLine), placesLine)
-		checkUnexpected(t, read(done, notLocated), notLocated)
-		checkUnexpected(t, read(done, lackingPlaces), lackingPlaces)
-	}
-	checkUnexpected(t, readPlaces(false)(differs, lackingPlaces), lackingPlaces)
+	checkChanges(t, readPlaces, done, placesLine, [][2]string{
+		{`"reset"`, `"event"`}, {`"reset"`, `"reset","number":1`}, {`,"number":18`, ``}, {`"number":18`, `"number":"18"`},
+		{`"entry"`, `"line"`}, {`"sha256"`, `"sha257"`}, {`:4,`, `:44,`}, {"}\n", "}"}, {`true`, `false`}, {`true`, `1`},
+		{`true`, `"true"`}, {`true`, `null`}, {`,"located":true`, ``}, {`"reset"`, `"nowhere"`}, {placesLine, ""},
+	})
+	checkUnexpected(t, readPlaces(differs, placesLine), placesLine)
+	checkUnexpected(t, readPlaces(done, notLocated), notLocated)
+	checkUnexpected(t, readPlaces(done, lackingPlaces), lackingPlaces)
 	none := `{"registers":[],"located":true}` + "\n"
-	checkUnexpected(t, readPlaces(true)(done, none), none)
-	equal(t, readPlaces(false)(done, none), nil)
+	checkUnexpected(t, readPlaces(done, none), none)
 	row := `{"bank":"sha1","register":4,"place":"missing"}`
 	first := strings.Replace(strings.Replace(lackingPlaces, ","+row, "", 1), "[", "["+row+",", 1)
-	checkUnexpected(t, readPlaces(true)(differs, first), first)
+	checkUnexpected(t, readPlaces(differs, first), first)
 }
 
 func TestWrongAnswersAreNoRegistersAndNoLines(t *testing.T) {
@@ -374,23 +358,23 @@ func TestWrongAnswersAreNoEvents(t *testing.T) {
 }
 
 func TestTextThatNamesNoRegistersIsMalformed(t *testing.T) {
-	said := func(request string, status int32, text string) error {
+	said := func(requests bool, status int32, text string) error {
 		call := func(out []byte, length *uint64) int32 {
 			*length = uint64(copy(out, text))
 			return status
 		}
 		if strings.HasPrefix(text, "{") {
-			_, err := askFor(request, call)
+			_, err := askFor(requests, call)
 			return err
 		}
-		_, err := askForText(1000, request, call)
+		_, err := askForText(1000, requests, call)
 		return err
 	}
 	for _, text := range []string{malformed, malformedLine} {
-		equal(t, said("x", refused, text), ErrMalformed)
-		checkUnexpected(t, said("x", refused, text[:len(text)-1]), text)
-		checkUnexpected(t, said("x", 5, text), text)
-		checkUnexpected(t, said("", refused, text), text)
+		equal(t, said(true, refused, text), ErrMalformed)
+		checkUnexpected(t, said(true, refused, text[:len(text)-1]), text)
+		checkUnexpected(t, said(true, 5, text), text)
+		checkUnexpected(t, said(false, refused, text), text)
 	}
 }
 

@@ -5,7 +5,7 @@
 // /sys/kernel/security/ima/binary_runtime_measurements, and lines as `sha256 10 <64 hexadecimal digits>` hold.
 //
 // Say which registers a verdict must cover: VerifyRequired(log, list, expected, "sha256:0-10"). That of Verify covers only those that
-// expected names, and if it names none, nothing but the boot aggregate.
+// expected names; one on none is no match. Entries and Events go through the inputs themselves.
 //
 // A refused input gives an error of the type *RefusedError, and a requirement or a range that is not of its form ErrMalformed; if memory
 // runs out, it is ErrOutOfMemory; what the library's header does not describe gives an *UnexpectedError. With any error the result is
@@ -17,6 +17,8 @@ package imaverify
 import (
 	"errors"
 	"fmt"
+	"regexp"
+	"strings"
 )
 
 // Algorithm is that of a bank of registers.
@@ -60,9 +62,8 @@ type Row struct {
 
 // Verdict is that on a log, a list and expected registers.
 //
-// Matches says that the boot aggregate is good, that each expected register has its value, and that no required one is missing. If none
-// is required, it says nothing of registers that have no row; without any row the boot aggregate alone decides. JSON is the report as
-// `ima-agent verify --json` prints it, without the line feed.
+// Matches says that the boot aggregate is good, that each expected register has its value, and that no required one is missing. It says
+// nothing of registers that have no row. JSON is the report as `ima-agent verify --json` prints it, without the line feed.
 type Verdict struct {
 	Events        uint64
 	Locality      uint8
@@ -255,62 +256,62 @@ func Version() uint32 {
 	return libraryVersion()
 }
 
-// Verify gives the verdict on a firmware event log, a measurement list and the expected registers that a text states. It covers only
-// these registers; with none, the boot aggregate alone decides. See VerifyRequired.
+// Verify gives the verdict on a firmware event log, a measurement list and the expected registers that a text states. It is VerifyRequired of
+// the registers that the text names, or of sha256:0 if it names none: so a verdict on nothing is no match.
 func Verify(log, list, expected []byte) (Verdict, error) {
-	return verifyFor(log, list, expected, "")
+	return VerifyRequired(log, list, expected, namedIn(expected))
 }
 
 // VerifyRequired does the same, where require names the registers that must be among the expected ones, as "sha256:0-10" or
 // "sha256:0-7,sha1:10". Each that is not has a row whose state is StateMissing, and then the verdict is no match.
 func VerifyRequired(log, list, expected []byte, require string) (Verdict, error) {
-	if require == "" { // (which requires nothing of the library)
-		return Verdict{}, ErrMalformed
-	}
-	return verifyFor(log, list, expected, require)
-}
-
-func verifyFor(log, list, expected []byte, require string) (Verdict, error) {
-	answer, err := askFor(require, func(out []byte, needed *uint64) int32 {
+	answer, err := askFor(true, func(out []byte, needed *uint64) int32 {
 		return callVerify(log, list, expected, []byte(require), out, needed)
 	})
 	if err != nil {
 		return Verdict{}, err
 	}
-	return answer.verdict(require != "")
+	return answer.verdict()
 }
 
-// Locate says where each expected register first has its value. Inputs and refusals are those of Verify.
+// Locate says where each expected register first has its value. Inputs, refusals and what is required are those of Verify.
 func Locate(log, list, expected []byte) (Places, error) {
-	return locateFor(log, list, expected, "")
+	return LocateRequired(log, list, expected, namedIn(expected))
 }
 
 // LocateRequired does the same, where require is as in VerifyRequired.
 func LocateRequired(log, list, expected []byte, require string) (Places, error) {
-	if require == "" {
-		return Places{}, ErrMalformed
-	}
-	return locateFor(log, list, expected, require)
-}
-
-func locateFor(log, list, expected []byte, require string) (Places, error) {
-	answer, err := askFor(require, func(out []byte, needed *uint64) int32 {
+	answer, err := askFor(true, func(out []byte, needed *uint64) int32 {
 		return callLocate(log, list, expected, []byte(require), out, needed)
 	})
 	if err != nil {
 		return Places{}, err
 	}
-	return answer.places(require != "")
+	return answer.places()
+}
+
+var namedRegister = regexp.MustCompile(`(?m)^(sha1|sha256|sha384|sha512) (1?[0-9]|2[0-3]) `)
+
+// Each register that a text of expected ones names, as what is required, so that none of these is missing.
+func namedIn(expected []byte) string {
+	var named []string
+	isNamed := map[string]bool{}
+	for _, words := range namedRegister.FindAllSubmatch(expected, -1) {
+		if name := string(words[1]) + ":" + string(words[2]); !isNamed[name] {
+			named, isNamed[name] = append(named, name), true
+		}
+	}
+	if len(named) == 0 {
+		return "sha256:0"
+	}
+	return strings.Join(named, ",")
 }
 
 // ReplayRequired gives the verdict on a measurement list without a log, and the expected registers that a text states. The list is replayed
 // from the registers' reset values, so a register that the firmware extends too differs. require is as in VerifyRequired. A list without
 // entries is no match.
 func ReplayRequired(list, expected []byte, require string) (ListVerdict, error) {
-	if require == "" {
-		return ListVerdict{}, ErrMalformed
-	}
-	answer, err := askFor(require, func(out []byte, needed *uint64) int32 {
+	answer, err := askFor(true, func(out []byte, needed *uint64) int32 {
 		return callReplay(list, expected, []byte(require), out, needed)
 	})
 	if err != nil {
@@ -323,7 +324,7 @@ func ReplayRequired(list, expected []byte, require string) (ListVerdict, error) 
 // registers in a range, as "0-10" or "4", or of all, if that is empty; at least one, else the text is refused. Neither who wrote the text
 // nor whether a quote holds is known from it: take the values of a quote that was checked, or of a machine that is trusted.
 func ExpectedFrom(printed []byte, registers string) ([]byte, error) {
-	answer, err := askForText(room, registers, func(out []byte, needed *uint64) int32 {
+	answer, err := askForText(room, registers != "", func(out []byte, needed *uint64) int32 {
 		return callExpected(printed, []byte(registers), out, needed)
 	})
 	if err != nil {
@@ -334,7 +335,16 @@ func ExpectedFrom(printed []byte, registers string) ([]byte, error) {
 
 // Registers gives the registers that differ from their reset values after a firmware event log.
 func Registers(log []byte) ([]Register, error) {
-	answer, err := askFor("", func(out []byte, needed *uint64) int32 { return callRegisters(log, out, needed) })
+	answer, err := askFor(false, func(out []byte, needed *uint64) int32 { return callRegisters(log, out, needed) })
+	if err != nil {
+		return nil, err
+	}
+	return answer.registers()
+}
+
+// ListRegisters gives the registers, in banks of all algorithms, that differ from their reset values after a measurement list without a log.
+func ListRegisters(list []byte) ([]Register, error) {
+	answer, err := askFor(false, func(out []byte, needed *uint64) int32 { return callListRegisters(list, out, needed) })
 	if err != nil {
 		return nil, err
 	}
@@ -364,7 +374,7 @@ func Events(log []byte) (*EventListing, error) {
 // Show gives the entries of a measurement list, each in the kernel's form. Paths stand as they are: they may have line feeds and
 // control bytes. Entries gives each by itself.
 func Show(list []byte) ([]byte, error) {
-	answer, err := askForText(roomOfEntries(len(list)), "", func(out []byte, needed *uint64) int32 { return callShow(list, out, needed) })
+	answer, err := askForText(roomOfEntries(len(list)), false, func(out []byte, needed *uint64) int32 { return callShow(list, out, needed) })
 	if err != nil {
 		return nil, err
 	}

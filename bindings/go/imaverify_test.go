@@ -205,6 +205,36 @@ func TestRegisterOfTheListAloneMatches(t *testing.T) {
 		[]interface{}{false, uint64(100), afterLonger})
 }
 
+func TestRegistersAfterTheListAlone(t *testing.T) {
+	found, err := ListRegisters(bootList)
+	equal(t, err, nil)
+	equal(t, len(found), 4)
+	for k, algorithm := range []Algorithm{SHA1, SHA256, SHA384, SHA512} {
+		equal(t, []interface{}{found[k].Algorithm, found[k].Register, len(found[k].Value)}, []interface{}{algorithm, 10, digestSizes[algorithm]})
+	}
+	equal(t, fmt.Sprintf("sha256 10 %x\n", found[1].Value), string(tenth))
+	_, err = ListRegisters(changed)
+	checkRefused(t, err, RefusedError{"refused: replay fault 1 at entry 5", KindReplay, 1, 5, true})
+}
+
+// Without a requirement all expected registers count, and no others.
+func TestRegistersThatAreExpectedHaveRows(t *testing.T) {
+	var all []Row
+	text := "\r\n"
+	for _, algorithm := range []Algorithm{SHA512, SHA1, SHA384, SHA256} {
+		for k := 0; k < 24; k++ {
+			all = append(all, Row{Algorithm: algorithm, Register: k})
+			text += fmt.Sprintf("%s %d %s\r\n", algorithm, k, strings.Repeat("0", 2*digestSizes[algorithm]))
+		}
+	}
+	verdict, places := verify(t, bootLog, bootList, []byte(text)), locate(t, bootLog, bootList, []byte(text))
+	equal(t, []int{len(verdict.Rows), verdict.Compared(), len(places.Rows)}, []int{96, 96, 96})
+	for k, row := range all {
+		equal(t, Row{Algorithm: verdict.Rows[k].Algorithm, Register: verdict.Rows[k].Register}, row)
+		equal(t, Row{Algorithm: places.Rows[k].Algorithm, Register: places.Rows[k].Register}, row)
+	}
+}
+
 func TestRegistersOfTheFirmwareDifferAfterTheListAlone(t *testing.T) {
 	verdict := replayRequired(t, bootList, bootTPM, "sha256:0-23")
 	equal(t, []interface{}{verdict.Matches, verdict.Compared()}, []interface{}{false, 24})
@@ -344,11 +374,14 @@ func TestInputsWithoutBytes(t *testing.T) {
 		shown, err := Show(empty)
 		equal(t, err, nil)
 		equal(t, len(shown), 0)
-		equal(t, verify(t, bootLog, empty, empty), Verdict{24, 0, 0, AggregateMissing, nil, false,
-			`{"events":24,"locality":0,"entries":0,"boot_aggregate":"missing","registers":[],"verdict":"differ"}`})
-		equal(t, verify(t, bootLog, bootList, empty), Verdict{24, 0, 99, AggregateGood, nil, true,
-			`{"events":24,"locality":0,"entries":99,"boot_aggregate":"good","registers":[],"verdict":"match"}`})
-		equal(t, locate(t, bootLog, bootList, empty), Places{nil, true, `{"registers":[],"located":true}`})
+		verdict := verify(t, bootLog, empty, bootTPM)
+		equal(t, []interface{}{verdict.Matches, verdict.Entries, verdict.BootAggregate}, []interface{}{false, uint64(0), AggregateMissing})
+		// (on nothing, there is no match)
+		missing := `[{"bank":"sha256","register":0,"state":"missing"}]`
+		equal(t, verify(t, bootLog, bootList, empty), Verdict{24, 0, 99, AggregateGood, []Row{{SHA256, 0, StateMissing, nil}}, false,
+			`{"events":24,"locality":0,"entries":99,"boot_aggregate":"good","registers":` + missing + `,"verdict":"differ"}`})
+		equal(t, locate(t, bootLog, bootList, empty), Places{[]PlaceRow{{SHA256, 0, Place{Kind: PlaceMissing}}}, false,
+			`{"registers":[{"bank":"sha256","register":0,"place":"missing"}],"located":false}`})
 	}
 }
 

@@ -103,17 +103,17 @@ func (r *reader) row(o object) Row {
 	return row
 }
 
-// The rows of a report, and whether each matches. Where registers are required, there is one, and those of missing registers come
-// after the others; else none is missing.
-func (r *reader) rows(o object, requires bool) ([]Row, bool) {
+// The rows of a report, and whether each matches. Since something is required, there is one. Those of missing registers come after the
+// others.
+func (r *reader) rows(o object) ([]Row, bool) {
 	var rows []Row
 	match := true
 	for _, o := range member[[]object](r, o, "registers") {
 		row := r.row(o)
-		r.require(row.State == StateMissing && requires || row.State != StateMissing && len(rows) == compared(rows))
+		r.require(row.State == StateMissing || len(rows) == compared(rows))
 		rows, match = append(rows, row), match && row.State == StateMatch
 	}
-	r.require(!requires || len(rows) > 0)
+	r.require(len(rows) > 0)
 	return rows, match
 }
 

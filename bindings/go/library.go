@@ -63,7 +63,7 @@ func callLocate(log, list, expected, require, out []byte, needed *uint64) int32 
 
 func callReplay(list, expected, require, out []byte, needed *uint64) int32 {
 	length := C.size_t(*needed)
-	status := C.ima_replay_json(start(list), size(list), start(expected), size(expected), start(require), size(require),
+	status := C.ima_replay_required_json(start(list), size(list), start(expected), size(expected), start(require), size(require),
 		start(out), size(out), &length)
 	*needed = uint64(length)
 	return int32(status)
@@ -79,6 +79,13 @@ func callExpected(printed, registers, out []byte, needed *uint64) int32 {
 func callRegisters(log, out []byte, needed *uint64) int32 {
 	length := C.size_t(*needed)
 	status := C.ima_registers_json(start(log), size(log), start(out), size(out), &length)
+	*needed = uint64(length)
+	return int32(status)
+}
+
+func callListRegisters(list, out []byte, needed *uint64) int32 {
+	length := C.size_t(*needed)
+	status := C.ima_replay_json(start(list), size(list), start(out), size(out), &length)
 	*needed = uint64(length)
 	return int32(status)
 }
