@@ -16,19 +16,17 @@ pub(crate) struct Answer {
 }
 
 impl Answer {
-    /// The verdict, where registers are required or not.
-    pub(crate) fn verdict(self, requires: bool) -> Result<Verdict, Error> {
-        self.read(|answer| read_verdict(answer, requires))
+    pub(crate) fn verdict(self) -> Result<Verdict, Error> {
+        self.read(read_verdict)
     }
 
-    /// The verdict on a list alone, where registers are required.
+    /// The verdict on a list alone.
     pub(crate) fn list_verdict(self) -> Result<ListVerdict, Error> {
         self.read(read_list_verdict)
     }
 
-    /// The places, where registers are required or not.
-    pub(crate) fn places(self, requires: bool) -> Result<Places, Error> {
-        self.read(|answer| read_places(answer, requires))
+    pub(crate) fn places(self) -> Result<Places, Error> {
+        self.read(read_places)
     }
 
     pub(crate) fn registers(self) -> Result<Vec<Register>, Error> {
@@ -95,7 +93,7 @@ impl Answer {
         Ok(self.text)
     }
 
-    /// The answer, unless it is a refusal. What the caller asked for is malformed only if it was something.
+    /// The answer, unless it is a refusal. Of a call that requests registers, that may be malformed.
     pub(crate) fn accepted(self, requests: bool) -> Result<Self, Error> {
         if self.status != REFUSED {
             return Ok(self);
@@ -189,7 +187,7 @@ impl Lines {
     }
 }
 
-fn read_verdict(answer: &Answer, requires: bool) -> Option<Verdict> {
+fn read_verdict(answer: &Answer) -> Option<Verdict> {
     let value = object(&answer.text)?;
     let boot_aggregate = match string(&value, "boot_aggregate")? {
         "good" => BootAggregate::Good,
@@ -198,7 +196,7 @@ fn read_verdict(answer: &Answer, requires: bool) -> Option<Verdict> {
         "missing" => BootAggregate::Missing,
         _ => return None,
     };
-    let rows = rows(&value, requires)?;
+    let rows = rows(&value)?;
     let matches = boot_aggregate == BootAggregate::Good && rows.iter().all(|row| row.state == State::Match);
     let (events, entries) = (number(&value, "events", u64::MAX)?, number(&value, "entries", u64::MAX)?);
     let locality = number(&value, "locality", u8::MAX.into())? as u8;
@@ -209,35 +207,31 @@ fn read_verdict(answer: &Answer, requires: bool) -> Option<Verdict> {
 /// A list has registers in all banks.
 fn read_list_verdict(answer: &Answer) -> Option<ListVerdict> {
     let value = object(&answer.text)?;
-    let (entries, rows) = (number(&value, "entries", u64::MAX)?, rows(&value, true)?);
+    let (entries, rows) = (number(&value, "entries", u64::MAX)?, rows(&value)?);
     let matches = entries > 0 && rows.iter().all(|row| row.state == State::Match);
     let says = answer.says(matches) && says_match(&value)? == matches && rows.iter().all(|row| row.state != State::Absent);
     says.then_some(ListVerdict { entries, rows, matches, json: answer.line()? })
 }
 
-fn read_places(answer: &Answer, requires: bool) -> Option<Places> {
+fn read_places(answer: &Answer) -> Option<Places> {
     let value = object(&answer.text)?;
     let rows = array(&value, "registers")?.iter().map(place_row).collect::<Option<Vec<_>>>()?;
     let located = rows.iter().all(|row| !matches!(row.place, Place::Nowhere | Place::Absent | Place::Missing));
-    let are_last = missing_are_last(rows.iter().map(|row| row.place == Place::Missing), requires);
+    let are_last = missing_are_last(rows.iter().map(|row| row.place == Place::Missing));
     let says = answer.says(located) && value.get("located")?.as_bool()? == located;
     (says && are_last).then_some(Places { rows, located, json: answer.line()? })
 }
 
 /// The rows of a report.
-fn rows(value: &Value, requires: bool) -> Option<Vec<Row>> {
+fn rows(value: &Value) -> Option<Vec<Row>> {
     let rows = array(value, "registers")?.iter().map(row).collect::<Option<Vec<_>>>()?;
-    missing_are_last(rows.iter().map(|row| row.state == State::Missing), requires).then_some(rows)
+    missing_are_last(rows.iter().map(|row| row.state == State::Missing)).then_some(rows)
 }
 
-/// Where registers are required, there is a row, and those of missing registers come after the others; else none is missing.
-fn missing_are_last(rows: impl Iterator<Item = bool>, requires: bool) -> bool {
+/// Since something is required, there is a row. Those of missing registers come after the others.
+fn missing_are_last(rows: impl Iterator<Item = bool>) -> bool {
     let rows: Vec<_> = rows.collect();
-    if requires {
-        !rows.is_empty() && rows.windows(2).all(|pair| pair[0] <= pair[1])
-    } else {
-        !rows.contains(&true)
-    }
+    !rows.is_empty() && rows.windows(2).all(|pair| pair[0] <= pair[1])
 }
 
 fn says_match(value: &Value) -> Option<bool> {
@@ -370,9 +364,16 @@ fn refusal_in(line: &str) -> Option<Error> {
 }
 
 fn is_register_line(line: &str) -> Option<()> {
-    let [name, register, digits] = line.split(' ').collect::<Vec<_>>()[..] else { return None };
-    let size = bytes_in(digits)?.len();
-    (Algorithm::of(name)?.digest_size() == size && number_in(register)? < REGISTERS).then_some(())
+    let (algorithm, _, digits) = register_line(line)?;
+    (bytes_in(digits)?.len() == algorithm.digest_size()).then_some(())
+}
+
+/// The register that a line of expected registers names, and the rest of the line.
+pub(crate) fn register_line(line: &str) -> Option<(Algorithm, u64, &str)> {
+    let (name, rest) = line.split_once(' ')?;
+    let (register, digits) = rest.split_once(' ')?;
+    let register = number_in(register).filter(|register| *register < REGISTERS)?;
+    Some((Algorithm::of(name)?, register, digits))
 }
 
 /// The object of a line, which ends with its only line feed.

@@ -14,8 +14,8 @@
 //! # }
 //! ```
 //!
-//! Say which registers a verdict must cover: that of [`verify`] covers only those that `expected` names, and if it names none, nothing but
-//! the boot aggregate.
+//! Say which registers a verdict must cover: that of [`verify`] covers only those that `expected` names; one on none is no match.
+//! [`entries`] and [`events`] go through the inputs themselves.
 //!
 //! Any number of threads may call at once.
 
@@ -27,7 +27,7 @@ mod library;
 #[doc = include_str!("../README.md")]
 struct Readme;
 
-use std::collections::BTreeMap;
+use std::collections::{BTreeMap, BTreeSet};
 use std::fmt;
 use std::iter::FusedIterator;
 
@@ -111,8 +111,8 @@ pub struct Verdict {
     pub boot_aggregate: BootAggregate,
     /// A row for each expected register, in their order, and then one for each that is missing.
     pub rows: Vec<Row>,
-    /// The boot aggregate is good, each expected register has its value, and no required one is missing. If none is required, nothing is
-    /// said of registers that have no row; without any row the boot aggregate alone decides.
+    /// The boot aggregate is good, each expected register has its value, and no required one is missing. Nothing is said of registers
+    /// that have no row.
     pub matches: bool,
     /// The report as `ima-agent verify --json` prints it, without the line feed.
     pub json: String,
@@ -369,9 +369,10 @@ pub fn version() -> u32 {
 
 /// The verdict on a firmware event log, a measurement list and the expected registers that a text states.
 ///
-/// It covers only these registers; with none, the boot aggregate alone decides. See [`verify_required`].
+/// It is that of [`verify_required`] where the registers are required that the text names, or `sha256:0` if it names none: so a verdict on
+/// nothing is no match.
 pub fn verify(log: &[u8], list: &[u8], expected: &[u8]) -> Result<Verdict, Error> {
-    ask_for("", |out| library::verify(log, list, expected, b"", out))?.verdict(false)
+    verify_required(log, list, expected, &named_in(expected))
 }
 
 /// The same, where `require` names the registers that must be among the expected ones, as `sha256:0-10` or `sha256:0-7,sha1:10`. Each
@@ -387,19 +388,17 @@ pub fn verify(log: &[u8], list: &[u8], expected: &[u8]) -> Result<Verdict, Error
 /// # }
 /// ```
 pub fn verify_required(log: &[u8], list: &[u8], expected: &[u8], require: &str) -> Result<Verdict, Error> {
-    require_some(require)?;
-    ask_for(require, |out| library::verify(log, list, expected, require.as_bytes(), out))?.verdict(true)
+    ask_for(true, |out| library::verify(log, list, expected, require.as_bytes(), out))?.verdict()
 }
 
-/// Where each expected register first has its value. Inputs and refusals are those of `verify`.
+/// Where each expected register first has its value. Inputs, refusals and what is required are those of `verify`.
 pub fn locate(log: &[u8], list: &[u8], expected: &[u8]) -> Result<Places, Error> {
-    ask_for("", |out| library::locate(log, list, expected, b"", out))?.places(false)
+    locate_required(log, list, expected, &named_in(expected))
 }
 
 /// The same, where `require` is as in `verify_required`.
 pub fn locate_required(log: &[u8], list: &[u8], expected: &[u8], require: &str) -> Result<Places, Error> {
-    require_some(require)?;
-    ask_for(require, |out| library::locate(log, list, expected, require.as_bytes(), out))?.places(true)
+    ask_for(true, |out| library::locate(log, list, expected, require.as_bytes(), out))?.places()
 }
 
 /// The verdict on a measurement list without a log, and the expected registers that a text states.
@@ -407,8 +406,7 @@ pub fn locate_required(log: &[u8], list: &[u8], expected: &[u8], require: &str) 
 /// The list is replayed from the registers' reset values, so a register that the firmware extends too differs. `require` is as in
 /// [`verify_required`]. A list without entries is no match.
 pub fn replay_required(list: &[u8], expected: &[u8], require: &str) -> Result<ListVerdict, Error> {
-    require_some(require)?;
-    ask_for(require, |out| library::replay(list, expected, require.as_bytes(), out))?.list_verdict()
+    ask_for(true, |out| library::replay(list, expected, require.as_bytes(), out))?.list_verdict()
 }
 
 /// The lines of expected registers, for `verify` and `locate`, of what tpm2_pcrread or tpm2_checkquote printed: of the registers in a
@@ -424,7 +422,12 @@ pub fn expected(printed: &[u8], registers: Option<&str>) -> Result<Vec<u8>, Erro
 
 /// The registers that differ from their reset values after a firmware event log.
 pub fn registers(log: &[u8]) -> Result<Vec<Register>, Error> {
-    ask_for("", |out| library::registers(log, out))?.registers()
+    ask_for(false, |out| library::registers(log, out))?.registers()
+}
+
+/// The registers, in banks of all algorithms, that differ from their reset values after a measurement list without a log.
+pub fn list_registers(list: &[u8]) -> Result<Vec<Register>, Error> {
+    ask_for(false, |out| library::list_registers(list, out))?.registers()
 }
 
 /// The entries of a measurement list, one after another, each with whether it is genuine.
@@ -474,15 +477,17 @@ pub fn show(list: &[u8]) -> Result<Vec<u8>, Error> {
     answer.accepted_text(false)?.shown()
 }
 
-/// The answer to a call with a text that names registers, or with none, which is one line of JSON. It is no refusal.
-fn ask_for(request: &str, call: impl FnMut(&mut [u8]) -> (i32, usize)) -> Result<answers::Answer, Error> {
-    library::ask(library::ROOM, call)?.accepted(!request.is_empty())
+/// The answer to a call, which is one line of JSON. It is no refusal. Of a call that requests registers, that may be malformed.
+fn ask_for(requests: bool, call: impl FnMut(&mut [u8]) -> (i32, usize)) -> Result<answers::Answer, Error> {
+    library::ask(library::ROOM, call)?.accepted(requests)
 }
 
-/// For the library an empty text requires nothing; from a caller it is of no form.
-fn require_some(require: &str) -> Result<(), Error> {
-    if require.is_empty() {
-        return Err(Error::Malformed);
+/// Each register that a text of expected ones names, as what is required, so that none of these is missing.
+fn named_in(expected: &[u8]) -> String {
+    let lines = expected.split(|byte| *byte == b'\n').filter_map(|line| answers::register_line(std::str::from_utf8(line).ok()?));
+    let named: BTreeSet<_> = lines.map(|(algorithm, register, _)| (algorithm, register)).collect();
+    if named.is_empty() {
+        return "sha256:0".to_owned();
     }
-    Ok(())
+    named.iter().map(|(algorithm, register)| format!("{}:{register}", algorithm.name())).collect::<Vec<_>>().join(",")
 }

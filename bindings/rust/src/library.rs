@@ -40,7 +40,8 @@ mod c {
     functions! {
         ima_verify_json(log log_size, list list_size, expected expected_size, require require_size);
         ima_locate_json(log log_size, list list_size, expected expected_size, require require_size);
-        ima_replay_json(list list_size, expected expected_size, require require_size);
+        ima_replay_required_json(list list_size, expected expected_size, require require_size);
+        ima_replay_json(list list_size);
         ima_registers_json(log log_size);
         ima_events_json(log log_size);
         ima_entries_json(list list_size);
@@ -70,7 +71,8 @@ macro_rules! calls {
 calls! {
     verify = ima_verify_json(log, list, expected, require);
     locate = ima_locate_json(log, list, expected, require);
-    replay = ima_replay_json(list, expected, require);
+    replay = ima_replay_required_json(list, expected, require);
+    list_registers = ima_replay_json(list);
     registers = ima_registers_json(log);
     events = ima_events_json(log);
     entries = ima_entries_json(list);

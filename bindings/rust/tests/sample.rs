@@ -1,7 +1,7 @@
 //! What the crate answers about the sample, one boot whose registers were read from the TPM after the list, and about changes
 //! of it.
 
-use ima_verify::{expected as expected_from, locate, locate_required, registers, replay_required, show};
+use ima_verify::{expected as expected_from, list_registers, locate, locate_required, registers, replay_required, show};
 use ima_verify::{verify, verify_required, version};
 use ima_verify::{Algorithm, BootAggregate, Error, Kind, Place, PlaceRow, Register, Row, State, Verdict};
 use std::sync::Barrier;
@@ -314,13 +314,44 @@ fn inputs_without_bytes() {
     assert_eq!(registers(&[]).unwrap_err(), cut);
     assert_eq!(verify(&[], &[], &[]).unwrap_err(), cut);
     assert_eq!(show(&[]).unwrap(), b"");
-    let verdict = verify(&log(), &[], &[]).unwrap();
+    let verdict = verify(&log(), &[], &expected()).unwrap();
     assert_eq!((verdict.matches, verdict.entries, verdict.boot_aggregate), (false, 0, BootAggregate::Missing));
-    assert_eq!(verdict.rows, []);
-    let verdict = verify(&log(), &list(), &[]).unwrap();
-    assert_eq!((verdict.matches, verdict.entries, verdict.boot_aggregate), (true, 99, BootAggregate::Good));
-    let places = locate(&log(), &list(), &[]).unwrap();
-    assert_eq!((places.located, places.rows.len(), places.json.as_str()), (true, 0, r#"{"registers":[],"located":true}"#));
+    for empty in ["", "\n", "\r\n\n"] {
+        let verdict = verify(&log(), &list(), empty.as_bytes()).unwrap();
+        assert_eq!((verdict.matches, verdict.compared(), verdict.boot_aggregate), (false, 0, BootAggregate::Good));
+        assert_eq!(verdict.rows, [Row { algorithm: Algorithm::Sha256, register: 0, state: State::Missing }]);
+        let places = locate(&log(), &list(), empty.as_bytes()).unwrap();
+        let json = r#"{"registers":[{"bank":"sha256","register":0,"place":"missing"}],"located":false}"#;
+        assert_eq!((places.located, places.rows.len(), places.json.as_str()), (false, 1, json));
+    }
+}
+
+#[test]
+fn registers_that_are_expected_have_rows() {
+    let all: Vec<_> = [Algorithm::Sha512, Algorithm::Sha1, Algorithm::Sha384, Algorithm::Sha256]
+        .into_iter()
+        .flat_map(|algorithm| (0..24).map(move |register| (algorithm, register)))
+        .collect();
+    let line = |(algorithm, register): &(Algorithm, u8)| {
+        format!("{} {register} {}\r\n", algorithm.name(), "0".repeat(2 * algorithm.digest_size()))
+    };
+    let text: String = all.iter().map(line).collect();
+    let verdict = verify(&log(), &list(), text.as_bytes()).unwrap();
+    assert_eq!(verdict.rows.iter().map(|row| (row.algorithm, row.register)).collect::<Vec<_>>(), all);
+    assert_eq!(verdict.compared(), 96);
+    let places = locate(&log(), &list(), text.as_bytes()).unwrap();
+    assert_eq!(places.rows.iter().map(|row| (row.algorithm, row.register)).collect::<Vec<_>>(), all);
+}
+
+#[test]
+fn registers_after_the_list_alone() {
+    let found = list_registers(&list()).unwrap();
+    let names: Vec<_> = found.iter().map(|register| (register.algorithm.name(), register.register)).collect();
+    assert_eq!(names, [("sha1", 10), ("sha256", 10), ("sha384", 10), ("sha512", 10)]);
+    assert_eq!(found[1], registers_in(&tenth())[0]);
+    assert_eq!(list_registers(&[]).unwrap(), []);
+    let wanted = refused("refused: replay fault 1 at entry 5", Kind::Replay, 1, Some(5));
+    assert_eq!(list_registers(&changed()).unwrap_err(), wanted);
 }
 
 #[test]

@@ -82,16 +82,16 @@ fn answer(status: i32, text: impl AsRef<[u8]>) -> Answer {
     Answer { status, text: text.as_ref().to_vec() }
 }
 
-/// What is made of an answer to a call, with a text that names registers or without.
-fn said(request: &str, status: i32, text: &str, needed: usize) -> Result<Answer, Error> {
-    ask_for(request, |out| {
+/// What is made of an answer to a call, which requests registers or does not.
+fn said(requests: bool, status: i32, text: &str, needed: usize) -> Result<Answer, Error> {
+    ask_for(requests, |out| {
         out[..text.len()].copy_from_slice(text.as_bytes());
         (status, needed)
     })
 }
 
 fn answered(status: i32, text: &str, needed: usize) -> Result<Answer, Error> {
-    said("", status, text, needed)
+    said(false, status, text, needed)
 }
 
 fn refused(line: &str, kind: Kind, number: u64, place: Option<u64>) -> Error {
@@ -140,28 +140,26 @@ fn check_changes<T>(read: impl Fn(Answer) -> Result<T, Error>, status: i32, text
 
 #[test]
 fn right_answers_are_read() {
-    for requires in [false, true] {
-        assert!(answer(DONE, REPORT).verdict(requires).unwrap().matches);
-        assert!(!answer(DIFFERS, differing()).verdict(requires).unwrap().matches);
-        assert!(answer(DONE, PLACES).places(requires).unwrap().located);
-        assert!(!answer(DIFFERS, NOT_LOCATED).places(requires).unwrap().located);
-    }
+    assert!(answer(DONE, REPORT).verdict().unwrap().matches);
+    assert!(!answer(DIFFERS, differing()).verdict().unwrap().matches);
+    assert!(answer(DONE, PLACES).places().unwrap().located);
+    assert!(!answer(DIFFERS, NOT_LOCATED).places().unwrap().located);
     assert_eq!(answer(DONE, register()).registers().unwrap()[0].value, [0xaa; 20]);
     assert_eq!(answer(DONE, expected_line().repeat(2)).expected().unwrap(), expected_line().repeat(2).as_bytes());
 }
 
 #[test]
 fn right_answers_with_missing_registers_are_read() {
-    let verdict = answer(DIFFERS, lacking()).verdict(true).unwrap();
+    let verdict = answer(DIFFERS, lacking()).verdict().unwrap();
     assert_eq!((verdict.matches, verdict.compared(), verdict.rows.len()), (false, 1, 2));
-    let places = answer(DIFFERS, lacking_places()).places(true).unwrap();
+    let places = answer(DIFFERS, lacking_places()).places().unwrap();
     assert_eq!((places.located, places.rows[3].place), (false, Place::Missing));
 }
 
 #[test]
 fn members_may_stand_in_any_order_and_be_more() {
     let text = REPORT.replacen(r#""events":1,"#, r#""x":[null],"#, 1).replace("}\n", ",\"events\":1}\n");
-    assert_eq!(answer(DONE, text).verdict(false).unwrap().events, 1);
+    assert_eq!(answer(DONE, text).verdict().unwrap().events, 1);
 }
 
 #[test]
@@ -169,78 +167,75 @@ fn wrong_reports_are_no_verdicts() {
     let short = differing_state().replacen("00", "", 1);
     let matching = differing_state().replace("differ", "match");
     let deep = "[".repeat(100_000) + "\n";
-    for requires in [false, true] {
-        let read = |answer: Answer| answer.verdict(requires);
-        check_changes(
-            read,
-            DONE,
-            REPORT,
-            &[
-                (r#""events":1"#, r#""events":01"#),
-                (r#""events":1"#, r#""events":-1"#),
-                (r#""events":1"#, r#""events":1.0"#),
-                (r#""events":1"#, r#""events":true"#),
-                (r#""events":1"#, r#""events":null"#),
-                (r#""events":1"#, r#""events":"1""#),
-                (r#""events":1"#, r#""events":18446744073709551616"#),
-                (r#""events":1,"#, ""),
-                (r#""locality":0"#, r#""locality":256"#),
-                (r#""entries":3,"#, ""),
-                (r#""good""#, r#""fine""#),
-                (r#""good""#, r#""wrong""#),
-                (r#""good""#, "{}"),
-                (r#""boot_aggregate":"good","#, ""),
-                (r#""sha256""#, r#""md5""#),
-                (r#""bank":"sha256","#, ""),
-                (":10,", ":24,"),
-                (":10,", ":-1,"),
-                (r#""register":10,"#, ""),
-                (MATCH, r#""state":"differ""#),
-                (MATCH, &short),
-                (MATCH, &matching),
-                (MATCH, r#""state":"absent""#),
-                (MATCH, r#""state":"missing""#),
-                (MATCH, r#""state":"Match""#),
-                (r#","state":"match""#, ""),
-                (r#""verdict":"match""#, r#""verdict":"differ""#),
-                (r#","verdict":"match""#, ""),
-                (r#""verdict":"match""#, r#""verdict":true"#),
-                (r#""registers":["#, r#""registers":[1,"#),
-                (r#""registers":["#, r#""registers":[null,"#),
-                (r#""registers""#, r#""rows""#),
-                ("}\n", "}"),
-                ("}\n", "}\n\n"),
-                ("}\n", "\n"),
-                ("}\n", "}}\n"),
-                ("}\n", "}x\n"),
-                ("}\n", "}\n{}\n"),
-                (REPORT, ""),
-                (REPORT, "\n"),
-                (REPORT, "{}\n"),
-                (REPORT, "[]\n"),
-                (REPORT, "null\n"),
-                (REPORT, "\"match\"\n"),
-                (REPORT, "0\n"),
-                (REPORT, &deep),
-                (REPORT, LIST_FAULT),
-            ],
-        );
-        assert!(is_unexpected(answer(DIFFERS, REPORT).verdict(requires)));
-        assert!(is_unexpected(answer(DONE, differing()).verdict(requires)));
-        assert!(is_unexpected(answer(DONE, [REPORT.trim_end().as_bytes(), b"\xff\n"].concat()).verdict(requires)));
-        for size in 0..REPORT.len() {
-            assert!(is_unexpected(answer(DONE, &REPORT[..size]).verdict(requires)), "{size}");
-        }
+    check_changes(
+        Answer::verdict,
+        DONE,
+        REPORT,
+        &[
+            (r#""events":1"#, r#""events":01"#),
+            (r#""events":1"#, r#""events":-1"#),
+            (r#""events":1"#, r#""events":1.0"#),
+            (r#""events":1"#, r#""events":true"#),
+            (r#""events":1"#, r#""events":null"#),
+            (r#""events":1"#, r#""events":"1""#),
+            (r#""events":1"#, r#""events":18446744073709551616"#),
+            (r#""events":1,"#, ""),
+            (r#""locality":0"#, r#""locality":256"#),
+            (r#""entries":3,"#, ""),
+            (r#""good""#, r#""fine""#),
+            (r#""good""#, r#""wrong""#),
+            (r#""good""#, "{}"),
+            (r#""boot_aggregate":"good","#, ""),
+            (r#""sha256""#, r#""md5""#),
+            (r#""bank":"sha256","#, ""),
+            (":10,", ":24,"),
+            (":10,", ":-1,"),
+            (r#""register":10,"#, ""),
+            (MATCH, r#""state":"differ""#),
+            (MATCH, &short),
+            (MATCH, &matching),
+            (MATCH, r#""state":"absent""#),
+            (MATCH, r#""state":"missing""#),
+            (MATCH, r#""state":"Match""#),
+            (r#","state":"match""#, ""),
+            (r#""verdict":"match""#, r#""verdict":"differ""#),
+            (r#","verdict":"match""#, ""),
+            (r#""verdict":"match""#, r#""verdict":true"#),
+            (r#""registers":["#, r#""registers":[1,"#),
+            (r#""registers":["#, r#""registers":[null,"#),
+            (r#""registers""#, r#""rows""#),
+            ("}\n", "}"),
+            ("}\n", "}\n\n"),
+            ("}\n", "\n"),
+            ("}\n", "}}\n"),
+            ("}\n", "}x\n"),
+            ("}\n", "}\n{}\n"),
+            (REPORT, ""),
+            (REPORT, "\n"),
+            (REPORT, "{}\n"),
+            (REPORT, "[]\n"),
+            (REPORT, "null\n"),
+            (REPORT, "\"match\"\n"),
+            (REPORT, "0\n"),
+            (REPORT, &deep),
+            (REPORT, LIST_FAULT),
+        ],
+    );
+    assert!(is_unexpected(answer(DIFFERS, REPORT).verdict()));
+    assert!(is_unexpected(answer(DONE, differing()).verdict()));
+    assert!(is_unexpected(answer(DONE, [REPORT.trim_end().as_bytes(), b"\xff\n"].concat()).verdict()));
+    for size in 0..REPORT.len() {
+        assert!(is_unexpected(answer(DONE, &REPORT[..size]).verdict()), "{size}");
     }
     let zeros = "0".repeat(64);
     for value in [format!("{}A", &zeros[1..]), zeros[2..].to_owned(), format!("{zeros}00"), String::new(), zeros[1..].to_owned()]
     {
-        assert!(is_unexpected(answer(DIFFERS, differing().replace(&zeros, &value)).verdict(false)), "{value}");
+        assert!(is_unexpected(answer(DIFFERS, differing().replace(&zeros, &value)).verdict()), "{value}");
     }
 }
 
 #[test]
-fn wrong_reports_with_required_registers_are_no_verdicts() {
+fn wrong_reports_with_missing_registers_are_no_verdicts() {
     let (right, wrong) = (format!("{ROW},{MISSING}"), format!("{MISSING},{ROW}"));
     let changes = [
         (right.as_str(), wrong.as_str()),
@@ -248,13 +243,11 @@ fn wrong_reports_with_required_registers_are_no_verdicts() {
         (r#""missing""#, r#""missing","value":"""#),
         (r#""register":4"#, r#""register":24"#),
     ];
-    check_changes(|answer| answer.verdict(true), DIFFERS, &lacking(), &changes);
+    check_changes(Answer::verdict, DIFFERS, &lacking(), &changes);
     let none = REPORT.replace(ROW, "");
     for text in [&lacking(), &lacking().replace(r#""differ""#, r#""match""#), &none] {
-        assert!(is_unexpected(answer(DONE, text).verdict(true)), "{text}");
+        assert!(is_unexpected(answer(DONE, text).verdict()), "{text}");
     }
-    assert!(is_unexpected(answer(DIFFERS, lacking()).verdict(false)));
-    assert!(answer(DONE, none).verdict(false).unwrap().matches);
 }
 
 #[test]
@@ -295,34 +288,30 @@ fn wrong_reports_on_a_list_alone_are_no_verdicts() {
 
 #[test]
 fn wrong_answers_are_no_places() {
-    for requires in [false, true] {
-        let changes = [
-            (r#""reset""#, r#""event""#),
-            (r#""reset""#, r#""reset","number":1"#),
-            (r#","number":18"#, ""),
-            (r#""number":18"#, r#""number":"18""#),
-            (r#""entry""#, r#""line""#),
-            (r#""sha256""#, r#""sha257""#),
-            (":4,", ":44,"),
-            ("}\n", "}"),
-            ("true", "false"),
-            ("true", "1"),
-            ("true", r#""true""#),
-            (r#","located":true"#, ""),
-            (r#""reset""#, r#""nowhere""#),
-            (PLACES, ""),
-        ];
-        check_changes(|answer| answer.places(requires), DONE, PLACES, &changes);
-        assert!(is_unexpected(answer(DIFFERS, PLACES).places(requires)));
-        assert!(is_unexpected(answer(DONE, NOT_LOCATED).places(requires)));
-        assert!(is_unexpected(answer(DONE, lacking_places()).places(requires)));
-    }
-    assert!(is_unexpected(answer(DIFFERS, lacking_places()).places(false)));
+    let changes = [
+        (r#""reset""#, r#""event""#),
+        (r#""reset""#, r#""reset","number":1"#),
+        (r#","number":18"#, ""),
+        (r#""number":18"#, r#""number":"18""#),
+        (r#""entry""#, r#""line""#),
+        (r#""sha256""#, r#""sha257""#),
+        (":4,", ":44,"),
+        ("}\n", "}"),
+        ("true", "false"),
+        ("true", "1"),
+        ("true", r#""true""#),
+        (r#","located":true"#, ""),
+        (r#""reset""#, r#""nowhere""#),
+        (PLACES, ""),
+    ];
+    check_changes(Answer::places, DONE, PLACES, &changes);
+    assert!(is_unexpected(answer(DIFFERS, PLACES).places()));
+    assert!(is_unexpected(answer(DONE, NOT_LOCATED).places()));
+    assert!(is_unexpected(answer(DONE, lacking_places()).places()));
     let first = lacking_places().replace(&format!(",{MISSING_PLACE}"), "").replace('[', &format!("[{MISSING_PLACE},"));
-    assert!(is_unexpected(answer(DIFFERS, first).places(true)));
+    assert!(is_unexpected(answer(DIFFERS, first).places()));
     let none = "{\"registers\":[],\"located\":true}\n";
-    assert!(is_unexpected(answer(DONE, none).places(true)));
-    assert!(answer(DONE, none).places(false).unwrap().located);
+    assert!(is_unexpected(answer(DONE, none).places()));
 }
 
 #[test]
@@ -623,9 +612,9 @@ fn wrong_refusals_are_no_refusals() {
 
 #[test]
 fn text_that_names_no_registers_is_malformed() {
-    assert_eq!(said("x", REFUSED, MALFORMED, MALFORMED.len()).unwrap_err(), Error::Malformed);
-    for (request, status, text) in [("", REFUSED, MALFORMED), ("x", REFUSED, &MALFORMED[1..]), ("x", 5, MALFORMED)] {
-        assert!(is_unexpected(said(request, status, text, text.len())), "{status} {text:?}");
+    assert_eq!(said(true, REFUSED, MALFORMED, MALFORMED.len()).unwrap_err(), Error::Malformed);
+    for (requests, status, text) in [(false, REFUSED, MALFORMED), (true, REFUSED, &MALFORMED[1..]), (true, 5, MALFORMED)] {
+        assert!(is_unexpected(said(requests, status, text, text.len())), "{status} {text:?}");
     }
     let line = "refused: command line\n";
     assert_eq!(answer(REFUSED, line).accepted_text(true).unwrap_err(), Error::Malformed);
