@@ -381,8 +381,8 @@ func TestTextThatNamesNoRegistersIsMalformed(t *testing.T) {
 func TestRefusalsAreRead(t *testing.T) {
 	for text, wanted := range map[string]RefusedError{
 		`{"fault":{"kind":"log","number":2,"message":"refused: log fault 2"}}`: {"refused: log fault 2", KindLog, 2, 0, false},
-		`{"fault":{"kind":"replay","number":1,"entry":2,"message":"refused: replay fault 1 at entry 2"}}`: {"refused: replay fault 1 at entry 2",
-			KindReplay, 1, 2, true},
+		`{"fault":{"kind":"replay","number":1,"entry":2,"message":"refused: replay fault 1 at entry 2"}}`: {
+			"refused: replay fault 1 at entry 2", KindReplay, 1, 2, true},
 		`{"fault":{"kind":"expected","number":1,"message":"refused: expected fault 1 at line 2"}}`: {"refused: expected fault 1 at line 2",
 			KindExpected, 1, 2, true},
 		`{"fault":{"kind":"expected","number":6,"message":"refused: expected fault 6"}}`: {"refused: expected fault 6", KindExpected, 6, 0, false},
@@ -393,11 +393,13 @@ func TestRefusalsAreRead(t *testing.T) {
 
 func TestWrongRefusalsAreNoRefusals(t *testing.T) {
 	for _, text := range []string{
-		"", listFault[1:], listFault + "\n", listFault + listFault, entryLine + listFault, report, memoryFault, malformed, "{}\n", `{"fault":{}}` + "\n",
-		`{"fault":1}` + "\n", `{"fault":null}` + "\n", strings.Replace(listFault, `"list"`, `"log"`, 1), strings.Replace(listFault, `"number":1`, `"number":2`, 1),
-		strings.Replace(listFault, `"entry":2`, `"entry":1`, 1), strings.Replace(listFault, `"entry":2,`, ``, 1), strings.Replace(listFault, `"kind":"list",`, ``, 1),
-		strings.Replace(listFault, `fault 1`, `fault 01`, 1), strings.Replace(listFault, `"message"`, `"line"`, 1), strings.Replace(logFault, `"event":2,`, ``, 1),
-		strings.Replace(logFault, ` at event 2`, ``, 1), `{"fault":{"kind":"job","number":7,"message":"refused: job 0 book fault 7"}}` + "\n",
+		"", listFault[1:], listFault + "\n", listFault + listFault, entryLine + listFault, report, memoryFault, malformed, "{}\n",
+		`{"fault":{}}` + "\n", `{"fault":1}` + "\n", `{"fault":null}` + "\n", strings.Replace(listFault, `"list"`, `"log"`, 1),
+		strings.Replace(listFault, `"number":1`, `"number":2`, 1), strings.Replace(listFault, `"entry":2`, `"entry":1`, 1),
+		strings.Replace(listFault, `"entry":2,`, ``, 1), strings.Replace(listFault, `"kind":"list",`, ``, 1),
+		strings.Replace(listFault, `fault 1`, `fault 01`, 1), strings.Replace(listFault, `"message"`, `"line"`, 1),
+		strings.Replace(logFault, `"event":2,`, ``, 1), strings.Replace(logFault, ` at event 2`, ``, 1),
+		`{"fault":{"kind":"job","number":7,"message":"refused: job 0 book fault 7"}}` + "\n",
 		"refused: list fault 1 at entry 2\n",
 	} {
 		checkUnexpected(t, answered(refused, text, uint64(len(text))), text)

@@ -256,8 +256,8 @@ func Version() uint32 {
 	return libraryVersion()
 }
 
-// Verify gives the verdict on a firmware event log, a measurement list and the expected registers that a text states. It is VerifyRequired of
-// the registers that the text names, or of sha256:0 if it names none: so a verdict on nothing is no match.
+// Verify gives the verdict on a firmware event log, a measurement list and the expected registers that a text states. It is VerifyRequired
+// of the registers that the text names, or of sha256:0 if it names none: so a verdict on nothing is no match.
 func Verify(log, list, expected []byte) (Verdict, error) {
 	return VerifyRequired(log, list, expected, namedIn(expected))
 }
@@ -342,7 +342,8 @@ func Registers(log []byte) ([]Register, error) {
 	return answer.registers()
 }
 
-// ListRegisters gives the registers, in banks of all algorithms, that differ from their reset values after a measurement list without a log.
+// ListRegisters gives the registers, in banks of all algorithms, that differ from their reset values after a measurement list without a
+// log.
 func ListRegisters(list []byte) ([]Register, error) {
 	answer, err := askFor(false, func(out []byte, needed *uint64) int32 { return callListRegisters(list, out, needed) })
 	if err != nil {

@@ -109,8 +109,8 @@ func TestForgedEntriesAreNotGenuine(t *testing.T) {
 }
 
 func TestPathsAreTheirBytes(t *testing.T) {
-	names := []string{"/a\nb", "/a\n0 /sbin/init", "/\"\\\x1b[2J\x7f", "/\u00e9\u2028\U0001f600\uFFFD", "/\xff", "/\xed\xa0\x80", "/\xc3", "", "/}\n{", " ",
-		"/" + strings.Repeat("\x01", 5000), "path_hex", `/\u0000\ufffd`}
+	names := []string{"/a\nb", "/a\n0 /sbin/init", "/\"\\\x1b[2J\x7f", "/\u00e9\u2028\U0001f600\uFFFD", "/\xff", "/\xed\xa0\x80", "/\xc3", "",
+		"/}\n{", " ", "/" + strings.Repeat("\x01", 5000), "path_hex", `/\u0000\ufffd`}
 	var list []byte
 	for _, name := range names {
 		list = append(list, entryOf("ima-ng", ng("sha1", zeros, name))...)

@@ -4,11 +4,8 @@ From bindings/python: IMA_VERIFY_LIBRARY=/path/to/libima_verify.so python3 -m un
 
 import array
 import hashlib
-import os
 import re
-import subprocess
 import sys
-import tempfile
 import threading
 import unittest
 from itertools import zip_longest
@@ -160,7 +157,8 @@ class NothingRequired(unittest.TestCase):
     BANKS = "".join(f"{bank.value} {number} {ZERO[bank]}\r\n" for bank in Algorithm for number in range(24))
 
     def test_registers_that_are_expected_have_rows(self):
-        for text in (EXPECTED, EXPECTED.splitlines(True)[4], b"\n\n" + b"".join(EXPECTED.splitlines(True)[::-1]), self.BANKS, memoryview(EXPECTED)):
+        turned = b"\n\n" + b"".join(EXPECTED.splitlines(True)[::-1])
+        for text in (EXPECTED, EXPECTED.splitlines(True)[4], turned, self.BANKS, memoryview(EXPECTED)):
             verdict, places = ima_verify.verify(LOG, LIST, text), ima_verify.locate(LOG, LIST, text)
             lines = [line.split() for line in (text.encode() if isinstance(text, str) else bytes(text)).splitlines() if line]
             wanted = [(bank.decode(), int(number)) for bank, number, _ in lines]
@@ -287,30 +285,6 @@ class ExpectedRegisters(unittest.TestCase):
         for wrong in (10, 0, False):
             self.assertRaises(TypeError, ima_verify.expected, PRINTED, wrong)
         self.assertRaises(TypeError, ima_verify.expected, None)
-
-
-class Page(unittest.TestCase):
-    """The example of README.md."""
-
-    def test_example_prints_the_sample(self):
-        (program,) = re.findall("```python\n(.*?)```", (ROOT / "bindings/python/README.md").read_text(), re.DOTALL)
-        # (the kernel's text has the digest of each file; two of them are not known)
-        unknown = (b"/init", b"/mnt/odd/new\nline", b"/mnt/odd/bad\xff\xfebytes")
-        files = [entry.fields() for entry in read_list(LIST) if not entry.is_violation]
-        known = "".join(f"{file.digest.hex()}\n" for file in files if file.path not in unknown)
-        environment = {**os.environ, "PYTHONPATH": str(ROOT / "bindings/python")}
-        with tempfile.TemporaryDirectory() as folder:
-            for name in ("firmware.log", "ima.list", "expected.txt"):
-                Path(folder, name).symlink_to(SAMPLE / name)
-            Path(folder, "known.txt").write_text(known)
-            words = [sys.executable, "-B", "-W", "error", "-c", program]
-            ended = subprocess.run(words, env=environment, cwd=folder, stdout=subprocess.PIPE, timeout=60)
-        first, *lines = ended.stdout.decode().splitlines()
-        self.assertEqual(first, "match 99")
-        self.assertEqual(lines[:6], ["1 b'/init'", r"78 b'/mnt/odd/bad\xff\xfebytes'", r"81 b'/mnt/odd/new\nline'",
-                                     "93 b'/mnt/viol/tomtou'", "94 b'/mnt/viol/open_writers.log'", "97 b'/mnt/viol/tomtou'"])
-        self.assertIn("PCR 0 has its value after event 14, EV_SEPARATOR", lines)
-        self.assertEqual([line.split()[1] for line in lines[6:]], ["0", "1", "2", "3", "4", "5", "6", "7", "9"])
 
 
 def number(value):
