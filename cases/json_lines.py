@@ -3,10 +3,11 @@
 
 cases/json_lines.py [PROGRAM]: by default the program that was built in this tree.
 
-Each line must be one value of ASCII or UTF-8 that json writes in the same way, without white space, and has no byte below 32; the members of
-each object must stand in one table of docs/formats.md ('As JSON'), in its order. All lines must be what `reference/` answers, and each must
-tell what the same command's text tells: of the sample, of a log of all banks, of lists of all templates whose paths and payloads are hostile,
-of damaged ones, and of a list of 12,000 entries. The last line is 'N passed, M failed', of commands."""
+The members of each object must stand in one table of docs/formats.md ('As JSON'), in its order.
+
+Each line must be one value of ASCII or UTF-8 that json writes in the same way, without white space, and has no byte below 32. All lines
+must be what `reference/` answers, and each must tell what the same command's text tells: of the sample, of lists of all templates whose paths
+and payloads are hostile, of damaged ones, and of a list of 12,000 entries. The last line is 'N passed, M failed', of commands."""
 
 import json
 import random
@@ -19,9 +20,9 @@ from pathlib import Path
 ROOT = Path(__file__).resolve().parent.parent
 sys.path.insert(0, str(ROOT))
 import reference  # noqa: E402
-from reference.log import EV_NO_ACTION, STARTUP_LOCALITY, TYPE_NAMES, Event, Log  # noqa: E402
 from reference.measurement_list import IMA, IMA_NG, IMA_SIG, VIOLATION, Entry, entry_of, list_spelling  # noqa: E402
 from reference.registers import ALGORITHMS, SHA1, SHA256  # noqa: E402
+from reference.log import EV_NO_ACTION, STARTUP_LOCALITY, TYPE_NAMES, Event, Log  # noqa: E402
 
 PROGRAM = ROOT / "crates/ima_agent_program/out/ima_agent_program"
 SECONDS = 60
@@ -83,18 +84,18 @@ def commands(folder):
     (folder / "many").write_bytes(list_spelling(many_entries()))
     (folder / "cut").write_bytes((folder / "many").read_bytes()[:-1])
     (folder / "damaged.log").write_bytes((folder / "firmware.log").read_bytes()[:-1])
-    (folder / "banks.log").write_bytes(log_of_all_banks().spelling())
     (folder / "few").write_text("sha256 10 " + "00" * 32 + "\nsha384 1 " + "11" * 48 + "\n")
+    (folder / "banks.log").write_bytes(log_of_all_banks().spelling())
     evidence = ["firmware.log", "ima.list"]
     yield from (["show", "ima.list"], ["show", "hostile"], ["show", "many"], ["show", "cut"], ["show", "firmware.log"])
     yield from (["registers", "firmware.log"], ["events", "firmware.log"], ["events", "--data", "firmware.log"], ["events", "damaged.log"])
-    yield from (["registers", "banks.log"], ["events", "banks.log"], ["verify", "--require", "sha512:0-23", "banks.log", "many", "few"])
     yield from (["replay", "ima.list"], ["replay", "many"], ["replay", "ima.list", "few"], ["expected", "tpm2_pcrread.txt"])
     yield from (["replay", "--require", "sha1:0-23", "ima.list", "few"], ["expected", "--registers", "4-4", "tpm2_pcrread.txt"])
     for command in ("verify", "locate"):
         yield from ([command, *evidence, "expected.txt"], [command, *evidence, "few"], [command, "--require", "sha1:0-23", *evidence, "few"])
     yield ["measure", "--workers", "1", "firmware.log", "many", "few", "ima.list"]
     yield ["measure", "--workers", "1", "--print", "registers", "firmware.log", "many"]
+    yield from (["registers", "banks.log"], ["events", "banks.log"], ["verify", "--require", "sha512:0-23", "banks.log", "many", "few"])
 
 
 def run(program, words, folder):
