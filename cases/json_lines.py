@@ -47,6 +47,14 @@ def members_in_tables():
 ORDERS = members_in_tables()
 
 
+def log_of_all_banks():
+    """A log with events of each type that has a name and of some without, of all banks and one of an algorithm without a name."""
+    sizes = {0x12: 32, **{it.identifier: it.size for it in reversed(ALGORITHMS)}}
+    digests = {identifier: bytes(range(size)) for identifier, size in sizes.items()}
+    named = (Event(number % 24, kind, digests, bytes(range(256))) for number, kind in enumerate([*TYPE_NAMES, 0x13FF, 0xFFFFFFFF]))
+    return Log(sizes, [*named, Event(0, EV_NO_ACTION, {}, STARTUP_LOCALITY + b"\xff"), Event(0xFFFFFFFF, EV_NO_ACTION, {0x12: bytes(32)}, b"")])
+
+
 def hostile_entries():
     """Entries of each template with each path, and payloads and names of templates that have no fields."""
     for template in (IMA, IMA_NG, IMA_SIG):
@@ -65,14 +73,6 @@ def many_entries():
         path = drawn.randbytes(drawn.randrange(1, 40)).replace(b"\0", b"/") + b" %d" % number
         entry = entry_of(drawn.choice((IMA_NG, IMA_SIG)), algorithm, drawn.randbytes(algorithm.size), path)
         yield entry._replace(template_digest=drawn.choice((entry.template_digest, VIOLATION, drawn.randbytes(20))))
-
-
-def log_of_all_banks():
-    """A log with events of each type that has a name and of some without, of all banks and one of an algorithm without a name."""
-    sizes = {0x12: 32, **{it.identifier: it.size for it in reversed(ALGORITHMS)}}
-    digests = {identifier: bytes(range(size)) for identifier, size in sizes.items()}
-    named = (Event(number % 24, kind, digests, bytes(range(256))) for number, kind in enumerate([*TYPE_NAMES, 0x13FF, 0xFFFFFFFF]))
-    return Log(sizes, [*named, Event(0, EV_NO_ACTION, {}, STARTUP_LOCALITY + b"\xff"), Event(0xFFFFFFFF, EV_NO_ACTION, {0x12: bytes(32)}, b"")])
 
 
 def commands(folder):
