@@ -11,7 +11,7 @@ count: as many as that makes, a test makes before it begins. (What a test alloca
 tells where that begins.)
 
 Each crate of crates.txt that has such tests in its sources must have its binary, which must list just these. The help of the program and
-of each command must be among the commands, with a file of its case that it has to be.
+of each command must be among the commands, with a file of its case that it has to be, and so must each command with `--json`.
 
 Commands are of one kind if they have the same word, options and status, as many names (three or more are alike), the same fault where
 they are refused, and both or neither ask for help, name a sample, or have a text with more names. Of each kind the first runs, in the
@@ -156,7 +156,7 @@ def command_runs(program, folder):
                         runs.setdefault(kind_of(command, home), run)
         except form.Malformed as fault:
             faults.append(f"{path}:{fault}")
-    return list(runs.values()), faults
+    return list(runs.values()), faults + json_faults(runs.values())
 
 
 def help_faults(runs):
@@ -164,6 +164,12 @@ def help_faults(runs):
     asked = {run.command.words[0] if run.command.words[1:] else "" for run in runs if run.command.output and
              any(map(asks_for_help, run.command.words))}
     return [f"no case has the help of {word or 'the program'} as a file" for word in ("", *COMMANDS) if word not in asked]
+
+
+def json_faults(runs):
+    """What is wrong if not each command is among the runs with an output as JSON."""
+    shown = {run.command.words[0] for run in runs if "--json" in run.command.words and run.command.status < 2}
+    return [f"no case has {word} --json" for word in COMMANDS if word not in shown]
 
 
 def tests_in(crate):
