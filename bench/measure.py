@@ -6,6 +6,7 @@ Arguments: the repository's folder, an empty folder for inputs and outputs, and 
 
 import hashlib
 import random
+import shutil
 import statistics
 import subprocess
 import sys
@@ -15,6 +16,7 @@ from pathlib import Path
 
 import inputs
 from reference.measurement_list import list_spelling, list_text
+from reference.program import json_lines
 from reference.registers import SHA256
 from reference.verdict import locate, verdict
 
@@ -22,6 +24,7 @@ MOST_BYTES = 64 * 1024 * 1024
 MOST_SECONDS = 300
 START_CALLS = 41
 START_LIMIT = 0.050
+STREAMED_LIMIT = 8  # MiB that a long list may take above an empty one
 
 ROOT, FOLDER = (Path(word).resolve() for word in sys.argv[1:3])
 RUNS = int(sys.argv[3])
@@ -131,10 +134,24 @@ def small_log():
     return inputs.made_log([SHA256], 24)
 
 
+def evmctl_time(count):
+    """The time of one call of evmctl that shows the made list of so many entries, which it does on standard error; None without evmctl."""
+    if not shutil.which("evmctl"):
+        print("evmctl is not installed: no ratio to it", flush=True)
+        return None
+    seconds, status, text = timed(["sh", "-c", "exec evmctl -v ima_measurement made.list 2>&1"])
+    shown = sum(line.startswith(b"10 ") for line in text.splitlines())
+    if shown != count:
+        complaints.append(f"evmctl: status {status}, and {shown} entries")
+        return None
+    return seconds
+
+
 def lists():
     """`verify`, `locate` and `show` of made lists: time and peak memory."""
     sizes = (40_000, 440_000)
-    verified, located, shown, memory = [], [], [], {"verify": [], "locate": [], "show": []}
+    verified, located, shown, shown_as_json = [], [], [], []
+    memory = {"verify": [], "locate": [], "show": [], "show --json": []}
     log = small_log()
     store("made.log", log.spelling())
     store("none.txt", b"")
@@ -142,17 +159,20 @@ def lists():
         entries = inputs.made_entries(log, inputs.made_measurements(count - 1))
         expected = inputs.expected_after(log, entries)
         report, places = (decide(log, entries, expected)[0].encode() for decide in (verdict, locate))
-        text = list_text(entries)
+        text, as_json = list_text(entries), json_lines(entry.as_json(place) for place, entry in enumerate(entries)).encode()
         names = "made.log", store("made.list", list_spelling(entries)), store("expected.txt", inputs.expected_text(expected))
         verified.append(median_time(["verify", *names], report))
         located.append(median_time(["locate", *names], places))
         shown.append(median_time(["show", "made.list"], text))
+        shown_as_json.append(median_time(["show", "--json", "made.list"], as_json))
         memory["locate"].append(peak_memory(["locate", *names], places))
         memory["verify"].append(peak_memory(["verify", *names], report))
         memory["show"].append(peak_memory(["show", "made.list"], text))
+        memory["show --json"].append(peak_memory(["show", "--json", "made.list"], as_json))
     print_growth("verify", "entries", sizes, verified)
     print_growth("locate", "entries", sizes, located)
     print_growth("show", "entries", sizes, shown)
+    print_growth("show --json", "entries", sizes, shown_as_json)
     hashed = median_of_tools(["sha1sum", "made.list"], ["sha256sum", "made.list"])
     hashed_once = median_of_tools(["sha256sum", "made.list"])
     copied = median_of_tools(["cat", "made.list"])
@@ -161,7 +181,11 @@ def lists():
         "verify": peak_memory(["verify", "made.log", NO_INPUT, "none.txt"], nothing, 1),
         "locate": peak_memory(["locate", "made.log", NO_INPUT, "none.txt"], b"located\n"),
         "show": peak_memory(["show", NO_INPUT], b""),
+        "show --json": peak_memory(["show", "--json", NO_INPUT], b""),
     }
+    peaks = [empty["show --json"], memory["show --json"][1]]
+    if None not in peaks and peaks[1] - peaks[0] > STREAMED_LIMIT:
+        complaints.append(f"show --json takes {peaks[1] - peaks[0]:.1f} MiB more for {sizes[1]:,} entries than for none")
     PEAKS.extend((what, "entries", sizes, empty[what], peaks) for what, peaks in memory.items())
     return [
         (f"locate of {sizes[1]:,} entries, to verify of the same", located[1], verified[1]),
@@ -169,6 +193,8 @@ def lists():
         (f"verify of {sizes[1]:,} entries, to sha256sum of the list", verified[1], hashed_once),
         (f"show of {sizes[1]:,} entries, to sha256sum of the list", shown[1], hashed_once),
         (f"show of {sizes[1]:,} entries, to cat of the list", shown[1], copied),
+        (f"show --json of {sizes[1]:,} entries, to show of the same", shown_as_json[1], shown[1]),
+        (f"show --json of {sizes[1]:,} entries, to evmctl -v ima_measurement of the list", shown_as_json[1], evmctl_time(sizes[1])),
     ]
 
 

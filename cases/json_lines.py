@@ -3,12 +3,15 @@
 
 cases/json_lines.py [PROGRAM]: by default the program that was built in this tree.
 
+The members of each object must stand in one table of docs/formats.md ('As JSON'), in its order.
+
 Each line must be one value of ASCII or UTF-8 that json writes in the same way, without white space, and has no byte below 32. All lines
 must be what `reference/` answers, and each must tell what the same command's text tells: of the sample, of lists of all templates whose paths
 and payloads are hostile, of damaged lists and logs, and of a list of 12,000 entries. The last line is 'N passed, M failed', of commands."""
 
 import json
 import random
+import re
 import subprocess
 import sys
 import tempfile
@@ -20,6 +23,7 @@ import reference  # noqa: E402
 from reference.log import read_log  # noqa: E402
 from reference.measurement_list import IMA, IMA_NG, IMA_SIG, VIOLATION, Entry, entry_of, list_spelling  # noqa: E402
 from reference.registers import ALGORITHMS, SHA1, SHA256  # noqa: E402
+from reference.log import EV_NO_ACTION, STARTUP_LOCALITY, TYPE_NAMES, Event, Log  # noqa: E402
 
 PROGRAM = ROOT / "crates/ima_agent_program/out/ima_agent_program"
 SECONDS = 60
@@ -27,14 +31,35 @@ ENTRIES = 12_000
 HOSTILE = [
     *(bytes([byte]) for byte in range(1, 256)),
     b"\n\n", b'"', b"\\", b'\\"', b"\x1b[2J\x1b[31m", b"\r\n", b"/bin/x 030204", "\u2028\u202e\ufeff".encode(), "\U0001f600".encode(),
-    b"\xed\xa0\x80", b"\xc0\x80", b"\xf4\x90\x80\x80", b"\xff", b"a" * 255,
+    b"\xed\xa0\x80", b"\xc0\x80", b"\xf4\x90\x80\x80", b"\xff", b"a" * 255, b"",
 ]  # fmt: skip
+LONG = [b"a" * 4095, b"\n" * 4095, b"\x1b" * 4095, "\u2028".encode() * 1365, b"\xff" * 4095]
+SECTION = re.compile(r"^### As JSON$(.*?)^### ", re.MULTILINE | re.DOTALL)
+TABLE = re.compile(r"^\| Member[^|]*\|.*\n\|[-|]*\n((?:\|.*\n)*)", re.MULTILINE)
+NO_MEMBERS = "digests"  # the names there are those of algorithms
+
+
+def members_in_tables():
+    """The members of each table of the page, in its order."""
+    [section] = SECTION.findall((ROOT / "docs/formats.md").read_text())
+    return [[name for row in table.splitlines() for name in re.findall(r"`(\w+)`", row.split("|")[1])] for table in TABLE.findall(section)]
+
+
+ORDERS = members_in_tables()
+
+
+def log_of_all_banks():
+    """A log with events of each type that has a name and of some without, of all banks and one of an algorithm without a name."""
+    sizes = {0x12: 32, **{it.identifier: it.size for it in reversed(ALGORITHMS)}}
+    digests = {identifier: bytes(range(size)) for identifier, size in sizes.items()}
+    named = (Event(number % 24, kind, digests, bytes(range(256))) for number, kind in enumerate([*TYPE_NAMES, 0x13FF, 0xFFFFFFFF]))
+    return Log(sizes, [*named, Event(0, EV_NO_ACTION, {}, STARTUP_LOCALITY + b"\xff"), Event(0xFFFFFFFF, EV_NO_ACTION, {0x12: bytes(32)}, b"")])
 
 
 def hostile_entries():
     """Entries of each template with each path, and payloads and names of templates that have no fields."""
     for template in (IMA, IMA_NG, IMA_SIG):
-        for path in HOSTILE:
+        for path in HOSTILE + (LONG if template != IMA else []):
             yield entry_of(template, SHA1 if template == IMA else SHA256, bytes(SHA1.size if template == IMA else SHA256.size), path)
     for name in (*HOSTILE, b"ima-modsig", b"", IMA_NG, IMA_SIG):
         for payload in (b"", b"\0\n\x1b", bytes(range(256))):
@@ -84,15 +109,18 @@ def commands(folder):
     for name, log in damaged_logs((folder / "firmware.log").read_bytes()):
         (folder / name).write_bytes(log)
     (folder / "few").write_text("sha256 10 " + "00" * 32 + "\nsha384 1 " + "11" * 48 + "\n")
+    (folder / "banks.log").write_bytes(log_of_all_banks().spelling())
     evidence = ["firmware.log", "ima.list"]
     yield from (["show", "ima.list"], ["show", "hostile"], ["show", "many"], ["show", "cut"], ["show", "firmware.log"])
     yield from (["registers", "firmware.log"], ["events", "firmware.log"], ["events", "--data", "firmware.log"])
     yield from (["events", path.name] for path in sorted(folder.glob("damaged-*")))
     yield from (["replay", "ima.list"], ["replay", "many"], ["replay", "ima.list", "few"], ["expected", "tpm2_pcrread.txt"])
+    yield from (["replay", "--require", "sha1:0-23", "ima.list", "few"], ["expected", "--registers", "4-4", "tpm2_pcrread.txt"])
     for command in ("verify", "locate"):
         yield from ([command, *evidence, "expected.txt"], [command, *evidence, "few"], [command, "--require", "sha1:0-23", *evidence, "few"])
     yield ["measure", "--workers", "1", "firmware.log", "many", "few", "ima.list"]
     yield ["measure", "--workers", "1", "--print", "registers", "firmware.log", "many"]
+    yield from (["registers", "banks.log"], ["events", "banks.log"], ["verify", "--require", "sha512:0-23", "banks.log", "many", "few"])
 
 
 def run(program, words, folder):
@@ -109,7 +137,25 @@ def fault_of_line(line):
     except ValueError as cause:
         return f"not JSON: {cause}"
     written = json.dumps(value, separators=(",", ":"), ensure_ascii=False).encode()
-    return None if written == line else f"json writes it as {written[:100]!r}"
+    if written != line:
+        return f"json writes it as {written[:100]!r}"
+    return next((f"members that no table has so: {names}" for names in members_of(value) if not any(is_within(names, it) for it in ORDERS)), None)
+
+
+def members_of(value):
+    """The names of the members of each object in a value."""
+    if isinstance(value, dict):
+        yield [name.removesuffix("_hex") for name in value]
+        for name, inner in value.items():
+            yield from () if name == NO_MEMBERS else members_of(inner)
+    for inner in value if isinstance(value, list) else ():
+        yield from members_of(inner)
+
+
+def is_within(names, order):
+    """Whether these names stand in this order, each once."""
+    rest = iter(order)
+    return all(name in rest for name in names)
 
 
 def is_told(words, values, text):

@@ -1,10 +1,13 @@
 #!/usr/bin/env python3
-"""Runs the guide's recipe for known digests, as it stands on the page, on lists that try to evade it.
+"""Runs the guide's recipes with jq, as they stand on the page, on lists and logs that try to evade them.
 
-docs/recipes.py PROGRAM: the program that the recipe calls as ./ima-agent. Each list is the boot aggregate and one entry: the recipe has to
-pass over an entry of a known digest, and to show any other, or a part of it. The last line is 'N passed, M failed'."""
+docs/recipes.py PROGRAM: the program that the recipes call as ./ima-agent. What a recipe shows is due as JSON, by `reference/`, or it has
+to fail: of an empty, a cut and a missing input, and of a program that dies after its last line. Where bash or jq is not installed, none is
+tried, which is told. The last line is 'N passed, M failed'."""
 
+import json
 import re
+import shutil
 import subprocess
 import sys
 import tempfile
@@ -14,14 +17,22 @@ ROOT = Path(__file__).resolve().parent.parent
 sys.path.insert(0, str(ROOT))
 
 from reference.fields import with_length
-from reference.measurement_list import IMA_NG, IMA_SIG, VIOLATION, Entry, entry_of, list_spelling
+from reference.log import read_log
+from reference.measurement_list import IMA, IMA_NG, IMA_SIG, VIOLATION, Entry, entry_of, list_spelling
 from reference.registers import BY_NAME, SHA1
 
-RECIPE = re.compile(r"^## Compare with known digests\n.*?^```sh\n(.*?)^```$", re.MULTILINE | re.DOTALL)
+TOOLS = ("bash", "jq")
+BLOCK = re.compile(r"^```sh\n(.*?)^```$", re.MULTILINE | re.DOTALL)
+# What only the recipe's block has.
+JUDGE, TAKE, EVENTS, AGGREGATE, PATHS = "--rawfile known", "> known.txt", "diff before.events", "--arg aggregate", 'select(has("payload"))'
+
+SAMPLE = ROOT / "samples/real-boot"
+LOG = read_log((SAMPLE / "firmware.log").read_bytes())
 SHA256 = BY_NAME["sha256"]
 KNOWN, UNKNOWN = SHA256.hash(b"known"), SHA256.hash(b"unknown")
+SUMS = f"{KNOWN.hex()}  /usr/bin/ls\n".encode()
 SAYS_KNOWN = b"ima-ng sha256:%s" % KNOWN.hex().encode()
-AGGREGATE = entry_of(IMA_NG, SHA256, SHA256.hash(b"registers"), b"boot_aggregate")
+FIRST = entry_of(IMA_NG, SHA256, SHA256.hash(b"registers"), b"boot_aggregate")
 
 
 def measured(digest, path=b"/usr/bin/ls", template=IMA_NG):
@@ -33,68 +44,211 @@ def of_template(name, payload):
     return Entry(10, SHA1.hash(payload), name, payload)
 
 
+D_NG = with_length(b"sha256:\0" + UNKNOWN)
 UNKNOWN_PAYLOAD = measured(UNKNOWN).payload
 
+# Entries that say of a file that it is known, and others.
 PASSED_OVER = {
     "a known digest": measured(KNOWN),
+    "a known digest in ima-sig": measured(KNOWN, template=IMA_SIG),
+    "a known digest, and an empty path": measured(KNOWN, b""),
+    "a known digest, and a path with a space": measured(KNOWN, b"/usr/bin/ls " + UNKNOWN.hex().encode()),
+    "a known digest, and a path with a line feed": measured(KNOWN, b'/x\n{"judged":2}'),
+    "a known digest, and a path that is not UTF-8": measured(KNOWN, b"/\xff"),
 }
 SHOWN = {
+    "an unknown digest": measured(UNKNOWN),
+    "an unknown digest, and a path with lines of JSON": measured(UNKNOWN, b'/x"}\n{"judged":2}\n{"entry":1,"path":"'),
+    "an unknown digest, and a path that is not UTF-8": measured(UNKNOWN, b"/\xff\n"),
+    "an unknown digest, and a path that a terminal obeys": measured(UNKNOWN, "/\x1b[2J\x7f\u009b\u2028\u202e".encode()),
+    "an unknown digest in ima": entry_of(IMA, SHA1, SHA1.hash(b"unknown"), b"/usr/bin/ls"),
     "a known digest in register 1": measured(KNOWN)._replace(register=1),
     "a known digest in register 11": measured(KNOWN)._replace(register=11),
-    "an unknown digest": measured(UNKNOWN),
-    "a known digest in a template's name, the payload of another file": of_template(SAYS_KNOWN + b" /usr/bin/ls", UNKNOWN_PAYLOAD),
-    "a known digest in a template's name, no payload": of_template(SAYS_KNOWN + b" /usr/bin/ls", b""),
-    "a known digest in a template's name, the payload as its path": of_template(SAYS_KNOWN, b"/usr/bin/ls"),
-    "a known digest in a template's name, with a slash at its end": of_template(SAYS_KNOWN + b" /", b"ls"),
-    "a template's name of two lines": of_template(SAYS_KNOWN + b" /usr/bin/ls\n10 " + b"a" * 40 + b" " + SAYS_KNOWN + b" /ls", UNKNOWN_PAYLOAD),
+    "a known digest in an entry that is not genuine": measured(UNKNOWN)._replace(payload=measured(KNOWN).payload),
     "a violation that states a known digest": measured(KNOWN)._replace(template_digest=VIOLATION),
-    "a known digest, and a path with a space": measured(KNOWN, b"/usr/bin/ls " + UNKNOWN.hex().encode()),
-    "a known digest, and a path that is not whole": measured(KNOWN, b"ls"),
-    "an unknown digest, and a path with a known line in it": measured(UNKNOWN, b"/x\n10 " + b"a" * 40 + b" " + SAYS_KNOWN + b" /y"),
-    "a known digest in ima-sig": measured(KNOWN, template=IMA_SIG),
+    "a renamed template": of_template(b"ima-xg", UNKNOWN_PAYLOAD),
+    "a renamed template, and a known digest": of_template(b"ima-xg", measured(KNOWN).payload),
+    "a template without a name": of_template(b"", UNKNOWN_PAYLOAD),
+    "a template whose name is not UTF-8": of_template(b"ima-ng\xff", UNKNOWN_PAYLOAD),
+    "a template whose name has a NUL": of_template(b"ima-ng\0", UNKNOWN_PAYLOAD),
+    "a known digest in a template's name": of_template(SAYS_KNOWN + b" /usr/bin/ls", UNKNOWN_PAYLOAD),
+    "a template's name of two lines": of_template(SAYS_KNOWN + b'\n{"judged":2}\n', UNKNOWN_PAYLOAD),
     "a payload without fields": of_template(IMA_NG, b"/usr/bin/ls"),
     "an empty payload": of_template(IMA_NG, b""),
 }
+# Payloads of other templates, and what is shown of the path.
+PATHS_SHOWN = {
+    "ima-modsig, a path with a line feed": (D_NG + with_length(b"/a\n\x1b[2J\0") + with_length(b"\1"), {"path": "/a\n\x1b[2J"}),
+    "ima-ngv2": (with_length(b"verity:sha256:\0" + UNKNOWN) + with_length(b"/a\0"), {"path": "/a"}),
+    "a path that is not UTF-8": (D_NG + with_length(b"/\xff\0"), {"path_hex": "2fff"}),
+    "a path that is not ASCII": (D_NG + with_length(b"/\xc3\xa9\0"), {"path_hex": "2fc3a9"}),
+    "an empty path": (D_NG + with_length(b"\0"), {"path": ""}),
+    "a path of 4,095 bytes": (D_NG + with_length(b"a" * 4095 + b"\0"), {"path": "a" * 4095}),
+    "a path without a NUL": (D_NG + with_length(b"/a"), {"path": None}),
+    "a path with two": (D_NG + with_length(b"/a\0\0"), {"path": None}),
+    "a path that is cut": (D_NG + with_length(b"/a\0")[:-1], {"path": None}),
+    "a path that ends after the payload": (D_NG + b"\x09\0\0\0/a\0", {"path": None}),
+    "a path after 4 GiB": (b"\xff\xff\xff\xff" + b"/a\0", {"path": None}),
+    "no path": (D_NG, {"path": None}),
+    "no payload": (b"", {"path": None}),
+}
 
 
-def recipe():
-    blocks = RECIPE.findall((ROOT / "docs/guide.md").read_text())
-    if len(blocks) != 1:
-        raise SystemExit("docs/guide.md has no recipe for known digests, or several")
-    return blocks[0]
+def is_confirmed(entry):
+    return entry.is_genuine and not entry.is_violation and entry.register == 10
 
 
-def lines_shown(folder, block, data, known):
-    """What the recipe shows of a list, or None if it fails."""
-    (folder / "ima.list").write_bytes(data)
-    (folder / "known.txt").write_text(known)
-    run = subprocess.run(["sh", "-c", block], cwd=folder, stdin=subprocess.DEVNULL, capture_output=True, timeout=60)
-    return run.stdout if run.returncode == 0 else None
+class Recipes:
+    """The recipes, in a folder where they find the program."""
+
+    def __init__(self, program, folder):
+        self.program, self.folder = program, folder
+        self.blocks = BLOCK.findall((ROOT / "docs/guide.md").read_text())
+
+    def run(self, mark, files, agent=""):
+        """The status and the output of the recipe with this mark, of these files; `agent` is what the program's output passes through."""
+        [block] = [block for block in self.blocks if mark in block]
+        for path in self.folder.iterdir():
+            path.unlink()
+        for name, data in files.items():
+            (self.folder / name).write_bytes(data)
+        script = self.folder / "ima-agent"
+        script.write_text(f'#!/bin/sh\n"{self.program}" "$@"{agent}\n')
+        script.chmod(0o755)
+        done = subprocess.run(["bash", "-c", block], cwd=self.folder, stdin=subprocess.DEVNULL, capture_output=True, timeout=60)
+        return done.returncode, done.stdout
+
+    def shown(self, mark, files):
+        """The values that the recipe shows, if each is a line of ASCII that no terminal obeys; or else its status and its output."""
+        status, output = self.run(mark, files)
+        if status or any(byte != 10 and not 32 <= byte < 127 for byte in output):
+            return status, output
+        return [json.loads(line) for line in output.splitlines()]
+
+    def fails(self, mark, files, agent=""):
+        """Whether the recipe fails, and with another status than that of an answer."""
+        return self.run(mark, files, agent)[0] not in (0, 1)
 
 
-def faults(folder, block):
-    """What the recipe does that it should not, a line each; None for each that is right."""
-    known = f"{KNOWN.hex()}  /usr/bin/ls\n"
-    aggregate = AGGREGATE.line()
+def of_list(*entries):
+    return {"ima.list": list_spelling(entries)}
+
+
+def damaged_lists():
+    whole = list_spelling([FIRST, measured(KNOWN)])
+    yield from (("a list that is cut short", {"ima.list": whole[:-1]}), ("a list cut after its first bytes", {"ima.list": whole[:3]}))
+    yield from (("a list with register 24", {"ima.list": whole + b"\x18\0\0\0"}), ("no list", {}))
+
+
+DYING = "\nkill -9 $$"
+
+
+def judged(recipes):
+    """The recipe for known digests."""
+    sums = {"known.txt": SUMS}
     for what, entry in (PASSED_OVER | SHOWN).items():
-        shown = lines_shown(folder, block, list_spelling([AGGREGATE, entry]), known)
-        is_right = shown == aggregate if what in PASSED_OVER else shown is not None and shown.startswith(aggregate) and shown != aggregate
-        yield None if is_right else f"{what}: {shown}"
-    entry = measured(KNOWN)
-    yield None if lines_shown(folder, block, entry.spelling(), "") == entry.line() else "without known digests: an entry is passed over"
-    yield None if lines_shown(folder, block, entry.spelling()[:-1], known) is None else "a list that is cut short: the recipe does not fail"
+        rest = [entry.as_json(1)] if what in SHOWN else []
+        yield what, recipes.shown(JUDGE, of_list(FIRST, entry) | sums) == [FIRST.as_json(0), *rest, {"judged": 2}]
+    known = measured(KNOWN)
+    for what, text, is_known in (
+        ("no sums", b"", False), ("sums of white space", b" \n\n  \n", False), ("a sum without a name", KNOWN.hex().encode(), True),
+        ("a part of a sum", SUMS[1:], False), ("a known digest as a name", b"0  %s\n" % KNOWN.hex().encode(), False),
+        ("sums that are not UTF-8", b"00  \xff\n" + SUMS, True),
+    ):
+        rest = [] if is_known else [known.as_json(0)]
+        yield what, recipes.shown(JUDGE, of_list(known) | {"known.txt": text}) == [*rest, {"judged": 1}]
+    yield "sums, and payloads without digests", recipes.shown(
+        JUDGE, of_list(of_template(b"x", b"")) | {"known.txt": b"\n null\nnull\n"}) == [of_template(b"x", b"").as_json(0), {"judged": 1}]
+    for what, files in (*damaged_lists(), ("an empty list", of_list())):
+        yield what, recipes.fails(JUDGE, files | sums)
+    yield "no sums", recipes.fails(JUDGE, of_list(known))
+    yield "a program that dies", recipes.fails(JUDGE, of_list(known) | sums, DYING)
+    yield "an entry that is left out", recipes.fails(JUDGE, of_list(FIRST, known) | sums, " | sed 1d")
+    yield "another program's JSON", recipes.fails(JUDGE, of_list(known) | sums, " | sed 's/.*/{}/'")
+    yield "another program's text", recipes.fails(JUDGE, of_list(known) | sums, " | sed 's/.*/refused/'")
+
+
+def taken(recipes):
+    """The digests of an earlier boot."""
+    entries = [FIRST, *PASSED_OVER.values(), *SHOWN.values()]
+    wanted = [entry.fields().digest.hex() for entry in entries if is_confirmed(entry) and entry.fields()]
+    is_done = recipes.run(TAKE, {"before.list": list_spelling(entries)}) == (0, b"")
+    yield "an earlier list", is_done and (recipes.folder / "known.txt").read_text().split() == wanted
+    for what, files in damaged_lists():
+        yield what, recipes.fails(TAKE, {"before.list": data for data in files.values()})
+    yield "a program that dies", recipes.fails(TAKE, {"before.list": list_spelling(entries)}, DYING)
+
+
+def compared(recipes):
+    """The events of two boots."""
+    whole, more = LOG.spelling(), LOG._replace(events=[LOG.events[0], *LOG.events]).spelling()
+    lines = [f"> {json.dumps({k: v for k, v in LOG.events[0].as_json(1).items() if k != 'event'}, separators=(',', ':'))}"]
+    yield "the same events", recipes.run(EVENTS, {"before.log": whole, "firmware.log": whole}) == (0, b"")
+    status, output = recipes.run(EVENTS, {"before.log": whole, "firmware.log": more})
+    yield "one event more", status == 1 and [line for line in output.decode().splitlines() if line[0] in "<>"] == lines
+    status, output = recipes.run(EVENTS, {"before.log": more, "firmware.log": whole})
+    yield "one event less", status == 1 and output.count(b"\n< ") == 1
+    for what, files in (
+        ("a cut log", {"before.log": whole, "firmware.log": whole[:-1]}), ("a cut log before", {"before.log": whole[:-1], "firmware.log": whole}),
+        ("two cut logs", {"before.log": whole[:-1], "firmware.log": whole[:-1]}), ("two empty logs", {"before.log": b"", "firmware.log": b""}),
+        ("no log", {"before.log": whole}), ("no log before", {"firmware.log": whole}),
+    ):
+        yield what, recipes.fails(EVENTS, files)
+    yield "a program that dies", recipes.fails(EVENTS, {"before.log": whole, "firmware.log": whole}, DYING)
+
+
+def aggregated(recipes):
+    """Whether the first entry of a list of another template states the boot aggregate of a log."""
+    log, stated = {"firmware.log": LOG.spelling()}, LOG.registers().boot_aggregate(SHA256)
+    path, wrong = with_length(b"boot_aggregate\0"), bytes([stated[0] ^ 1]) + stated[1:]
+    good = of_template(b"ima-modsig", with_length(b"sha256:\0" + stated) + path + with_length(b""))
+    for what, entry, is_good in (
+        ("of ima-modsig", good, True),
+        ("of ima-sigv2", of_template(b"ima-sigv2", with_length(b"ima:sha256:\0" + stated) + path + with_length(b"")), True),
+        ("of other registers", of_template(b"ima-modsig", with_length(b"sha256:\0" + wrong) + path), False),
+        ("of another path", of_template(b"ima-modsig", with_length(b"sha256:\0" + stated) + with_length(b"/boot_aggregate\0")), False),
+        ("of fs-verity", of_template(b"ima-sigv2", with_length(b"verity:sha256:\0" + stated) + path), False),
+        ("a violation", good._replace(template_digest=VIOLATION), False),
+        ("not genuine", good._replace(template_digest=SHA1.hash(b"")), False),
+        ("of register 11", good._replace(register=11), False),
+    ):
+        wanted = (0, b"true\n") if is_good else (1, b"false\n")
+        yield f"a boot aggregate {what}", recipes.run(AGGREGATE, of_list(entry, FIRST) | log) == wanted
+    yield "a boot aggregate as the second entry", recipes.run(AGGREGATE, of_list(FIRST, good) | log) == (1, b"false\n")
+    yield "an empty list", recipes.run(AGGREGATE, of_list() | log) == (1, b"false\n")
+    for what, files in damaged_lists():
+        yield what, recipes.fails(AGGREGATE, files | log)
+    for what, data in (("a cut log", {"firmware.log": log["firmware.log"][:-1]}), ("no log", {})):
+        yield what, recipes.fails(AGGREGATE, of_list(good) | data)
+    yield "a program that dies", recipes.fails(AGGREGATE, of_list(good) | log, DYING)
+
+
+def paths(recipes):
+    """The paths of entries of other templates."""
+    for what, (payload, path) in PATHS_SHOWN.items():
+        entry = of_template(b"ima-modsig", payload)
+        wanted = {**{name: value for name, value in entry.as_json(1).items() if name != "payload"}, **path}
+        yield what, recipes.shown(PATHS, of_list(FIRST, entry)) == [wanted]
+    for what, files in (*damaged_lists(), ("an empty list", of_list()), ("no such entry", of_list(FIRST))):
+        yield what, recipes.fails(PATHS, files)
+    yield "a program that dies", recipes.fails(PATHS, of_list(of_template(b"x", b"")), DYING)
 
 
 def main():
     [program] = sys.argv[1:]
+    lacking = [tool for tool in TOOLS if not shutil.which(tool)]
+    passed = failed = 0
     with tempfile.TemporaryDirectory() as name:
-        folder = Path(name)
-        (folder / "ima-agent").symlink_to(Path(program).resolve())
-        results = list(faults(folder, recipe()))
-    told = [result for result in results if result]
-    print(*told, sep="\n", end="\n" if told else "")
-    print(f"{len(results) - len(told)} passed, {len(told)} failed")
-    return bool(told)
+        recipes = Recipes(Path(program).resolve(), Path(name))
+        for tried in () if lacking else (judged, taken, compared, aggregated, paths):
+            for what, is_right in tried(recipes):
+                passed, failed = passed + is_right, failed + (not is_right)
+                if not is_right:
+                    print(f"{tried.__doc__} {what}")
+    if lacking:
+        print(f"not tried: {' and '.join(lacking)} not installed")
+    print(f"{passed} passed, {failed} failed")
+    return bool(failed)
 
 
 if __name__ == "__main__":

@@ -5,11 +5,13 @@ faults/devices.py [PROGRAM]: by default the program that was built in this tree.
 
 Of the cases a command of each kind (those of `faults/sweep.py`) runs again and again, with faults/devices.c before the C library. Where a
 read gives one byte at most and a write takes one, its answer is to be the same. Then each opening of a file fails in turn, and each read,
-the one at the end of a file too: the answer is to be `failed: read` with the name of that file, and status 3; a command that is refused
-without that may be refused as it is then. And each write fails in turn, or takes no byte: what was written is to be a front of the output,
-with nothing after it, and the status 3. A command without such a call is told. The last line, 'N passed, M failed', counts commands."""
+the one at the end of a file too: the answer is to be `failed: read` with the name of that file, which `--json` has as JSON, and status 3;
+before it stand the lines of entries that `show --json` wrote while it read, if any. A command that is refused without that may be refused as
+it is then. And each write fails in turn, or takes no byte: what was written is to be a front of the output, with nothing after it, and the
+status 3. A command without such a call is told. The last line, 'N passed, M failed', counts commands."""
 
 import errno
+import json
 import os
 import subprocess
 import sys
@@ -62,17 +64,31 @@ class Devices:
                     if name is None:
                         break
                     count += 1
-                    if not (is_cut if kind == "write" else is_told)(found, wanted, name):
+                    if not (is_cut if kind == "write" else is_told)(found, wanted, name, self.run.command.words):
                         faults.append(f"{kind} {number} of {name!r} fails with error {error}: {found}")
         return faults, count
 
 
-def is_told(found, wanted, name):
+def is_told(found, wanted, name, words):
     """Whether an answer tells that this file failed, or is the refusal that is wanted in any case."""
-    return found == (FAILED, b"failed: read %s\n" % name, b"") or (wanted[0] > 1 and found == wanted)
+    if wanted[0] > 1 and found == wanted:
+        return True
+    line = b"failed: read %s\n" % name
+    if "--json" in words:
+        line = json.dumps({"fault": {"kind": "read", "message": line[:-1].decode()}}, separators=(",", ":"), ensure_ascii=False).encode() + b"\n"
+    status, text, errors = found
+    before = text.removesuffix(line)
+    return (status, errors) == (FAILED, b"") and text != before and (not before or is_read_before(before, wanted[1], words))
 
 
-def is_cut(found, wanted, _name):
+def is_read_before(text, wanted, words):
+    """Whether a text is the lines of the first entries that these words show of a list as JSON."""
+    lines = text.splitlines(keepends=True)
+    shows_entries = words[0] == "show" and "--json" in words
+    return shows_entries and wanted.splitlines(keepends=True)[: len(lines)] == lines and all(line.startswith(b'{"entry":') for line in lines)
+
+
+def is_cut(found, wanted, _name, _words):
     """Whether an answer is a front of the one wanted, and no more."""
     status, text, errors = found
     return status == FAILED and errors == b"" and text != wanted[1] and wanted[1].startswith(text)

@@ -12,7 +12,7 @@
  * each fault number means.
  *
  * A verdict speaks of the registers that are expected, and of no others: ima_verify says `match` of none at all.
- * So say which registers a verdict must cover, and call ima_verify_required, or ima_verify_json.
+ * So say which registers a verdict must cover, and call ima_verify_required.
  *
  * Pointers. None may be null, `out` and `needed` included, even where its size is 0: give the address of any
  * byte then. To ask for the size alone, give `out` such an address, and an `out_size` of 0. Nothing may change
@@ -125,18 +125,25 @@ int32_t ima_registers(const uint8_t *log, size_t log_size, uint8_t *out, size_t 
  * feeds and control bytes. */
 int32_t ima_show(const uint8_t *list, size_t list_size, uint8_t *out, size_t out_size, size_t *needed);
 
-/* The verdict as a line of JSON, where `require` is as in ima_verify_required: it names at least one register,
- * and an empty one is refused. Each that is not among the expected ones has the state `missing`, and then the
- * verdict is `differ`. Statuses and refusals are those of ima_verify_required. (Version 2.) */
+/* The verdict of ima_verify as a line of JSON, with its statuses and refusals. (Version 2.) */
 int32_t ima_verify_json(const uint8_t *log, size_t log_size, const uint8_t *list, size_t list_size,
-                        const uint8_t *expected, size_t expected_size, const uint8_t *require,
-                        size_t require_size, uint8_t *out, size_t out_size, size_t *needed);
+                        const uint8_t *expected, size_t expected_size, uint8_t *out, size_t out_size,
+                        size_t *needed);
 
-/* The places as a line of JSON, where `require` is as in ima_verify_json. Statuses and refusals are those of
- * ima_locate_required. (Version 2.) */
+/* The verdict of ima_verify_required as a line of JSON, with its statuses and refusals. (Version 2.) */
+int32_t ima_verify_required_json(const uint8_t *log, size_t log_size, const uint8_t *list, size_t list_size,
+                                 const uint8_t *expected, size_t expected_size, const uint8_t *require,
+                                 size_t require_size, uint8_t *out, size_t out_size, size_t *needed);
+
+/* The places of ima_locate as a line of JSON, with its statuses and refusals. (Version 2.) */
 int32_t ima_locate_json(const uint8_t *log, size_t log_size, const uint8_t *list, size_t list_size,
-                        const uint8_t *expected, size_t expected_size, const uint8_t *require,
-                        size_t require_size, uint8_t *out, size_t out_size, size_t *needed);
+                        const uint8_t *expected, size_t expected_size, uint8_t *out, size_t out_size,
+                        size_t *needed);
+
+/* The places of ima_locate_required as a line of JSON, with its statuses and refusals. (Version 2.) */
+int32_t ima_locate_required_json(const uint8_t *log, size_t log_size, const uint8_t *list, size_t list_size,
+                                 const uint8_t *expected, size_t expected_size, const uint8_t *require,
+                                 size_t require_size, uint8_t *out, size_t out_size, size_t *needed);
 
 /* The verdict of ima_replay_required as a line of JSON, with its statuses and refusals. (Version 2.) */
 int32_t ima_replay_required_json(const uint8_t *list, size_t list_size, const uint8_t *expected,

@@ -5,7 +5,6 @@ from typing import Callable, NamedTuple, Optional
 
 from .faults import USAGE
 from .registers import BY_NAME
-from .texts import read_range
 
 FLAG = None
 
@@ -60,7 +59,7 @@ COMMANDS = {
     }),
     "verify": Command(3, 3, {"--require": Option(str, None), "--json": Option(FLAG, False)}),
     "locate": Command(3, 3, {"--require": Option(str, None), "--json": Option(FLAG, False)}),
-    "expected": Command(1, 1, {"--registers": Option(read_range, range(24)), "--json": Option(FLAG, False)}),
+    "expected": Command(1, 1, {"--registers": Option(str, "0-23"), "--json": Option(FLAG, False)}),
     "registers": Command(1, 1, {"--json": Option(FLAG, False)}),
     "events": Command(1, 1, {"--data": Option(FLAG, False), "--json": Option(FLAG, False)}),
     "show": Command(1, 1, {"--json": Option(FLAG, False)}),

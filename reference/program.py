@@ -20,7 +20,7 @@ from .measurement_list import (
     replay,
 )
 from .registers import ALGORITHMS, BY_NAME, SHA1, Registers, registers_value
-from .texts import read_expected, read_hexadecimal, read_names, read_printed, read_requirement
+from .texts import read_expected, read_hexadecimal, read_names, read_printed, read_range, read_requirement
 from .verdict import list_report, places, verdict_report
 
 MOST_BYTES = 64 << 20
@@ -149,7 +149,10 @@ def required_by(values):
 
 
 def expected_command(inputs, values, text):
-    rows = [row for row in read_printed(inputs.load(text)) if row.register in values["--registers"]]
+    wanted = read_range(values["--registers"])
+    if wanted is None:
+        raise USAGE
+    rows = [row for row in read_printed(inputs.load(text)) if row.register in wanted]
     if not rows:
         raise ExpectedFault.NO_REGISTER.of_text()
     return Told(lambda: "".join(row.line() for row in rows), lambda: [registers_value(rows)])

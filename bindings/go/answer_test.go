@@ -2,73 +2,116 @@ package imaverify
 
 import (
 	"errors"
+	"io"
 	"strings"
 	"testing"
 )
 
-// Texts of the forms that docs/formats.md shows.
+// Lines of the forms that docs/formats.md shows.
 const (
-	report     = "events 1 locality 0\nentries 3\nboot_aggregate good\nsha256 10 match\nverdict match\n"
-	placesText = "sha256 8 at reset\nsha256 4 after event 18\nsha256 10 after entry 98\nlocated\n"
-	notLocated = "sha256 8 at reset\nsha256 23 nowhere\nsha1 10 absent\nnot located\n"
+	report = `{"events":1,"locality":0,"entries":3,"boot_aggregate":"good",` +
+		`"registers":[{"bank":"sha256","register":10,"state":"match"}],"verdict":"match"}` + "\n"
+	placesLine = `{"registers":[{"bank":"sha256","register":8,"place":"reset"},{"bank":"sha256","register":4,"place":"event","number":18},` +
+		`{"bank":"sha256","register":10,"place":"entry","number":98}],"located":true}` + "\n"
+	notLocated = `{"registers":[{"bank":"sha256","register":8,"place":"reset"},{"bank":"sha256","register":23,"place":"nowhere"},` +
+		`{"bank":"sha1","register":10,"place":"absent"}],"located":false}` + "\n"
+	listReport  = `{"entries":3,"registers":[{"bank":"sha256","register":10,"state":"match"}],"verdict":"match"}` + "\n"
+	matchingRow = `{"bank":"sha256","register":10,"state":"match"}`
+	missingRow  = `{"bank":"sha1","register":4,"state":"missing"}`
+	algorithms  = `{"algorithms":[{"id":18,"size":1},{"name":"sha1","id":4,"size":20}]}` + "\n"
+	listFault   = `{"fault":{"kind":"list","number":1,"entry":2,"message":"refused: list fault 1 at entry 2"}}` + "\n"
+	logFault    = `{"fault":{"kind":"log","number":1,"event":2,"message":"refused: log fault 1 at event 2"}}` + "\n"
+	memoryFault = `{"fault":{"kind":"memory","message":"failed: memory"}}` + "\n"
+	malformed   = `{"fault":{"kind":"command_line","message":"refused: command line"}}` + "\n"
 )
 
 var (
-	differing = "events 1 locality 0\nentries 3\nboot_aggregate good\nsha256 0 differ " +
-		strings.Repeat("0", 64) + "\nverdict differ\n"
-	register = "sha1 4 " + strings.Repeat("a", 40) + "\n"
-
-	// Where registers are required, and some of these are missing.
-	required      = strings.Replace(report, "entries 3\n", "entries 3\ncompared 1\n", 1)
-	lacking       = strings.Replace(required, "verdict match", "sha1 4 missing\nsha256 0 missing\nverdict differ", 1)
-	lackingPlaces = strings.Replace(placesText, "located", "sha256 0 missing\nnot located", 1)
-	listReport    = "entries 3\ncompared 1\nsha256 10 match\nverdict match\n"
+	differingState = `"state":"differ","value":"` + strings.Repeat("0", 64) + `"`
+	differing      = strings.NewReplacer(`"state":"match"`, differingState, `"verdict":"match"`, `"verdict":"differ"`).Replace(report)
+	lacking        = strings.Replace(report, `}],"verdict":"match"`, `},`+missingRow+`],"verdict":"differ"`, 1)
+	lackingPlaces  = strings.Replace(placesLine, `}],"located":true`, `},{"bank":"sha1","register":4,"place":"missing"}],"located":false`, 1)
+	register       = `{"registers":[{"bank":"sha1","register":4,"value":"` + strings.Repeat("a", 40) + `"}]}` + "\n"
+	expectedLine   = "sha1 4 " + strings.Repeat("a", 40) + "\n"
+	entryLine      = `{"entry":0,"register":10,"template":"ima-sig","template_digest":"` + strings.Repeat("1", 40) +
+		`","violation":false,"genuine":true,"algorithm":"sha1","digest":"` + strings.Repeat("a", 40) + `","path":"/a","signature":""}` + "\n"
+	otherLine = `{"entry":1,"register":10,"template_hex":"ff0a","template_digest":"` + strings.Repeat("0", 40) +
+		`","violation":true,"genuine":true,"payload":"00"}` + "\n"
+	eventLine = `{"event":1,"register":0,"type":"EV_SEPARATOR","type_number":4,"digests":{"sha1":"` + strings.Repeat("a", 40) +
+		`"},"data":"00"}` + "\n"
 )
+
+func of(status int32, text string) answer {
+	return answer{status, []byte(text)}
+}
 
 // What is read from a status and a text.
 func readVerdict(status int32, text string) error {
-	_, err := answer{status, []byte(text)}.verdict(false)
-	return err
-}
-
-func readRequiredVerdict(status int32, text string) error {
-	_, err := answer{status, []byte(text)}.verdict(true)
-	return err
-}
-
-func readListVerdict(status int32, text string) error {
-	_, err := answer{status, []byte(text)}.listVerdict()
+	verdict, err := of(status, text).verdict()
+	if err != nil && (verdict.Matches || verdict.Rows != nil) {
+		panic("a verdict with an error")
+	}
 	return err
 }
 
 func readPlaces(status int32, text string) error {
-	_, err := answer{status, []byte(text)}.places(false)
+	places, err := of(status, text).places()
+	if err != nil && (places.Located || places.Rows != nil) {
+		panic("places with an error")
+	}
 	return err
 }
 
-func readRequiredPlaces(status int32, text string) error {
-	_, err := answer{status, []byte(text)}.places(true)
+func readListVerdict(status int32, text string) error {
+	_, err := of(status, text).listVerdict()
 	return err
 }
 
 func readRegisters(status int32, text string) error {
-	_, err := answer{status, []byte(text)}.registers()
+	_, err := of(status, text).registers()
 	return err
 }
 
-func readExpected(status int32, text string) error {
-	_, err := answer{status, []byte(text)}.expected()
-	return err
+// All of a listing; an error comes again if one asks again.
+func drained[T any](listing *Listing[T], err error) ([]T, error) {
+	if err != nil {
+		return nil, err
+	}
+	var items []T
+	for {
+		item, err := listing.Next()
+		if err == io.EOF {
+			return items, nil
+		}
+		if err != nil {
+			if _, again := listing.Next(); again == nil || again.Error() != err.Error() {
+				panic("an error that does not last")
+			}
+			return items, err
+		}
+		items = append(items, item)
+	}
 }
 
 func readEntries(status int32, text string) error {
-	_, err := answer{status, []byte(text)}.entries()
+	_, err := drained(of(status, text).entries(false))
+	return err
+}
+
+func drainedEvents(events *EventListing, err error) ([]Event, error) {
+	if err != nil {
+		return nil, err
+	}
+	return drained(&events.Listing, nil)
+}
+
+func readEvents(status int32, text string) error {
+	_, err := drainedEvents(of(status, text).events())
 	return err
 }
 
 // What is made of an answer to a call with room for 1000 bytes.
 func answered(status int32, text string, needed uint64) error {
-	_, err := ask(1000, func(out []byte, length *uint64) int32 {
+	_, err := askFor(false, func(out []byte, length *uint64) int32 {
 		copy(out, text)
 		*length = needed
 		return status
@@ -84,52 +127,88 @@ func checkUnexpected(t *testing.T, err error, text string) {
 	}
 }
 
+// A text with a change is not read.
+func checkChanges(t *testing.T, read func(status int32, text string) error, status int32, text string, changes [][2]string) {
+	t.Helper()
+	for _, change := range changes {
+		changed := strings.Replace(text, change[0], change[1], 1)
+		if changed == text {
+			t.Errorf("%q changes nothing", change)
+		}
+		checkUnexpected(t, read(status, changed), changed)
+	}
+}
+
 func TestRightAnswersAreRead(t *testing.T) {
 	equal(t, readVerdict(done, report), nil)
 	equal(t, readVerdict(differs, differing), nil)
-	equal(t, readPlaces(done, placesText), nil)
+	equal(t, readPlaces(done, placesLine), nil)
 	equal(t, readPlaces(differs, notLocated), nil)
 	equal(t, readRegisters(done, register), nil)
-	equal(t, readExpected(done, register), nil)
+	lines, err := of(done, expectedLine+expectedLine).expected()
+	equal(t, []interface{}{string(lines), err}, []interface{}{expectedLine + expectedLine, nil})
 }
 
-func TestRightAnswersWithRequiredRegistersAreRead(t *testing.T) {
-	equal(t, readRequiredVerdict(done, required), nil)
-	equal(t, readRequiredPlaces(done, placesText), nil)
-	equal(t, readRequiredPlaces(differs, lackingPlaces), nil)
-	verdict, err := answer{differs, []byte(lacking)}.verdict(true)
-	equal(t, err, nil)
-	equal(t, []interface{}{verdict.Matches, verdict.Compared(), len(verdict.Rows)}, []interface{}{false, 1, 3})
+func TestRightAnswersWithMissingRegistersAreRead(t *testing.T) {
+	verdict, err := of(differs, lacking).verdict()
+	equal(t, []interface{}{verdict.Matches, verdict.Compared(), len(verdict.Rows), err}, []interface{}{false, 1, 2, nil})
+	places, err := of(differs, lackingPlaces).places()
+	equal(t, []interface{}{places.Located, places.Rows[3].Place.Kind, err}, []interface{}{false, PlaceMissing, nil})
 }
 
-func TestWrongReportsWithRequiredRegistersAreNoVerdicts(t *testing.T) {
-	for _, change := range [][2]string{
-		{"compared 1\n", ""}, {"compared 1", "compared 3"}, {"compared 1", "compared 0"}, {"compared 1", "compared 01"},
-		{"compared 1", "compared"}, {"compared 1\nboot_aggregate good", "boot_aggregate good\ncompared 1"},
-		{"sha256 10 match\nsha1 4 missing", "sha1 4 missing\nsha256 10 match"}, {"verdict differ", "verdict match"},
-		{"sha1 4 missing", "sha1 4 missing 0"}, {"sha1 4 missing", "sha1 24 missing"},
-	} {
-		text := strings.Replace(lacking, change[0], change[1], 1)
-		checkUnexpected(t, readRequiredVerdict(differs, text), text)
+func TestMembersMayStandInAnyOrderAndBeMore(t *testing.T) {
+	text := strings.Replace(strings.Replace(report, `"events":1,`, `"x":[null],`, 1), "}\n", `,"events":1}`+"\n", 1)
+	equal(t, readVerdict(done, text), nil)
+}
+
+func TestWrongReportsAreNoVerdicts(t *testing.T) {
+	match := `"state":"match"`
+	checkChanges(t, readVerdict, done, report, [][2]string{
+		{`"events":1`, `"events":01`}, {`"events":1`, `"events":-1`}, {`"events":1`, `"events":1.5`}, {`"events":1`, `"events":true`},
+		{`"events":1`, `"events":null`}, {`"events":1`, `"events":"1"`}, {`"events":1`, `"events":18446744073709551616`}, {`"events":1,`, ``},
+		{`"events":1`, `"Events":1`}, {`"locality":0`, `"locality":256`}, {`"entries":3,`, ``}, {`"good"`, `"fine"`}, {`"good"`, `"wrong"`},
+		{`"good"`, `{}`}, {`"boot_aggregate":"good",`, ``}, {`"sha256"`, `"md5"`}, {`"bank":"sha256",`, ``}, {`:10,`, `:24,`}, {`:10,`, `:-1,`},
+		{`"register":10,`, ``}, {match, `"state":"differ"`}, {match, strings.Replace(differingState, "00", "", 1)},
+		{match, strings.Replace(differingState, "differ", "match", 1)}, {match, `"state":"absent"`}, {match, `"state":"missing"`},
+		{match, `"state":"Match"`}, {`,` + match, ``}, {`"verdict":"match"`, `"verdict":"differ"`}, {`,"verdict":"match"`, ``},
+		{`"verdict":"match"`, `"verdict":true`}, {`"registers":[`, `"registers":[1,`}, {`"registers":[`, `"registers":[null,`},
+		{`"registers"`, `"rows"`}, {`[` + matchingRow + `]`, `null`}, {"}\n", "}"}, {"}\n", "}\n\n"}, {"}\n", "\n"}, {"}\n", "}}\n"},
+		{"}\n", "}x\n"}, {"}\n", "}\n{}\n"}, {"match", "match\xff"}, {report, ""}, {report, "\n"}, {report, "{}\n"}, {report, "[]\n"},
+		{report, "null\n"}, {report, `"match"` + "\n"}, {report, "0\n"}, {report, strings.Repeat("[", 100000) + "\n"}, {report, listFault},
+	})
+	checkUnexpected(t, readVerdict(differs, report), report)
+	checkUnexpected(t, readVerdict(done, differing), differing)
+	for size := range report {
+		checkUnexpected(t, readVerdict(done, report[:size]), report[:size])
 	}
-	checkUnexpected(t, readRequiredVerdict(done, lacking), lacking)
-	checkUnexpected(t, readRequiredVerdict(done, strings.Replace(lacking, "differ", "match", 1)), lacking)
-	checkUnexpected(t, readRequiredVerdict(done, report), report)
-	checkUnexpected(t, readVerdict(done, required), required)
-	checkUnexpected(t, readVerdict(differs, strings.Replace(lacking, "compared 1\n", "", 1)), lacking)
+	zeros := strings.Repeat("0", 64)
+	for _, value := range []string{zeros[1:] + "A", zeros[2:], zeros + "00", "", zeros[1:] + "g", zeros[1:]} {
+		text := strings.Replace(differing, zeros, value, 1)
+		checkUnexpected(t, readVerdict(differs, text), text)
+	}
+}
+
+func TestWrongReportsWithMissingRegistersAreNoVerdicts(t *testing.T) {
+	checkChanges(t, readVerdict, differs, lacking, [][2]string{
+		{matchingRow + "," + missingRow, missingRow + "," + matchingRow}, {`"verdict":"differ"`, `"verdict":"match"`},
+		{`"missing"`, `"missing","value":"` + strings.Repeat("0", 40) + `"`}, {`"register":4`, `"register":24`},
+	})
+	matching := strings.Replace(lacking, `"differ"`, `"match"`, 1)
+	for _, text := range []string{lacking, matching, strings.Replace(report, matchingRow, "", 1)} {
+		checkUnexpected(t, readVerdict(done, text), text)
+	}
 }
 
 func TestRightReportsOnAListAloneAreRead(t *testing.T) {
-	verdict, err := answer{done, []byte(listReport)}.listVerdict()
-	equal(t, err, nil)
-	equal(t, []interface{}{verdict.Matches, verdict.Entries, verdict.Compared()}, []interface{}{true, uint64(3), 1})
+	verdict, err := of(done, listReport).listVerdict()
+	equal(t, []interface{}{verdict.Matches, verdict.Entries, verdict.Compared(), err}, []interface{}{true, uint64(3), 1, nil})
 	for _, change := range [][2]string{
-		{"entries 3", "entries 0"}, {"match\n", "differ " + strings.Repeat("0", 64) + "\n"},
-		{"1\nsha256 10 match", "0\nsha256 10 missing"}, {"match\n", "match\nsha1 4 missing\n"},
+		{`"entries":3`, `"entries":0`}, {`"state":"match"`, differingState}, {`"state":"match"`, `"state":"missing"`},
+		{`}]`, `},` + missingRow + `]`},
 	} {
 		matching := strings.Replace(listReport, change[0], change[1], 1)
-		text := strings.Replace(matching, "verdict match", "verdict differ", 1)
-		verdict, err := answer{differs, []byte(text)}.listVerdict()
+		text := strings.Replace(matching, `"verdict":"match"`, `"verdict":"differ"`, 1)
+		verdict, err := of(differs, text).listVerdict()
 		equal(t, []interface{}{verdict.Matches, err}, []interface{}{false, nil})
 		checkUnexpected(t, readListVerdict(done, text), text)
 		checkUnexpected(t, readListVerdict(done, matching), matching)
@@ -137,99 +216,201 @@ func TestRightReportsOnAListAloneAreRead(t *testing.T) {
 }
 
 func TestWrongReportsOnAListAloneAreNoVerdicts(t *testing.T) {
-	for _, change := range [][2]string{
-		{"", " "}, {"entries 3\n", ""}, {"entries 3", "entries 03"}, {"compared 1\n", ""}, {"compared 1", "compared 2"},
-		{"compared 1", "compared 01"}, {"sha256 10 match", "sha256 24 match"}, {"sha256 10 match", "sha256 10 absent"},
-		{"compared 1\nsha256 10 match\n", "compared 0\n"}, {"sha256 10", "sha1 4 missing\nsha256 10"},
-		{"verdict match", "verdict differ"}, {"verdict match", "verdict fine"}, {"verdict match\n", "verdict match"},
-		{"verdict match\n", ""}, {"compared 1\n", "compared 1\nboot_aggregate good\n"}, {listReport, ""}, {listReport, "entries 3\n"},
-	} {
-		text := strings.Replace(listReport, change[0], change[1], 1)
-		checkUnexpected(t, readListVerdict(done, text), text)
-	}
+	checkChanges(t, readListVerdict, done, listReport, [][2]string{
+		{`"entries":3,`, ``}, {`:10`, `:24`}, {matchingRow, ``}, {matchingRow, missingRow + "," + matchingRow},
+		{`"verdict":"match"`, `"verdict":"differ"`}, {"}\n", "}"}, {listReport, ""},
+	})
 	checkUnexpected(t, readListVerdict(differs, listReport), listReport)
-	absent := strings.NewReplacer("10 match", "10 absent", "verdict match", "verdict differ").Replace(listReport)
+	absent := strings.NewReplacer(`"state":"match"`, `"state":"absent"`, `"verdict":"match"`, `"verdict":"differ"`).Replace(listReport)
 	checkUnexpected(t, readListVerdict(differs, absent), absent)
-	checkUnexpected(t, readListVerdict(done, report), report)
-	checkUnexpected(t, readListVerdict(done, required), required)
 }
 
-func TestWrongTextsWithRequiredRegistersAreNoPlaces(t *testing.T) {
-	checkUnexpected(t, readPlaces(differs, lackingPlaces), lackingPlaces)
-	checkUnexpected(t, readRequiredPlaces(done, lackingPlaces), lackingPlaces)
-	checkUnexpected(t, readRequiredPlaces(done, strings.Replace(lackingPlaces, "not located", "located", 1)), lackingPlaces)
-	first := "sha256 0 missing\n" + strings.Replace(placesText, "located", "not located", 1)
-	checkUnexpected(t, readRequiredPlaces(differs, first), first)
+func TestWrongAnswersAreNoPlaces(t *testing.T) {
+	checkChanges(t, readPlaces, done, placesLine, [][2]string{
+		{`"reset"`, `"event"`}, {`"reset"`, `"reset","number":1`}, {`,"number":18`, ``}, {`"number":18`, `"number":"18"`},
+		{`"entry"`, `"line"`}, {`"sha256"`, `"sha257"`}, {`:4,`, `:44,`}, {"}\n", "}"}, {`true`, `false`}, {`true`, `1`},
+		{`true`, `"true"`}, {`true`, `null`}, {`,"located":true`, ``}, {`"reset"`, `"nowhere"`}, {placesLine, ""},
+	})
+	checkUnexpected(t, readPlaces(differs, placesLine), placesLine)
+	checkUnexpected(t, readPlaces(done, notLocated), notLocated)
+	checkUnexpected(t, readPlaces(done, lackingPlaces), lackingPlaces)
+	none := `{"registers":[],"located":true}` + "\n"
+	checkUnexpected(t, readPlaces(done, none), none)
+	row := `{"bank":"sha1","register":4,"place":"missing"}`
+	first := strings.Replace(strings.Replace(lackingPlaces, ","+row, "", 1), "[", "["+row+",", 1)
+	checkUnexpected(t, readPlaces(differs, first), first)
+}
+
+func TestWrongAnswersAreNoRegistersAndNoLines(t *testing.T) {
+	checkChanges(t, readRegisters, done, register, [][2]string{
+		{"}\n", "}"}, {"aa", "ag"}, {"aa", "AA"}, {`"sha1"`, `"sha256"`}, {`"value"`, `"digest"`}, {`:4,`, `:24,`}, {`"registers"`, `"register"`},
+		{register, ""}, {register, expectedLine},
+	})
+	checkUnexpected(t, readRegisters(differs, register), register)
+	for _, text := range []string{"", expectedLine[1:], expectedLine + "\n", strings.Replace(expectedLine, "aa", "", 1),
+		strings.Replace(expectedLine, "4", "24", 1), expectedLine + "x\n", expectedLine[:len(expectedLine)-1], register} {
+		_, err := of(done, text).expected()
+		checkUnexpected(t, err, text)
+	}
+	_, err := of(differs, expectedLine).expected()
+	checkUnexpected(t, err, expectedLine)
+	for _, wrong := range []answer{of(differs, "x\n"), of(done, "x")} {
+		_, err := wrong.shown()
+		checkUnexpected(t, err, string(wrong.text))
+	}
+}
+
+func TestEntriesAreRead(t *testing.T) {
+	found, err := drained(of(done, entryLine+otherLine).entries(false))
+	digest := []byte(strings.Repeat("\xaa", 20))
+	equal(t, err, nil)
+	equal(t, found, []Entry{
+		{0, 10, "ima-sig", []byte(strings.Repeat("\x11", 20)), false, true, &File{SHA1, digest, "/a", []byte{}}, nil},
+		{1, 10, "\xff\n", make([]byte, 20), true, true, nil, []byte{0}},
+	})
+	found, err = drained(of(done, "").entries(true))
+	equal(t, []interface{}{len(found), err}, []interface{}{0, nil})
+}
+
+func TestEventsAreRead(t *testing.T) {
+	events, err := of(done, algorithms+eventLine).events()
+	equal(t, err, nil)
+	equal(t, events.Algorithms, []LogAlgorithm{{"", 18, 1}, {"sha1", 4, 20}})
+	found, err := drained(&events.Listing, nil)
+	equal(t, err, nil)
+	digests := map[Algorithm][]byte{SHA1: []byte(strings.Repeat("\xaa", 20))}
+	equal(t, found, []Event{{1, 0, "EV_SEPARATOR", 4, digests, []byte{0}}})
+	found, err = drainedEvents(of(done, algorithms+strings.Replace(eventLine, `"type":"EV_SEPARATOR",`, "", 1)).events())
+	equal(t, []interface{}{found[0].Type, err}, []interface{}{"", nil})
+	equal(t, readEvents(done, algorithms), nil)
+}
+
+func TestWhatStandsBeforeAFaultComesFirst(t *testing.T) {
+	wanted := RefusedError{"refused: list fault 1 at entry 2", KindList, 1, 2, true}
+	for text, count := range map[string]int{entryLine + otherLine + listFault: 2, entryLine + listFault: 1, listFault: 0} {
+		listing, err := of(refused, text).entries(false)
+		equal(t, err, nil)
+		checkRefused(t, listing.Fault(), wanted)
+		found, err := drained(listing, nil)
+		equal(t, len(found), count)
+		checkRefused(t, err, wanted)
+	}
+	wanted = RefusedError{"refused: log fault 1 at event 2", KindLog, 1, 2, true}
+	for text, count := range map[string]int{algorithms + eventLine + logFault: 1, algorithms + logFault: 0, logFault: 0} {
+		found, err := drainedEvents(of(refused, text).events())
+		equal(t, len(found), count)
+		checkRefused(t, err, wanted)
+	}
+	_, err := of(refused, logFault).events()
+	checkRefused(t, err, wanted)
+	whole, err := of(done, entryLine).entries(false)
+	equal(t, []interface{}{whole.Fault(), err}, []interface{}{nil, nil})
+}
+
+func TestWrongAnswersAreNoEntries(t *testing.T) {
+	for _, wrong := range []answer{
+		of(done, ""), of(done, entryLine[:len(entryLine)-1]), of(done, "\n"), of(done, listFault), of(done, "{}\n"), of(done, "\n"+entryLine),
+		of(differs, entryLine), of(refused, entryLine), of(refused, ""), of(refused, listFault[:len(listFault)-1]), of(refused, listFault+"\n"),
+		of(refused, strings.Replace(listFault, `"entry":2`, `"entry":3`, 1)), of(refused, strings.Replace(listFault, `"entry":2,`, ``, 1)),
+		of(refused, strings.Replace(listFault, `"number":1`, `"number":2`, 1)), of(refused, memoryFault), of(refused, malformed),
+		of(refused, "refused: list fault 1 at entry 2\n"), of(done, entryLine+entryLine), of(done, otherLine), of(done, entryLine+listFault),
+		of(done, entryLine+otherLine[:len(otherLine)-1]), of(done, entryLine+"\n"), of(done, entryLine+"null\n"),
+	} {
+		checkUnexpected(t, readEntries(wrong.status, string(wrong.text)), string(wrong.text))
+	}
+	_, err := of(done, entryLine).entries(true)
+	checkUnexpected(t, err, entryLine)
+}
+
+func TestWrongLinesAreNoEntries(t *testing.T) {
+	checkChanges(t, readEntries, done, entryLine, [][2]string{
+		{`"entry":0,`, ``}, {`"register":10,`, ``}, {`"template":"ima-sig",`, ``}, {`"violation":false,`, ``}, {`"genuine":true,`, ``},
+		{`"algorithm":"sha1",`, ``}, {`"path":"/a",`, ``}, {`,"signature":""`, ``}, {`"entry":0`, `"entry":1`}, {`:10,`, `:24,`}, {`ima-sig`, `ima-ng`},
+		{`false`, `true`}, {`false`, `0`}, {`true`, `null`}, {`sha1`, `md5`}, {`aa`, `a`}, {`11`, ``}, {`"/a"`, `"\ud800"`}, {`"/a"`, "\"/a\xff\""},
+		{`"/a"`, "\"/\na\""}, {`"path"`, `"path_hex"`}, {`"path":"/a"`, `"path":"/a","path_hex":"2f"`}, {`"signature":""`, `"signature":"0"`},
+		{`"signature":""`, `"signature":"","payload":""`}, {`"template":"ima-sig"`, `"template":null`},
+	})
+	other := strings.Replace(otherLine, `"entry":1`, `"entry":0`, 1)
+	equal(t, readEntries(done, other), nil)
+	checkChanges(t, readEntries, done, other, [][2]string{
+		{`"genuine":true`, `"genuine":false`}, {`"violation":true`, `"violation":false`}, {`,"payload":"00"`, ``}, {`"ff0a"`, `"ff0"`},
+		{`"template_hex"`, `"name"`},
+	})
+	replaced := strings.Replace(entryLine, `/a`, "/\uFFFD", 1)
+	equal(t, readEntries(done, replaced), nil)
+}
+
+func TestWrongAnswersAreNoEvents(t *testing.T) {
+	for _, wrong := range []answer{
+		of(done, ""), of(done, eventLine), of(done, algorithms[:len(algorithms)-1]), of(done, logFault), of(differs, algorithms),
+		of(refused, algorithms), of(refused, ""), of(refused, logFault[:len(logFault)-1]), of(refused, eventLine+logFault),
+		of(refused, strings.Replace(logFault, `"event":2`, `"event":1`, 1)), of(done, algorithms+eventLine+eventLine),
+		of(done, algorithms+eventLine+logFault), of(done, algorithms+eventLine+algorithms),
+	} {
+		checkUnexpected(t, readEvents(wrong.status, string(wrong.text)), string(wrong.text))
+	}
+	checkChanges(t, readEvents, done, algorithms+eventLine, [][2]string{
+		{`"algorithms"`, `"banks"`}, {`"size":20`, `"size":"20"`}, {`"id":4`, `"id":65536`}, {`"id":18,`, ``}, {`"sha1","id"`, `1,"id"`},
+		{`[`, `[1,`}, {`[`, `[null,`}, {`"event":1`, `"event":0`}, {`"event":1`, `"event":2`}, {`"event":1,`, ``},
+		{`"register":0`, `"register":4294967296`}, {`"EV_SEPARATOR"`, `4`}, {`"type_number":4,`, ``}, {`"digests":`, `"digest":`},
+		{`{"sha1":`, `{"sm3":`}, {`aa`, `a`}, {`"aa`, `"`}, {`,"data":"00"`, ``}, {`"data":"00"`, `"data":"0"`}, {`{"sha1":"a`, `null,"x":{"sha1":"a`},
+	})
 }
 
 func TestTextThatNamesNoRegistersIsMalformed(t *testing.T) {
-	said := func(status int32, text string) error {
-		_, err := askFor(1000, func(out []byte, length *uint64) int32 {
+	said := func(requests bool, status int32, text string) error {
+		call := func(out []byte, length *uint64) int32 {
 			*length = uint64(copy(out, text))
 			return status
-		})
+		}
+		if strings.HasPrefix(text, "{") {
+			_, err := askFor(requests, call)
+			return err
+		}
+		_, err := askForText(1000, requests, call)
 		return err
 	}
-	equal(t, said(refused, malformedLine), ErrMalformed)
-	checkUnexpected(t, said(refused, malformedLine[:len(malformedLine)-1]), malformedLine)
-	checkUnexpected(t, said(5, malformedLine), malformedLine)
-	checkUnexpected(t, answered(refused, malformedLine, uint64(len(malformedLine))), malformedLine)
+	for _, text := range []string{malformed, malformedLine} {
+		equal(t, said(true, refused, text), ErrMalformed)
+		checkUnexpected(t, said(true, refused, text[:len(text)-1]), text)
+		checkUnexpected(t, said(true, 5, text), text)
+		checkUnexpected(t, said(false, refused, text), text)
+	}
 }
 
-func TestWrongReportsAreNoVerdicts(t *testing.T) {
-	zeros := strings.Repeat("0", 64)
-	for _, change := range [][2]string{
-		{"", " "}, {"events 1", "events 01"}, {"events 1", "events +1"}, {"events 1", "events 18446744073709551616"},
-		{"locality 0", "locality 256"}, {"entries 3", "entries -3"}, {"entries 3", "entries  3"}, {"entries 3\n", ""},
-		{"good", "fine"}, {"good", "wrong"}, {"good", ""}, {"sha256", "md5"}, {" 10 ", " 24 "}, {" 10 match", " 10 match "},
-		{"sha256 10 match", "sha256 10 differ"}, {"sha256 10 match", "sha256 10 differ " + zeros[2:]}, {"sha256 10 match", "sha256 10"},
-		{"sha256 10 match", "sha256 10 absent"}, {"sha256 10 match", "sha256 10 match " + zeros}, {"sha256 10 match", ""},
-		{"verdict match\n", "verdict match"}, {"verdict match\n", "verdict match\n\n"}, {"verdict match", "verdict differ"},
-		{"verdict match\n", ""}, {report, ""}, {report, "verdict match\n"}, {"\n", "\r\n"}, {"match\n", "match\x00\n"},
+func TestRefusalsAreRead(t *testing.T) {
+	for text, wanted := range map[string]RefusedError{
+		`{"fault":{"kind":"log","number":2,"message":"refused: log fault 2"}}`: {"refused: log fault 2", KindLog, 2, 0, false},
+		`{"fault":{"kind":"replay","number":1,"entry":2,"message":"refused: replay fault 1 at entry 2"}}`: {
+			"refused: replay fault 1 at entry 2", KindReplay, 1, 2, true},
+		`{"fault":{"kind":"expected","number":1,"message":"refused: expected fault 1 at line 2"}}`: {"refused: expected fault 1 at line 2",
+			KindExpected, 1, 2, true},
+		`{"fault":{"kind":"expected","number":6,"message":"refused: expected fault 6"}}`: {"refused: expected fault 6", KindExpected, 6, 0, false},
 	} {
-		text := strings.Replace(report, change[0], change[1], 1)
-		checkUnexpected(t, readVerdict(done, text), text)
+		checkRefused(t, answered(refused, text+"\n", uint64(len(text))+1), wanted)
 	}
-	checkUnexpected(t, readVerdict(differs, report), report)
-	checkUnexpected(t, readVerdict(done, differing), differing)
-	upper := strings.Replace(differing, zeros, zeros[1:]+"A", 1)
-	checkUnexpected(t, readVerdict(differs, upper), upper)
-}
-
-func TestWrongTextsAreNoPlaces(t *testing.T) {
-	for _, change := range [][2]string{
-		{"at reset", "at event"}, {"event 18", "event"}, {"event 18", "event 018"}, {"after entry", "after line"},
-		{"sha256 4", "sha256 4 "}, {"sha256 4", "sha257 4"}, {" 4 ", " 44 "}, {"located\n", "located"}, {"at reset", "reset"},
-		{"located\n", ""}, {"located", "not located"}, {"at reset", "nowhere"}, {placesText, ""}, {"at reset", "at nowhere"},
-	} {
-		text := strings.Replace(placesText, change[0], change[1], 1)
-		checkUnexpected(t, readPlaces(done, text), text)
-	}
-	checkUnexpected(t, readPlaces(differs, placesText), placesText)
-	checkUnexpected(t, readPlaces(done, notLocated), notLocated)
-}
-
-func TestWrongTextsAreNoRegistersOrEntries(t *testing.T) {
-	for _, text := range []string{register[:len(register)-1], register + "\n", strings.Replace(register, "a", "g", 2),
-		strings.Replace(register, "aa", "a", 1), strings.Replace(register, "aa", "", 1), "sha1 4 \n", "sha1 4\n"} {
-		checkUnexpected(t, readRegisters(done, text), text)
-		checkUnexpected(t, readExpected(done, text), text)
-	}
-	checkUnexpected(t, readRegisters(differs, register), register)
-	checkUnexpected(t, readExpected(done, ""), "")
-	checkUnexpected(t, readEntries(differs, "x\n"), "x")
-	checkUnexpected(t, readEntries(done, "x"), "x")
 }
 
 func TestWrongRefusalsAreNoRefusals(t *testing.T) {
-	for _, text := range []string{"", "refused: log fault 1 at event 0", "refused: log fault 1 at entry 0\n",
-		"refused: list fault 1\n", "refused: replay fault 1 at entry 5\n\n", "refused: expected fault 1 at entry 5\n",
-		"refused: job 1\n", "refused: log fault  1\n", "failed: memory\n",
-		"refused: log fault 01\n", "refused: book fault 1\n", "refused: log fault 1 of event 0\n", "\n\n\n\n"} {
+	for _, text := range []string{
+		"", listFault[1:], listFault + "\n", listFault + listFault, entryLine + listFault, report, memoryFault, malformed, "{}\n",
+		`{"fault":{}}` + "\n", `{"fault":1}` + "\n", `{"fault":null}` + "\n", strings.Replace(listFault, `"list"`, `"log"`, 1),
+		strings.Replace(listFault, `"number":1`, `"number":2`, 1), strings.Replace(listFault, `"entry":2`, `"entry":1`, 1),
+		strings.Replace(listFault, `"entry":2,`, ``, 1), strings.Replace(listFault, `"kind":"list",`, ``, 1),
+		strings.Replace(listFault, `fault 1`, `fault 01`, 1), strings.Replace(listFault, `"message"`, `"line"`, 1),
+		strings.Replace(logFault, `"event":2,`, ``, 1), strings.Replace(logFault, ` at event 2`, ``, 1),
+		`{"fault":{"kind":"job","number":7,"message":"refused: job 0 book fault 7"}}` + "\n",
+		"refused: list fault 1 at entry 2\n",
+	} {
 		checkUnexpected(t, answered(refused, text, uint64(len(text))), text)
 	}
-	var found *RefusedError
-	equal(t, errors.As(answered(refused, "refused: log fault 2\n", 21), &found), true)
+	for _, text := range []string{"", "refused: log fault 1 at event 0", "refused: log fault 1 at entry 0\n",
+		"refused: list fault 1\n", "refused: replay fault 1 at entry 5\n\n", "refused: expected fault 1 at entry 5\n",
+		"refused: job 1\n", "refused: log fault  1\n", "failed: memory\n", "refused: log fault 01\n", "refused: book fault 1\n",
+		"refused: log fault 1 of event 0\n", "\n\n\n\n", listFault, "refused: log fault 18446744073709551616\n"} {
+		checkUnexpected(t, of(refused, text).refusalOfText(false), text)
+	}
+	checkRefused(t, of(refused, "refused: log fault 2\n").refusalOfText(false), RefusedError{"refused: log fault 2", KindLog, 2, 0, false})
 }
 
 func TestErrorsSayWhatIsWrong(t *testing.T) {
@@ -240,15 +421,16 @@ func TestErrorsSayWhatIsWrong(t *testing.T) {
 }
 
 func TestNoMemoryIsItsError(t *testing.T) {
-	equal(t, answered(outOfMemory, memoryLine, uint64(len(memoryLine))), ErrOutOfMemory)
-	checkUnexpected(t, answered(outOfMemory, "failed: other!\n", uint64(len(memoryLine))), "failed: other!\n")
+	for _, text := range []string{memoryFault, "failed: memory\n", ""} {
+		equal(t, answered(outOfMemory, text, uint64(len(text))), ErrOutOfMemory)
+	}
 }
 
 func TestSizesAndStatusesThatCannotBeAreErrors(t *testing.T) {
 	for _, wrong := range []struct {
 		status int32
 		needed uint64
-	}{{done, 1001}, {done, unset}, {refused, unset}, {tooShort, 50}, {tooShort, 1000}, {tooShort, 1001}, {tooShort, unset},
+	}{{done, room + 1}, {done, unset}, {refused, unset}, {tooShort, 50}, {tooShort, room}, {tooShort, room + 1}, {tooShort, unset},
 		{tooShort, 1 << 62}, {5, 10}, {-1, 10}} {
 		checkUnexpected(t, answered(wrong.status, report, wrong.needed), report)
 	}

@@ -5,7 +5,7 @@
 // /sys/kernel/security/ima/binary_runtime_measurements, and lines as `sha256 10 <64 hexadecimal digits>` hold.
 //
 // Say which registers a verdict must cover: VerifyRequired(log, list, expected, "sha256:0-10"). That of Verify covers only those that
-// expected names, and if it names none, nothing but the boot aggregate.
+// expected names; one on none is no match. Entries and Events go through the inputs themselves.
 //
 // A refused input gives an error of the type *RefusedError, and a requirement or a range that is not of its form ErrMalformed; if memory
 // runs out, it is ErrOutOfMemory; what the library's header does not describe gives an *UnexpectedError. With any error the result is
@@ -17,6 +17,8 @@ package imaverify
 import (
 	"errors"
 	"fmt"
+	"regexp"
+	"strings"
 )
 
 // Algorithm is that of a bank of registers.
@@ -60,9 +62,8 @@ type Row struct {
 
 // Verdict is that on a log, a list and expected registers.
 //
-// Matches says that the boot aggregate is good, that each expected register has its value, and that no required one is missing. If none
-// is required, it says nothing of registers that have no row; without any row the boot aggregate alone decides. Text is the report as
-// ima-agent prints it.
+// Matches says that the boot aggregate is good, that each expected register has its value, and that no required one is missing. It says
+// nothing of registers that have no row. JSON is the report as `ima-agent verify --json` prints it, without the line feed.
 type Verdict struct {
 	Events        uint64
 	Locality      uint8
@@ -70,7 +71,7 @@ type Verdict struct {
 	BootAggregate BootAggregate
 	Rows          []Row
 	Matches       bool
-	Text          string
+	JSON          string
 }
 
 // Compared is how many expected registers were compared.
@@ -80,13 +81,13 @@ func (v Verdict) Compared() int {
 
 // ListVerdict is that on a list without a log, and expected registers.
 //
-// Matches says that the list has an entry, that each expected register has its value, and that no required one is missing. Text is the
-// report as ima-agent prints it.
+// Matches says that the list has an entry, that each expected register has its value, and that no required one is missing. JSON is the
+// report as `ima-agent replay --json` prints it, without the line feed.
 type ListVerdict struct {
 	Entries uint64
 	Rows    []Row
 	Matches bool
-	Text    string
+	JSON    string
 }
 
 // Compared is how many expected registers were compared.
@@ -122,6 +123,10 @@ type Place struct {
 	Number uint64
 }
 
+func (p Place) isReached() bool {
+	return p.Kind == PlaceReset || p.Kind == PlaceEvent || p.Kind == PlaceEntry
+}
+
 // PlaceRow says where an expected register first has its value, or that a required one is missing.
 type PlaceRow struct {
 	Algorithm Algorithm
@@ -130,11 +135,11 @@ type PlaceRow struct {
 }
 
 // Places says where each expected register first has its value. Located says that each was reached, and that no required one is
-// missing. Text is what ima-agent prints.
+// missing. JSON is what `ima-agent locate --json` prints, without the line feed.
 type Places struct {
 	Rows    []PlaceRow
 	Located bool
-	Text    string
+	JSON    string
 }
 
 // Register is a register and its value.
@@ -186,62 +191,128 @@ func (u *UnexpectedError) Error() string {
 	return fmt.Sprintf("libima_verify answered status %d and size %d, with a text that begins %.200q", u.Status, u.Needed, u.Text)
 }
 
-// Four banks have 96 registers, and no line of any text but that of Show has more than 146 bytes.
-const room = 16 * 1024
+// Entry is one of a measurement list; entries count from 0.
+//
+// File is what a payload says that has the fields of its template; of any other it is nil, and Payload is the whole. An entry is Genuine if
+// its template digest is that of what it covers, or if it is a Violation, whose file's digest may be anything. Template may be any bytes.
+type Entry struct {
+	Number         uint64
+	Register       int
+	Template       string
+	TemplateDigest []byte
+	Violation      bool
+	Genuine        bool
+	File           *File
+	Payload        []byte
+}
+
+// File is what an entry says of a file. Path may be any bytes without a NUL. Signature is nil unless the template is ima-sig, and then it
+// may be empty.
+type File struct {
+	Algorithm Algorithm
+	Digest    []byte
+	Path      string
+	Signature []byte
+}
+
+// Event is one of a firmware event log; events count from 1. Type is the name of the type, or empty if it has none. Digests has those of
+// the log's banks.
+type Event struct {
+	Number     uint64
+	Register   uint32
+	Type       string
+	TypeNumber uint32
+	Digests    map[Algorithm][]byte
+	Data       []byte
+}
+
+// LogAlgorithm is an algorithm of a log's header. Name is empty if it is unknown here; Size is that of its digests, in bytes.
+type LogAlgorithm struct {
+	Name string
+	ID   uint16
+	Size int
+}
+
+// Listing has what an input has, one item after another, and then, if the input is damaged, the *RefusedError that says where.
+type Listing[T any] struct {
+	status int32
+	rest   []byte
+	number uint64
+	fault  *RefusedError
+	read   func(r *reader, o object, number uint64) T
+}
+
+// EventListing is the Listing of a firmware event log's events, with the algorithms that its header declares.
+type EventListing struct {
+	Listing[Event]
+	Algorithms []LogAlgorithm
+}
+
+// Four banks have 96 registers, and no row of these has more than 256 bytes.
+const room = 32 * 1024
 
 // Version is that of the library's interface.
 func Version() uint32 {
 	return libraryVersion()
 }
 
-// Verify gives the verdict on a firmware event log, a measurement list and the expected registers that a text states. It covers only
-// these registers; with none, the boot aggregate alone decides. See VerifyRequired.
+// Verify gives the verdict on a firmware event log, a measurement list and the expected registers that a text states. It is VerifyRequired
+// of the registers that the text names, or of sha256:0 if it names none: so a verdict on nothing is no match.
 func Verify(log, list, expected []byte) (Verdict, error) {
-	answer, err := ask(room, func(out []byte, needed *uint64) int32 { return callVerify(log, list, expected, out, needed) })
-	if err != nil {
-		return Verdict{}, err
-	}
-	return answer.verdict(false)
+	return VerifyRequired(log, list, expected, namedIn(expected))
 }
 
 // VerifyRequired does the same, where require names the registers that must be among the expected ones, as "sha256:0-10" or
 // "sha256:0-7,sha1:10". Each that is not has a row whose state is StateMissing, and then the verdict is no match.
 func VerifyRequired(log, list, expected []byte, require string) (Verdict, error) {
-	answer, err := askFor(room, func(out []byte, needed *uint64) int32 {
-		return callVerifyRequired(log, list, expected, []byte(require), out, needed)
+	answer, err := askFor(true, func(out []byte, needed *uint64) int32 {
+		return callVerify(log, list, expected, []byte(require), out, needed)
 	})
 	if err != nil {
 		return Verdict{}, err
 	}
-	return answer.verdict(true)
+	return answer.verdict()
 }
 
-// Locate says where each expected register first has its value. Inputs and refusals are those of Verify.
+// Locate says where each expected register first has its value. Inputs, refusals and what is required are those of Verify.
 func Locate(log, list, expected []byte) (Places, error) {
-	answer, err := ask(room, func(out []byte, needed *uint64) int32 { return callLocate(log, list, expected, out, needed) })
-	if err != nil {
-		return Places{}, err
-	}
-	return answer.places(false)
+	return LocateRequired(log, list, expected, namedIn(expected))
 }
 
 // LocateRequired does the same, where require is as in VerifyRequired.
 func LocateRequired(log, list, expected []byte, require string) (Places, error) {
-	answer, err := askFor(room, func(out []byte, needed *uint64) int32 {
-		return callLocateRequired(log, list, expected, []byte(require), out, needed)
+	answer, err := askFor(true, func(out []byte, needed *uint64) int32 {
+		return callLocate(log, list, expected, []byte(require), out, needed)
 	})
 	if err != nil {
 		return Places{}, err
 	}
-	return answer.places(true)
+	return answer.places()
+}
+
+var namedRegister = regexp.MustCompile(`(?m)^(sha1|sha256|sha384|sha512) (1?[0-9]|2[0-3]) `)
+
+// Each register that a text of expected ones names, as what is required, so that none of these is missing.
+func namedIn(expected []byte) string {
+	var named []string
+	isNamed := map[string]bool{}
+	for _, words := range namedRegister.FindAllSubmatch(expected, -1) {
+		if name := string(words[1]) + ":" + string(words[2]); !isNamed[name] {
+			named, isNamed[name] = append(named, name), true
+		}
+	}
+	if len(named) == 0 {
+		return "sha256:0"
+	}
+	return strings.Join(named, ",")
 }
 
 // ReplayRequired gives the verdict on a measurement list without a log, and the expected registers that a text states. The list is replayed
 // from the registers' reset values, so a register that the firmware extends too differs. require is as in VerifyRequired. A list without
 // entries is no match.
 func ReplayRequired(list, expected []byte, require string) (ListVerdict, error) {
-	answer, err := askFor(room, func(out []byte, needed *uint64) int32 {
-		return callReplayRequired(list, expected, []byte(require), out, needed)
+	answer, err := askFor(true, func(out []byte, needed *uint64) int32 {
+		return callReplay(list, expected, []byte(require), out, needed)
 	})
 	if err != nil {
 		return ListVerdict{}, err
@@ -253,7 +324,7 @@ func ReplayRequired(list, expected []byte, require string) (ListVerdict, error) 
 // registers in a range, as "0-10" or "4", or of all, if that is empty; at least one, else the text is refused. Neither who wrote the text
 // nor whether a quote holds is known from it: take the values of a quote that was checked, or of a machine that is trusted.
 func ExpectedFrom(printed []byte, registers string) ([]byte, error) {
-	answer, err := askFor(room, func(out []byte, needed *uint64) int32 {
+	answer, err := askForText(room, registers != "", func(out []byte, needed *uint64) int32 {
 		return callExpected(printed, []byte(registers), out, needed)
 	})
 	if err != nil {
@@ -264,24 +335,59 @@ func ExpectedFrom(printed []byte, registers string) ([]byte, error) {
 
 // Registers gives the registers that differ from their reset values after a firmware event log.
 func Registers(log []byte) ([]Register, error) {
-	answer, err := ask(room, func(out []byte, needed *uint64) int32 { return callRegisters(log, out, needed) })
+	answer, err := askFor(false, func(out []byte, needed *uint64) int32 { return callRegisters(log, out, needed) })
 	if err != nil {
 		return nil, err
 	}
 	return answer.registers()
 }
 
-// Show gives the entries of a measurement list, each in the kernel's form. Paths stand as they are: they may have line feeds and
-// control bytes.
-func Show(list []byte) ([]byte, error) {
-	answer, err := ask(roomOfEntries(len(list)), func(out []byte, needed *uint64) int32 { return callShow(list, out, needed) })
+// ListRegisters gives the registers, in banks of all algorithms, that differ from their reset values after a measurement list without a
+// log.
+func ListRegisters(list []byte) ([]Register, error) {
+	answer, err := askFor(false, func(out []byte, needed *uint64) int32 { return callListRegisters(list, out, needed) })
 	if err != nil {
 		return nil, err
 	}
-	return answer.entries()
+	return answer.registers()
+}
+
+// Entries gives the entries of a measurement list, one after another by Next, each with whether it is genuine. Of a damaged list the
+// entries before the fault come, and then its *RefusedError, which Fault knows from the start.
+func Entries(list []byte) (*Listing[Entry], error) {
+	answer, err := ask(roomOfLines(len(list)), func(out []byte, needed *uint64) int32 { return callEntries(list, out, needed) })
+	if err != nil {
+		return nil, err
+	}
+	return answer.entries(len(list) == 0)
+}
+
+// Events gives the events of a firmware event log after its header, one after another by Next. Of a damaged log the events before the fault
+// come, and then its *RefusedError, which Fault knows from the start; if the fault is in the header, it comes at once.
+func Events(log []byte) (*EventListing, error) {
+	answer, err := ask(roomOfLines(len(log)), func(out []byte, needed *uint64) int32 { return callEvents(log, out, needed) })
+	if err != nil {
+		return nil, err
+	}
+	return answer.events()
+}
+
+// Show gives the entries of a measurement list, each in the kernel's form. Paths stand as they are: they may have line feeds and
+// control bytes. Entries gives each by itself.
+func Show(list []byte) ([]byte, error) {
+	answer, err := askForText(roomOfEntries(len(list)), false, func(out []byte, needed *uint64) int32 { return callShow(list, out, needed) })
+	if err != nil {
+		return nil, err
+	}
+	return answer.shown()
 }
 
 // Room for the entries of a list of this size: an entry's text is at most twice as long as the entry.
 func roomOfEntries(size int) int {
 	return 2*size + 1024
+}
+
+// Room for most entries or events as JSON. (A control byte of a path takes six; then a second call is needed.)
+func roomOfLines(size int) int {
+	return 4*size + 1024
 }

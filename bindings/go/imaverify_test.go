@@ -76,12 +76,12 @@ func locate(t *testing.T, log, list, expected []byte) Places {
 
 func TestVerdictOnTheSampleIsAMatch(t *testing.T) {
 	wanted := Verdict{Events: 24, Entries: 99, BootAggregate: AggregateGood, Matches: true}
-	wanted.Text = "events 24 locality 0\nentries 99\nboot_aggregate good\n"
+	var rows []string
 	for k := 0; k < 24; k++ {
 		wanted.Rows = append(wanted.Rows, Row{SHA256, k, StateMatch, nil})
-		wanted.Text += fmt.Sprintf("sha256 %d match\n", k)
+		rows = append(rows, fmt.Sprintf(`{"bank":"sha256","register":%d,"state":"match"}`, k))
 	}
-	wanted.Text += "verdict match\n"
+	wanted.JSON = `{"events":24,"locality":0,"entries":99,"boot_aggregate":"good","registers":[` + strings.Join(rows, ",") + `],"verdict":"match"}`
 	equal(t, verify(t, bootLog, bootList, bootTPM), wanted)
 }
 
@@ -155,7 +155,6 @@ func TestAllRequiredRegistersAreExpected(t *testing.T) {
 		verdict := verifyRequired(t, bootLog, bootList, bootTPM, require)
 		equal(t, []interface{}{verdict.Matches, verdict.Compared(), verdict.Entries}, []interface{}{true, 24, uint64(99)})
 		equal(t, verdict.Rows, verify(t, bootLog, bootList, bootTPM).Rows)
-		equal(t, strings.Split(verdict.Text, "\n")[2], "compared 24")
 		equal(t, locateRequired(t, bootLog, bootList, bootTPM, require), locate(t, bootLog, bootList, bootTPM))
 	}
 	verdict := verifyRequired(t, bootLog, longer, bootTPM, "sha256:10")
@@ -200,10 +199,40 @@ var tenth = bootTPM[bytes.Index(bootTPM, []byte("sha256 10 ")):bytes.Index(bootT
 func TestRegisterOfTheListAloneMatches(t *testing.T) {
 	rows := []Row{{SHA256, 10, StateMatch, nil}}
 	equal(t, replayRequired(t, bootList, tenth, "sha256:10"),
-		ListVerdict{99, rows, true, "entries 99\ncompared 1\nsha256 10 match\nverdict match\n"})
+		ListVerdict{99, rows, true, `{"entries":99,"registers":[{"bank":"sha256","register":10,"state":"match"}],"verdict":"match"}`})
 	verdict := replayRequired(t, longer, tenth, "sha256:10")
 	equal(t, []interface{}{verdict.Matches, verdict.Entries, fmt.Sprintf("%x", verdict.Rows[0].Value)},
 		[]interface{}{false, uint64(100), afterLonger})
+}
+
+func TestRegistersAfterTheListAlone(t *testing.T) {
+	found, err := ListRegisters(bootList)
+	equal(t, err, nil)
+	equal(t, len(found), 4)
+	for k, algorithm := range []Algorithm{SHA1, SHA256, SHA384, SHA512} {
+		equal(t, []interface{}{found[k].Algorithm, found[k].Register, len(found[k].Value)}, []interface{}{algorithm, 10, digestSizes[algorithm]})
+	}
+	equal(t, fmt.Sprintf("sha256 10 %x\n", found[1].Value), string(tenth))
+	_, err = ListRegisters(changed)
+	checkRefused(t, err, RefusedError{"refused: replay fault 1 at entry 5", KindReplay, 1, 5, true})
+}
+
+// Without a requirement all expected registers count, and no others.
+func TestRegistersThatAreExpectedHaveRows(t *testing.T) {
+	var all []Row
+	text := "\r\n"
+	for _, algorithm := range []Algorithm{SHA512, SHA1, SHA384, SHA256} {
+		for k := 0; k < 24; k++ {
+			all = append(all, Row{Algorithm: algorithm, Register: k})
+			text += fmt.Sprintf("%s %d %s\r\n", algorithm, k, strings.Repeat("0", 2*digestSizes[algorithm]))
+		}
+	}
+	verdict, places := verify(t, bootLog, bootList, []byte(text)), locate(t, bootLog, bootList, []byte(text))
+	equal(t, []int{len(verdict.Rows), verdict.Compared(), len(places.Rows)}, []int{96, 96, 96})
+	for k, row := range all {
+		equal(t, Row{Algorithm: verdict.Rows[k].Algorithm, Register: verdict.Rows[k].Register}, row)
+		equal(t, Row{Algorithm: places.Rows[k].Algorithm, Register: places.Rows[k].Register}, row)
+	}
 }
 
 func TestRegistersOfTheFirmwareDifferAfterTheListAlone(t *testing.T) {
@@ -345,11 +374,14 @@ func TestInputsWithoutBytes(t *testing.T) {
 		shown, err := Show(empty)
 		equal(t, err, nil)
 		equal(t, len(shown), 0)
-		equal(t, verify(t, bootLog, empty, empty), Verdict{24, 0, 0, AggregateMissing, nil, false,
-			"events 24 locality 0\nentries 0\nboot_aggregate missing\nverdict differ\n"})
-		equal(t, verify(t, bootLog, bootList, empty), Verdict{24, 0, 99, AggregateGood, nil, true,
-			"events 24 locality 0\nentries 99\nboot_aggregate good\nverdict match\n"})
-		equal(t, locate(t, bootLog, bootList, empty), Places{nil, true, "located\n"})
+		verdict := verify(t, bootLog, empty, bootTPM)
+		equal(t, []interface{}{verdict.Matches, verdict.Entries, verdict.BootAggregate}, []interface{}{false, uint64(0), AggregateMissing})
+		// (on nothing, there is no match)
+		missing := `[{"bank":"sha256","register":0,"state":"missing"}]`
+		equal(t, verify(t, bootLog, bootList, empty), Verdict{24, 0, 99, AggregateGood, []Row{{SHA256, 0, StateMissing, nil}}, false,
+			`{"events":24,"locality":0,"entries":99,"boot_aggregate":"good","registers":` + missing + `,"verdict":"differ"}`})
+		equal(t, locate(t, bootLog, bootList, empty), Places{[]PlaceRow{{SHA256, 0, Place{Kind: PlaceMissing}}}, false,
+			`{"registers":[{"bank":"sha256","register":0,"place":"missing"}],"located":false}`})
 	}
 }
 
@@ -367,8 +399,20 @@ func TestTextLongerThanTheBufferTakesASecondCall(t *testing.T) {
 }
 
 func TestLineOfAFaultLongerThanTheBuffer(t *testing.T) {
-	_, err := ask(5, func(out []byte, needed *uint64) int32 { return callRegisters(nil, out, needed) })
-	checkRefused(t, err, RefusedError{"refused: log fault 1 at event 0", KindLog, 1, 0, true})
+	given, err := ask(5, func(out []byte, needed *uint64) int32 { return callRegisters(nil, out, needed) })
+	equal(t, err, nil)
+	checkRefused(t, given.refusal(false), RefusedError{"refused: log fault 1 at event 0", KindLog, 1, 0, true})
+}
+
+func TestEntriesLongerThanTheBufferTakeASecondCall(t *testing.T) {
+	// (a path of control bytes is six times as long as JSON)
+	path := strings.Repeat("\x01", 4000)
+	found, err := drained(Entries(bytes.Repeat(entryOf("ima-ng", ng("sha1", make([]byte, 20), path)), 3)))
+	equal(t, err, nil)
+	for _, entry := range found {
+		equal(t, entry.File.Path, path)
+	}
+	equal(t, len(found), 3)
 }
 
 func TestFirstBufferIsLargeEnough(t *testing.T) {
@@ -419,10 +463,4 @@ func TestCallsAtOnceGiveWhatTheyGiveAlone(t *testing.T) {
 
 func called(result interface{}, err error) interface{} {
 	return []interface{}{result, err}
-}
-
-func ExampleVerifyRequired() {
-	verdict, err := VerifyRequired(bootLog, bootList, bootTPM, "sha256:0-10")
-	fmt.Println(verdict.Matches, verdict.Entries, verdict.Compared(), err)
-	// Output: true 99 24 <nil>
 }

@@ -45,41 +45,25 @@ func libraryVersion() uint32 {
 	return uint32(C.ima_verify_version())
 }
 
-func callVerify(log, list, expected, out []byte, needed *uint64) int32 {
+func callVerify(log, list, expected, require, out []byte, needed *uint64) int32 {
 	length := C.size_t(*needed)
-	status := C.ima_verify(start(log), size(log), start(list), size(list), start(expected), size(expected),
-		start(out), size(out), &length)
-	*needed = uint64(length)
-	return int32(status)
-}
-
-func callLocate(log, list, expected, out []byte, needed *uint64) int32 {
-	length := C.size_t(*needed)
-	status := C.ima_locate(start(log), size(log), start(list), size(list), start(expected), size(expected),
-		start(out), size(out), &length)
-	*needed = uint64(length)
-	return int32(status)
-}
-
-func callVerifyRequired(log, list, expected, require, out []byte, needed *uint64) int32 {
-	length := C.size_t(*needed)
-	status := C.ima_verify_required(start(log), size(log), start(list), size(list), start(expected), size(expected),
+	status := C.ima_verify_json(start(log), size(log), start(list), size(list), start(expected), size(expected),
 		start(require), size(require), start(out), size(out), &length)
 	*needed = uint64(length)
 	return int32(status)
 }
 
-func callLocateRequired(log, list, expected, require, out []byte, needed *uint64) int32 {
+func callLocate(log, list, expected, require, out []byte, needed *uint64) int32 {
 	length := C.size_t(*needed)
-	status := C.ima_locate_required(start(log), size(log), start(list), size(list), start(expected), size(expected),
+	status := C.ima_locate_json(start(log), size(log), start(list), size(list), start(expected), size(expected),
 		start(require), size(require), start(out), size(out), &length)
 	*needed = uint64(length)
 	return int32(status)
 }
 
-func callReplayRequired(list, expected, require, out []byte, needed *uint64) int32 {
+func callReplay(list, expected, require, out []byte, needed *uint64) int32 {
 	length := C.size_t(*needed)
-	status := C.ima_replay_required(start(list), size(list), start(expected), size(expected), start(require), size(require),
+	status := C.ima_replay_required_json(start(list), size(list), start(expected), size(expected), start(require), size(require),
 		start(out), size(out), &length)
 	*needed = uint64(length)
 	return int32(status)
@@ -94,7 +78,28 @@ func callExpected(printed, registers, out []byte, needed *uint64) int32 {
 
 func callRegisters(log, out []byte, needed *uint64) int32 {
 	length := C.size_t(*needed)
-	status := C.ima_registers(start(log), size(log), start(out), size(out), &length)
+	status := C.ima_registers_json(start(log), size(log), start(out), size(out), &length)
+	*needed = uint64(length)
+	return int32(status)
+}
+
+func callListRegisters(list, out []byte, needed *uint64) int32 {
+	length := C.size_t(*needed)
+	status := C.ima_replay_json(start(list), size(list), start(out), size(out), &length)
+	*needed = uint64(length)
+	return int32(status)
+}
+
+func callEvents(log, out []byte, needed *uint64) int32 {
+	length := C.size_t(*needed)
+	status := C.ima_events_json(start(log), size(log), start(out), size(out), &length)
+	*needed = uint64(length)
+	return int32(status)
+}
+
+func callEntries(list, out []byte, needed *uint64) int32 {
+	length := C.size_t(*needed)
+	status := C.ima_entries_json(start(list), size(list), start(out), size(out), &length)
 	*needed = uint64(length)
 	return int32(status)
 }

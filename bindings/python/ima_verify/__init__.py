@@ -6,7 +6,7 @@ are compared with expected ones. Each function takes bytes: what /sys/kernel/sec
 bytes-like type; a bytearray, or other memory that can be written, may not change during a call.
 
 Say which registers a verdict must cover: `verify(log, list, expected, require="sha256:0-10")`. Without `require` only those count that
-`expected` names, and if it names none, the boot aggregate alone.
+`expected` names; a verdict on none is no match. `entries(list)` and `events(log)` go through the inputs themselves.
 
 An input that is refused raises `Refused`, and a `require` or `registers` that is not of its form ValueError; if memory runs out, that
 is MemoryError; an answer that the library's header does not describe raises `LibraryError`. Nothing else that the library answers is
@@ -18,18 +18,21 @@ call in the forked child of a process with threads.
 The shared library is the file that the environment variable IMA_VERIFY_LIBRARY names, else `libima_verify.so` in this package's
 folder, else what the system's loader finds as `libima_verify.so.1`. It is loaded when this module is imported."""
 
+import re
 from enum import Enum
-from typing import Optional, Sequence, Tuple, Union
+from typing import Any, Callable, Optional, Sequence, Tuple, Union
 
-from . import _library, _texts
+from . import _answers, _library
 from ._library import BytesLike
 from ._results import (
-    Algorithm, BootAggregate, Kind, LibraryError, ListVerdict, Place, PlaceRow, Places, Refused, Register, Row, State, Verdict,
+    Algorithm, BootAggregate, Entries, Entry, Event, Events, Kind, LibraryError, ListVerdict, LogAlgorithm, Place, PlaceRow, Places,
+    Refused, Register, Row, State, Verdict,
 )
 
 __all__ = [
-    "Algorithm", "BootAggregate", "BytesLike", "Kind", "LibraryError", "ListVerdict", "Place", "PlaceRow", "Places", "Refused",
-    "Register", "Row", "State", "Verdict", "expected", "locate", "registers", "replay", "show", "verify", "version",
+    "Algorithm", "BootAggregate", "BytesLike", "Entries", "Entry", "Event", "Events", "Kind", "LibraryError", "ListVerdict",
+    "LogAlgorithm", "Place", "PlaceRow", "Places", "Refused", "Register", "Row", "State", "Verdict", "entries", "events", "expected",
+    "list_registers", "locate", "registers", "replay", "show", "verify", "version",
 ]
 
 Text = Union[BytesLike, str]
@@ -41,34 +44,33 @@ class _Default(Enum):
     NOTHING = "nothing"
 
 
-# 4 banks have 96 registers, and no line of any text but that of `show` has more than 146 bytes.
-_ROOM = 16 * 1024
+# 4 banks have 96 registers, and no row of these has more than 256 bytes.
+_ROOM = 32 * 1024
+
+_NAMED = re.compile(rb"^(sha1|sha256|sha384|sha512) (1?[0-9]|2[0-3]) ", re.MULTILINE)
 
 _LIBRARY = _library.load()
 
 
 def version() -> int:
     """The version of the library's interface."""
-    return _LIBRARY.ima_verify_version()
+    return int(_LIBRARY.ima_verify_version())
 
 
 def verify(log: BytesLike, list: BytesLike, expected: Text, *, require: Union[Text, _Default] = _Default.NOTHING) -> Verdict:
     """The verdict on a firmware event log, a measurement list and the expected registers that a text states.
 
     `require` names the registers that must be among these, as `sha256:0-10` or `sha256:0-7,sha1:10`. Each that is not has a row whose
-    state is MISSING, and then the verdict is no match. None is a TypeError."""
-    given = (log, list, _bytes_of(expected))
-    if isinstance(require, _Default):
-        return _texts.read_verdict(*_answer(_LIBRARY.ima_verify, given, _ROOM))
-    return _texts.read_required_verdict(*_answer_to(require, _LIBRARY.ima_verify_required, given))
+    state is MISSING, and then the verdict is no match. None is a TypeError. If it is not given, those are required that the text names, and
+    `sha256:0` if it names none."""
+    text = _bytes_of(expected)
+    return _answers.read_verdict(*_answer_to(_required(require, text), _LIBRARY.ima_verify_json, (log, list, text)))
 
 
 def locate(log: BytesLike, list: BytesLike, expected: Text, *, require: Union[Text, _Default] = _Default.NOTHING) -> Places:
     """Where each expected register first has its value. Inputs, `require` and refusals are those of `verify`."""
-    given = (log, list, _bytes_of(expected))
-    if isinstance(require, _Default):
-        return _texts.read_places(*_answer(_LIBRARY.ima_locate, given, _ROOM))
-    return _texts.read_required_places(*_answer_to(require, _LIBRARY.ima_locate_required, given))
+    text = _bytes_of(expected)
+    return _answers.read_places(*_answer_to(_required(require, text), _LIBRARY.ima_locate_json, (log, list, text)))
 
 
 def replay(list: BytesLike, expected: Text, *, require: Text) -> ListVerdict:
@@ -76,7 +78,7 @@ def replay(list: BytesLike, expected: Text, *, require: Text) -> ListVerdict:
 
     The list is replayed from the registers' reset values, so a register that the firmware extends too differs. `require` is as in
     `verify`, and has to be given. A list without entries is no match."""
-    return _texts.read_list_verdict(*_answer_to(require, _LIBRARY.ima_replay_required, (list, _bytes_of(expected))))
+    return _answers.read_list_verdict(*_answer_to(require, _LIBRARY.ima_replay_required_json, (list, _bytes_of(expected))))
 
 
 def expected(printed: Text, registers: Optional[Text] = None) -> bytes:
@@ -85,19 +87,45 @@ def expected(printed: Text, registers: Optional[Text] = None) -> bytes:
     `registers` is a range, as `0-10` or `4`, whose registers are written; else all are. A text without any is refused. Neither who wrote
     the text nor whether a quote holds is known from it: take the values of a quote that was checked, or of a machine that is trusted."""
     range = b"" if registers is None else registers
-    return _texts.read_expected(*_answer_to(range, _LIBRARY.ima_expected, (_bytes_of(printed),)))
+    status, text = _library.ask(_LIBRARY.ima_expected, (_bytes_of(printed), _bytes_of(range)), _ROOM)
+    _answers.raise_failure_of_text(status, text, range)
+    return _answers.read_expected(status, text)
 
 
 def registers(log: BytesLike) -> Tuple[Register, ...]:
     """The registers that differ from their reset values after a firmware event log."""
-    return _texts.read_registers(*_answer(_LIBRARY.ima_registers, (log,), _ROOM))
+    return _registers_of(_LIBRARY.ima_registers_json, log)
+
+
+def list_registers(list: BytesLike) -> Tuple[Register, ...]:
+    """The registers, in banks of all algorithms, that differ from their reset values after a measurement list without a log."""
+    return _registers_of(_LIBRARY.ima_replay_json, list)
+
+
+def entries(list: BytesLike) -> Entries:
+    """The entries of a measurement list, one after another, each with whether it is genuine.
+
+    Of a damaged list the entries before the fault come, and then `Refused` is raised. If you stop before the end, look at `fault` of what
+    this returns: it is None exactly if the list is whole."""
+    answer = _library.ask(_LIBRARY.ima_entries_json, (list,), _room_of_lines(list))
+    return _answers.read_entries(*answer, memoryview(list).nbytes == 0)
+
+
+def events(log: BytesLike) -> Events:
+    """The events of a firmware event log after its header, one after another; what this returns also has the header's `algorithms`.
+
+    Of a damaged log the events before the fault come, and then `Refused` is raised, at once if the fault is in the header. If you stop
+    before the end, look at `fault` of what this returns: it is None exactly if the log is whole."""
+    return _answers.read_events(*_library.ask(_LIBRARY.ima_events_json, (log,), _room_of_lines(log)))
 
 
 def show(list: BytesLike) -> bytes:
     """The entries of a measurement list, each in the kernel's form.
 
-    Paths stand as they are: they may have line feeds and control bytes."""
-    return _texts.read_entries(*_answer(_LIBRARY.ima_show, (list,), _room_of_entries(memoryview(list).nbytes)))
+    Paths stand as they are: they may have line feeds and control bytes. `entries` gives each by itself."""
+    status, text = _library.ask(_LIBRARY.ima_show, (list,), _room_of_entries(memoryview(list).nbytes))
+    _answers.raise_failure_of_text(status, text)
+    return _answers.read_shown(status, text)
 
 
 def _room_of_entries(size: int) -> int:
@@ -105,18 +133,28 @@ def _room_of_entries(size: int) -> int:
     return 2 * size + 1024
 
 
-def _answer(function, inputs: Sequence[BytesLike], room: int) -> Tuple[int, bytes]:
-    status, text = _library.ask(function, inputs, room)
-    _texts.raise_failure(status, text)
-    return status, text
+def _room_of_lines(data: BytesLike) -> int:
+    """Room for most entries or events as JSON. (A control byte of a path takes six; then a second call is needed.)"""
+    return 4 * memoryview(data).nbytes + 1024
 
 
-def _answer_to(request: Text, function, inputs: Sequence[BytesLike]) -> Tuple[int, bytes]:
-    """The answer of a function whose last input is a text of the caller's: a ValueError says that this is not of its form."""
-    status, text = _library.ask(function, (*inputs, _bytes_of(request)), _ROOM)
-    if _texts.is_refused_request(status, text):
-        raise ValueError(f"not of its form: {request!r}")
-    _texts.raise_failure(status, text)
+def _registers_of(function: Callable[..., Any], data: BytesLike) -> Tuple[Register, ...]:
+    status, text = _library.ask(function, (data,), _ROOM)
+    _answers.raise_failure(status, text)
+    return _answers.read_registers(status, text)
+
+
+def _required(require: Union[Text, _Default], expected: BytesLike) -> Text:
+    """What is required: if nothing is given, each register that the expected text names, so that none of these is missing."""
+    if isinstance(require, _Default):
+        return b",".join(dict.fromkeys(map(b":".join, _NAMED.findall(memoryview(expected).tobytes())))) or b"sha256:0"
+    return require
+
+
+def _answer_to(require: Text, function: Callable[..., Any], inputs: Sequence[BytesLike]) -> Tuple[int, bytes]:
+    """The answer of a function whose last input is what is required: a ValueError says that this is not of its form."""
+    status, text = _library.ask(function, (*inputs, _bytes_of(require)), _ROOM)
+    _answers.raise_failure(status, text, require)
     return status, text
 
 

@@ -2,7 +2,9 @@
 
 import enum
 from dataclasses import dataclass
-from typing import Optional, Tuple
+from typing import Callable, Dict, Iterator, Optional, Tuple, TypeVar, Union
+
+_Item = TypeVar("_Item")
 
 
 class Algorithm(enum.Enum):
@@ -99,9 +101,8 @@ class _Judged:
 class Verdict(_Judged):
     """The verdict on a log, a list and expected registers; as a condition, it is true exactly if it is a match.
 
-    `matches` says that the boot aggregate is good, that each expected register has its value, and that no required one is missing. If
-    none is required, it says nothing of registers that have no row; without any row the boot aggregate alone decides. `text` is the
-    report as `ima-agent` prints it."""
+    `matches` says that the boot aggregate is good, that each expected register has its value, and that no required one is missing. It says
+    nothing of registers that have no row. `json` is the report as `ima-agent verify --json` prints it, without the line feed."""
 
     events: int
     locality: int
@@ -109,20 +110,20 @@ class Verdict(_Judged):
     boot_aggregate: BootAggregate
     rows: Tuple[Row, ...]
     matches: bool
-    text: str
+    json: str
 
 
 @dataclass(frozen=True)
 class ListVerdict(_Judged):
     """The verdict on a list without a log, and expected registers; as a condition, it is true exactly if it is a match.
 
-    `matches` says that the list has an entry, that each expected register has its value, and that no required one is missing. `text` is
-    the report as `ima-agent` prints it."""
+    `matches` says that the list has an entry, that each expected register has its value, and that no required one is missing. `json` is
+    the report as `ima-agent replay --json` prints it, without the line feed."""
 
     entries: int
     rows: Tuple[Row, ...]
     matches: bool
-    text: str
+    json: str
 
 
 @dataclass(frozen=True)
@@ -141,11 +142,11 @@ class Places:
     """Where each expected register first has its value; as a condition, it is true exactly if each value was reached and no required
     register is missing.
 
-    `text` is what `ima-agent` prints."""
+    `json` is what `ima-agent locate --json` prints, without the line feed."""
 
     rows: Tuple[PlaceRow, ...]
     located: bool
-    text: str
+    json: str
 
     def __bool__(self) -> bool:
         return self.located
@@ -170,3 +171,83 @@ class Refused(Exception):
 
 class LibraryError(RuntimeError):
     """The library answered what its header does not describe, so nothing is known of the inputs."""
+
+
+@dataclass(frozen=True)
+class Entry:
+    """An entry of a measurement list; entries count from 0.
+
+    `template` is its name, as bytes only if it is not UTF-8. A payload that has the fields of its template has `algorithm`, `digest`
+    and `path`, those of the file, and of `ima-sig` also `signature`, which may be empty; any other is `payload`, whole. What an entry has
+    not is None. It is `genuine` if its template digest is that of what it covers, or if it is a `violation`, whose digest may be
+    anything."""
+
+    number: int
+    register: int
+    template: Union[str, bytes]
+    template_digest: bytes
+    violation: bool
+    genuine: bool
+    algorithm: Optional[Algorithm] = None
+    digest: Optional[bytes] = None
+    path: Optional[bytes] = None
+    signature: Optional[bytes] = None
+    payload: Optional[bytes] = None
+
+
+@dataclass(frozen=True)
+class Event:
+    """An event of a firmware event log; events count from 1.
+
+    `type` is the name of the type, or None if it has none. `digests` has those of the log's banks."""
+
+    number: int
+    register: int
+    type: Optional[str]
+    type_number: int
+    digests: Dict[Algorithm, bytes]
+    data: bytes
+
+
+@dataclass(frozen=True)
+class LogAlgorithm:
+    """An algorithm of a log's header. `name` is None if it is unknown here; `size` is that of its digests, in bytes."""
+
+    name: Optional[str]
+    id: int
+    size: int
+
+
+class Listing(Iterator[_Item]):
+    """What an input has, one item after another, and then, if the input is damaged, the `Refused` that says where.
+
+    `fault` is this refusal, or None, from the start: look at it if you stop before the end, which tells nothing of what comes later."""
+
+    def __init__(self, read: Callable[[bytes, int], _Item], lines: bytes, first: int, fault: Optional[Refused]):
+        self.fault = fault
+        self._read, self._lines, self._number, self._start = read, lines, first, 0
+
+    def __next__(self) -> _Item:
+        if self._start == len(self._lines):
+            if self.fault is not None:
+                raise self.fault
+            raise StopIteration
+        end = self._lines.index(b"\n", self._start) + 1
+        item = self._read(self._lines[self._start:end], self._number)  # (if this fails, so it does the next time)
+        self._start, self._number = end, self._number + 1
+        return item
+
+
+class Entries(Listing[Entry]):
+    """The entries of a measurement list, or of one that is damaged those before the fault, which is raised then."""
+
+
+class Events(Listing[Event]):
+    """The events of a firmware event log, or of one that is damaged those before the fault, which is raised then.
+
+    `algorithms` are those that the header declares."""
+
+    def __init__(self, read: Callable[[bytes, int], Event], lines: bytes, first: int, fault: Optional[Refused],
+                 algorithms: Tuple[LogAlgorithm, ...]):
+        super().__init__(read, lines, first, fault)
+        self.algorithms = algorithms

@@ -17,19 +17,35 @@ ROOT = Path(__file__).resolve().parents[3]
 sys.path.insert(0, str(ROOT / "bindings/python"))
 
 import ima_verify
-from ima_verify import _library, _texts
+from ima_verify import _answers, _library
 
 LOG, LIST, EXPECTED, ASCII = (
     (ROOT / "samples/real-boot" / name).read_bytes() for name in ("firmware.log", "ima.list", "expected.txt", "ima.ascii")
 )
-REPORT = b"events 1 locality 0\nentries 3\nboot_aggregate good\nsha256 10 match\nverdict match\n"
-DIFFERING = b"events 1 locality 0\nentries 3\nboot_aggregate good\nsha256 0 differ " + 64 * b"0" + b"\nverdict differ\n"
-PLACES = b"sha256 8 at reset\nsha256 4 after event 18\nsha256 10 after entry 98\nlocated\n"
-NOT_LOCATED = b"sha256 8 at reset\nsha256 23 nowhere\nsha1 10 absent\nnot located\n"
-REQUIRED = REPORT.replace(b"entries 3\n", b"entries 3\ncompared 1\n")
-LIST_REPORT = b"entries 3\ncompared 1\nsha256 10 match\nverdict match\n"
-LACKING = REQUIRED.replace(b"verdict match", b"sha1 4 missing\nsha256 0 missing\nverdict differ")
-REGISTER = b"sha1 4 " + 40 * b"a" + b"\n"
+REPORT = (b'{"events":1,"locality":0,"entries":3,"boot_aggregate":"good",'
+          b'"registers":[{"bank":"sha256","register":10,"state":"match"}],"verdict":"match"}\n')
+VALUE = b'"state":"differ","value":"' + 64 * b"0" + b'"'
+DIFFERING = REPORT.replace(b'"state":"match"', VALUE).replace(b'"verdict":"match"', b'"verdict":"differ"')
+PLACES = (b'{"registers":[{"bank":"sha256","register":8,"place":"reset"},{"bank":"sha256","register":4,"place":"event","number":18},'
+          b'{"bank":"sha256","register":10,"place":"entry","number":98}],"located":true}\n')
+NOT_LOCATED = (b'{"registers":[{"bank":"sha256","register":8,"place":"reset"},{"bank":"sha256","register":23,"place":"nowhere"},'
+               b'{"bank":"sha1","register":10,"place":"absent"}],"located":false}\n')
+LIST_REPORT = b'{"entries":3,"registers":[{"bank":"sha256","register":10,"state":"match"}],"verdict":"match"}\n'
+MISSING = b'{"bank":"sha1","register":4,"state":"missing"}'
+LACKING = REPORT.replace(b'}],"verdict":"match"', b"}," + MISSING + b'],"verdict":"differ"')
+LACKING_PLACES = PLACES.replace(b'}],"located":true', b'},{"bank":"sha1","register":4,"place":"missing"}],"located":false')
+REGISTERS = b'{"registers":[{"bank":"sha1","register":4,"value":"' + 40 * b"a" + b'"}]}\n'
+LINES = b"sha1 4 " + 40 * b"a" + b"\n"
+ENTRY = (b'{"entry":0,"register":10,"template":"ima-sig","template_digest":"' + 40 * b"1" + b'","violation":false,"genuine":true,'
+         b'"algorithm":"sha1","digest":"' + 40 * b"a" + b'","path":"/a","signature":""}\n')
+OTHER = (b'{"entry":1,"register":10,"template_hex":"ff0a","template_digest":"' + 40 * b"0" + b'","violation":true,"genuine":true,'
+         b'"payload":"00"}\n')
+ALGORITHMS = b'{"algorithms":[{"id":18,"size":1},{"name":"sha1","id":4,"size":20}]}\n'
+EVENT = (b'{"event":1,"register":0,"type":"EV_SEPARATOR","type_number":4,"digests":{"sha1":"' + 40 * b"a" + b'"},"data":"00"}\n')
+FAULT = b'{"fault":{"kind":"list","number":1,"entry":2,"message":"refused: list fault 1 at entry 2"}}\n'
+LOG_FAULT = b'{"fault":{"kind":"log","number":1,"event":2,"message":"refused: log fault 1 at event 2"}}\n'
+MEMORY = b'{"fault":{"kind":"memory","message":"failed: memory"}}\n'
+REQUEST = b'{"fault":{"kind":"command_line","message":"refused: command line"}}\n'
 
 
 class Counted:
@@ -75,11 +91,18 @@ class Buffers(unittest.TestCase):
         self.assertEqual(counted.calls, 1)
 
     def test_report_longer_than_the_buffer(self):
-        status, text = _library.ask(ima_verify._LIBRARY.ima_verify, (LOG, LIST, EXPECTED), 100)
-        self.assertEqual(_texts.read_verdict(status, text), ima_verify.verify(LOG, LIST, EXPECTED))
+        status, text = _library.ask(ima_verify._LIBRARY.ima_verify_json, (LOG, LIST, EXPECTED, b"sha256:0"), 100)
+        self.assertEqual(_answers.read_verdict(status, text), ima_verify.verify(LOG, LIST, EXPECTED))
+
+    def test_entries_longer_than_the_buffer(self):
+        # (a path of control bytes is six times as long as JSON)
+        payload = (26).to_bytes(4, "little") + b"sha1:\0" + bytes(20) + (4001).to_bytes(4, "little") + 4000 * b"\1" + b"\0"
+        entry = (10).to_bytes(4, "little") + bytes(20) + b"\6\0\0\0ima-ng" + len(payload).to_bytes(4, "little") + payload
+        self.assertEqual([found.path for found in ima_verify.entries(3 * entry)], 3 * [4000 * b"\1"])
 
     def test_line_of_a_fault_longer_than_the_buffer(self):
-        self.assertEqual(_library.ask(ima_verify._LIBRARY.ima_registers, (b"",), 5), (2, b"refused: log fault 1 at event 0\n"))
+        line = b'{"fault":{"kind":"log","number":1,"event":0,"message":"refused: log fault 1 at event 0"}}\n'
+        self.assertEqual(_library.ask(ima_verify._LIBRARY.ima_registers_json, (b"",), 5), (2, line))
 
     def test_first_buffer_is_large_enough(self):
         # Each entry is the smallest of its template, so its text is the longest for its size; the last has a long payload.
@@ -92,131 +115,283 @@ class Buffers(unittest.TestCase):
             self.assertEqual(counted.calls, 1)
         every_register = "".join(f"{name} {number} {digits * '1'}\n" for name, digits in
                                  (("sha1", 40), ("sha256", 64), ("sha384", 96), ("sha512", 128)) for number in range(24)).encode()
-        counted = Counted(ima_verify._LIBRARY.ima_verify)
-        status, text = _library.ask(counted, (LOG, LIST, every_register), ima_verify._ROOM)
-        self.assertEqual((status, counted.calls, len(_texts.read_verdict(status, text).rows)), (1, 1, 96))
-        self.assertLess(128 + 96 * len("sha512 23 differ " + 128 * "0" + "\n"), ima_verify._ROOM)
+        counted = Counted(ima_verify._LIBRARY.ima_verify_json)
+        status, text = _library.ask(counted, (LOG, LIST, every_register, b"sha1:0"), ima_verify._ROOM)
+        self.assertEqual((status, counted.calls, len(_answers.read_verdict(status, text).rows)), (1, 1, 96))
+        row = '{"bank":"sha512","register":23,"state":"differ","value":"' + 128 * "0" + '"},'
+        self.assertLess(256 + 96 * len(row), ima_verify._ROOM)
 
 
 class Answers(unittest.TestCase):
     """What a library may answer, and what not."""
 
-    def test_right_answers_are_read(self):
-        self.assertTrue(_texts.read_verdict(0, REPORT).matches)
-        self.assertEqual(_texts.read_verdict(1, DIFFERING).rows[0].value, bytes(32))
-        self.assertTrue(_texts.read_places(0, PLACES).located)
-        self.assertFalse(_texts.read_places(1, NOT_LOCATED).located)
-        self.assertEqual(_texts.read_registers(0, REGISTER)[0].value, 20 * b"\xaa")
-        self.assertEqual(_texts.read_expected(0, REGISTER), REGISTER)
-
-    def test_right_answers_with_required_registers_are_read(self):
-        self.assertEqual(_texts.read_required_verdict(0, REQUIRED).compared, 1)
-        lacking = _texts.read_required_verdict(1, LACKING)
-        self.assertEqual((lacking.matches, lacking.compared, len(lacking.rows)), (False, 1, 3))
-        self.assertTrue(_texts.read_required_places(0, PLACES).located)
-        missing = _texts.read_required_places(1, PLACES.replace(b"located", b"sha256 0 missing\nnot located"))
-        self.assertEqual((missing.located, missing.rows[-1].place), (False, ima_verify.Place.MISSING))
-
-    def check_wrong(self, read, status, text):
+    def check_wrong(self, read, status, text, *more):
         with self.assertRaises(ima_verify.LibraryError, msg=f"{status} {text!r}"):
-            read(status, text)
+            read(status, text, *more)
+
+    def check_changes(self, read, status, text, changes, *more):
+        for old, new in changes:
+            self.assertIn(old, text)
+            self.check_wrong(read, status, text.replace(old, new, 1), *more)
+
+    def test_right_answers_are_read(self):
+        self.assertTrue(_answers.read_verdict(0, REPORT).matches)
+        self.assertEqual(_answers.read_verdict(1, DIFFERING).rows[0].value, bytes(32))
+        self.assertTrue(_answers.read_places(0, PLACES).located)
+        self.assertFalse(_answers.read_places(1, NOT_LOCATED).located)
+        self.assertEqual(_answers.read_registers(0, REGISTERS)[0].value, 20 * b"\xaa")
+        self.assertEqual(_answers.read_expected(0, LINES + LINES), LINES + LINES)
+
+    def test_right_answers_with_missing_registers_are_read(self):
+        lacking = _answers.read_verdict(1, LACKING)
+        self.assertEqual((lacking.matches, lacking.compared, len(lacking.rows)), (False, 1, 2))
+        places = _answers.read_places(1, LACKING_PLACES)
+        self.assertEqual((places.located, places.rows[-1].place), (False, ima_verify.Place.MISSING))
+
+    def test_members_may_stand_in_any_order_and_be_more(self):
+        text = b'{"x":[null],' + REPORT[1:-2].replace(b'"events":1,', b"") + b',"events":1}\n'
+        self.assertEqual(_answers.read_verdict(0, text).rows, _answers.read_verdict(0, REPORT).rows)
 
     def test_wrong_reports_are_no_verdicts(self):
-        for old, new in (
-            (b"", b" "), (b"events 1", b"events 01"), (b"events 1", b"events +1"), (b"events 1", b"events \xc2\xb2"),
-            (b"locality 0", b"locality 256"), (b"entries 3", b"entries -3"), (b"entries 3", b"entries  3"), (b"entries 3\n", b""),
-            (b"good", b"fine"), (b"good", b"wrong"), (b"sha256", b"md5"), (b" 10 ", b" 24 "), (b" 10 match", b" 10 match "),
-            (b"sha256 10 match", b"sha256 10 differ"), (b"sha256 10 match", b"sha256 10 differ " + 62 * b"0"),
-            (b"sha256 10 match", b"sha256 10 absent"), (b"sha256 10 match", b"sha256 10 match " + 64 * b"0"),
-            (b"verdict match\n", b"verdict match"), (b"verdict match\n", b"verdict match\n\n"),
-            (b"verdict match", b"verdict differ"), (b"verdict match\n", b""), (REPORT, b""),
-            (REPORT, b"verdict match\n"), (b"\n", b"\r\n"), (b"match\n", b"match\0\n"),
-        ):
-            self.check_wrong(_texts.read_verdict, 0, REPORT.replace(old, new, 1))
-        self.check_wrong(_texts.read_verdict, 1, REPORT)
-        self.check_wrong(_texts.read_verdict, 0, DIFFERING)
-        for value in (63 * b"0" + b"A", 62 * b"0", 66 * b"0", b""):
-            self.check_wrong(_texts.read_verdict, 1, DIFFERING.replace(64 * b"0", value))
+        match = b'"state":"match"'
+        changes = (
+            (b'"events":1', b'"events":01'), (b'"events":1', b'"events":-1'), (b'"events":1', b'"events":1.0'),
+            (b'"events":1', b'"events":true'), (b'"events":1', b'"events":null'), (b'"events":1', b'"events":"1"'),
+            (b'"events":1', b'"events":18446744073709551616'), (b'"events":1,', b""), (b'"events":1', b'"events":1,"events":1'),
+            (b'"locality":0', b'"locality":256'), (b'"entries":3,', b""), (b'"entries":3', b'"entries":NaN'),
+            (b'"good"', b'"fine"'), (b'"good"', b'"wrong"'), (b'"good"', b"{}"), (b'"boot_aggregate":"good",', b""),
+            (b'"sha256"', b'"md5"'), (b'"bank":"sha256",', b""), (b":10,", b":24,"), (b":10,", b":-1,"), (b'"register":10,', b""),
+            (match, b'"state":"differ"'), (match, VALUE.replace(b"00", b"", 1)), (match, VALUE.replace(b"differ", b"match")),
+            (match, b'"state":"absent"'), (match, b'"state":"missing"'), (match, b'"state":"Match"'), (b"," + match, b""),
+            (b'"verdict":"match"', b'"verdict":"differ"'), (b',"verdict":"match"', b""), (b'"verdict":"match"', b'"verdict":true'),
+            (b'"registers":[', b'"registers":[1,'), (b'"registers":[', b'"registers":[[],'), (b'"registers"', b'"rows"'),
+            (b"}\n", b"}"), (b"}\n", b"}\n\n"), (b"}\n", b"\n"), (b"}\n", b"}}\n"), (b"}\n", b"}x\n"), (b"}\n", b"}\n{}\n"),
+            (b"match", b"match\xff"), (REPORT, b""), (REPORT, b"\n"), (REPORT, b"{}\n"), (REPORT, b"[]\n"), (REPORT, b"null\n"),
+            (REPORT, b'"match"\n'), (REPORT, b"0\n"), (REPORT, 100_000 * b"[" + b"\n"), (REPORT, FAULT), (REPORT, REPORT.rstrip() + REPORT),
+        )
+        self.check_changes(_answers.read_verdict, 0, REPORT, changes)
+        self.check_wrong(_answers.read_verdict, 1, REPORT)
+        self.check_wrong(_answers.read_verdict, 0, DIFFERING)
+        for size in range(len(REPORT)):
+            self.check_wrong(_answers.read_verdict, 0, REPORT[:size])
+        for value in (63 * b"0" + b"A", 62 * b"0", 66 * b"0", b"", 62 * b"0" + b" 0", 63 * b"0" + b"g"):
+            self.check_wrong(_answers.read_verdict, 1, DIFFERING.replace(64 * b"0", value))
 
-    def test_wrong_reports_with_required_registers_are_no_verdicts(self):
-        self.check_wrong(_texts.read_verdict, 0, REQUIRED)
-        self.check_wrong(_texts.read_required_verdict, 0, REPORT)
-        self.check_wrong(_texts.read_verdict, 1, LACKING.replace(b"compared 1\n", b""))
-        for old, new in (
-            (b"compared 1\n", b""), (b"compared 1", b"compared 3"), (b"compared 1", b"compared 0"), (b"compared 1", b"compared 01"),
-            (b"compared 1", b"compared"), (b"compared 1\nboot_aggregate good", b"boot_aggregate good\ncompared 1"),
-            (b"sha256 10 match\nsha1 4 missing", b"sha1 4 missing\nsha256 10 match"), (b"verdict differ", b"verdict match"),
-            (b"sha1 4 missing", b"sha1 4 missing " + 40 * b"0"), (b"sha1 4 missing", b"sha1 24 missing"),
-        ):
-            self.check_wrong(_texts.read_required_verdict, 1, LACKING.replace(old, new, 1))
-        self.check_wrong(_texts.read_required_verdict, 0, LACKING)
-        self.check_wrong(_texts.read_required_verdict, 0, LACKING.replace(b"verdict differ", b"verdict match"))
+    def test_wrong_reports_with_missing_registers_are_no_verdicts(self):
+        row = b'{"bank":"sha256","register":10,"state":"match"}'
+        self.check_changes(_answers.read_verdict, 1, LACKING, (
+            (row + b"," + MISSING, MISSING + b"," + row), (b'"verdict":"differ"', b'"verdict":"match"'),
+            (b'"missing"', b'"missing","value":"' + 40 * b"0" + b'"'), (b'"register":4', b'"register":24'),
+        ))
+        self.check_wrong(_answers.read_verdict, 0, LACKING)
+        self.check_wrong(_answers.read_verdict, 0, LACKING.replace(b'"differ"', b'"match"'))
+        self.check_wrong(_answers.read_verdict, 0, REPORT.replace(row, b""))
 
     def test_right_reports_on_a_list_alone_are_read(self):
-        verdict = _texts.read_list_verdict(0, LIST_REPORT)
+        verdict = _answers.read_list_verdict(0, LIST_REPORT)
         self.assertEqual((verdict.matches, verdict.entries, verdict.compared), (True, 3, 1))
         for old, new in (
-            (b"entries 3", b"entries 0"), (b"match\n", b"differ " + 64 * b"0" + b"\n"),
-            (b"1\nsha256 10 match", b"0\nsha256 10 missing"), (b"match\n", b"match\nsha1 4 missing\n"),
+            (b'"entries":3', b'"entries":0'), (b'"state":"match"', VALUE), (b'"state":"match"', b'"state":"missing"'),
+            (b"}]", b"}," + MISSING + b"]"),
         ):
-            text = LIST_REPORT.replace(old, new, 1).replace(b"verdict match", b"verdict differ")
-            self.assertFalse(_texts.read_list_verdict(1, text).matches)
-            self.check_wrong(_texts.read_list_verdict, 0, text)
-            self.check_wrong(_texts.read_list_verdict, 0, text.replace(b"verdict differ", b"verdict match"))
+            matching = LIST_REPORT.replace(old, new, 1)
+            text = matching.replace(b'"verdict":"match"', b'"verdict":"differ"')
+            self.assertFalse(_answers.read_list_verdict(1, text).matches)
+            self.check_wrong(_answers.read_list_verdict, 0, text)
+            self.check_wrong(_answers.read_list_verdict, 0, matching)
 
     def test_wrong_reports_on_a_list_alone_are_no_verdicts(self):
-        for old, new in (
-            (b"", b" "), (b"entries 3\n", b""), (b"entries 3", b"entries 03"), (b"compared 1\n", b""), (b"compared 1", b"compared 2"),
-            (b"compared 1", b"compared 01"), (b"sha256 10 match", b"sha256 24 match"), (b"sha256 10 match", b"sha256 10 absent"),
-            (b"compared 1\nsha256 10 match\n", b"compared 0\n"), (b"sha256 10", b"sha1 4 missing\nsha256 10"),
-            (b"verdict match", b"verdict differ"), (b"verdict match\n", b"verdict match"), (b"verdict match\n", b""),
-            (b"compared 1\n", b"compared 1\nboot_aggregate good\n"), (LIST_REPORT, b""), (LIST_REPORT, b"entries 3\n"),
+        row = b'{"bank":"sha256","register":10,"state":"match"}'
+        self.check_changes(_answers.read_list_verdict, 0, LIST_REPORT, (
+            (b'"entries":3,', b""), (b":10", b":24"), (row, b""), (row, MISSING + b"," + row),
+            (b'"verdict":"match"', b'"verdict":"differ"'), (b"}\n", b"}"), (b"\n", b""), (LIST_REPORT, b""),
+        ))
+        self.check_wrong(_answers.read_list_verdict, 1, LIST_REPORT)
+        absent = LIST_REPORT.replace(b'"state":"match"', b'"state":"absent"').replace(b'"verdict":"match"', b'"verdict":"differ"')
+        self.check_wrong(_answers.read_list_verdict, 1, absent)
+
+    def test_wrong_answers_are_no_places(self):
+        self.check_changes(_answers.read_places, 0, PLACES, (
+            (b'"reset"', b'"event"'), (b'"reset"', b'"reset","number":1'), (b',"number":18', b""), (b'"number":18', b'"number":"18"'),
+            (b'"entry"', b'"line"'), (b'"sha256"', b'"sha257"'), (b":4,", b":44,"), (b"}\n", b"}"), (b"true", b"false"),
+            (b"true", b"1"), (b"true", b'"true"'), (b',"located":true', b""), (b'"reset"', b'"nowhere"'), (PLACES, b""),
+        ))
+        missing = b'{"bank":"sha1","register":4,"place":"missing"}'
+        self.check_changes(_answers.read_places, 1, LACKING_PLACES, ((b",%b]" % missing, b"]"), (b"[", b"[%b," % missing)))
+        self.check_wrong(_answers.read_places, 1, PLACES)
+        self.check_wrong(_answers.read_places, 0, NOT_LOCATED)
+        self.check_wrong(_answers.read_places, 0, LACKING_PLACES)
+        self.check_wrong(_answers.read_places, 0, b'{"registers":[],"located":true}\n')
+
+    def test_wrong_answers_are_no_registers_and_no_lines(self):
+        self.check_changes(_answers.read_registers, 0, REGISTERS, (
+            (b"}\n", b"}"), (b"a", b"g"), (b"aa", b"AA"), (b'"sha1"', b'"sha256"'), (b',"value"', b',"digest"'), (b":4,", b":24,"),
+            (b'"registers"', b'"register"'), (REGISTERS, b""), (REGISTERS, LINES),
+        ))
+        self.check_wrong(_answers.read_registers, 1, REGISTERS)
+        for text in (b"", LINES[:-1], LINES + b"\n", LINES.replace(b"aa", b"", 1), LINES.replace(b"4", b"24"), REGISTERS, LINES + b"x\n"):
+            self.check_wrong(_answers.read_expected, 0, text)
+        self.check_wrong(_answers.read_expected, 1, LINES)
+        self.check_wrong(_answers.read_shown, 1, ASCII)
+        self.check_wrong(_answers.read_shown, 0, ASCII[:-1])
+
+
+class Listings(unittest.TestCase):
+    """What a library may answer of entries and events, and what not."""
+
+    def test_entries_are_read(self):
+        first, second = _answers.read_entries(0, ENTRY + OTHER, False)
+        sha1 = ima_verify.Algorithm.SHA1
+        self.assertEqual(first, ima_verify.Entry(0, 10, "ima-sig", 20 * b"\x11", False, True, sha1, 20 * b"\xaa", b"/a", b""))
+        self.assertEqual(second, ima_verify.Entry(1, 10, b"\xff\n", bytes(20), True, True, payload=b"\0"))
+        self.assertEqual(list(_answers.read_entries(0, b"", True)), [])
+
+    def test_events_are_read(self):
+        events = _answers.read_events(0, ALGORITHMS + EVENT)
+        log_algorithm = ima_verify.LogAlgorithm
+        self.assertEqual(events.algorithms, (log_algorithm(None, 18, 1), log_algorithm("sha1", 4, 20)))
+        digests = {ima_verify.Algorithm.SHA1: 20 * b"\xaa"}
+        self.assertEqual(list(events), [ima_verify.Event(1, 0, "EV_SEPARATOR", 4, digests, b"\0")])
+        self.assertEqual(list(_answers.read_events(0, ALGORITHMS)), [])
+        (nameless,) = _answers.read_events(0, ALGORITHMS + EVENT.replace(b'"type":"EV_SEPARATOR",', b""))
+        self.assertIsNone(nameless.type)
+
+    def check_faulty(self, listing, count):
+        self.assertEqual((listing.fault.number, listing.fault.place), (1, 2))
+        for _ in range(count):
+            next(listing)
+        for _ in range(2):
+            with self.assertRaises(ima_verify.Refused) as caught:
+                next(listing)
+            self.assertIs(caught.exception, listing.fault)
+
+    def test_what_stands_before_a_fault_comes_first(self):
+        self.check_faulty(_answers.read_entries(2, ENTRY + OTHER + FAULT, False), 2)
+        self.check_faulty(_answers.read_entries(2, FAULT, False), 0)
+        self.check_faulty(_answers.read_events(2, ALGORITHMS + EVENT + LOG_FAULT), 1)
+        self.check_faulty(_answers.read_events(2, ALGORITHMS + LOG_FAULT), 0)
+        with self.assertRaisesRegex(ima_verify.Refused, "^refused: log fault 1 at event 2$"):
+            _answers.read_events(2, LOG_FAULT)
+
+    def test_memory_that_ran_out_is_no_listing(self):
+        for text in (MEMORY, ENTRY + MEMORY, b"failed: memory\n"):
+            self.assertRaises(MemoryError, _answers.read_entries, 3, text, False)
+            self.assertRaises(MemoryError, _answers.read_events, 3, text)
+
+    def check_wrong(self, read, *words):
+        """Nothing is read, nor is it if one tries once more."""
+        def drained(listing):
+            with self.assertRaises(ima_verify.LibraryError):
+                next(listing)
+            return list(listing)
+
+        with self.assertRaises(ima_verify.LibraryError, msg=repr(words)):
+            drained(read(*words))
+
+    def test_wrong_answers_are_no_entries(self):
+        for words in (
+            (0, b"", False), (0, ENTRY, True), (0, ENTRY[:-1], False), (0, b"\n", False), (0, FAULT, False), (0, b"{}\n", False),
+            (0, b"\n" + ENTRY, False), (1, ENTRY, False), (1, b"", True), (2, ENTRY, False), (2, b"", False), (2, FAULT[:-1], False),
+            (2, FAULT + b"\n", False), (2, FAULT.replace(b'"entry":2', b'"entry":3'), False), (2, FAULT.replace(b'"entry":2,', b""), False),
+            (2, FAULT.replace(b'"number":1', b'"number":2'), False), (2, MEMORY, False), (2, b"refused: list fault 1 at entry 2\n", False),
+            (4, ENTRY, False), (-1, ENTRY, False),
         ):
-            self.check_wrong(_texts.read_list_verdict, 0, LIST_REPORT.replace(old, new, 1))
-        self.check_wrong(_texts.read_list_verdict, 1, LIST_REPORT)
-        absent = LIST_REPORT.replace(b"10 match", b"10 absent").replace(b"verdict match", b"verdict differ")
-        self.check_wrong(_texts.read_list_verdict, 1, absent)
-        for text in (REPORT, REQUIRED):
-            self.check_wrong(_texts.read_list_verdict, 0, text)
+            self.check_wrong(_answers.read_entries, *words)
+        for text in (ENTRY + ENTRY, OTHER, ENTRY + FAULT, ENTRY + OTHER[:-1], ENTRY + b"\n", ENTRY + b"null\n"):
+            with self.assertRaises(ima_verify.LibraryError):
+                list(_answers.read_entries(0, text, False))
 
-    def test_wrong_texts_with_required_registers_are_no_places(self):
-        missing = PLACES.replace(b"located", b"sha256 0 missing\nnot located")
-        self.check_wrong(_texts.read_places, 1, missing)
-        self.check_wrong(_texts.read_required_places, 0, missing)
-        self.check_wrong(_texts.read_required_places, 0, missing.replace(b"not located", b"located"))
-        self.check_wrong(_texts.read_required_places, 1, b"sha256 0 missing\n" + PLACES.replace(b"located", b"not located"))
-
-    def test_wrong_texts_are_no_places(self):
+    def test_wrong_lines_are_no_entries(self):
+        for member in (b'"entry":0,', b'"register":10,', b'"template":"ima-sig",', b'"violation":false,', b'"genuine":true,',
+                       b'"algorithm":"sha1",', b'"path":"/a",', b',"signature":""'):
+            self.assertIn(member, ENTRY)
+            self.check_wrong(_answers.read_entries, 0, ENTRY.replace(member, b""), False)
         for old, new in (
-            (b"at reset", b"at event"), (b"event 18", b"event"), (b"event 18", b"event 018"), (b"after entry", b"after line"),
-            (b"sha256 4", b"sha256 4 "), (b"sha256 4", b"sha257 4"), (b" 4 ", b" 44 "), (b"located\n", b"located"),
-            (b"located\n", b""), (b"located", b"not located"), (b"at reset", b"nowhere"), (PLACES, b""),
+            (b'"entry":0', b'"entry":1'), (b":10,", b":24,"), (b"ima-sig", b"ima-ng"), (b"false", b"true"), (b"false", b"0"),
+            (b"true", b"null"), (b"sha1", b"md5"), (b"aa", b"a"), (b"11", b"", ), (b'"/a"', b'"\\ud800"'), (b'"/a"', b'"/a\xff"'),
+            (b'"/a"', b'"/\na"'), (b'"path"', b'"path_hex"'), (b'"path":"/a"', b'"path":"/a","path_hex":"2f"'),
+            (b'"signature":""', b'"signature":"0"'),
+            (b'"signature":""', b'"signature":"","payload":""'), (b'"template":"ima-sig"', b'"template":null'),
         ):
-            self.check_wrong(_texts.read_places, 0, PLACES.replace(old, new, 1))
-        self.check_wrong(_texts.read_places, 1, PLACES)
-        self.check_wrong(_texts.read_places, 0, NOT_LOCATED)
+            self.assertIn(old, ENTRY)
+            self.check_wrong(_answers.read_entries, 0, ENTRY.replace(old, new, 1), False)
+        other = OTHER.replace(b'"entry":1', b'"entry":0')
+        self.assertEqual(len(list(_answers.read_entries(0, other, False))), 1)
+        for old, new in ((b'"genuine":true', b'"genuine":false'), (b'"violation":true', b'"violation":false'), (b',"payload":"00"', b""),
+                         (b'"ff0a"', b'"ff0"'), (b'"template_hex"', b'"name"')):
+            self.check_wrong(_answers.read_entries, 0, other.replace(old, new, 1), False)
 
-    def test_wrong_texts_are_no_registers_or_entries(self):
-        for text in (REGISTER[:-1], REGISTER + b"\n", REGISTER.replace(b"a", b"g"), REGISTER.replace(b"aa", b"", 1),
-                     b"sha1 4 \n"):
-            self.check_wrong(_texts.read_registers, 0, text)
-            self.check_wrong(_texts.read_expected, 0, text)
-        self.check_wrong(_texts.read_registers, 1, REGISTER)
-        self.check_wrong(_texts.read_expected, 0, b"")
-        self.check_wrong(_texts.read_entries, 1, ASCII)
-        self.check_wrong(_texts.read_entries, 0, ASCII[:-1])
+    def test_wrong_answers_are_no_events(self):
+        for words in ((0, b""), (0, EVENT), (0, ALGORITHMS[:-1]), (0, LOG_FAULT), (1, ALGORITHMS), (2, ALGORITHMS), (2, b""),
+                      (2, LOG_FAULT[:-1]), (2, LOG_FAULT.replace(b'"event":2', b'"event":1')), (2, EVENT + LOG_FAULT), (5, ALGORITHMS)):
+            self.check_wrong(_answers.read_events, *words)
+        for old, new in ((b'"algorithms"', b'"banks"'), (b'"size":20', b'"size":"20"'), (b'"id":4', b'"id":65536'), (b'"id":18,', b""),
+                         (b'"sha1"', b"1"), (b"[", b"[1,")):
+            self.check_wrong(_answers.read_events, 0, ALGORITHMS.replace(old, new, 1) + EVENT)
+        for old, new in (
+            (b'"event":1', b'"event":0'), (b'"event":1', b'"event":2'), (b'"event":1,', b""), (b'"register":0', b'"register":4294967296'),
+            (b'"EV_SEPARATOR"', b"4"), (b'"type_number":4,', b""), (b'"digests":', b'"digest":'), (b'"sha1"', b'"sm3"'), (b"aa", b"a"),
+            (b'"aa', b'"'), (b',"data":"00"', b""), (b'"data":"00"', b'"data":"0"'), (b"}\n", b"\n"), (b"}\n", b"}"),
+        ):
+            self.assertIn(old, EVENT)
+            self.check_wrong(_answers.read_events, 0, ALGORITHMS + EVENT.replace(old, new, 1))
+        for text in (EVENT + EVENT, EVENT + LOG_FAULT, EVENT + ALGORITHMS):
+            with self.assertRaises(ima_verify.LibraryError):
+                list(_answers.read_events(0, ALGORITHMS + text))
+
+
+class Failures(unittest.TestCase):
+    """What a library may answer in place of a result, and what not."""
+
+    def check_wrong(self, *words):
+        with self.assertRaises(ima_verify.LibraryError, msg=repr(words)):
+            _answers.raise_failure(*words)
+
+    def test_refusals_are_read(self):
+        for text, kind, number, place in (
+            (b'{"fault":{"kind":"log","number":2,"message":"refused: log fault 2"}}\n', "log", 2, None), (LOG_FAULT, "log", 1, 2),
+            (FAULT, "list", 1, 2), (FAULT.replace(b"list", b"replay"), "replay", 1, 2),
+            (b'{"fault":{"kind":"expected","number":1,"message":"refused: expected fault 1 at line 2"}}\n', "expected", 1, 2),
+            (b'{"fault":{"kind":"expected","number":6,"message":"refused: expected fault 6"}}\n', "expected", 6, None),
+        ):
+            with self.assertRaises(ima_verify.Refused) as caught:
+                _answers.raise_failure(2, text)
+            refused = caught.exception
+            self.assertEqual((refused.kind, refused.number, refused.place), (kind, number, place))
+            self.assertIn(f'"{refused.line}"', text.decode())
 
     def test_wrong_refusals_are_no_refusals(self):
+        for text in (
+            b"", FAULT[:-1], FAULT + b"\n", FAULT + FAULT, ENTRY + FAULT, REPORT, MEMORY, REQUEST, b"{}\n",
+            b'{"fault":{}}\n', b'{"fault":1}\n',
+            FAULT.replace(b'"list"', b'"log"'), FAULT.replace(b'"number":1', b'"number":2'), FAULT.replace(b'"entry":2', b'"entry":1'),
+            FAULT.replace(b'"entry":2,', b""), FAULT.replace(b'"kind":"list",', b""), FAULT.replace(b"fault 1", b"fault 01"),
+            FAULT.replace(b'"message"', b'"line"'), LOG_FAULT.replace(b'"event":2,', b""), LOG_FAULT.replace(b" at event 2", b""),
+            b'{"fault":{"kind":"job","number":7,"message":"refused: job 0 book fault 7"}}\n', b"refused: list fault 1 at entry 2\n",
+        ):
+            self.check_wrong(2, text)
+        for status in (-1, 4, 5, 1 << 30):
+            self.check_wrong(status, REPORT)
+            self.check_wrong(status, FAULT)
+
+    def test_wrong_refusals_of_texts_are_no_refusals(self):
         for text in (b"", b"refused: log fault 1 at event 0", b"refused: log fault 1 at entry 0\n", b"refused: list fault 1\n",
                      b"refused: replay fault 1 at entry 5\n\n", b"refused: expected fault 1 at entry 5\n", b"refused: job 1\n",
-                     b"refused: command line\n", b"refused: log fault  1\n", b"failed: memory\n", b"refused: log fault \xb2\n"):
-            self.check_wrong(_texts.raise_failure, 2, text)
-        self.check_wrong(_texts.raise_failure, 3, b"refused: log fault 2\n")
-        for status in (-1, 4, 5, 1 << 30):
-            self.check_wrong(_texts.raise_failure, status, REPORT)
+                     b"refused: command line\n", b"refused: log fault  1\n", b"failed: memory\n", b"refused: log fault \xb2\n", FAULT):
+            with self.assertRaises(ima_verify.LibraryError, msg=repr(text)):
+                _answers.raise_failure_of_text(2, text)
+        self.assertRaises(ima_verify.Refused, _answers.raise_failure_of_text, 2, b"refused: expected fault 1 at line 5\n")
+
+    def test_wrong_request_is_a_value_error_only_where_there_is_one(self):
+        self.assertRaisesRegex(ValueError, "^not of its form: 'x'$", _answers.raise_failure, 2, REQUEST, "x")
+        self.assertRaisesRegex(ValueError, "^not of its form: 'x'$", _answers.raise_failure_of_text, 2, b"refused: command line\n", "x")
+        self.check_wrong(2, REQUEST[:-1], "x")
+        self.check_wrong(5, REQUEST, "x")
 
     def test_no_memory_is_a_memory_error(self):
-        self.assertRaises(MemoryError, ima_verify._answer, answering(3, b"failed: memory\n"), (LOG,), 100)
+        for text in (MEMORY, b"failed: memory\n", b""):
+            self.assertRaises(MemoryError, _answers.raise_failure, 3, text)
+            self.assertRaises(MemoryError, _answers.raise_failure_of_text, 3, text)
 
     def test_sizes_that_cannot_be_are_errors(self):
         for status, text, needed in (

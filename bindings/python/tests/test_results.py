@@ -3,12 +3,12 @@
 From bindings/python: IMA_VERIFY_LIBRARY=/path/to/libima_verify.so python3 -m unittest discover tests"""
 
 import array
-import os
+import hashlib
 import re
-import subprocess
 import sys
 import threading
 import unittest
+from itertools import zip_longest
 from pathlib import Path
 
 ROOT = Path(__file__).resolve().parents[3]
@@ -16,8 +16,8 @@ sys.path[:0] = [str(ROOT / "bindings/python"), str(ROOT / "bench")]
 
 import ima_verify
 import inputs
-from ima_verify import Algorithm, BootAggregate, Kind, Place, PlaceRow, Register, Row, State
-from reference.measurement_list import list_spelling, list_text
+from ima_verify import Algorithm, BootAggregate, Entry, Event, Kind, Place, PlaceRow, Register, Row, State
+from reference.measurement_list import list_spelling, list_text, read_list
 from reference.registers import SHA1, SHA256
 from reference.verdict import locate
 
@@ -51,9 +51,9 @@ class Sample(unittest.TestCase):
     def test_verdict_on_the_sample_is_a_match(self):
         verdict = ima_verify.verify(LOG, LIST, EXPECTED)
         rows = tuple(Row(row.algorithm, row.register, State.MATCH) for row in registers_in(EXPECTED))
-        lines = ["events 24 locality 0", "entries 99", "boot_aggregate good"]
-        lines += [f"sha256 {number} match" for number in range(24)] + ["verdict match", ""]
-        self.assertEqual(verdict, ima_verify.Verdict(24, 0, 99, BootAggregate.GOOD, rows, True, "\n".join(lines)))
+        lines = ",".join(f'{{"bank":"sha256","register":{number},"state":"match"}}' for number in range(24))
+        line = f'{{"events":24,"locality":0,"entries":99,"boot_aggregate":"good","registers":[{lines}],"verdict":"match"}}'
+        self.assertEqual(verdict, ima_verify.Verdict(24, 0, 99, BootAggregate.GOOD, rows, True, line))
         self.assertTrue(verdict)
         self.assertEqual(len(rows), 24)
 
@@ -102,7 +102,6 @@ class Required(unittest.TestCase):
             verdict, places = (function(LOG, LIST, EXPECTED, require=require) for function in (ima_verify.verify, ima_verify.locate))
             self.assertEqual((verdict.matches, verdict.compared, verdict.entries), (True, 24, 99))
             self.assertEqual(verdict.rows, ima_verify.verify(LOG, LIST, EXPECTED).rows)
-            self.assertEqual(verdict.text.splitlines()[2], "compared 24")
             self.assertEqual(places, ima_verify.locate(LOG, LIST, EXPECTED))
 
     def test_required_register_that_is_not_expected_is_missing(self):
@@ -152,6 +151,28 @@ class Required(unittest.TestCase):
         self.assertRaises(TypeError, ima_verify.verify, LOG, LIST, EXPECTED, "sha256:10")
 
 
+class NothingRequired(unittest.TestCase):
+    """Without `require` all expected registers count, and no others."""
+
+    BANKS = "".join(f"{bank.value} {number} {ZERO[bank]}\r\n" for bank in Algorithm for number in range(24))
+
+    def test_registers_that_are_expected_have_rows(self):
+        turned = b"\n\n" + b"".join(EXPECTED.splitlines(True)[::-1])
+        for text in (EXPECTED, EXPECTED.splitlines(True)[4], turned, self.BANKS, memoryview(EXPECTED)):
+            verdict, places = ima_verify.verify(LOG, LIST, text), ima_verify.locate(LOG, LIST, text)
+            lines = [line.split() for line in (text.encode() if isinstance(text, str) else bytes(text)).splitlines() if line]
+            wanted = [(bank.decode(), int(number)) for bank, number, _ in lines]
+            self.assertEqual([(row.algorithm.value, row.register) for row in verdict.rows], wanted)
+            self.assertEqual([(row.algorithm.value, row.register) for row in places.rows], wanted)
+            self.assertNotIn(State.MISSING, [row.state for row in verdict.rows])
+
+    def test_texts_of_another_form_are_refused(self):
+        for text, place in (("sha256 10", 1), (" sha256 10 " + 64 * "0", 1), (EXPECTED + b"x", 25), ("sha256 10 0\n" * 100, 1)):
+            with self.assertRaises(ima_verify.Refused) as caught:
+                ima_verify.verify(LOG, LIST, text)
+            self.assertEqual((caught.exception.kind, caught.exception.place), (Kind.EXPECTED, place))
+
+
 class ListAlone(unittest.TestCase):
     """A list that is compared without a log. Register 10 of the sample is the list's alone."""
 
@@ -159,10 +180,20 @@ class ListAlone(unittest.TestCase):
 
     def test_register_of_the_list_matches(self):
         row = Row(Algorithm.SHA256, 10, State.MATCH)
-        wanted = ima_verify.ListVerdict(99, (row,), True, "entries 99\ncompared 1\nsha256 10 match\nverdict match\n")
+        line = '{"entries":99,"registers":[{"bank":"sha256","register":10,"state":"match"}],"verdict":"match"}'
+        wanted = ima_verify.ListVerdict(99, (row,), True, line)
         for listed, expected, require in ((LIST, self.TENTH, "sha256:10"), (bytearray(LIST), self.TENTH.decode(), b"sha256:10")):
             verdict = ima_verify.replay(listed, expected, require=require)
             self.assertEqual((verdict, bool(verdict), verdict.compared), (wanted, True, 1))
+
+    def test_registers_after_the_list_alone(self):
+        found = {register.algorithm: register for register in ima_verify.list_registers(LIST)}
+        self.assertEqual({register.register for register in found.values()}, {10})
+        self.assertEqual((len(ima_verify.list_registers(LIST)), list(found)), (4, list(Algorithm)))
+        self.assertEqual(f"sha256 10 {found[Algorithm.SHA256].value.hex()}\n".encode(), self.TENTH)
+        self.assertEqual(ima_verify.list_registers(b""), ())
+        with self.assertRaisesRegex(ima_verify.Refused, "^refused: replay fault 1 at entry 5$"):
+            ima_verify.list_registers(CHANGED)
 
     def test_registers_of_the_firmware_differ(self):
         verdict = ima_verify.replay(LIST, EXPECTED, require="sha256:0-23")
@@ -256,18 +287,188 @@ class ExpectedRegisters(unittest.TestCase):
         self.assertRaises(TypeError, ima_verify.expected, None)
 
 
-class Page(unittest.TestCase):
-    """The example of README.md."""
+def number(value):
+    return value.to_bytes(4, "little")
 
-    def test_example_prints_the_sample(self):
-        _, program, _ = re.split("```(?:python)?\\n", (ROOT / "bindings/python/README.md").read_text())
-        environment = {**os.environ, "PYTHONPATH": str(ROOT / "bindings/python")}
-        words = [sys.executable, "-B", "-c", program]
-        ended = subprocess.run(words, env=environment, cwd=ROOT, stdout=subprocess.PIPE, timeout=60)
-        first, *places = ended.stdout.decode().splitlines()
-        self.assertEqual(first, "True 99 []")
-        self.assertEqual([line.split()[:2] for line in places], [["sha256", str(number)] for number in range(24)])
-        self.assertEqual(places[10], "sha256 10 entry 98")
+
+def with_length(data):
+    return number(len(data)) + data
+
+
+def ng(algorithm, digest, path):
+    """The payload of `ima-ng`."""
+    return with_length(algorithm + b":\0" + digest) + with_length(path + b"\0")
+
+
+def entry(template, payload, register=10, template_digest=None):
+    """An entry of a list. Its template digest is that of the payload, which is not the one that `ima` has."""
+    template_digest = hashlib.sha1(payload).digest() if template_digest is None else template_digest
+    return number(register) + template_digest + with_length(template) + (payload if template == b"ima" else with_length(payload))
+
+
+class Entries(unittest.TestCase):
+    """Entries of all kinds, with values by hand."""
+
+    NAMES = (b"/a\nb", b"/a\n0 b'/sbin/init'", b'/"\\\x1b[2J\x7f', b"/\xc3\xa9\xe2\x80\xa8\xf0\x9f\x98\x80", b"/\xff", b"/\xed\xa0\x80", b"/\xc3",
+             b"", b"/}\n{", b" ", b"/" + 5000 * b"\1", b"path_hex", b"/\\u0000")
+
+    def check(self, data, *wanted):
+        self.assertEqual(tuple(ima_verify.entries(data)), wanted)
+
+    def test_entries_of_the_sample_are_the_kernels_text(self):
+        lines = b""
+        for found in ima_verify.entries(LIST):
+            words = b"%2d" % found.register, found.template_digest.hex().encode(), found.template.encode()
+            lines += b" ".join((*words, f"{found.algorithm.value}:{found.digest.hex()}".encode(), found.path)) + b"\n"
+            self.assertEqual((found.genuine, found.signature, found.payload), (True, None, None))
+            self.assertEqual(found.violation, found.number in (93, 94, 97))
+        self.assertEqual(lines, ASCII)
+        self.assertEqual([found.number for found in ima_verify.entries(LIST)], list(range(99)))
+
+    def test_templates_that_are_known_have_fields(self):
+        sha1, sha512 = 20 * b"\1", 64 * b"\2"
+        payloads = (ng(b"sha512", sha512, b"/x"), ng(b"sha1", sha1, b"/y") + with_length(b"\3\0\xff"),
+                    ng(b"sha1", sha1, b"/z") + with_length(b""))
+        digest_of_ima = hashlib.sha1(sha1 + b"/w".ljust(256, b"\0")).digest()
+        digests = [hashlib.sha1(payload).digest() for payload in payloads]
+        self.check(
+            entry(b"ima-ng", payloads[0], 0) + entry(b"ima-sig", payloads[1], 23) + entry(b"ima-sig", payloads[2])
+            + entry(b"ima", sha1 + with_length(b"/w"), 10, digest_of_ima),
+            Entry(0, 0, "ima-ng", digests[0], False, True, Algorithm.SHA512, sha512, b"/x"),
+            Entry(1, 23, "ima-sig", digests[1], False, True, Algorithm.SHA1, sha1, b"/y", b"\3\0\xff"),
+            Entry(2, 10, "ima-sig", digests[2], False, True, Algorithm.SHA1, sha1, b"/z", b""),
+            Entry(3, 10, "ima", digest_of_ima, False, True, Algorithm.SHA1, sha1, b"/w"),
+        )
+
+    def test_other_payloads_are_whole(self):
+        payload = ng(b"sha1", 20 * b"\1", b"/x")
+        digest = hashlib.sha1(payload).digest()
+        for template in (b"ima-modsig", b"ima-sig", b"ima-ng\0", b"ima\0", b"", b"\xff\n", b"ima-ng\n", b'"', b"\xc3\xa9"):
+            name = template if template == b"\xff\n" else template.decode()
+            self.check(entry(template, payload), Entry(0, 10, name, digest, False, True, payload=payload))
+        for payload in (b"", payload[:-1], payload + b"x", ng(b"md5", bytes(16), b"/x"), ng(b"sha256", bytes(20), b"/x"),
+                        ng(b"sha1", bytes(20), b"/\0x"), b'"\n'):
+            self.check(entry(b"ima-ng", payload), Entry(0, 10, "ima-ng", hashlib.sha1(payload).digest(), False, True, payload=payload))
+
+    def test_renamed_template_does_not_pass_for_another(self):
+        """The name is no part of what the template digest covers: an entry may be renamed, and stays genuine."""
+        signed = ng(b"sha1", 20 * b"\1", b"/x") + with_length(b"\3")
+        digest = hashlib.sha1(signed).digest()
+        self.check(entry(b"ima-sig", signed) + entry(b"ima-ng", signed) + entry(b"ima-new", signed),
+                   Entry(0, 10, "ima-sig", digest, False, True, Algorithm.SHA1, 20 * b"\1", b"/x", b"\3"),
+                   Entry(1, 10, "ima-ng", digest, False, True, payload=signed),
+                   Entry(2, 10, "ima-new", digest, False, True, payload=signed))
+
+    def test_violation_may_have_a_digest(self):
+        known = hashlib.sha256(b"abc").digest()
+        payload = ng(b"sha256", known, b"/x")
+        self.check(entry(b"ima-ng", payload, 10, bytes(20)) + entry(b"ima-new", b"\1", 10, bytes(20)),
+                   Entry(0, 10, "ima-ng", bytes(20), True, True, Algorithm.SHA256, known, b"/x"),
+                   Entry(1, 10, "ima-new", bytes(20), True, True, payload=b"\1"))
+
+    def test_forged_entries_are_not_genuine(self):
+        payload = ng(b"sha1", 20 * b"\1", b"/x")
+        self.check(entry(b"ima-ng", payload, 10, 20 * b"\5"),
+                   Entry(0, 10, "ima-ng", 20 * b"\5", False, False, Algorithm.SHA1, 20 * b"\1", b"/x"))
+        self.assertEqual([found.number for found in ima_verify.entries(CHANGED) if not found.genuine], [5])
+
+    def test_paths_are_their_bytes(self):
+        data = b"".join(entry(b"ima-ng", ng(b"sha1", bytes(20), path)) for path in self.NAMES)
+        self.assertEqual(tuple(found.path for found in ima_verify.entries(data)), self.NAMES)
+        self.assertEqual([found.number for found in ima_verify.entries(data)], list(range(len(self.NAMES))))
+
+    def test_entries_are_those_of_the_reference(self):
+        """The sample's entries, and entries with each byte of one changed."""
+        first = entry(b"ima-sig", ng(b"sha1", 20 * b"\1", b"/y") + with_length(b"\3"))
+        places = [at for at in range(4, len(first)) if not 24 <= at < 28 and not 35 <= at < 39]  # (not those of lengths)
+        data = LIST + b"".join(first[:at] + bytes([first[at] ^ 1]) + first[at + 1:] for at in places)
+        for number, (found, wanted) in enumerate(zip_longest(ima_verify.entries(data), read_list(data))):
+            fields = wanted.fields()
+            self.assertEqual((found.number, found.register, found.template_digest), (number, wanted.register, wanted.template_digest))
+            self.assertEqual(found.template.encode() if isinstance(found.template, str) else found.template, wanted.template)
+            self.assertEqual((found.violation, found.genuine), (wanted.is_violation, wanted.is_genuine))
+            self.assertEqual(found.payload, wanted.payload if fields is None else None)
+            if fields is not None:
+                self.assertEqual((found.algorithm.value, found.digest, found.path), (fields.algorithm.name, fields.digest, fields.path))
+                self.assertEqual(found.signature, fields.signature if wanted.template == b"ima-sig" else None)
+
+    def test_damaged_list_gives_what_stands_before_the_fault(self):
+        for data, count, line in (
+            (LIST[:-1], 98, "refused: list fault 1 at entry 98"), (LIST + b"x", 99, "refused: list fault 1 at entry 99"),
+            (b"x", 0, "refused: list fault 1 at entry 0"),
+            (LIST[:-LAST_ENTRY_SIZE] + number(24) + LIST[4 - LAST_ENTRY_SIZE:], 98, "refused: list fault 2 at entry 98"),
+            (LIST + entry(b"ima", bytes(20) + with_length(256 * b"x")), 99, "refused: list fault 3 at entry 99"),
+        ):
+            listed = ima_verify.entries(data)
+            self.assertEqual(listed.fault.line, line)
+            found = []
+            with self.assertRaises(ima_verify.Refused) as caught:
+                for item in listed:
+                    found.append(item)
+            self.assertEqual((caught.exception, len(found)), (listed.fault, count))
+            self.assertEqual(found, list(ima_verify.entries(LIST))[:count])
+
+    def test_fault_is_known_to_those_who_stop(self):
+        whole, damaged = ima_verify.entries(LIST), ima_verify.entries(LIST[:-1])
+        self.assertEqual(next(whole), next(damaged))
+        self.assertEqual((whole.fault, damaged.fault.place), (None, 98))
+
+    def test_list_without_entries_has_none(self):
+        for empty in (b"", bytearray(), memoryview(b"")):
+            listed = ima_verify.entries(empty)
+            self.assertEqual((list(listed), listed.fault), ([], None))
+
+
+class LogEvents(unittest.TestCase):
+    """The events of a log, with values by hand."""
+
+    ZEROS = {Algorithm.SHA1: bytes(20)}
+    HEADER = (number(0) + number(3) + bytes(20) + with_length(
+        b"Spec ID Event03\0" + number(0) + b"\0\2\0\2" + number(2) + b"\x12\0\1\0" + b"\4\0\x14\0" + b"\0"))
+
+    def event(self, register, type, data, digests=b"\4\0" + bytes(20), count=1):
+        return number(register) + number(type) + number(count) + digests + with_length(data)
+
+    def test_events_of_the_sample(self):
+        events = ima_verify.events(LOG)
+        self.assertEqual(events.algorithms, (ima_verify.LogAlgorithm("sha256", 11, 32),))
+        first, *found = events
+        # (the first event of the file, after the header of 65 bytes: register 0, type 8, one digest of SHA-256, 2 bytes of data)
+        self.assertEqual(LOG[65:79], number(0) + number(8) + number(1) + b"\x0b\0")
+        self.assertEqual(first, Event(1, 0, "EV_S_CRTM_VERSION", 8, {Algorithm.SHA256: LOG[79:111]}, LOG[115:117]))
+        self.assertEqual([event.number for event in found], list(range(2, 25)))
+        register = bytes(32)
+        for event in (first, *found):
+            if event.register == 4:
+                register = hashlib.sha256(register + event.digests[Algorithm.SHA256]).digest()
+        self.assertIn(Register(Algorithm.SHA256, 4, register), registers_in(EXPECTED))
+
+    def test_events_without_names_or_digests(self):
+        log = self.HEADER + self.event(0x01020304, 3, b"", b"", 0)
+        log += self.event(0, 255, b'"\n', b"\x12\0\xab\4\0" + bytes(20), 2) + self.event(23, 4, bytes(9))
+        events = ima_verify.events(bytearray(log))
+        log_algorithm = ima_verify.LogAlgorithm
+        self.assertEqual(events.algorithms, (log_algorithm(None, 18, 1), log_algorithm("sha1", 4, 20)))
+        self.assertEqual(list(events), [
+            Event(1, 0x01020304, "EV_NO_ACTION", 3, {}, b""), Event(2, 0, None, 255, self.ZEROS, b'"\n'),
+            Event(3, 23, "EV_SEPARATOR", 4, self.ZEROS, bytes(9)),
+        ])
+        self.assertEqual(list(ima_verify.events(self.HEADER)), [])
+
+    def test_damaged_log_is_refused_after_what_stands_before_the_fault(self):
+        whole = list(ima_verify.events(LOG))
+        for log, line in ((LOG[:-1], "refused: log fault 1 at event 24"), (LOG + b"x", "refused: log fault 1 at event 25"),
+                          (LOG + number(24) + LOG[69:117], "refused: log fault 9 at event 25")):
+            found = []
+            with self.assertRaisesRegex(ima_verify.Refused, f"^{line}$"):
+                for event in ima_verify.events(log):
+                    found.append(event)
+            self.assertEqual(found, whole[:int(line.split()[-1]) - 1])
+
+    def test_damaged_header_is_refused_at_once(self):
+        for log, line in ((b"", "refused: log fault 1 at event 0"), (LOG[:31], "refused: log fault 1 at event 0"),
+                          (bytes(32), "refused: log fault 2")):
+            self.assertRaisesRegex(ima_verify.Refused, f"^{line}$", ima_verify.events, log)
 
 
 class Refusals(unittest.TestCase):
@@ -328,14 +529,16 @@ class EmptyInputs(unittest.TestCase):
         for empty in (b"", bytearray()):
             self.assertEqual(ima_verify.show(empty), b"")
             verdict = ima_verify.verify(LOG, empty, empty)
-            self.assertEqual((verdict.entries, verdict.boot_aggregate, verdict.rows), (0, BootAggregate.MISSING, ()))
+            self.assertEqual((verdict.entries, verdict.boot_aggregate, verdict.compared), (0, BootAggregate.MISSING, 0))
             self.assertFalse(verdict.matches)
 
-    def test_without_expected_registers_there_are_no_rows(self):
-        for empty in (b"", "", bytearray()):
+    def test_nothing_expected_and_nothing_required_is_no_match(self):
+        for empty in (b"", "", bytearray(), "\n", b"\r\n\n"):
             verdict, places = ima_verify.verify(LOG, LIST, empty), ima_verify.locate(LOG, LIST, empty)
-            self.assertEqual((verdict.rows, verdict.matches, verdict.entries), ((), True, 99))
-            self.assertEqual((places.rows, places.located, places.text), ((), True, "located\n"))
+            self.assertEqual((verdict.compared, verdict.matches, verdict.boot_aggregate), (0, False, BootAggregate.GOOD))
+            self.assertEqual((verdict.rows, verdict.entries), ((Row(Algorithm.SHA256, 0, State.MISSING),), 99))
+            self.assertEqual((places.rows, places.located), ((PlaceRow(Algorithm.SHA256, 0, Place.MISSING),), False))
+            self.assertFalse(verdict or places)
 
 
 class BytesLike(unittest.TestCase):
@@ -377,7 +580,8 @@ class BytesLike(unittest.TestCase):
 
     def test_other_types_are_no_inputs(self):
         for wrong in (None, 5, LOG.decode("latin-1"), [10, 0]):
-            for called in (lambda: ima_verify.registers(wrong), lambda: ima_verify.show(wrong),
+            for called in (lambda: ima_verify.registers(wrong), lambda: ima_verify.show(wrong), lambda: ima_verify.entries(wrong),
+                           lambda: ima_verify.events(wrong),
                            lambda: ima_verify.verify(wrong, LIST, EXPECTED), lambda: ima_verify.locate(LOG, wrong, EXPECTED)):
                 self.assertRaises(TypeError, called)
         self.assertRaises(TypeError, lambda: ima_verify.verify(LOG, LIST, None))

@@ -14,23 +14,25 @@
 //! # }
 //! ```
 //!
-//! Say which registers a verdict must cover: that of [`verify`] covers only those that `expected` names, and if it names none, nothing but
-//! the boot aggregate.
+//! Say which registers a verdict must cover: that of [`verify`] covers only those that `expected` names; one on none is no match.
+//! [`entries`] and [`events`] go through the inputs themselves.
 //!
 //! Any number of threads may call at once.
 
+mod answers;
 mod library;
-mod texts;
 
-/// The example of the page compiles.
+/// The example of the page runs.
 #[cfg(doctest)]
 #[doc = include_str!("../README.md")]
 struct Readme;
 
+use std::collections::{BTreeMap, BTreeSet};
 use std::fmt;
+use std::iter::FusedIterator;
 
 /// The algorithm of a bank of registers.
-#[derive(Debug, Clone, Copy, PartialEq, Eq, Hash)]
+#[derive(Debug, Clone, Copy, PartialEq, Eq, Hash, PartialOrd, Ord)]
 pub enum Algorithm {
     Sha1,
     Sha256,
@@ -39,6 +41,12 @@ pub enum Algorithm {
 }
 
 impl Algorithm {
+    const ALL: [Self; 4] = [Self::Sha1, Self::Sha256, Self::Sha384, Self::Sha512];
+
+    fn of(name: &str) -> Option<Self> {
+        Self::ALL.into_iter().find(|algorithm| algorithm.name() == name)
+    }
+
     /// The algorithm's name in texts.
     pub fn name(self) -> &'static str {
         match self {
@@ -103,11 +111,11 @@ pub struct Verdict {
     pub boot_aggregate: BootAggregate,
     /// A row for each expected register, in their order, and then one for each that is missing.
     pub rows: Vec<Row>,
-    /// The boot aggregate is good, each expected register has its value, and no required one is missing. If none is required, nothing is
-    /// said of registers that have no row; without any row the boot aggregate alone decides.
+    /// The boot aggregate is good, each expected register has its value, and no required one is missing. Nothing is said of registers
+    /// that have no row.
     pub matches: bool,
-    /// The report as `ima-agent` prints it.
-    pub text: String,
+    /// The report as `ima-agent verify --json` prints it, without the line feed.
+    pub json: String,
 }
 
 impl Verdict {
@@ -126,8 +134,8 @@ pub struct ListVerdict {
     pub rows: Vec<Row>,
     /// The list has an entry, each expected register has its value, and no required one is missing.
     pub matches: bool,
-    /// The report as `ima-agent` prints it.
-    pub text: String,
+    /// The report as `ima-agent replay --json` prints it, without the line feed.
+    pub json: String,
 }
 
 impl ListVerdict {
@@ -173,8 +181,8 @@ pub struct Places {
     pub rows: Vec<PlaceRow>,
     /// Each value was reached, and no required register is missing.
     pub located: bool,
-    /// What `ima-agent` prints.
-    pub text: String,
+    /// What `ima-agent locate --json` prints, without the line feed.
+    pub json: String,
 }
 
 /// A register and its value.
@@ -184,6 +192,129 @@ pub struct Register {
     pub register: u8,
     pub value: Vec<u8>,
 }
+
+/// An entry of a measurement list; entries count from 0.
+#[derive(Debug, Clone, PartialEq, Eq, Hash)]
+pub struct Entry {
+    pub number: u64,
+    pub register: u8,
+    /// The template's name, which may be any bytes.
+    pub template: Vec<u8>,
+    pub template_digest: Vec<u8>,
+    /// The template digest is all zeros: the file's digest may be anything.
+    pub violation: bool,
+    /// The template digest is that of what it covers, or the entry is a violation.
+    pub genuine: bool,
+    pub content: Content,
+}
+
+impl Entry {
+    /// What the entry says of a file, if its payload has the fields of its template.
+    pub fn file(&self) -> Option<&File> {
+        match &self.content {
+            Content::File(file) => Some(file),
+            Content::Payload(_) => None,
+        }
+    }
+}
+
+/// What an entry's payload is.
+#[derive(Debug, Clone, PartialEq, Eq, Hash)]
+pub enum Content {
+    /// It has the fields of its template.
+    File(File),
+    /// Any other payload, whole.
+    Payload(Vec<u8>),
+}
+
+/// What an entry says of a file.
+#[derive(Debug, Clone, PartialEq, Eq, Hash)]
+pub struct File {
+    pub algorithm: Algorithm,
+    pub digest: Vec<u8>,
+    /// Any bytes without a NUL.
+    pub path: Vec<u8>,
+    /// That of the template `ima-sig`, which may be empty.
+    pub signature: Option<Vec<u8>>,
+}
+
+/// An event of a firmware event log; events count from 1.
+#[derive(Debug, Clone, PartialEq, Eq, Hash)]
+pub struct Event {
+    pub number: u64,
+    pub register: u32,
+    /// The name of the type, if it has one.
+    pub name: Option<String>,
+    pub type_number: u32,
+    /// Those of the log's banks.
+    pub digests: BTreeMap<Algorithm, Vec<u8>>,
+    pub data: Vec<u8>,
+}
+
+/// An algorithm of a log's header.
+#[derive(Debug, Clone, PartialEq, Eq, Hash)]
+pub struct LogAlgorithm {
+    /// The name, if the algorithm is known here.
+    pub name: Option<String>,
+    pub id: u16,
+    /// The size of its digests in bytes.
+    pub size: u16,
+}
+
+/// The entries of a measurement list. Of a damaged list the entries before the fault come, and last the [`Error::Refused`] that says where
+/// it is.
+#[derive(Debug, Clone)]
+#[must_use]
+pub struct Entries(answers::Lines);
+
+impl Entries {
+    /// The refusal that comes last, or none exactly if the list is whole. It is known from the start: look at it if you stop before the
+    /// end, which tells nothing of what comes later.
+    pub fn fault(&self) -> Option<&Error> {
+        self.0.fault()
+    }
+}
+
+impl Iterator for Entries {
+    type Item = Result<Entry, Error>;
+
+    fn next(&mut self) -> Option<Self::Item> {
+        self.0.next_entry()
+    }
+}
+
+impl FusedIterator for Entries {}
+
+/// The events of a firmware event log. Of a damaged log the events before the fault come, and last the [`Error::Refused`] that says where it
+/// is.
+#[derive(Debug, Clone)]
+#[must_use]
+pub struct Events {
+    lines: answers::Lines,
+    algorithms: Vec<LogAlgorithm>,
+}
+
+impl Events {
+    /// The algorithms that the log's header declares.
+    pub fn algorithms(&self) -> &[LogAlgorithm] {
+        &self.algorithms
+    }
+
+    /// The refusal that comes last, or none exactly if the log is whole, as of [`Entries`].
+    pub fn fault(&self) -> Option<&Error> {
+        self.lines.fault()
+    }
+}
+
+impl Iterator for Events {
+    type Item = Result<Event, Error>;
+
+    fn next(&mut self) -> Option<Self::Item> {
+        self.lines.next_event()
+    }
+}
+
+impl FusedIterator for Events {}
 
 /// What is refused.
 #[derive(Debug, Clone, Copy, PartialEq, Eq, Hash)]
@@ -238,27 +369,36 @@ pub fn version() -> u32 {
 
 /// The verdict on a firmware event log, a measurement list and the expected registers that a text states.
 ///
-/// It covers only these registers; with none, the boot aggregate alone decides. See [`verify_required`].
+/// It is that of [`verify_required`] where the registers are required that the text names, or `sha256:0` if it names none: so a verdict on
+/// nothing is no match.
 pub fn verify(log: &[u8], list: &[u8], expected: &[u8]) -> Result<Verdict, Error> {
-    library::ask(library::ROOM, |out| library::verify(log, list, expected, out))?.verdict()
+    verify_required(log, list, expected, &named_in(expected))
 }
 
 /// The same, where `require` names the registers that must be among the expected ones, as `sha256:0-10` or `sha256:0-7,sha1:10`. Each
 /// that is not has a row whose state is [`State::Missing`], and then the verdict is no match.
+///
+/// ```
+/// # fn main() -> Result<(), Box<dyn std::error::Error>> {
+/// # let sample = |name| std::fs::read(format!("../../samples/real-boot/{name}"));
+/// # let (log, list, expected) = (sample("firmware.log")?, sample("ima.list")?, sample("expected.txt")?);
+/// assert!(ima_verify::verify_required(&log, &list, &expected, "sha256:0-10")?.matches);
+/// assert!(!ima_verify::verify_required(&log, &list, b"", "sha256:0-10")?.matches);
+/// # Ok(())
+/// # }
+/// ```
 pub fn verify_required(log: &[u8], list: &[u8], expected: &[u8], require: &str) -> Result<Verdict, Error> {
-    let call = |out: &mut [u8]| library::verify_required(log, list, expected, require.as_bytes(), out);
-    library::ask_for(library::ROOM, call)?.required_verdict()
+    ask_for(true, |out| library::verify(log, list, expected, require.as_bytes(), out))?.verdict()
 }
 
-/// Where each expected register first has its value. Inputs and refusals are those of `verify`.
+/// Where each expected register first has its value. Inputs, refusals and what is required are those of `verify`.
 pub fn locate(log: &[u8], list: &[u8], expected: &[u8]) -> Result<Places, Error> {
-    library::ask(library::ROOM, |out| library::locate(log, list, expected, out))?.places()
+    locate_required(log, list, expected, &named_in(expected))
 }
 
 /// The same, where `require` is as in `verify_required`.
 pub fn locate_required(log: &[u8], list: &[u8], expected: &[u8], require: &str) -> Result<Places, Error> {
-    let call = |out: &mut [u8]| library::locate_required(log, list, expected, require.as_bytes(), out);
-    library::ask_for(library::ROOM, call)?.required_places()
+    ask_for(true, |out| library::locate(log, list, expected, require.as_bytes(), out))?.places()
 }
 
 /// The verdict on a measurement list without a log, and the expected registers that a text states.
@@ -266,8 +406,7 @@ pub fn locate_required(log: &[u8], list: &[u8], expected: &[u8], require: &str) 
 /// The list is replayed from the registers' reset values, so a register that the firmware extends too differs. `require` is as in
 /// [`verify_required`]. A list without entries is no match.
 pub fn replay_required(list: &[u8], expected: &[u8], require: &str) -> Result<ListVerdict, Error> {
-    let call = |out: &mut [u8]| library::replay_required(list, expected, require.as_bytes(), out);
-    library::ask_for(library::ROOM, call)?.list_verdict()
+    ask_for(true, |out| library::replay(list, expected, require.as_bytes(), out))?.list_verdict()
 }
 
 /// The lines of expected registers, for `verify` and `locate`, of what tpm2_pcrread or tpm2_checkquote printed: of the registers in a
@@ -276,17 +415,79 @@ pub fn replay_required(list: &[u8], expected: &[u8], require: &str) -> Result<Li
 /// Neither who wrote the text nor whether a quote holds is known from it: take the values of a quote that was checked, or of a machine
 /// that is trusted.
 pub fn expected(printed: &[u8], registers: Option<&str>) -> Result<Vec<u8>, Error> {
-    let range = registers.unwrap_or_default().as_bytes();
-    library::ask_for(library::ROOM, |out| library::expected(printed, range, out))?.expected()
+    let range = registers.unwrap_or_default();
+    let answer = library::ask(library::ROOM, |out| library::expected(printed, range.as_bytes(), out))?;
+    answer.accepted_text(!range.is_empty())?.expected()
 }
 
 /// The registers that differ from their reset values after a firmware event log.
 pub fn registers(log: &[u8]) -> Result<Vec<Register>, Error> {
-    library::ask(library::ROOM, |out| library::registers(log, out))?.registers()
+    ask_for(false, |out| library::registers(log, out))?.registers()
+}
+
+/// The registers, in banks of all algorithms, that differ from their reset values after a measurement list without a log.
+pub fn list_registers(list: &[u8]) -> Result<Vec<Register>, Error> {
+    ask_for(false, |out| library::list_registers(list, out))?.registers()
+}
+
+/// The entries of a measurement list, one after another, each with whether it is genuine.
+///
+/// Of a damaged list the entries before the fault come, and last the refusal, which [`Entries::fault`] knows from the start.
+///
+/// ```
+/// # fn main() -> Result<(), Box<dyn std::error::Error>> {
+/// let list = std::fs::read("../../samples/real-boot/ima.list")?;
+/// for entry in ima_verify::entries(&list)? {
+///     let entry = entry?;
+///     if entry.violation {
+///         println!("{} {:?}", entry.number, entry.file().map(|file| file.path.escape_ascii().to_string()));
+///     }
+/// }
+/// let cut = ima_verify::entries(&list[..list.len() - 1])?;
+/// assert_eq!(cut.fault().map(ToString::to_string), Some("refused: list fault 1 at entry 98".to_owned()));
+/// assert_eq!(cut.filter(Result::is_ok).count(), 98);
+/// # Ok(())
+/// # }
+/// ```
+pub fn entries(list: &[u8]) -> Result<Entries, Error> {
+    library::ask(library::room_of_lines(list.len()), |out| library::entries(list, out))?.entries(list.is_empty())
+}
+
+/// The events of a firmware event log after its header, one after another.
+///
+/// Of a damaged log the events before the fault come, and last the refusal, which [`Events::fault`] knows from the start; if the fault is
+/// in the header, it is given at once.
+///
+/// ```
+/// # fn main() -> Result<(), Box<dyn std::error::Error>> {
+/// let log = std::fs::read("../../samples/real-boot/firmware.log")?;
+/// let separators = ima_verify::events(&log)?.collect::<Result<Vec<_>, _>>()?;
+/// assert_eq!(separators[17].name.as_deref(), Some("EV_SEPARATOR"));
+/// # Ok(())
+/// # }
+/// ```
+pub fn events(log: &[u8]) -> Result<Events, Error> {
+    library::ask(library::room_of_lines(log.len()), |out| library::events(log, out))?.events()
 }
 
 /// The entries of a measurement list, each in the kernel's form. Paths stand as they are: they may have line feeds and control
-/// bytes.
+/// bytes. [`entries`] gives each by itself.
 pub fn show(list: &[u8]) -> Result<Vec<u8>, Error> {
-    library::ask(library::room_of_entries(list.len()), |out| library::show(list, out))?.entries()
+    let answer = library::ask(library::room_of_entries(list.len()), |out| library::show(list, out))?;
+    answer.accepted_text(false)?.shown()
+}
+
+/// The answer to a call, which is one line of JSON. It is no refusal. Of a call that requests registers, that may be malformed.
+fn ask_for(requests: bool, call: impl FnMut(&mut [u8]) -> (i32, usize)) -> Result<answers::Answer, Error> {
+    library::ask(library::ROOM, call)?.accepted(requests)
+}
+
+/// Each register that a text of expected ones names, as what is required, so that none of these is missing.
+fn named_in(expected: &[u8]) -> String {
+    let lines = expected.split(|byte| *byte == b'\n').filter_map(|line| answers::register_line(std::str::from_utf8(line).ok()?));
+    let named: BTreeSet<_> = lines.map(|(algorithm, register, _)| (algorithm, register)).collect();
+    if named.is_empty() {
+        return "sha256:0".to_owned();
+    }
+    named.iter().map(|(algorithm, register)| format!("{}:{register}", algorithm.name())).collect::<Vec<_>>().join(",")
 }

@@ -1,7 +1,7 @@
 //! What the crate answers about the sample, one boot whose registers were read from the TPM after the list, and about changes
 //! of it.
 
-use ima_verify::{expected as expected_from, locate, locate_required, registers, replay_required, show};
+use ima_verify::{expected as expected_from, list_registers, locate, locate_required, registers, replay_required, show};
 use ima_verify::{verify, verify_required, version};
 use ima_verify::{Algorithm, BootAggregate, Error, Kind, Place, PlaceRow, Register, Row, State, Verdict};
 use std::sync::Barrier;
@@ -66,9 +66,11 @@ fn refused(line: &str, kind: Kind, number: u64, place: Option<u64>) -> Error {
 #[test]
 fn verdict_on_the_sample_is_a_match() {
     let rows: Vec<_> = (0..24).map(matching).collect();
-    let lines: String = (0..24).map(|register| format!("sha256 {register} match\n")).collect();
-    let text = format!("events 24 locality 0\nentries 99\nboot_aggregate good\n{lines}verdict match\n");
-    let wanted = Verdict { events: 24, locality: 0, entries: 99, boot_aggregate: BootAggregate::Good, rows, matches: true, text };
+    let row = |register| format!(r#"{{"bank":"sha256","register":{register},"state":"match"}}"#);
+    let lines = (0..24).map(row).collect::<Vec<_>>().join(",");
+    let front = r#"{"events":24,"locality":0,"entries":99,"boot_aggregate":"good","registers":["#;
+    let json = format!("{front}{lines}],\"verdict\":\"match\"}}");
+    let wanted = Verdict { events: 24, locality: 0, entries: 99, boot_aggregate: BootAggregate::Good, rows, matches: true, json };
     assert_eq!(verify(&log(), &list(), &expected()).unwrap(), wanted);
 }
 
@@ -126,7 +128,6 @@ fn all_required_registers_are_expected() {
         let verdict = verify_required(&log(), &list(), &expected(), require).unwrap();
         assert_eq!((verdict.matches, verdict.compared(), verdict.entries), (true, 24, 99));
         assert_eq!(verdict.rows, verify(&log(), &list(), &expected()).unwrap().rows);
-        assert_eq!(verdict.text.lines().nth(2), Some("compared 24"));
         assert_eq!(locate_required(&log(), &list(), &expected(), require), locate(&log(), &list(), &expected()));
     }
     let verdict = verify_required(&log(), &longer(), &expected(), "sha256:10").unwrap();
@@ -168,8 +169,8 @@ fn tenth() -> Vec<u8> {
 fn register_of_the_list_alone_matches() {
     let verdict = replay_required(&list(), &tenth(), "sha256:10").unwrap();
     assert_eq!((verdict.matches, verdict.entries, verdict.compared()), (true, 99, 1));
-    let text = "entries 99\ncompared 1\nsha256 10 match\nverdict match\n";
-    assert_eq!((verdict.rows, verdict.text.as_str()), (vec![matching(10)], text));
+    let json = r#"{"entries":99,"registers":[{"bank":"sha256","register":10,"state":"match"}],"verdict":"match"}"#;
+    assert_eq!((verdict.rows, verdict.json.as_str()), (vec![matching(10)], json));
     let verdict = replay_required(&longer(), &tenth(), "sha256:10").unwrap();
     assert_eq!((verdict.matches, verdict.entries, &verdict.rows[0].state), (false, 100, &State::Differ(from_hex(AFTER_LONGER))));
 }
@@ -221,7 +222,8 @@ fn wrong_requirement_or_range_is_malformed() {
 #[test]
 fn inputs_are_refused_as_without_a_requirement() {
     let (log, list, expected) = (log(), list(), expected());
-    for (log, list, expected) in [(&log[..], &changed()[..], &expected[..]), (&log[..31], &list, &expected), (&log, &list, b"x")] {
+    for (log, list, expected) in [(&log[..], &changed()[..], &expected[..]), (&log[..31], &list, &expected), (&log, &list, b"x")]
+    {
         assert_eq!(verify_required(log, list, expected, "sha256:0"), verify(log, list, expected));
         assert_eq!(locate_required(log, list, expected, "sha256:0"), locate(log, list, expected));
     }
@@ -312,13 +314,44 @@ fn inputs_without_bytes() {
     assert_eq!(registers(&[]).unwrap_err(), cut);
     assert_eq!(verify(&[], &[], &[]).unwrap_err(), cut);
     assert_eq!(show(&[]).unwrap(), b"");
-    let verdict = verify(&log(), &[], &[]).unwrap();
+    let verdict = verify(&log(), &[], &expected()).unwrap();
     assert_eq!((verdict.matches, verdict.entries, verdict.boot_aggregate), (false, 0, BootAggregate::Missing));
-    assert_eq!(verdict.rows, []);
-    let verdict = verify(&log(), &list(), &[]).unwrap();
-    assert_eq!((verdict.matches, verdict.entries, verdict.boot_aggregate), (true, 99, BootAggregate::Good));
-    let places = locate(&log(), &list(), &[]).unwrap();
-    assert_eq!((places.located, places.rows.len(), places.text.as_str()), (true, 0, "located\n"));
+    for empty in ["", "\n", "\r\n\n"] {
+        let verdict = verify(&log(), &list(), empty.as_bytes()).unwrap();
+        assert_eq!((verdict.matches, verdict.compared(), verdict.boot_aggregate), (false, 0, BootAggregate::Good));
+        assert_eq!(verdict.rows, [Row { algorithm: Algorithm::Sha256, register: 0, state: State::Missing }]);
+        let places = locate(&log(), &list(), empty.as_bytes()).unwrap();
+        let json = r#"{"registers":[{"bank":"sha256","register":0,"place":"missing"}],"located":false}"#;
+        assert_eq!((places.located, places.rows.len(), places.json.as_str()), (false, 1, json));
+    }
+}
+
+#[test]
+fn registers_that_are_expected_have_rows() {
+    let all: Vec<_> = [Algorithm::Sha512, Algorithm::Sha1, Algorithm::Sha384, Algorithm::Sha256]
+        .into_iter()
+        .flat_map(|algorithm| (0..24).map(move |register| (algorithm, register)))
+        .collect();
+    let line = |(algorithm, register): &(Algorithm, u8)| {
+        format!("{} {register} {}\r\n", algorithm.name(), "0".repeat(2 * algorithm.digest_size()))
+    };
+    let text: String = all.iter().map(line).collect();
+    let verdict = verify(&log(), &list(), text.as_bytes()).unwrap();
+    assert_eq!(verdict.rows.iter().map(|row| (row.algorithm, row.register)).collect::<Vec<_>>(), all);
+    assert_eq!(verdict.compared(), 96);
+    let places = locate(&log(), &list(), text.as_bytes()).unwrap();
+    assert_eq!(places.rows.iter().map(|row| (row.algorithm, row.register)).collect::<Vec<_>>(), all);
+}
+
+#[test]
+fn registers_after_the_list_alone() {
+    let found = list_registers(&list()).unwrap();
+    let names: Vec<_> = found.iter().map(|register| (register.algorithm.name(), register.register)).collect();
+    assert_eq!(names, [("sha1", 10), ("sha256", 10), ("sha384", 10), ("sha512", 10)]);
+    assert_eq!(found[1], registers_in(&tenth())[0]);
+    assert_eq!(list_registers(&[]).unwrap(), []);
+    let wanted = refused("refused: replay fault 1 at entry 5", Kind::Replay, 1, Some(5));
+    assert_eq!(list_registers(&changed()).unwrap_err(), wanted);
 }
 
 #[test]

@@ -1,0 +1,198 @@
+package imaverify
+
+import (
+	"bytes"
+	"encoding/hex"
+	"encoding/json"
+	"math"
+	"strings"
+)
+
+const registersOfBank = 24
+
+var digestSizes = map[Algorithm]int{SHA1: 20, SHA256: 32, SHA384: 48, SHA512: 64}
+
+type object map[string]json.RawMessage
+
+// What reads objects of JSON. From the first thing that is not as it should be it is wrong.
+type reader struct {
+	wrong bool
+}
+
+func (r *reader) require(condition bool) {
+	r.wrong = r.wrong || !condition
+}
+
+// The object of a line, which ends with its only line feed.
+func (r *reader) object(line []byte) object {
+	var o object
+	r.require(bytes.IndexByte(line, '\n') == len(line)-1 && json.Unmarshal(line, &o) == nil)
+	return o
+}
+
+// A member, which is there, and no null. (What is not UTF-8, json gives as U+FFFD.)
+func member[T any](r *reader, o object, name string) T {
+	var value T
+	raw, found := o[name]
+	r.require(found && string(raw) != "null" && json.Unmarshal(raw, &value) == nil)
+	if text, isText := any(value).(string); isText {
+		r.require(strings.Count(text, "\uFFFD") == bytes.Count(raw, []byte("\uFFFD")))
+	}
+	return value
+}
+
+func has(o object, name string) bool {
+	_, found := o[name]
+	return found
+}
+
+func oneOf[T ~string](r *reader, o object, name string, values ...T) T {
+	found := T(member[string](r, o, name))
+	for _, value := range values {
+		if value == found {
+			return found
+		}
+	}
+	r.wrong = true
+	return found
+}
+
+func (r *reader) number(o object, name string, most uint64) uint64 {
+	value := member[uint64](r, o, name)
+	r.require(value <= most)
+	return value
+}
+
+func (r *reader) register(o object) int {
+	return int(r.number(o, "register", registersOfBank-1))
+}
+
+func (r *reader) algorithm(o object, name string) Algorithm {
+	return oneOf(r, o, name, SHA1, SHA256, SHA384, SHA512)
+}
+
+func (r *reader) bytes(o object, name string) []byte {
+	digits := member[string](r, o, name)
+	value, err := hex.DecodeString(digits)
+	r.require(err == nil && hex.EncodeToString(value) == digits)
+	return value
+}
+
+func (r *reader) digest(o object, name string, algorithm Algorithm) []byte {
+	value := r.bytes(o, name)
+	r.require(len(value) == digestSizes[algorithm])
+	return value
+}
+
+// A name, which stands in hexadecimal if it is not UTF-8.
+func (r *reader) name(o object, name string) []byte {
+	r.require(has(o, name) != has(o, name+"_hex"))
+	if has(o, name) {
+		return []byte(member[string](r, o, name))
+	}
+	return r.bytes(o, name+"_hex")
+}
+
+func (r *reader) row(o object) Row {
+	row := Row{Algorithm: r.algorithm(o, "bank"), Register: r.register(o)}
+	row.State = oneOf(r, o, "state", StateMatch, StateDiffer, StateAbsent, StateMissing)
+	r.require(has(o, "value") == (row.State == StateDiffer))
+	if row.State == StateDiffer {
+		row.Value = r.digest(o, "value", row.Algorithm)
+	}
+	return row
+}
+
+// The rows of a report, and whether each matches. Since something is required, there is one. Those of missing registers come after the
+// others.
+func (r *reader) rows(o object) ([]Row, bool) {
+	var rows []Row
+	match := true
+	for _, o := range member[[]object](r, o, "registers") {
+		row := r.row(o)
+		r.require(row.State == StateMissing || len(rows) == compared(rows))
+		rows, match = append(rows, row), match && row.State == StateMatch
+	}
+	r.require(len(rows) > 0)
+	return rows, match
+}
+
+func (r *reader) saysMatch(o object) bool {
+	return oneOf(r, o, "verdict", "match", "differ") == "match"
+}
+
+func (r *reader) placeRow(o object) PlaceRow {
+	row := PlaceRow{Algorithm: r.algorithm(o, "bank"), Register: r.register(o)}
+	row.Place.Kind = oneOf(r, o, "place", PlaceReset, PlaceEvent, PlaceEntry, PlaceNowhere, PlaceAbsent, PlaceMissing)
+	isNumbered := row.Place.Kind == PlaceEvent || row.Place.Kind == PlaceEntry
+	r.require(has(o, "number") == isNumbered)
+	if isNumbered {
+		row.Place.Number = r.number(o, "number", math.MaxUint64)
+	}
+	return row
+}
+
+// The fault of a line. Its members say what its message says; the line of a text of expected registers is in the message alone.
+func (r *reader) fault(o object) *RefusedError {
+	fault := member[object](r, o, "fault")
+	said, err := faultIn(member[string](r, fault, "message"))
+	if r.require(err == nil); r.wrong {
+		return nil
+	}
+	r.require(member[string](r, fault, "kind") == string(said.Kind) && r.number(fault, "number", math.MaxUint64) == said.Number)
+	if point, isPlaced := map[Kind]string{KindLog: "event", KindList: "entry", KindReplay: "entry"}[said.Kind]; isPlaced {
+		r.require(has(fault, point) == said.HasPlace)
+		r.require(!said.HasPlace || r.number(fault, point, math.MaxUint64) == said.Place)
+	}
+	return said
+}
+
+func (r *reader) entry(o object, number uint64) Entry {
+	e := Entry{Number: number, Register: r.register(o), Template: string(r.name(o, "template")),
+		TemplateDigest: r.digest(o, "template_digest", SHA1),
+		Violation:      member[bool](r, o, "violation"), Genuine: member[bool](r, o, "genuine")}
+	r.require(r.number(o, "entry", math.MaxUint64) == number)
+	r.require(e.Violation == (string(e.TemplateDigest) == string(make([]byte, 20))) && (e.Genuine || !e.Violation))
+	if has(o, "payload") {
+		for _, name := range []string{"algorithm", "digest", "path", "path_hex", "signature"} {
+			r.require(!has(o, name))
+		}
+		e.Payload = r.bytes(o, "payload")
+		return e
+	}
+	algorithm := r.algorithm(o, "algorithm")
+	e.File = &File{algorithm, r.digest(o, "digest", algorithm), string(r.name(o, "path")), nil}
+	r.require(has(o, "signature") == (e.Template == "ima-sig"))
+	if has(o, "signature") {
+		e.File.Signature = r.bytes(o, "signature")
+	}
+	return e
+}
+
+func (r *reader) algorithms(o object) []LogAlgorithm {
+	var algorithms []LogAlgorithm
+	for _, row := range member[[]object](r, o, "algorithms") {
+		algorithm := LogAlgorithm{"", uint16(r.number(row, "id", math.MaxUint16)), int(r.number(row, "size", math.MaxUint16))}
+		if has(row, "name") {
+			algorithm.Name = member[string](r, row, "name")
+		}
+		algorithms = append(algorithms, algorithm)
+	}
+	return algorithms
+}
+
+func (r *reader) event(o object, number uint64) Event {
+	e := Event{Number: number, Register: uint32(r.number(o, "register", math.MaxUint32)), Digests: map[Algorithm][]byte{},
+		TypeNumber: uint32(r.number(o, "type_number", math.MaxUint32)), Data: r.bytes(o, "data")}
+	r.require(r.number(o, "event", math.MaxUint64) == number)
+	if has(o, "type") {
+		e.Type = member[string](r, o, "type")
+	}
+	digests := member[object](r, o, "digests")
+	for name := range digests {
+		algorithm := Algorithm(name)
+		r.require(digestSizes[algorithm] != 0)
+		e.Digests[algorithm] = r.digest(digests, name, algorithm)
+	}
+	return e
+}
