@@ -1,5 +1,5 @@
 -- A log whose events are sent while they are read: what was sent is what the program is asked for.
-use Rattle.std.proofs.Common.{◌≡◌, ℕ, List, [], ◌++◌, None, Some, Ok, Err, Result, refl, inl, inr, codes, true}
+use Rattle.std.proofs.Common.{ℕ, List, [], ◌++◌, None, Some, Ok, Err, Result, refl, inl, inr, codes, true}
 use Rattle.std.specs.Prelude.{String, string_bytes}
 use Rattle.std.specs.Global.{Global}
 use Rattle.byte_streams.specs.declared.streams.Failed.{Failed}
@@ -11,21 +11,19 @@ use Rattle.json_texts.specs.declared.event_lines.EventsFault.TheVariants as even
 use Rattle.json_texts.specs.FaultJson.{fault_json}
 use Rattle.json_texts.specs.JsonValues.{line_of}
 use Rattle.json_texts.specs.SentEvents.{SendsEvents, SendsLines, SendsNothing, log_lines}
-use Rattle.command_line.specs.declared.json_plan.JsonPlan.{JsonPlan}
 use Rattle.command_line.specs.declared.json_plan.JsonPlan.TheVariants as jsons
-use Rattle.command_line.specs.declared.plan.Plan.{Plan}
 use Rattle.command_line.specs.declared.plan.Plan.TheVariants as plans
 use Rattle.ima_agent.specs.declared.fault.RunFault.{RunFault}
 use Rattle.ima_agent.specs.declared.fault.RunFault.TheVariants as runs
 use Rattle.ima_agent.specs.declared.streaming.StreamFault.{StreamFault}
 use Rattle.ima_agent.specs.declared.streaming.StreamFault.TheVariants as streams
 use Rattle.ima_agent.specs.JsonFaults.{IsFailure, ToldAsJson}
-use Rattle.ima_agent.specs.JsonShowing.{ShowsEntriesOf, ShowsEventsOf}
+use Rattle.ima_agent.specs.JsonShowing.{ShowsEventsOf}
 use Rattle.ima_agent.specs.Loading.{Holds, Inputs, IsInputFault}
 use Rattle.ima_agent.specs.Program.{IsOutcome}
 use Rattle.ima_agent.specs.Streaming.{Streams}
 use Rattle.ima_agent.specs.parts.Streaming.{ShowsEventsIn}
-use Rattle.ima_agent.proofs.StreamingLaws.{entries_outcome, memory_told, streams_so}
+use Rattle.ima_agent.proofs.StreamingLaws.{memory_told, streams_so}
 
 abbrev memory_line : List ℕ
 memory_line = line_of (fault_json (Some (codes "memory")) None None (codes "failed: memory"))
@@ -139,18 +137,3 @@ pub events_outcome : (inputs : Inputs) (log : String Global) (text : List ℕ) (
 events_outcome inputs log text status (inl (bytes, held, inl shown)) = inl (bytes, held, shown)
 events_outcome inputs log text status (inl (bytes, held, inr out)) = inr (inr (bytes, held, out))
 events_outcome inputs log text status (inr (fault, is, told)) = inr (inl (fault, is, inl told))
-
-pub events_streamed : (inputs : Inputs) (plan : Plan) (inner : JsonPlan) (log : String Global) (old new : SinkState)
-    (result : Result (Unit {0}) StreamFault) → plan ≡ plans.Json inner → inner ≡ jsons.Events log
-    → Streams (ShowsEventsOf inputs (string_bytes log)) old new result → Streams (IsOutcome inputs plan) old new result
-events_streamed inputs plan inner log old new result is inner-is sent =
-    rw (is, inner-is) (streams_so (ShowsEventsOf inputs (string_bytes log)) (IsOutcome inputs (plans.Json (jsons.Events log))) old new result
-    (events_outcome inputs log) sent)
-
--- The same of a list.
-pub entries_streamed : (inputs : Inputs) (plan : Plan) (inner : JsonPlan) (list : String Global) (old new : SinkState)
-    (result : Result (Unit {0}) StreamFault) → plan ≡ plans.Json inner → inner ≡ jsons.Show list
-    → Streams (ShowsEntriesOf inputs (string_bytes list)) old new result → Streams (IsOutcome inputs plan) old new result
-entries_streamed inputs plan inner list old new result is inner-is sent =
-    rw (is, inner-is) (streams_so (ShowsEntriesOf inputs (string_bytes list)) (IsOutcome inputs (plans.Json (jsons.Show list))) old new result
-    (entries_outcome inputs list) sent)
