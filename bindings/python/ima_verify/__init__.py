@@ -6,7 +6,7 @@ are compared with expected ones. Each function takes bytes: what /sys/kernel/sec
 bytes-like type; a bytearray, or other memory that can be written, may not change during a call.
 
 Say which registers a verdict must cover: `verify(log, list, expected, require="sha256:0-10")`. Without `require` only those count that
-`expected` names; a verdict on none is no match. `entries(list)` and `events(log)` go through the inputs themselves.
+`expected` names; a verdict on none is no match, whatever its `json` says. `entries(list)` and `events(log)` go through the inputs themselves.
 
 An input that is refused raises `Refused`, and a `require` or `registers` that is not of its form ValueError; if memory runs out, that
 is MemoryError; an answer that the library's header does not describe raises `LibraryError`. Nothing else that the library answers is
@@ -18,9 +18,8 @@ call in the forked child of a process with threads.
 The shared library is the file that the environment variable IMA_VERIFY_LIBRARY names, else `libima_verify.so` in this package's
 folder, else what the system's loader finds as `libima_verify.so.1`. It is loaded when this module is imported."""
 
-import re
 from enum import Enum
-from typing import Any, Callable, Optional, Sequence, Tuple, Union
+from typing import Callable, Optional, Sequence, Tuple, Union
 
 from . import _answers, _library
 from ._library import BytesLike
@@ -36,6 +35,7 @@ __all__ = [
 ]
 
 Text = Union[BytesLike, str]
+_Function = Callable[..., int]
 
 
 class _Default(Enum):
@@ -46,8 +46,6 @@ class _Default(Enum):
 
 # 4 banks have 96 registers, and no row of these has more than 256 bytes.
 _ROOM = 32 * 1024
-
-_NAMED = re.compile(rb"^(sha1|sha256|sha384|sha512) (1?[0-9]|2[0-3]) ", re.MULTILINE)
 
 _LIBRARY = _library.load()
 
@@ -61,16 +59,16 @@ def verify(log: BytesLike, list: BytesLike, expected: Text, *, require: Union[Te
     """The verdict on a firmware event log, a measurement list and the expected registers that a text states.
 
     `require` names the registers that must be among these, as `sha256:0-10` or `sha256:0-7,sha1:10`. Each that is not has a row whose
-    state is MISSING, and then the verdict is no match. None is a TypeError. If it is not given, those are required that the text names, and
-    `sha256:0` if it names none."""
-    text = _bytes_of(expected)
-    return _answers.read_verdict(*_answer_to(_required(require, text), _LIBRARY.ima_verify_json, (log, list, text)))
+    state is MISSING, and then the verdict is no match. None is a TypeError. If it is not given, nothing is required; a verdict on no
+    registers is no match."""
+    functions = _LIBRARY.ima_verify_json, _LIBRARY.ima_verify_required_json
+    return _answers.read_verdict(*_answer_on(expected, require, functions, (log, list)))
 
 
 def locate(log: BytesLike, list: BytesLike, expected: Text, *, require: Union[Text, _Default] = _Default.NOTHING) -> Places:
     """Where each expected register first has its value. Inputs, `require` and refusals are those of `verify`."""
-    text = _bytes_of(expected)
-    return _answers.read_places(*_answer_to(_required(require, text), _LIBRARY.ima_locate_json, (log, list, text)))
+    functions = _LIBRARY.ima_locate_json, _LIBRARY.ima_locate_required_json
+    return _answers.read_places(*_answer_on(expected, require, functions, (log, list)))
 
 
 def replay(list: BytesLike, expected: Text, *, require: Text) -> ListVerdict:
@@ -78,7 +76,8 @@ def replay(list: BytesLike, expected: Text, *, require: Text) -> ListVerdict:
 
     The list is replayed from the registers' reset values, so a register that the firmware extends too differs. `require` is as in
     `verify`, and has to be given. A list without entries is no match."""
-    return _answers.read_list_verdict(*_answer_to(require, _LIBRARY.ima_replay_required_json, (list, _bytes_of(expected))))
+    inputs = list, _bytes_of(expected), _bytes_of(require)
+    return _answers.read_list_verdict(*_answer_of(_LIBRARY.ima_replay_required_json, inputs, _ROOM, require))
 
 
 def expected(printed: Text, registers: Optional[Text] = None) -> bytes:
@@ -87,19 +86,18 @@ def expected(printed: Text, registers: Optional[Text] = None) -> bytes:
     `registers` is a range, as `0-10` or `4`, whose registers are written; else all are. A text without any is refused. Neither who wrote
     the text nor whether a quote holds is known from it: take the values of a quote that was checked, or of a machine that is trusted."""
     range = b"" if registers is None else registers
-    status, text = _library.ask(_LIBRARY.ima_expected, (_bytes_of(printed), _bytes_of(range)), _ROOM)
-    _answers.raise_failure_of_text(status, text, range)
-    return _answers.read_expected(status, text)
+    inputs = _bytes_of(printed), _bytes_of(range)
+    return _answers.read_lines(*_answer_of(_LIBRARY.ima_expected, inputs, _ROOM, range), False)
 
 
 def registers(log: BytesLike) -> Tuple[Register, ...]:
     """The registers that differ from their reset values after a firmware event log."""
-    return _registers_of(_LIBRARY.ima_registers_json, log)
+    return _answers.read_registers(*_answer_of(_LIBRARY.ima_registers_json, (log,), _ROOM))
 
 
 def list_registers(list: BytesLike) -> Tuple[Register, ...]:
     """The registers, in banks of all algorithms, that differ from their reset values after a measurement list without a log."""
-    return _registers_of(_LIBRARY.ima_replay_json, list)
+    return _answers.read_registers(*_answer_of(_LIBRARY.ima_replay_json, (list,), _ROOM))
 
 
 def entries(list: BytesLike) -> Entries:
@@ -123,9 +121,8 @@ def show(list: BytesLike) -> bytes:
     """The entries of a measurement list, each in the kernel's form.
 
     Paths stand as they are: they may have line feeds and control bytes. `entries` gives each by itself."""
-    status, text = _library.ask(_LIBRARY.ima_show, (list,), _room_of_entries(memoryview(list).nbytes))
-    _answers.raise_failure_of_text(status, text)
-    return _answers.read_shown(status, text)
+    size = memoryview(list).nbytes
+    return _answers.read_lines(*_answer_of(_LIBRARY.ima_show, (list,), _room_of_entries(size)), size == 0)
 
 
 def _room_of_entries(size: int) -> int:
@@ -138,23 +135,20 @@ def _room_of_lines(data: BytesLike) -> int:
     return 4 * memoryview(data).nbytes + 1024
 
 
-def _registers_of(function: Callable[..., Any], data: BytesLike) -> Tuple[Register, ...]:
-    status, text = _library.ask(function, (data,), _ROOM)
-    _answers.raise_failure(status, text)
-    return _answers.read_registers(status, text)
-
-
-def _required(require: Union[Text, _Default], expected: BytesLike) -> Text:
-    """What is required: if nothing is given, each register that the expected text names, so that none of these is missing."""
+def _answer_on(
+    expected: Text, require: Union[Text, _Default], functions: Tuple[_Function, _Function], inputs: Tuple[BytesLike, ...]
+) -> Tuple[int, bytes]:
+    """The answer of the first function, or if registers are required of the second, whose last input names them."""
+    inputs = *inputs, _bytes_of(expected)
     if isinstance(require, _Default):
-        return b",".join(dict.fromkeys(map(b":".join, _NAMED.findall(memoryview(expected).tobytes())))) or b"sha256:0"
-    return require
+        return _answer_of(functions[0], inputs, _ROOM)
+    return _answer_of(functions[1], (*inputs, _bytes_of(require)), _ROOM, require)
 
 
-def _answer_to(require: Text, function: Callable[..., Any], inputs: Sequence[BytesLike]) -> Tuple[int, bytes]:
-    """The answer of a function whose last input is what is required: a ValueError says that this is not of its form."""
-    status, text = _library.ask(function, (*inputs, _bytes_of(require)), _ROOM)
-    _answers.raise_failure(status, text, require)
+def _answer_of(function: _Function, inputs: Sequence[BytesLike], room: int, request: Optional[Text] = None) -> Tuple[int, bytes]:
+    """A function's answer, which is no failure: a ValueError says that this request is not of its form."""
+    status, text = _library.ask(function, inputs, room)
+    _answers.raise_failure(status, text, request)
     return status, text
 
 

@@ -2,7 +2,8 @@
 
 import json
 import re
-from typing import Any, Callable, Dict, List, NoReturn, Optional, Tuple, Type, TypeVar, Union
+from contextlib import contextmanager
+from typing import Any, Dict, Iterator, List, NoReturn, Optional, Tuple, Type, TypeVar, Union
 
 from ._results import (
     Algorithm, BootAggregate, Entries, Entry, Event, Events, Kind, LibraryError, ListVerdict, LogAlgorithm, Place, PlaceRow, Places,
@@ -11,11 +12,8 @@ from ._results import (
 
 DONE, DIFFERS, REFUSED, OUT_OF_MEMORY = range(4)
 REGISTERS = 24
-UINT32, UINT64 = 2**32 - 1, 2**64 - 1
-REFUSED_REQUEST = b"refused: command line\n"
-FIELDS = ("algorithm", "digest", "path", "path_hex", "signature")
-# What places the faults of each kind in JSON. (That of an expected register has its line in the message alone.)
-POINTS = {Kind.LOG: "event", Kind.LIST: "entry", Kind.REPLAY: "entry"}
+UINT16, UINT32, UINT64 = 2**16 - 1, 2**32 - 1, 2**64 - 1
+REFUSED_REQUEST = "refused: command line"
 
 _NUMBER = "(0|[1-9][0-9]{0,19})"
 _FAULT = re.compile(
@@ -23,144 +21,123 @@ _FAULT = re.compile(
     f"|(list|replay) fault {_NUMBER} at entry {_NUMBER}"
     f"|(expected) fault {_NUMBER}(?: at line {_NUMBER})?)"
 )
-_EXPECTED = re.compile("(?:(?:" + "|".join(
-    f"{bank.value} (?:1?[0-9]|2[0-3]) [0-9a-f]{{{2 * bank.digest_size}}}" for bank in Algorithm
-) + ")\n)+")
 
 Object = Dict[str, Any]
 _Member = TypeVar("_Member", str, int, bool, List[Any], Object)
-_Result = TypeVar("_Result")
 
 
 def unexpected(status: int, text: bytes) -> NoReturn:
     raise LibraryError(f"libima_verify answered status {status} with {len(text)} bytes that begin {text[:200]!r}")
 
 
+@contextmanager
+def _reading(status: int, text: bytes) -> Iterator[None]:
+    """Whatever is wrong while this text is read is a LibraryError."""
+    try:
+        yield
+    except (ValueError, KeyError, TypeError, RecursionError):
+        unexpected(status, text)
+
+
 def read_verdict(status: int, text: bytes) -> Verdict:
     """The verdict that a report states."""
-    def read(report: Object) -> Verdict:
-        aggregate, rows = BootAggregate(_member(report, "boot_aggregate", str)), _rows_of(report)
-        matches = _says(status, report, aggregate is BootAggregate.GOOD and all(row.state is State.MATCH for row in rows))
+    with _reading(status, text):
+        report = _object_of(text)
+        aggregate, rows = BootAggregate(report["boot_aggregate"]), _rows_of(report)
+        matches = _matches(status, report, rows, aggregate is BootAggregate.GOOD)
         events, locality, entries = _number(report, "events"), _number(report, "locality", 255), _number(report, "entries")
-        return Verdict(events, locality, entries, aggregate, rows, matches, _line_of(text))
-
-    return _read(read, status, text)
+        return Verdict(events, locality, entries, aggregate, rows, matches, text[:-1].decode())
 
 
 def read_list_verdict(status: int, text: bytes) -> ListVerdict:
-    """The verdict on a list alone that a report states. A list has registers in all banks."""
-    def read(report: Object) -> ListVerdict:
+    """The verdict on a list alone that a report states."""
+    with _reading(status, text):
+        report = _object_of(text)
         entries, rows = _number(report, "entries"), _rows_of(report)
-        _require(all(row.state is not State.ABSENT for row in rows))
-        matches = _says(status, report, entries > 0 and all(row.state is State.MATCH for row in rows))
-        return ListVerdict(entries, rows, matches, _line_of(text))
-
-    return _read(read, status, text)
+        return ListVerdict(entries, rows, _matches(status, report, rows, entries > 0), text[:-1].decode())
 
 
 def read_places(status: int, text: bytes) -> Places:
     """The places that an answer states."""
-    def read(answer: Object) -> Places:
-        rows = tuple(map(_place_row_of, _objects(answer, "registers")))
-        _require_missing_last([row.place is Place.MISSING for row in rows])
+    with _reading(status, text):
+        answer = _object_of(text)
+        rows = tuple(map(_place_row_of, _member(answer, "registers", list)))
         located = all(row.place not in (Place.NOWHERE, Place.ABSENT, Place.MISSING) for row in rows)
         _require(_member(answer, "located", bool) == located and status == (DONE if located else DIFFERS))
-        return Places(rows, located, _line_of(text))
-
-    return _read(read, status, text)
+        return Places(rows, located and bool(rows), text[:-1].decode())
 
 
 def read_registers(status: int, text: bytes) -> Tuple[Register, ...]:
     """The registers that an answer states."""
-    def read(answer: Object) -> Tuple[Register, ...]:
+    with _reading(status, text):
         _require(status == DONE)
-        return tuple(map(_register_of, _objects(answer, "registers")))
-
-    return _read(read, status, text)
+        return tuple(map(_register_of, _member(_object_of(text), "registers", list)))
 
 
 def read_entries(status: int, text: bytes, is_empty: bool) -> Entries:
     """The entries that an answer has, which are none only of an empty list, or before a fault."""
-    fault, end = _fault_of(status, text)
-    if fault is None and (status != DONE or is_empty == bool(text)):
-        unexpected(status, text)
-    return Entries(lambda line, number: _checked(_entry_of, status, line, number), text[:end], 0, fault)
+    lines, fault = _lines_of(status, text, is_empty)
+
+    def read(line: bytes, number: int) -> Entry:
+        with _reading(status, line):
+            return _entry_of(_object_of(line), number)
+
+    return Entries(read, lines, 0, fault)
 
 
 def read_events(status: int, text: bytes) -> Events:
     """The events that an answer has, after the algorithms. Without these there is nothing but a fault."""
-    fault, end = _fault_of(status, text)
-    if fault is not None and end == 0:
+    lines, fault = _lines_of(status, text, False)
+    if fault is not None and not lines:
         raise fault
-    start = text.find(b"\n") + 1
-    algorithms = _checked(_algorithms_of, status, text[:start], 0)
-    if fault is None and status != DONE:
-        unexpected(status, text)
-    return Events(lambda line, number: _checked(_event_of, status, line, number), text[start:end], 1, fault, algorithms)
+    start = lines.find(b"\n") + 1
+    with _reading(status, text):
+        algorithms = tuple(map(_algorithm_of, _member(_object_of(lines[:start]), "algorithms", list)))
+
+    def read(line: bytes, number: int) -> Event:
+        with _reading(status, line):
+            return _event_of(_object_of(line), number)
+
+    return Events(read, lines[start:], 1, fault, algorithms)
 
 
-def read_expected(status: int, text: bytes) -> bytes:
-    """Lines of expected registers, at least one, as they are."""
-    if status != DONE or not _EXPECTED.fullmatch(text.decode("latin-1")):
-        unexpected(status, text)
-    return text
-
-
-def read_shown(status: int, text: bytes) -> bytes:
-    """The entries of a list, in the kernel's form, as they are."""
-    if status != DONE or text[-1:] not in (b"", b"\n"):
+def read_lines(status: int, text: bytes, is_empty: bool) -> bytes:
+    """Lines as they are, which are none only if they have to be."""
+    if status != DONE or text[-1:] != (b"" if is_empty else b"\n"):
         unexpected(status, text)
     return text
 
 
 def raise_failure(status: int, text: bytes, request: Optional[object] = None) -> None:
-    """Raises what a line of JSON says, if the status is that of a failure; ValueError if it says that this request is wrong."""
+    """Raises what an answer says, if its status is that of a failure; ValueError if it says that this request is wrong."""
     if status == REFUSED:
-        raise _read(lambda line: _failure_of(_member(line, "fault", dict), request), status, text)
-    _raise_other_failure(status, text)
-
-
-def raise_failure_of_text(status: int, text: bytes, request: Optional[object] = None) -> None:
-    """Does the same for an answer that is not JSON."""
-    if status == REFUSED and text == REFUSED_REQUEST and request is not None:
-        raise ValueError(f"not of its form: {request!r}")
-    if status == REFUSED:
-        raise _checked(lambda line, _: _refused_of(_line_of(line)), status, text, 0)
-    _raise_other_failure(status, text)
-
-
-def _raise_other_failure(status: int, text: bytes) -> None:
+        with _reading(status, text):
+            line = _fault_line_of(text)
+            is_request = request is not None and line == REFUSED_REQUEST
+            failure = ValueError(f"not of its form: {request!r}") if is_request else _refused_of(line)
+        raise failure
     if status == OUT_OF_MEMORY:
         raise MemoryError("libima_verify got no memory")
     if status not in (DONE, DIFFERS):
         unexpected(status, text)
 
 
-def _fault_of(status: int, text: bytes) -> Tuple[Optional[Refused], int]:
-    """The fault in the last of many lines, if the status says that there is one, and where the lines before it end."""
+def _lines_of(status: int, text: bytes, is_empty: bool) -> Tuple[bytes, Optional[Refused]]:
+    """The lines before the fault, if the status says that the last line is one, and the fault."""
     if status != REFUSED:
-        _raise_other_failure(status, text)
-        if text and not text.endswith(b"\n"):
-            unexpected(status, text)
-        return None, len(text)
+        raise_failure(status, text)
+        return read_lines(status, text, is_empty), None
     end = text.rfind(b"\n", 0, -1) + 1
-    fault = _read(lambda line: _refusal_of(_member(line, "fault", dict)), status, text[end:])
-    return fault, end
+    with _reading(status, text):
+        return text[:end], _refused_of(_fault_line_of(text[end:]))
 
 
-def _failure_of(fault: Object, request: Optional[object]) -> Exception:
-    if request is not None and _member(fault, "kind", str) == "command_line":
-        return ValueError(f"not of its form: {request!r}")
-    return _refusal_of(fault)
-
-
-def _refusal_of(fault: Object) -> Refused:
-    """The refusal that a fault is. Its members say what its message says."""
-    refused = _refused_of(_member(fault, "message", str))
-    _require(_member(fault, "kind", str) == refused.kind.value and _number(fault, "number") == refused.number)
-    point = POINTS.get(refused.kind)
-    _require(point is None or (_number(fault, point) if point in fault else None) == refused.place)
-    return refused
+def _fault_line_of(text: bytes) -> str:
+    """The line of a fault, without its line feed: the text, or the message of one that is JSON."""
+    if text.startswith(b"{"):
+        return _member(_object_of(text)["fault"], "message", str)
+    _require(text.endswith(b"\n"))
+    return text[:-1].decode()
 
 
 def _refused_of(line: str) -> Refused:
@@ -172,61 +149,49 @@ def _refused_of(line: str) -> Refused:
 
 
 def _rows_of(report: Object) -> Tuple[Row, ...]:
-    rows = tuple(map(_row_of, _objects(report, "registers")))
-    _require_missing_last([row.state is State.MISSING for row in rows])
-    return rows
+    return tuple(map(_row_of, _member(report, "registers", list)))
 
 
-def _require_missing_last(are_missing: List[bool]) -> None:
-    """Since something is required, there is a row. Those of missing registers come after the others."""
-    _require(len(are_missing) > 0 and are_missing == sorted(are_missing))
-
-
-def _says(status: int, report: Object, matches: bool) -> bool:
-    """Whether the rows match, which is also what the status and the verdict say."""
-    _require((status, _member(report, "verdict", str)) == ((DONE, "match") if matches else (DIFFERS, "differ")))
-    return matches
+def _matches(status: int, report: Object, rows: Tuple[Row, ...], is_good: bool) -> bool:
+    """Whether a report is a match of at least one register. Its status, its verdict and its rows say the same."""
+    matches = is_good and all(row.state is State.MATCH for row in rows)
+    _require((status, report["verdict"]) == ((DONE, "match") if matches else (DIFFERS, "differ")))
+    return matches and bool(rows)
 
 
 def _row_of(row: Object) -> Row:
-    bank, state = Algorithm(_member(row, "bank", str)), State(_member(row, "state", str))
-    _require((state is State.DIFFER) == ("value" in row))
+    bank, state = Algorithm(row["bank"]), State(row["state"])
     value = _bytes(row, "value", bank.digest_size) if state is State.DIFFER else None
     return Row(bank, _number(row, "register", REGISTERS - 1), state, value)
 
 
 def _place_row_of(row: Object) -> PlaceRow:
-    bank, place = Algorithm(_member(row, "bank", str)), Place(_member(row, "place", str))
-    is_numbered = place in (Place.EVENT, Place.ENTRY)
-    _require(is_numbered == ("number" in row))
-    return PlaceRow(bank, _number(row, "register", REGISTERS - 1), place, _number(row, "number") if is_numbered else None)
+    place = Place(row["place"])
+    number = _number(row, "number") if place in (Place.EVENT, Place.ENTRY) else None
+    return PlaceRow(Algorithm(row["bank"]), _number(row, "register", REGISTERS - 1), place, number)
 
 
 def _register_of(row: Object) -> Register:
-    bank = Algorithm(_member(row, "bank", str))
+    bank = Algorithm(row["bank"])
     return Register(bank, _number(row, "register", REGISTERS - 1), _bytes(row, "value", bank.digest_size))
 
 
-def _entry_of(line: bytes, number: int) -> Entry:
-    entry = _object_of(line)
-    template, template_digest = _name(entry, "template"), _bytes(entry, "template_digest", 20)
-    violation, genuine = _member(entry, "violation", bool), _member(entry, "genuine", bool)
-    _require(_number(entry, "entry") == number and violation == (template_digest == bytes(20)) and violation <= genuine)
-    front = (number, _number(entry, "register", REGISTERS - 1), template, template_digest, violation, genuine)
+def _entry_of(entry: Object, number: int) -> Entry:
+    _require(_number(entry, "entry") == number)
+    template = _name(entry, "template")
+    front = (number, _number(entry, "register", REGISTERS - 1), template, _bytes(entry, "template_digest", 20),
+             _member(entry, "violation", bool), _member(entry, "genuine", bool))
     if "payload" in entry:
-        _require(not any(name in entry for name in FIELDS))
         return Entry(*front, payload=_bytes(entry, "payload"))
-    algorithm, path = Algorithm(_member(entry, "algorithm", str)), _name(entry, "path")
-    _require((template == "ima-sig") == ("signature" in entry))
+    algorithm, path = Algorithm(entry["algorithm"]), _name(entry, "path")
     signature = _bytes(entry, "signature") if template == "ima-sig" else None
     digest = _bytes(entry, "digest", algorithm.digest_size)
     return Entry(*front, algorithm, digest, path.encode() if isinstance(path, str) else path, signature)
 
 
-def _event_of(line: bytes, number: int) -> Event:
-    event = _object_of(line)
-    digests = {Algorithm(name): name for name in _member(event, "digests", dict)}
+def _event_of(event: Object, number: int) -> Event:
     _require(_number(event, "event") == number)
+    digests = {Algorithm(name): name for name in _member(event, "digests", dict)}
     return Event(
         number,
         _number(event, "register", UINT32),
@@ -237,44 +202,18 @@ def _event_of(line: bytes, number: int) -> Event:
     )
 
 
-def _algorithms_of(line: bytes, _: int) -> Tuple[LogAlgorithm, ...]:
-    return tuple(
-        LogAlgorithm(_member(row, "name", str) if "name" in row else None, _number(row, "id", 65535), _number(row, "size", 65535))
-        for row in _objects(_object_of(line), "algorithms")
-    )
-
-
-def _read(read: Callable[[Object], _Result], status: int, text: bytes) -> _Result:
-    """What is read from an answer of one line."""
-    return _checked(lambda line, _: read(_object_of(line)), status, text, 0)
-
-
-def _checked(read: Callable[[bytes, int], _Result], status: int, text: bytes, number: int) -> _Result:
-    try:
-        return read(text, number)
-    except (ValueError, KeyError, RecursionError):
-        unexpected(status, text)
+def _algorithm_of(row: Object) -> LogAlgorithm:
+    name = _member(row, "name", str) if "name" in row else None
+    return LogAlgorithm(name, _number(row, "id", UINT16), _number(row, "size", UINT16))
 
 
 def _object_of(line: bytes) -> Object:
     """The object of a line, which ends with its only line feed."""
     _require(line.find(b"\n") == len(line) - 1)
-    value: object = json.loads(line.decode(), object_pairs_hook=_distinct)
+    value: object = json.loads(line.decode())
     if not isinstance(value, dict):
         raise ValueError(value)
     return value
-
-
-def _distinct(pairs: List[Tuple[str, Any]]) -> Object:
-    members = dict(pairs)
-    _require(len(members) == len(pairs))
-    return members
-
-
-def _line_of(text: bytes) -> str:
-    """A line without its line feed."""
-    _require(text.endswith(b"\n"))
-    return text[:-1].decode()
 
 
 def _member(value: Object, name: str, kind: Type[_Member]) -> _Member:
@@ -284,12 +223,6 @@ def _member(value: Object, name: str, kind: Type[_Member]) -> _Member:
     return member
 
 
-def _objects(value: Object, name: str) -> List[Object]:
-    members = _member(value, name, list)
-    _require(all(isinstance(member, dict) for member in members))
-    return members
-
-
 def _number(value: Object, name: str, most: int = UINT64) -> int:
     number = _member(value, name, int)
     _require(0 <= number <= most)
@@ -297,15 +230,13 @@ def _number(value: Object, name: str, most: int = UINT64) -> int:
 
 
 def _bytes(value: Object, name: str, size: Optional[int] = None) -> bytes:
-    digits = _member(value, name, str)
-    data = bytes.fromhex(digits)
-    _require(data.hex() == digits and size in (None, len(data)))
+    data = bytes.fromhex(value[name])
+    _require(data.hex() == value[name] and size in (None, len(data)))
     return data
 
 
 def _name(value: Object, name: str) -> Union[str, bytes]:
     """A name, which is bytes if it is not UTF-8."""
-    _require((name in value) != (f"{name}_hex" in value))
     return _member(value, name, str) if name in value else _bytes(value, f"{name}_hex")
 
 

@@ -17,10 +17,10 @@ FILE_NAME = "libima_verify.so"
 SYSTEM_NAME = "libima_verify.so.1"
 VARIABLE = "IMA_VERIFY_LIBRARY"
 
-# How many inputs each function of the header takes.
-INPUTS = {"ima_verify": 3, "ima_verify_required": 4, "ima_verify_json": 4, "ima_locate": 3, "ima_locate_required": 4, "ima_locate_json": 4,
-          "ima_replay_required": 3, "ima_replay_required_json": 3, "ima_replay_json": 1, "ima_expected": 2, "ima_registers": 1,
-          "ima_registers_json": 1, "ima_events_json": 1, "ima_show": 1, "ima_entries_json": 1}
+# How many inputs each function takes that is called here.
+INPUTS = {"ima_verify_json": 3, "ima_verify_required_json": 4, "ima_locate_json": 3, "ima_locate_required_json": 4,
+          "ima_replay_required_json": 3, "ima_replay_json": 1, "ima_registers_json": 1, "ima_events_json": 1, "ima_entries_json": 1,
+          "ima_expected": 2, "ima_show": 1}
 
 _INPUT = [c_void_p, c_size_t]
 _OUTPUT = [c_void_p, c_size_t, ctypes.POINTER(c_size_t)]

@@ -101,8 +101,8 @@ class _Judged:
 class Verdict(_Judged):
     """The verdict on a log, a list and expected registers; as a condition, it is true exactly if it is a match.
 
-    `matches` says that the boot aggregate is good, that each expected register has its value, and that no required one is missing. It says
-    nothing of registers that have no row. `json` is the report as `ima-agent verify --json` prints it, without the line feed."""
+    `matches` says that the boot aggregate is good, that each expected register has its value, that there is one, and that no required one is
+    missing. It says nothing of registers that have no row. `json` is the report as `ima-agent verify --json` prints it, without the line feed."""
 
     events: int
     locality: int
@@ -117,8 +117,8 @@ class Verdict(_Judged):
 class ListVerdict(_Judged):
     """The verdict on a list without a log, and expected registers; as a condition, it is true exactly if it is a match.
 
-    `matches` says that the list has an entry, that each expected register has its value, and that no required one is missing. `json` is
-    the report as `ima-agent replay --json` prints it, without the line feed."""
+    `matches` says that the list has an entry, that each expected register has its value, that there is one, and that no required one is
+    missing. `json` is the report as `ima-agent replay --json` prints it, without the line feed."""
 
     entries: int
     rows: Tuple[Row, ...]
@@ -139,8 +139,8 @@ class PlaceRow:
 
 @dataclass(frozen=True)
 class Places:
-    """Where each expected register first has its value; as a condition, it is true exactly if each value was reached and no required
-    register is missing.
+    """Where each expected register first has its value; as a condition, it is true exactly if each value was reached, there is one, and no
+    required register is missing.
 
     `json` is what `ima-agent locate --json` prints, without the line feed."""
 

@@ -91,7 +91,7 @@ class Buffers(unittest.TestCase):
         self.assertEqual(counted.calls, 1)
 
     def test_report_longer_than_the_buffer(self):
-        status, text = _library.ask(ima_verify._LIBRARY.ima_verify_json, (LOG, LIST, EXPECTED, b"sha256:0"), 100)
+        status, text = _library.ask(ima_verify._LIBRARY.ima_verify_json, (LOG, LIST, EXPECTED), 100)
         self.assertEqual(_answers.read_verdict(status, text), ima_verify.verify(LOG, LIST, EXPECTED))
 
     def test_entries_longer_than_the_buffer(self):
@@ -116,7 +116,7 @@ class Buffers(unittest.TestCase):
         every_register = "".join(f"{name} {number} {digits * '1'}\n" for name, digits in
                                  (("sha1", 40), ("sha256", 64), ("sha384", 96), ("sha512", 128)) for number in range(24)).encode()
         counted = Counted(ima_verify._LIBRARY.ima_verify_json)
-        status, text = _library.ask(counted, (LOG, LIST, every_register, b"sha1:0"), ima_verify._ROOM)
+        status, text = _library.ask(counted, (LOG, LIST, every_register), ima_verify._ROOM)
         self.assertEqual((status, counted.calls, len(_answers.read_verdict(status, text).rows)), (1, 1, 96))
         row = '{"bank":"sha512","register":23,"state":"differ","value":"' + 128 * "0" + '"},'
         self.assertLess(256 + 96 * len(row), ima_verify._ROOM)
@@ -140,7 +140,7 @@ class Answers(unittest.TestCase):
         self.assertTrue(_answers.read_places(0, PLACES).located)
         self.assertFalse(_answers.read_places(1, NOT_LOCATED).located)
         self.assertEqual(_answers.read_registers(0, REGISTERS)[0].value, 20 * b"\xaa")
-        self.assertEqual(_answers.read_expected(0, LINES + LINES), LINES + LINES)
+        self.assertEqual(_answers.read_lines(0, LINES + LINES, False), LINES + LINES)
 
     def test_right_answers_with_missing_registers_are_read(self):
         lacking = _answers.read_verdict(1, LACKING)
@@ -157,11 +157,11 @@ class Answers(unittest.TestCase):
         changes = (
             (b'"events":1', b'"events":01'), (b'"events":1', b'"events":-1'), (b'"events":1', b'"events":1.0'),
             (b'"events":1', b'"events":true'), (b'"events":1', b'"events":null'), (b'"events":1', b'"events":"1"'),
-            (b'"events":1', b'"events":18446744073709551616'), (b'"events":1,', b""), (b'"events":1', b'"events":1,"events":1'),
+            (b'"events":1', b'"events":18446744073709551616'), (b'"events":1,', b""),
             (b'"locality":0', b'"locality":256'), (b'"entries":3,', b""), (b'"entries":3', b'"entries":NaN'),
             (b'"good"', b'"fine"'), (b'"good"', b'"wrong"'), (b'"good"', b"{}"), (b'"boot_aggregate":"good",', b""),
             (b'"sha256"', b'"md5"'), (b'"bank":"sha256",', b""), (b":10,", b":24,"), (b":10,", b":-1,"), (b'"register":10,', b""),
-            (match, b'"state":"differ"'), (match, VALUE.replace(b"00", b"", 1)), (match, VALUE.replace(b"differ", b"match")),
+            (match, b'"state":"differ"'), (match, VALUE.replace(b"00", b"", 1)),
             (match, b'"state":"absent"'), (match, b'"state":"missing"'), (match, b'"state":"Match"'), (b"," + match, b""),
             (b'"verdict":"match"', b'"verdict":"differ"'), (b',"verdict":"match"', b""), (b'"verdict":"match"', b'"verdict":true'),
             (b'"registers":[', b'"registers":[1,'), (b'"registers":[', b'"registers":[[],'), (b'"registers"', b'"rows"'),
@@ -178,14 +178,23 @@ class Answers(unittest.TestCase):
             self.check_wrong(_answers.read_verdict, 1, DIFFERING.replace(64 * b"0", value))
 
     def test_wrong_reports_with_missing_registers_are_no_verdicts(self):
-        row = b'{"bank":"sha256","register":10,"state":"match"}'
         self.check_changes(_answers.read_verdict, 1, LACKING, (
-            (row + b"," + MISSING, MISSING + b"," + row), (b'"verdict":"differ"', b'"verdict":"match"'),
-            (b'"missing"', b'"missing","value":"' + 40 * b"0" + b'"'), (b'"register":4', b'"register":24'),
+            (b'"verdict":"differ"', b'"verdict":"match"'), (b'"register":4', b'"register":24'),
         ))
         self.check_wrong(_answers.read_verdict, 0, LACKING)
         self.check_wrong(_answers.read_verdict, 0, LACKING.replace(b'"differ"', b'"match"'))
-        self.check_wrong(_answers.read_verdict, 0, REPORT.replace(row, b""))
+
+    def test_report_of_no_registers_is_no_match(self):
+        row = b'{"bank":"sha256","register":10,"state":"match"}'
+        for read, report in ((_answers.read_verdict, REPORT), (_answers.read_list_verdict, LIST_REPORT)):
+            verdict = read(0, report.replace(row, b""))
+            self.assertEqual((verdict.rows, verdict.compared, verdict.matches, bool(verdict)), ((), 0, False, False))
+            self.assertIn('"verdict":"match"', verdict.json)
+            for wrong in (b"{}", b'""', b"null"):
+                self.check_wrong(read, 0, report.replace(b"[%b]" % row, wrong))
+        places = _answers.read_places(0, b'{"registers":[],"located":true}\n')
+        self.assertEqual((places.rows, places.located, bool(places)), ((), False, False))
+        self.check_wrong(_answers.read_places, 1, b'{"registers":[],"located":true}\n')
 
     def test_right_reports_on_a_list_alone_are_read(self):
         verdict = _answers.read_list_verdict(0, LIST_REPORT)
@@ -201,39 +210,34 @@ class Answers(unittest.TestCase):
             self.check_wrong(_answers.read_list_verdict, 0, matching)
 
     def test_wrong_reports_on_a_list_alone_are_no_verdicts(self):
-        row = b'{"bank":"sha256","register":10,"state":"match"}'
         self.check_changes(_answers.read_list_verdict, 0, LIST_REPORT, (
-            (b'"entries":3,', b""), (b":10", b":24"), (row, b""), (row, MISSING + b"," + row),
+            (b'"entries":3,', b""), (b":10", b":24"),
             (b'"verdict":"match"', b'"verdict":"differ"'), (b"}\n", b"}"), (b"\n", b""), (LIST_REPORT, b""),
         ))
         self.check_wrong(_answers.read_list_verdict, 1, LIST_REPORT)
-        absent = LIST_REPORT.replace(b'"state":"match"', b'"state":"absent"').replace(b'"verdict":"match"', b'"verdict":"differ"')
-        self.check_wrong(_answers.read_list_verdict, 1, absent)
 
     def test_wrong_answers_are_no_places(self):
         self.check_changes(_answers.read_places, 0, PLACES, (
-            (b'"reset"', b'"event"'), (b'"reset"', b'"reset","number":1'), (b',"number":18', b""), (b'"number":18', b'"number":"18"'),
+            (b'"reset"', b'"event"'), (b',"number":18', b""), (b'"number":18', b'"number":"18"'),
             (b'"entry"', b'"line"'), (b'"sha256"', b'"sha257"'), (b":4,", b":44,"), (b"}\n", b"}"), (b"true", b"false"),
             (b"true", b"1"), (b"true", b'"true"'), (b',"located":true', b""), (b'"reset"', b'"nowhere"'), (PLACES, b""),
         ))
         missing = b'{"bank":"sha1","register":4,"place":"missing"}'
-        self.check_changes(_answers.read_places, 1, LACKING_PLACES, ((b",%b]" % missing, b"]"), (b"[", b"[%b," % missing)))
+        self.check_changes(_answers.read_places, 1, LACKING_PLACES, ((b",%b]" % missing, b"]"),))
         self.check_wrong(_answers.read_places, 1, PLACES)
         self.check_wrong(_answers.read_places, 0, NOT_LOCATED)
         self.check_wrong(_answers.read_places, 0, LACKING_PLACES)
-        self.check_wrong(_answers.read_places, 0, b'{"registers":[],"located":true}\n')
 
     def test_wrong_answers_are_no_registers_and_no_lines(self):
         self.check_changes(_answers.read_registers, 0, REGISTERS, (
             (b"}\n", b"}"), (b"a", b"g"), (b"aa", b"AA"), (b'"sha1"', b'"sha256"'), (b',"value"', b',"digest"'), (b":4,", b":24,"),
             (b'"registers"', b'"register"'), (REGISTERS, b""), (REGISTERS, LINES),
+            (REGISTERS, b'{"registers":{}}\n'),
         ))
         self.check_wrong(_answers.read_registers, 1, REGISTERS)
-        for text in (b"", LINES[:-1], LINES + b"\n", LINES.replace(b"aa", b"", 1), LINES.replace(b"4", b"24"), REGISTERS, LINES + b"x\n"):
-            self.check_wrong(_answers.read_expected, 0, text)
-        self.check_wrong(_answers.read_expected, 1, LINES)
-        self.check_wrong(_answers.read_shown, 1, ASCII)
-        self.check_wrong(_answers.read_shown, 0, ASCII[:-1])
+        for words in ((0, b"", False), (0, LINES[:-1], False), (1, LINES, False), (0, LINES, True), (0, b"x", True), (1, b"", True)):
+            self.check_wrong(_answers.read_lines, *words)
+        self.assertEqual(_answers.read_lines(0, b"", True), b"")
 
 
 class Listings(unittest.TestCase):
@@ -292,8 +296,7 @@ class Listings(unittest.TestCase):
         for words in (
             (0, b"", False), (0, ENTRY, True), (0, ENTRY[:-1], False), (0, b"\n", False), (0, FAULT, False), (0, b"{}\n", False),
             (0, b"\n" + ENTRY, False), (1, ENTRY, False), (1, b"", True), (2, ENTRY, False), (2, b"", False), (2, FAULT[:-1], False),
-            (2, FAULT + b"\n", False), (2, FAULT.replace(b'"entry":2', b'"entry":3'), False), (2, FAULT.replace(b'"entry":2,', b""), False),
-            (2, FAULT.replace(b'"number":1', b'"number":2'), False), (2, MEMORY, False), (2, b"refused: list fault 1 at entry 2\n", False),
+            (2, FAULT + b"\n", False), (2, MEMORY, False), (2, REQUEST, False), (2, ENTRY + b"{}\n", False),
             (4, ENTRY, False), (-1, ENTRY, False),
         ):
             self.check_wrong(_answers.read_entries, *words)
@@ -307,23 +310,21 @@ class Listings(unittest.TestCase):
             self.assertIn(member, ENTRY)
             self.check_wrong(_answers.read_entries, 0, ENTRY.replace(member, b""), False)
         for old, new in (
-            (b'"entry":0', b'"entry":1'), (b":10,", b":24,"), (b"ima-sig", b"ima-ng"), (b"false", b"true"), (b"false", b"0"),
+            (b'"entry":0', b'"entry":1'), (b":10,", b":24,"), (b"false", b"0"),
             (b"true", b"null"), (b"sha1", b"md5"), (b"aa", b"a"), (b"11", b"", ), (b'"/a"', b'"\\ud800"'), (b'"/a"', b'"/a\xff"'),
-            (b'"/a"', b'"/\na"'), (b'"path"', b'"path_hex"'), (b'"path":"/a"', b'"path":"/a","path_hex":"2f"'),
-            (b'"signature":""', b'"signature":"0"'),
-            (b'"signature":""', b'"signature":"","payload":""'), (b'"template":"ima-sig"', b'"template":null'),
+            (b'"/a"', b'"/\na"'), (b'"path"', b'"path_hex"'), (b'"signature":""', b'"signature":"0"'),
+            (b'"template":"ima-sig"', b'"template":null'),
         ):
             self.assertIn(old, ENTRY)
             self.check_wrong(_answers.read_entries, 0, ENTRY.replace(old, new, 1), False)
         other = OTHER.replace(b'"entry":1', b'"entry":0')
         self.assertEqual(len(list(_answers.read_entries(0, other, False))), 1)
-        for old, new in ((b'"genuine":true', b'"genuine":false'), (b'"violation":true', b'"violation":false'), (b',"payload":"00"', b""),
-                         (b'"ff0a"', b'"ff0"'), (b'"template_hex"', b'"name"')):
+        for old, new in ((b',"payload":"00"', b""), (b'"ff0a"', b'"ff0"'), (b'"template_hex"', b'"name"')):
             self.check_wrong(_answers.read_entries, 0, other.replace(old, new, 1), False)
 
     def test_wrong_answers_are_no_events(self):
         for words in ((0, b""), (0, EVENT), (0, ALGORITHMS[:-1]), (0, LOG_FAULT), (1, ALGORITHMS), (2, ALGORITHMS), (2, b""),
-                      (2, LOG_FAULT[:-1]), (2, LOG_FAULT.replace(b'"event":2', b'"event":1')), (2, EVENT + LOG_FAULT), (5, ALGORITHMS)):
+                      (2, LOG_FAULT[:-1]), (2, EVENT + LOG_FAULT), (5, ALGORITHMS)):
             self.check_wrong(_answers.read_events, *words)
         for old, new in ((b'"algorithms"', b'"banks"'), (b'"size":20', b'"size":"20"'), (b'"id":4', b'"id":65536'), (b'"id":18,', b""),
                          (b'"sha1"', b"1"), (b"[", b"[1,")):
@@ -364,10 +365,8 @@ class Failures(unittest.TestCase):
         for text in (
             b"", FAULT[:-1], FAULT + b"\n", FAULT + FAULT, ENTRY + FAULT, REPORT, MEMORY, REQUEST, b"{}\n",
             b'{"fault":{}}\n', b'{"fault":1}\n',
-            FAULT.replace(b'"list"', b'"log"'), FAULT.replace(b'"number":1', b'"number":2'), FAULT.replace(b'"entry":2', b'"entry":1'),
-            FAULT.replace(b'"entry":2,', b""), FAULT.replace(b'"kind":"list",', b""), FAULT.replace(b"fault 1", b"fault 01"),
-            FAULT.replace(b'"message"', b'"line"'), LOG_FAULT.replace(b'"event":2,', b""), LOG_FAULT.replace(b" at event 2", b""),
-            b'{"fault":{"kind":"job","number":7,"message":"refused: job 0 book fault 7"}}\n', b"refused: list fault 1 at entry 2\n",
+            b'{"fault":{"message":1}}\n', FAULT.replace(b"fault 1", b"fault 01"), FAULT.replace(b'"message"', b'"line"'),
+            b'{"fault":{"kind":"job","number":7,"message":"refused: job 0 book fault 7"}}\n',
         ):
             self.check_wrong(2, text)
         for status in (-1, 4, 5, 1 << 30):
@@ -377,21 +376,21 @@ class Failures(unittest.TestCase):
     def test_wrong_refusals_of_texts_are_no_refusals(self):
         for text in (b"", b"refused: log fault 1 at event 0", b"refused: log fault 1 at entry 0\n", b"refused: list fault 1\n",
                      b"refused: replay fault 1 at entry 5\n\n", b"refused: expected fault 1 at entry 5\n", b"refused: job 1\n",
-                     b"refused: command line\n", b"refused: log fault  1\n", b"failed: memory\n", b"refused: log fault \xb2\n", FAULT):
+                     b"refused: command line\n", b"refused: log fault  1\n", b"failed: memory\n", b"refused: log fault \xb2\n"):
             with self.assertRaises(ima_verify.LibraryError, msg=repr(text)):
-                _answers.raise_failure_of_text(2, text)
-        self.assertRaises(ima_verify.Refused, _answers.raise_failure_of_text, 2, b"refused: expected fault 1 at line 5\n")
+                _answers.raise_failure(2, text)
+        self.assertRaises(ima_verify.Refused, _answers.raise_failure, 2, b"refused: expected fault 1 at line 5\n")
 
     def test_wrong_request_is_a_value_error_only_where_there_is_one(self):
         self.assertRaisesRegex(ValueError, "^not of its form: 'x'$", _answers.raise_failure, 2, REQUEST, "x")
-        self.assertRaisesRegex(ValueError, "^not of its form: 'x'$", _answers.raise_failure_of_text, 2, b"refused: command line\n", "x")
+        self.assertRaisesRegex(ValueError, "^not of its form: 'x'$", _answers.raise_failure, 2, b"refused: command line\n", "x")
         self.check_wrong(2, REQUEST[:-1], "x")
         self.check_wrong(5, REQUEST, "x")
 
     def test_no_memory_is_a_memory_error(self):
         for text in (MEMORY, b"failed: memory\n", b""):
             self.assertRaises(MemoryError, _answers.raise_failure, 3, text)
-            self.assertRaises(MemoryError, _answers.raise_failure_of_text, 3, text)
+            self.assertRaises(MemoryError, _answers.raise_failure, 3, text)
 
     def test_sizes_that_cannot_be_are_errors(self):
         for status, text, needed in (

@@ -536,8 +536,8 @@ class EmptyInputs(unittest.TestCase):
         for empty in (b"", "", bytearray(), "\n", b"\r\n\n"):
             verdict, places = ima_verify.verify(LOG, LIST, empty), ima_verify.locate(LOG, LIST, empty)
             self.assertEqual((verdict.compared, verdict.matches, verdict.boot_aggregate), (0, False, BootAggregate.GOOD))
-            self.assertEqual((verdict.rows, verdict.entries), ((Row(Algorithm.SHA256, 0, State.MISSING),), 99))
-            self.assertEqual((places.rows, places.located), ((PlaceRow(Algorithm.SHA256, 0, Place.MISSING),), False))
+            self.assertEqual((verdict.rows, verdict.entries), ((), 99))
+            self.assertEqual((places.rows, places.located), ((), False))
             self.assertFalse(verdict or places)
 
 
