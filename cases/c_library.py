@@ -46,8 +46,9 @@ class Library:
     def __init__(self, file):
         os.environ["IMA_VERIFY_LIBRARY"] = str(file)
         self.package = importlib.import_module("ima_verify._library")
-        for (_, files, has_option), function in JSON_FUNCTIONS.items():
-            self.package.INPUTS.setdefault(f"ima_{function}", files + has_option)
+        # (the package types the functions that it calls itself, and not all are among them)
+        for (name, files, has_option), function in [*FUNCTIONS.items(), *JSON_FUNCTIONS.items()]:
+            self.package.INPUTS.setdefault(f"ima_{function}", files + (has_option or name == "expected"))
         self.functions = self.package.load()
 
     def takes(self, words, folder, most_bytes=MOST_BYTES):
