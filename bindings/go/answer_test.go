@@ -251,7 +251,7 @@ func TestWrongAnswersAreNoPlaces(t *testing.T) {
 
 func TestWrongAnswersAreNoRegistersAndNoLines(t *testing.T) {
 	checkChanges(t, readRegisters, done, register, [][2]string{
-		{"}\n", "}"}, {"aa", "ag"}, {`"sha1"`, `"sha256"`}, {`"value"`, `"digest"`}, {`:4,`, `:24,`}, {`"registers"`, `"register"`},
+		{"}\n", "}"}, {"aa", "ag"}, {"aa", "AA"}, {`"sha1"`, `"sha256"`}, {`"value"`, `"digest"`}, {`:4,`, `:24,`}, {`"registers"`, `"register"`},
 		{register, ""}, {register, expectedLine},
 	})
 	checkUnexpected(t, readRegisters(differs, register), register)

@@ -72,8 +72,9 @@ func (r *reader) algorithm(o object, name string) Algorithm {
 }
 
 func (r *reader) bytes(o object, name string) []byte {
-	value, err := hex.DecodeString(member[string](r, o, name))
-	r.require(err == nil)
+	digits := member[string](r, o, name)
+	value, err := hex.DecodeString(digits)
+	r.require(err == nil && hex.EncodeToString(value) == digits)
 	return value
 }
 
