@@ -303,7 +303,12 @@ fn entry(line: EntryLine, number: u64) -> Option<Entry> {
         (None, algorithm) => {
             let algorithm = algorithm?;
             let signature = if template == b"ima-sig" { Some(line.signature?.0) } else { None };
-            Content::File(File { algorithm, digest: digest(line.digest?, algorithm)?, path: name(line.path, line.path_hex)?, signature })
+            Content::File(File {
+                algorithm,
+                digest: digest(line.digest?, algorithm)?,
+                path: name(line.path, line.path_hex)?,
+                signature,
+            })
         }
     };
     (line.entry == number).then_some(())?;

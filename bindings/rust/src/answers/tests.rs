@@ -465,11 +465,7 @@ fn wrong_lines_are_no_entries() {
     check_changes(first_entry, DONE, &entry_line(), &changes);
     let other = other_line().replace(r#""entry":1"#, r#""entry":0"#);
     assert!(first_entry(answer(DONE, &other)).is_ok());
-    let changes = [
-        (r#","payload":"00""#, ""),
-        (r#""ff0a""#, r#""ff0""#),
-        (r#""template_hex""#, r#""name""#),
-    ];
+    let changes = [(r#","payload":"00""#, ""), (r#""ff0a""#, r#""ff0""#), (r#""template_hex""#, r#""name""#)];
     check_changes(first_entry, DONE, &other, &changes);
 }
 
