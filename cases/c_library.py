@@ -27,11 +27,14 @@ FUNCTIONS = {
 }
 # The same with `--json`.
 JSON_FUNCTIONS = {
-    ("verify", 3, True): "verify_json",
-    ("locate", 3, True): "locate_json",
+    ("verify", 3, False): "verify_json",
+    ("verify", 3, True): "verify_required_json",
+    ("locate", 3, False): "locate_json",
+    ("locate", 3, True): "locate_required_json",
     ("replay", 1, False): "replay_json",
     ("replay", 2, True): "replay_required_json",
     ("registers", 1, False): "registers_json",
+    ("events", 1, False): "events_json",
     ("show", 1, False): "entries_json",
 }
 ROOM = 16 * 1024

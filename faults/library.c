@@ -176,8 +176,11 @@ static int inputs_of(const char *function) {
         {"entries_json", 1},
         {"registers_json", 1},
         {"replay_json", 1},
-        {"verify_json", 4},
-        {"locate_json", 4},
+        {"events_json", 1},
+        {"verify_json", 3},
+        {"locate_json", 3},
+        {"verify_required_json", 4},
+        {"locate_required_json", 4},
         {"replay_required_json", 3},
     };
     for (size_t i = 0; i < sizeof functions / sizeof functions[0]; i++)
@@ -194,15 +197,21 @@ static int is_json(const char *function) {
 static int32_t call_json(const char *function, const struct bytes *in, uint8_t *out, size_t room, size_t *needed) {
     struct bytes a = in[0], b = in[1], c = in[2], d = in[3];
     if (strcmp(function, "verify_json") == 0)
-        return ima_verify_json(a.at, a.size, b.at, b.size, c.at, c.size, d.at, d.size, out, room, needed);
+        return ima_verify_json(a.at, a.size, b.at, b.size, c.at, c.size, out, room, needed);
+    if (strcmp(function, "verify_required_json") == 0)
+        return ima_verify_required_json(a.at, a.size, b.at, b.size, c.at, c.size, d.at, d.size, out, room, needed);
     if (strcmp(function, "locate_json") == 0)
-        return ima_locate_json(a.at, a.size, b.at, b.size, c.at, c.size, d.at, d.size, out, room, needed);
+        return ima_locate_json(a.at, a.size, b.at, b.size, c.at, c.size, out, room, needed);
+    if (strcmp(function, "locate_required_json") == 0)
+        return ima_locate_required_json(a.at, a.size, b.at, b.size, c.at, c.size, d.at, d.size, out, room, needed);
     if (strcmp(function, "replay_required_json") == 0)
         return ima_replay_required_json(a.at, a.size, b.at, b.size, c.at, c.size, out, room, needed);
     if (strcmp(function, "replay_json") == 0)
         return ima_replay_json(a.at, a.size, out, room, needed);
     if (strcmp(function, "registers_json") == 0)
         return ima_registers_json(a.at, a.size, out, room, needed);
+    if (strcmp(function, "events_json") == 0)
+        return ima_events_json(a.at, a.size, out, room, needed);
     return ima_entries_json(a.at, a.size, out, room, needed);
 }
 

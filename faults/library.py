@@ -106,7 +106,7 @@ def made_files(folder):
 
 def cases(files):
     """Every function, with inputs that it takes and inputs that it refuses."""
-    for function in ("verify", "locate"):
+    for function in ("verify", "locate", "verify_json", "locate_json"):
         for title, *names in (
             ("the real boot", "log", "list", "expected"),
             ("a longer list", "log", "longer list", "expected"),
@@ -120,7 +120,7 @@ def cases(files):
             ("expected registers of which one is wrong", "log", "list", "wrong line"),
         ):
             yield Case(function, title, [files[name] for name in names])
-    for function in ("verify_required", "locate_required", "verify_json", "locate_json"):
+    for function in ("verify_required", "locate_required", "verify_required_json", "locate_required_json"):
         for title, *names in (
             ("the real boot", "log", "list", "expected", "all"),
             ("a longer list", "log", "longer list", "expected", "all"),
@@ -153,10 +153,10 @@ def cases(files):
     ):
         yield Case("expected", title, [files[name] for name in names], "--registers")
     for functions, title, name in (
-        (("registers", "registers_json"), "the real boot", "log"),
-        (("registers", "registers_json"), "one event", "one event"),
-        (("registers", "registers_json"), "a log that is cut short", "cut log"),
-        (("registers", "registers_json"), "an empty log", "empty"),
+        (("registers", "registers_json", "events_json"), "the real boot", "log"),
+        (("registers", "registers_json", "events_json"), "one event", "one event"),
+        (("registers", "registers_json", "events_json"), "a log that is cut short", "cut log"),
+        (("registers", "registers_json", "events_json"), "an empty log", "empty"),
         (("show", "entries_json", "replay_json"), "the real boot", "list"),
         (("show", "entries_json", "replay_json"), "a changed list", "changed list"),
         (("show", "entries_json", "replay_json"), "a list that is cut short", "cut list"),

@@ -5,7 +5,7 @@ faults/sweep.py [ROOT]: the tree with the test binaries and the program that `rt
 
 Each test whose name contains `each_allocation_refused`, and a command of each kind that the cases have, runs again and again. In the
 Nth run its Nth allocation is refused (faults/refuse.c), until a run ends with none refused. A test must pass each time; a command must
-answer as its case wants, or with `failed: memory`, which `--json` has as JSON, and status 3. A test or command without a refused
+answer as its case wants, or with `failed: memory`, which `--json` has as JSON, and status 3 (`show --json` after lines of entries). A test or command without a refused
 allocation fails, and so does a run that crashes or takes longer than a minute. Allocations of a test's binary that runs no test do not
 count: as many as that makes, a test makes before it begins. (What a test allocates to prepare its call does count: nothing outside
 tells where that begins.)
@@ -17,8 +17,8 @@ Commands are of one kind if they have the same word, options and status, as many
 they are refused, and both or neither ask for help, name a sample, or have a text with more names. Of each kind the first runs, in the
 order of the cases, that names no file of the system, in a case whose files have at most 64 KiB.
 
-Before that, the program measures 50 files of 40 MiB within 64 MiB of address space. The last line, 'N passed, M failed', counts
-both."""
+Before that, the program measures 50 files of 40 MiB within 64 MiB of address space, and shows a list of 64 MiB as JSON, with a peak of
+memory at most 8 MiB above that of an empty one. The last line, 'N passed, M failed', counts all."""
 
 import json
 import os
@@ -100,11 +100,12 @@ class CommandRun:
         return (OUT_OF_MEMORY, OUT_OF_MEMORY_AS_JSON) if "--json" in self.command.words else (OUT_OF_MEMORY,)
 
     def output_of_memory(self, output):
-        """What is due out of memory, of an output: of a list as JSON without the lines of entries, which come before a fault's. (That these
-        are the list's is seen of the answers without a refusal; here only that they are whole.)"""
+        """What is due out of memory, of an output: of a list as JSON its last line, if those before it are the first that the case wants."""
         if self.command.words[:1] != ["show"] or "--json" not in self.command.words:
             return output
-        return b"".join(line for line in output.splitlines(keepends=True) if not (line.startswith(b'{"entry":') and line.endswith(b"}\n")))
+        *lines, last = output.splitlines(keepends=True) or [b""]
+        wanted = [line.encode() + b"\n" for line in self.command.wanted[: len(lines)]]
+        return last if lines == wanted else output
 
     def fault(self, settings, met):
         """What is wrong with a run under these settings, in which an allocation was refused if the file `met` is there, or None."""

@@ -12,7 +12,7 @@
  * each fault number means.
  *
  * A verdict speaks of the registers that are expected, and of no others: ima_verify says `match` of none at all.
- * So say which registers a verdict must cover, and call ima_verify_required, or ima_verify_json.
+ * So say which registers a verdict must cover, and call ima_verify_required.
  *
  * Pointers. None may be null, `out` and `needed` included, even where its size is 0: give the address of any
  * byte then. To ask for the size alone, give `out` such an address, and an `out_size` of 0. Nothing may change
@@ -125,18 +125,25 @@ int32_t ima_registers(const uint8_t *log, size_t log_size, uint8_t *out, size_t 
  * feeds and control bytes. */
 int32_t ima_show(const uint8_t *list, size_t list_size, uint8_t *out, size_t out_size, size_t *needed);
 
-/* The verdict as a line of JSON, where `require` is as in ima_verify_required: it names at least one register,
- * and an empty one is refused. Each that is not among the expected ones has the state `missing`, and then the
- * verdict is `differ`. Statuses and refusals are those of ima_verify_required. (Version 2.) */
+/* The verdict of ima_verify as a line of JSON, with its statuses and refusals. (Version 2.) */
 int32_t ima_verify_json(const uint8_t *log, size_t log_size, const uint8_t *list, size_t list_size,
-                        const uint8_t *expected, size_t expected_size, const uint8_t *require,
-                        size_t require_size, uint8_t *out, size_t out_size, size_t *needed);
+                        const uint8_t *expected, size_t expected_size, uint8_t *out, size_t out_size,
+                        size_t *needed);
 
-/* The places as a line of JSON, where `require` is as in ima_verify_json. Statuses and refusals are those of
- * ima_locate_required. (Version 2.) */
+/* The verdict of ima_verify_required as a line of JSON, with its statuses and refusals. (Version 2.) */
+int32_t ima_verify_required_json(const uint8_t *log, size_t log_size, const uint8_t *list, size_t list_size,
+                                 const uint8_t *expected, size_t expected_size, const uint8_t *require,
+                                 size_t require_size, uint8_t *out, size_t out_size, size_t *needed);
+
+/* The places of ima_locate as a line of JSON, with its statuses and refusals. (Version 2.) */
 int32_t ima_locate_json(const uint8_t *log, size_t log_size, const uint8_t *list, size_t list_size,
-                        const uint8_t *expected, size_t expected_size, const uint8_t *require,
-                        size_t require_size, uint8_t *out, size_t out_size, size_t *needed);
+                        const uint8_t *expected, size_t expected_size, uint8_t *out, size_t out_size,
+                        size_t *needed);
+
+/* The places of ima_locate_required as a line of JSON, with its statuses and refusals. (Version 2.) */
+int32_t ima_locate_required_json(const uint8_t *log, size_t log_size, const uint8_t *list, size_t list_size,
+                                 const uint8_t *expected, size_t expected_size, const uint8_t *require,
+                                 size_t require_size, uint8_t *out, size_t out_size, size_t *needed);
 
 /* The verdict of ima_replay_required as a line of JSON, with its statuses and refusals. (Version 2.) */
 int32_t ima_replay_required_json(const uint8_t *list, size_t list_size, const uint8_t *expected,
@@ -151,10 +158,16 @@ int32_t ima_replay_json(const uint8_t *list, size_t list_size, uint8_t *out, siz
 /* The registers of ima_registers as a line of JSON. (Version 2.) */
 int32_t ima_registers_json(const uint8_t *log, size_t log_size, uint8_t *out, size_t out_size, size_t *needed);
 
+/* The algorithms that a firmware event log declares, and then its events, each as a line of JSON: what
+ * `events --json` prints. Of a damaged log the text has the lines before the fault, and then the fault's, and the
+ * function returns IMA_REFUSED. The whole text is in memory, also where `out_size` is 0: two to six bytes for each
+ * byte of the log, and up to three times that while it grows. (Version 2.) */
+int32_t ima_events_json(const uint8_t *log, size_t log_size, uint8_t *out, size_t out_size, size_t *needed);
+
 /* The entries of a measurement list, each as a line of JSON: what `show --json` prints. Whether an entry is genuine
  * is one of its members, and refuses nothing. Of a damaged list the text has the entries before the fault, and
- * then the fault's line, and the function returns IMA_REFUSED: so look at what it returns, not for a line alone. If
- * memory runs out, the text is that fault's line alone. (Version 2.) */
+ * then the fault's line, and the function returns IMA_REFUSED: so what it returns says whether the list is whole.
+ * If memory runs out, the text is that fault's line alone. (Version 2.) */
 int32_t ima_entries_json(const uint8_t *list, size_t list_size, uint8_t *out, size_t out_size, size_t *needed);
 
 #ifdef __cplusplus

@@ -119,7 +119,12 @@ def events_command(inputs, values, log):
 
 
 def show_command(inputs, values, listed):
-    entries, fault = read_front(inputs.load(listed))
+    data, fault = inputs.opened(listed)()
+    if not values["--json"]:
+        whole(data, fault)
+    entries, found = read_front(data)
+    if found and not (fault and found.number == ListFault.TRUNCATED):
+        fault = found
     if fault and not values["--json"]:
         raise fault
     ended = [fault.as_json()] if fault else []

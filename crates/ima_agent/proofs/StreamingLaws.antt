@@ -242,7 +242,7 @@ module _ (inputs : Inputs) (name : List ℕ) where
             line_of (fault_json (Some (codes "memory")) None None (codes "failed: memory")),
             3,
             fails_after came.all sends.entries came.rest runs.Memory came.held came.begins (inr (inr refl))
-            (line_of (fault_json (Some (codes "memory")) None None (codes "failed: memory"))) 3 (inl memory_told),
+                (line_of (fault_json (Some (codes "memory")) None None (codes "failed: memory"))) 3 (inl memory_told),
           );
         })
     shown (Err (entries.List (lists.Truncated entry))) result sends (fault, is, says) failed =

@@ -25,6 +25,7 @@ use command_line::JsonPlan;
 pub(crate) use entries::{entries_sent, entry_lines};
 pub use entries_within::{FittedOutput, json_entries_within};
 pub(crate) use events::events_sent;
+pub use events::json_events_on;
 use judging::{list_report, places, report};
 pub use judging_bytes::{json_list_report_on, json_places_on, json_report_on};
 pub use registers::json_registers_on;

@@ -48,8 +48,8 @@ pub use fault::RunFault;
 pub use files::{Files, SharedFiles};
 pub use hashing::hash_from;
 pub use json_outputs::{
-    FittedOutput, json_entries_within, json_list_report_on, json_places_on, json_registers_on,
-    json_report_on,
+    FittedOutput, json_entries_within, json_events_on, json_list_report_on, json_places_on,
+    json_registers_on, json_report_on,
 };
 pub use list_verifying::{list_report_on, required_list_report_on};
 pub use loading::{LoadFault, load};

@@ -1,9 +1,10 @@
 //! Outputs that are written while their input is read.
 
 ghost use Rattle.std.specs.Prelude.{◌≡◌, true, false};
+ghost use Rattle.command_line.specs.declared.plan.Plan.TheVariants.{Json};
 ghost use Rattle.ima_agent.specs.Program.{IsOutcome};
 ghost use Rattle.ima_agent.specs.Streaming.{Streams};
-ghost use Rattle.ima_agent.specs.parts.Program.{IsStreamed, IsWhole};
+ghost use Rattle.ima_agent.specs.parts.Program.{IsStreamed, IsStreamedJson, IsWhole};
 
 use crate::fault::RunFault;
 use crate::files::Files;
@@ -43,8 +44,24 @@ pub(crate) fn streamed_for<F: Files, S: Sink>(
     ensures { Streams (IsOutcome (F.told files.old) plan.now) (S.state sink.old) (S.state sink.new) result }
 {
     match plan {
-        Plan::Json(JsonPlan::Events { log }) => events_sent(alloc, files, log, sink),
-        Plan::Json(JsonPlan::Show { list }) => entries_sent(alloc, files, list, sink),
+        Plan::Json(plan) => streamed_json(alloc, plan, files, sink),
+        _ => unreachable!(),
+    }
+}
+
+// The same of a plan with `--json`.
+fn streamed_json<F: Files, S: Sink>(
+    alloc: Global,
+    plan: &JsonPlan,
+    files: &mut F,
+    sink: &mut S,
+) -> Result<(), StreamFault>
+    requires { IsStreamedJson plan.now }
+    ensures { Streams (IsOutcome (F.told files.old) (Json plan.now)) (S.state sink.old) (S.state sink.new) result }
+{
+    match plan {
+        JsonPlan::Events { log } => events_sent(alloc, files, log, sink),
+        JsonPlan::Show { list } => entries_sent(alloc, files, list, sink),
         _ => unreachable!(),
     }
 }

@@ -108,6 +108,25 @@ memory_told : (fault : RunFault) (text : List ℕ) (status : ℕ) → fault ≡ 
 memory_told fault text status memory (inl told) = subst (λ (f : RunFault). ToldAsJson f text status) memory told
 memory_told fault text status memory (inr told) = told
 
+-- An output, or that memory ran out, was given.
+pub gives_json_lines : (Shows : List ℕ → ℕ → Type 0) (made : Result Output RunFault) (answer : ℤ) (needed : ℕ) (old new : List ℕ)
+    → IfOk made (λ output. Shows output.text.items output.status) → IfErr made (λ fault. fault ≡ Memory)
+    → Answers (IsJsonOf made) answer needed old new
+    → Answers (λ text status. Shows text status ⊎ ToldAsJson Memory text status) answer needed old new
+gives_json_lines Shows (Ok output) answer needed old new shows memory given = record {
+  text = given.text;
+  status = given.status;
+  is_answer =
+      inl (same_answer Shows given.text output.text.items given.status output.status given.is_answer.0 given.is_answer.1 shows);
+  given = given.given;
+}
+gives_json_lines Shows (Err fault) answer needed old new shows memory given = record {
+  text = given.text;
+  status = given.status;
+  is_answer = inr (memory_told fault given.text given.status memory given.is_answer);
+  given = given.given;
+}
+
 -- The lines of a list, as far as there is room, or that memory ran out, were given.
 pub gives_json_fitted : (list : List ℕ) (made : Result FittedOutput RunFault) (answer : ℤ) (needed : ℕ) (old new : List ℕ)
     → IfOk made (λ output. (shown : List ℕ) × ShowsEntries list shown output.status × IsFitted (length old) shown output.text)

@@ -1,13 +1,13 @@
 -- What a caller in C finds after a call. All of this is this project's choice.
-use Rattle.std.specs.Prelude.{◌≡◌, ℕ, ℤ, pos, ◌<◌, ◌≤◌, ◌⊎◌, List, ◌++◌, length, drop, Some}
+use Rattle.std.specs.Prelude.{◌≡◌, ℕ, ℤ, pos, ◌<◌, ◌≤◌, ◌⊎◌, List, ◌++◌, length, drop, Option, Some}
 use Rattle.ima_agent.specs.declared.fault.RunFault.{RunFault}
 use Rattle.ima_agent.specs.declared.fault.RunFault.TheVariants.{Memory}
 use Rattle.ima_agent.specs.declared.output.Form.TheVariants.{Json}
 use Rattle.ima_agent.specs.Expecting.{IsNotExpectedOn, ShowsExpected, range_text}
 use Rattle.ima_agent.specs.FaultTexts.{fault_line, fault_status}
 use Rattle.ima_agent.specs.JsonFaults.{ToldAsJson}
-use Rattle.ima_agent.specs.JsonJudging.{ShowsJsonListReportOn, ShowsJsonPlacesOn, ShowsJsonReportOn}
-use Rattle.ima_agent.specs.JsonShowing.{ShowsEntries, ShowsJsonRegisters}
+use Rattle.ima_agent.specs.JsonJudging.{IsFaultWhere, ShowsJsonListReportOn, ShowsJsonPlacesOn, ShowsJsonReportOn}
+use Rattle.ima_agent.specs.JsonShowing.{ShowsEntries, ShowsJsonEvents, ShowsJsonRegisters}
 use Rattle.ima_agent.specs.ListVerifying.{IsNoListReportOn, ShowsListReportOn}
 use Rattle.ima_agent.specs.Replaying.{IsNoReplayOn, ShowsReplay}
 use Rattle.ima_agent.specs.Showing.{IsNoListFor, IsNoLogFor, ShowsList, ShowsRegistersAfter}
@@ -102,26 +102,24 @@ pub record IsJsonRefusal (HasCause : RunFault → Type 0) (text : List ℕ) (sta
   pub cause : HasCause fault
   pub told : ToldAsJson fault text status
 
--- The report on this log, this list and the registers that the text `expected` states, where the text `required` requires registers, with
--- the status of its verdict; or why there is none.
-abbrev pub IsJsonReportAnswer : List ℕ → List ℕ → List ℕ → List ℕ → List ℕ → ℕ → Type 0
+-- The report on this log, this list and the registers that the text `expected` states, with the status of its verdict; or why there is
+-- none. Where the text `required` is given, it requires registers.
+abbrev pub IsJsonReportAnswer : List ℕ → List ℕ → List ℕ → Option (List ℕ) → List ℕ → ℕ → Type 0
 IsJsonReportAnswer log list expected required text status =
-    ShowsJsonReportOn log list expected (Some required) text status
-    ⊎ IsJsonRefusal (IsFaultWith required (IsNoReportOn log list expected)) text status
+    ShowsJsonReportOn log list expected required text status
+    ⊎ IsJsonRefusal (IsFaultWhere required (IsNoReportOn log list expected)) text status
 
--- The places in this log and this list of the registers that the text `expected` states, where the text `required` requires registers, with
--- their status; or why there are none.
-abbrev pub IsJsonPlacesAnswer : List ℕ → List ℕ → List ℕ → List ℕ → List ℕ → ℕ → Type 0
+-- The same of the places in this log and this list of these registers.
+abbrev pub IsJsonPlacesAnswer : List ℕ → List ℕ → List ℕ → Option (List ℕ) → List ℕ → ℕ → Type 0
 IsJsonPlacesAnswer log list expected required text status =
-    ShowsJsonPlacesOn log list expected (Some required) text status
-    ⊎ IsJsonRefusal (IsFaultWith required (IsNoReportOn log list expected)) text status
+    ShowsJsonPlacesOn log list expected required text status
+    ⊎ IsJsonRefusal (IsFaultWhere required (IsNoReportOn log list expected)) text status
 
--- The report on this list alone and the registers that the text `expected` states, where the text `required` requires registers, with the
--- status of its verdict; or why there is none.
-abbrev pub IsJsonListReportAnswer : List ℕ → List ℕ → List ℕ → List ℕ → ℕ → Type 0
+-- The same of the report on this list alone.
+abbrev pub IsJsonListReportAnswer : List ℕ → List ℕ → Option (List ℕ) → List ℕ → ℕ → Type 0
 IsJsonListReportAnswer list expected required text status =
-    ShowsJsonListReportOn list expected (Some required) text status
-    ⊎ IsJsonRefusal (IsFaultWith required (IsNoListReportOn list expected)) text status
+    ShowsJsonListReportOn list expected required text status
+    ⊎ IsJsonRefusal (IsFaultWhere required (IsNoListReportOn list expected)) text status
 
 -- The registers after this log; or why there are none.
 abbrev pub IsJsonRegistersAnswer : List ℕ → List ℕ → ℕ → Type 0
@@ -130,6 +128,10 @@ IsJsonRegistersAnswer log text status = (ShowsJsonRegisters log text × (status 
 -- The registers after this list alone; or why there are none.
 abbrev pub IsJsonReplayAnswer : List ℕ → List ℕ → ℕ → Type 0
 IsJsonReplayAnswer list text status = (ShowsReplay Json list text × (status ≡ 0)) ⊎ IsJsonRefusal (IsNoReplayOn list) text status
+
+-- What can be read of these bytes as a log, with its status; or that memory ran out.
+abbrev pub IsJsonEventsAnswer : List ℕ → List ℕ → ℕ → Type 0
+IsJsonEventsAnswer log text status = ShowsJsonEvents log text status ⊎ ToldAsJson Memory text status
 
 -- What can be read of these bytes as a list, with its status; or that memory ran out.
 abbrev pub IsJsonEntriesAnswer : List ℕ → List ℕ → ℕ → Type 0

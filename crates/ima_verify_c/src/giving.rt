@@ -9,7 +9,8 @@ ghost use Rattle.ima_verify_c.specs.parts.Givings.{IsFaultText, IsJsonOf, IsOf, 
 
 use byte_streams::{Failed, VecSink};
 use ima_agent::{
-    Fitted, FittedOutput, Output, RunFault, json_fault_line, json_memory_line, status_of, write_fault,
+    Fitted, FittedOutput, Output, RunFault, json_fault_line, json_memory_line, status_of,
+    write_fault,
 };
 use std::alloc::{AllocError, Global};
 

@@ -9,14 +9,14 @@
 
 mod giving;
 
-ghost use Rattle.std.specs.Prelude.{◌≡◌};
-ghost use Rattle.ima_verify_c.specs.Answers.{Answers, IsPlacesAnswer, IsEntriesAnswer, IsExpectedAnswer, IsJsonEntriesAnswer, IsJsonListReportAnswer, IsJsonPlacesAnswer, IsJsonRegistersAnswer, IsJsonReplayAnswer, IsJsonReportAnswer, IsRegistersAnswer, IsReportAnswer, IsRequiredListReportAnswer, IsRequiredPlacesAnswer, IsRequiredReportAnswer, interface_version};
+ghost use Rattle.std.specs.Prelude.{◌≡◌, None, Some};
+ghost use Rattle.ima_verify_c.specs.Answers.{Answers, IsPlacesAnswer, IsEntriesAnswer, IsExpectedAnswer, IsJsonEntriesAnswer, IsJsonEventsAnswer, IsJsonListReportAnswer, IsJsonPlacesAnswer, IsJsonRegistersAnswer, IsJsonReplayAnswer, IsJsonReportAnswer, IsRegistersAnswer, IsReportAnswer, IsRequiredListReportAnswer, IsRequiredPlacesAnswer, IsRequiredReportAnswer, interface_version};
 
 use crate::giving::{give, give_fitted, give_json, give_json_fitted, give_text};
 use ima_agent::{
-    entries_within, expected_on, json_entries_within, json_list_report_on, json_places_on,
-    json_registers_on, json_replay_on, json_report_on, places_on, registers_on, report_on,
-    required_list_report_on, required_places_on, required_report_on,
+    entries_within, expected_on, json_entries_within, json_events_on, json_list_report_on,
+    json_places_on, json_registers_on, json_replay_on, json_report_on, places_on, registers_on,
+    report_on, required_list_report_on, required_places_on, required_report_on,
 };
 use std::alloc::Global;
 
@@ -149,28 +149,25 @@ pub extern "C" fn ima_show(alloc: Global, list: &[u8], out: &mut [u8], needed: &
     give_fitted(alloc, asked, out, needed)
 }
 
-/// The verdict on a firmware event log, a measurement list and expected registers, where `require` is as in [`ima_verify_required`], as
-/// `verify --json` writes it: 0 if it is `match`, 1 if it is `differ`.
+/// The verdict of [`ima_verify`] as `verify --json` writes it.
 #[unsafe(no_mangle)]
 pub extern "C" fn ima_verify_json(
     alloc: Global,
     log: &[u8],
     list: &[u8],
     expected: &[u8],
-    require: &[u8],
     out: &mut [u8],
     needed: &mut usize,
 ) -> i32
-    ensures { Answers (IsJsonReportAnswer log.now list.now expected.now require.now) result needed.new out.old out.new }
+    ensures { Answers (IsJsonReportAnswer log.now list.now expected.now None) result needed.new out.old out.new }
 {
-    let asked = json_report_on(alloc, log, list, expected, Some(require));
+    let asked = json_report_on(alloc, log, list, expected, None);
     give_json(alloc, asked, out, needed)
 }
 
-/// Where expected registers first have their values, where `require` is as in [`ima_locate_required`], as `locate --json` writes it: 0 if
-/// each was reached and none is missing, else 1.
+/// The verdict of [`ima_verify_required`] as `verify --json` writes it.
 #[unsafe(no_mangle)]
-pub extern "C" fn ima_locate_json(
+pub extern "C" fn ima_verify_required_json(
     alloc: Global,
     log: &[u8],
     list: &[u8],
@@ -179,14 +176,46 @@ pub extern "C" fn ima_locate_json(
     out: &mut [u8],
     needed: &mut usize,
 ) -> i32
-    ensures { Answers (IsJsonPlacesAnswer log.now list.now expected.now require.now) result needed.new out.old out.new }
+    ensures { Answers (IsJsonReportAnswer log.now list.now expected.now (Some require.now)) result needed.new out.old out.new }
+{
+    let asked = json_report_on(alloc, log, list, expected, Some(require));
+    give_json(alloc, asked, out, needed)
+}
+
+/// The places of [`ima_locate`] as `locate --json` writes them.
+#[unsafe(no_mangle)]
+pub extern "C" fn ima_locate_json(
+    alloc: Global,
+    log: &[u8],
+    list: &[u8],
+    expected: &[u8],
+    out: &mut [u8],
+    needed: &mut usize,
+) -> i32
+    ensures { Answers (IsJsonPlacesAnswer log.now list.now expected.now None) result needed.new out.old out.new }
+{
+    let asked = json_places_on(alloc, log, list, expected, None);
+    give_json(alloc, asked, out, needed)
+}
+
+/// The places of [`ima_locate_required`] as `locate --json` writes them.
+#[unsafe(no_mangle)]
+pub extern "C" fn ima_locate_required_json(
+    alloc: Global,
+    log: &[u8],
+    list: &[u8],
+    expected: &[u8],
+    require: &[u8],
+    out: &mut [u8],
+    needed: &mut usize,
+) -> i32
+    ensures { Answers (IsJsonPlacesAnswer log.now list.now expected.now (Some require.now)) result needed.new out.old out.new }
 {
     let asked = json_places_on(alloc, log, list, expected, Some(require));
     give_json(alloc, asked, out, needed)
 }
 
-/// The verdict on a measurement list without a log and expected registers, where `require` is as in [`ima_replay_required`], as
-/// `replay --json` writes it: 0 if it is `match`, 1 if it is `differ`.
+/// The verdict of [`ima_replay_required`] as `replay --json` writes it.
 #[unsafe(no_mangle)]
 pub extern "C" fn ima_replay_required_json(
     alloc: Global,
@@ -196,7 +225,7 @@ pub extern "C" fn ima_replay_required_json(
     out: &mut [u8],
     needed: &mut usize,
 ) -> i32
-    ensures { Answers (IsJsonListReportAnswer list.now expected.now require.now) result needed.new out.old out.new }
+    ensures { Answers (IsJsonListReportAnswer list.now expected.now (Some require.now)) result needed.new out.old out.new }
 {
     let asked = json_list_report_on(alloc, list, expected, Some(require));
     give_json(alloc, asked, out, needed)
@@ -226,6 +255,20 @@ pub extern "C" fn ima_registers_json(
     ensures { Answers (IsJsonRegistersAnswer log.now) result needed.new out.old out.new }
 {
     give_json(alloc, json_registers_on(alloc, log), out, needed)
+}
+
+/// The algorithms and the events of a firmware event log, as `events --json` writes them: of a damaged one those before its fault, and
+/// then the fault, with status 2.
+#[unsafe(no_mangle)]
+pub extern "C" fn ima_events_json(
+    alloc: Global,
+    log: &[u8],
+    out: &mut [u8],
+    needed: &mut usize,
+) -> i32
+    ensures { Answers (IsJsonEventsAnswer log.now) result needed.new out.old out.new }
+{
+    give_json(alloc, json_events_on(alloc, log), out, needed)
 }
 
 /// The entries of a measurement list, as `show --json` writes them: of a damaged one those before its fault, and then the fault, with

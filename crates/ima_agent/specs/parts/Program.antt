@@ -20,10 +20,15 @@ ShowsText (ReplayExpected list expected required) = ⊥
 ShowsText (Json plan) = ⊥
 ShowsText plan = Unit {0}
 
--- The output of the plan is written while its input is read.
+-- The output of the plan with `--json` is written while its input is read.
+abbrev pub IsStreamedJson : JsonPlan → Type 0
+IsStreamedJson (jsons.Events log) = Unit {0}
+IsStreamedJson (jsons.Show list) = Unit {0}
+IsStreamedJson plan = ⊥
+
+-- The same of a plan.
 abbrev pub IsStreamed : Plan → Type 0
-IsStreamed (Json (jsons.Events log)) = Unit {0}
-IsStreamed (Json (jsons.Show list)) = Unit {0}
+IsStreamed (Json plan) = IsStreamedJson plan
 IsStreamed plan = ⊥
 
 -- The output of the plan with `--json` is prepared whole.

@@ -2,7 +2,7 @@
 
 ghost use Rattle.std.specs.Prelude.{◌≡◌, ◌++◌, List, ℕ, IfOk};
 ghost use Rattle.ima_agent.specs.JsonFaults.{ToldAsJson};
-ghost use Rattle.ima_agent.specs.JsonShowing.{ShowsEntries, ShowsEntriesOf, entry_lines};
+ghost use Rattle.ima_agent.specs.JsonShowing.{ShowsEntriesOf, entry_lines};
 ghost use Rattle.ima_agent.specs.Streaming.{Streams};
 ghost use Rattle.ima_agent.specs.parts.Streaming.{IsStreamFaultOf, SendsEntriesOf};
 
@@ -13,8 +13,7 @@ use crate::output::Output;
 use crate::streaming::StreamFault;
 use crate::texts::{append_json_fault, status_of};
 use byte_streams::{Failed, Sink, Source};
-use ima_list::laws::entries_to_the_end_are_the_reading;
-use ima_list::{Entry, EntryRef};
+use ima_list::Entry;
 use json_texts::{EntriesFault, append_entry, send_entries};
 use std::alloc::{AllocError, Global};
 
@@ -60,28 +59,6 @@ fn stream_fault(alloc: Global, name: &str, fault: EntriesFault) -> StreamFault
         EntriesFault::TooLong => StreamFault::Run(too_long(alloc, name)),
         EntriesFault::Memory => StreamFault::Run(RunFault::Memory),
     }
-}
-
-/// The lines of the entries of the list in these bytes; of a damaged one those of the entries before its fault, and then the fault's,
-/// with its status.
-pub(crate) fn entries_of(alloc: Global, list: &[u8]) -> Result<Output, AllocError>
-    ensures { IfOk result (λ output. ShowsEntries list.now output.text.items output.status) }
-{
-    entries_to_the_end_are_the_reading();
-    let mut text = Vec::new(alloc);
-    let mut number = 0;
-    let mut rest = list;
-    while !rest.is_empty() {
-        match EntryRef::read(number, rest) {
-            Ok((entry, after)) => {
-                append_entry(alloc, number, &entry, &mut text)?;
-                number += 1;
-                rest = after;
-            }
-            Err(fault) => return ended(alloc, text, &RunFault::List(fault)),
-        }
-    }
-    Ok(Output::done(text))
 }
 
 /// These lines, and then that of the fault, with its status.

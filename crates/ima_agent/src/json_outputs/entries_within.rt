@@ -32,7 +32,11 @@ pub struct FittedOutput {
 /// more than `room` bytes, they are only counted: then no more than these and one line are in memory at once.
 ///
 /// Fails with [`RunFault::Memory`] alone, if memory runs out.
-pub fn json_entries_within(alloc: Global, list: &[u8], room: usize) -> Result<FittedOutput, RunFault>
+pub fn json_entries_within(
+    alloc: Global,
+    list: &[u8],
+    room: usize,
+) -> Result<FittedOutput, RunFault>
     ensures shown { IfOk result (λ output. (shown : List ℕ) × ShowsEntries list.now shown output.status × IsFitted room shown output.text) }
     ensures fault { IfErr result (λ fault. fault ≡ Memory) }
 {

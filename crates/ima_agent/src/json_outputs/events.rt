@@ -1,8 +1,9 @@
 //! The events of a log with `--json`.
 
-ghost use Rattle.std.specs.Prelude.{IfOk};
+ghost use Rattle.std.specs.Prelude.{◌≡◌, IfOk, IfErr};
 ghost use Rattle.ima_agent.specs.JsonShowing.{ShowsEventsOf, ShowsJsonEvents};
 ghost use Rattle.ima_agent.specs.Streaming.{Streams};
+ghost use Rattle.ima_agent.specs.declared.fault.RunFault.TheVariants.{Memory};
 ghost use Rattle.ima_agent.specs.parts.Streaming.{ShowsEventsIn};
 
 use crate::fault::RunFault;
@@ -42,6 +43,17 @@ fn events_in<S: Sink>(alloc: Global, log: &[u8], sink: &mut S) -> Result<(), Str
         Err(EventsFault::Log(fault)) => Err(StreamFault::Run(RunFault::Log(fault))),
         Err(EventsFault::Memory) => Err(StreamFault::Run(RunFault::Memory)),
     }
+}
+
+/// The line of the algorithms that this firmware event log declares, and the lines of its events: what `events --json` shows of a file with
+/// these bytes, here of any size. Of a damaged log they are those before its fault, and then the fault's, with its status.
+///
+/// Fails with [`RunFault::Memory`] alone, if memory runs out.
+pub fn json_events_on(alloc: Global, log: &[u8]) -> Result<Output, RunFault>
+    ensures shown { IfOk result (λ output. ShowsJsonEvents log.now output.text.items output.status) }
+    ensures fault { IfErr result (λ fault. fault ≡ Memory) }
+{
+    Ok(events_of(alloc, log)?)
 }
 
 /// The line of the algorithms that the log in these bytes declares, and the lines of its events; of a damaged one those before its fault,
