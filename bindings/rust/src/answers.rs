@@ -74,11 +74,11 @@ impl Answer {
     /// Where the lines before the fault end, if the status says that the last line is one, and the fault.
     fn end_and_fault(&self, is_empty: bool) -> Result<(usize, Option<Error>), Error> {
         if self.status != REFUSED {
-            return if self.is_lines(is_empty) { Ok((self.text.len(), None)) } else { Err(self.to_unexpected()) };
+            return if self.is_lines(is_empty) { Ok((self.text.len(), None)) } else { Err(self.unexpected()) };
         }
         let before = self.text.strip_suffix(b"\n").unwrap_or_default();
         let end = before.iter().rposition(|byte| *byte == b'\n').map_or(0, |at| at + 1);
-        let fault = fault_line(&self.text[end..]).and_then(|line| refusal_in(&line)).ok_or_else(|| self.to_unexpected())?;
+        let fault = fault_line(&self.text[end..]).and_then(|line| refusal_in(&line)).ok_or_else(|| self.unexpected())?;
         Ok((end, Some(fault)))
     }
 
@@ -136,12 +136,8 @@ impl Answer {
         (says && fit).then_some(matches && !rows.is_empty())
     }
 
-    fn to_unexpected(&self) -> Error {
+    pub(crate) fn unexpected(&self) -> Error {
         Error::Unexpected { status: self.status, needed: self.text.len(), text: self.text.clone() }
-    }
-
-    pub(crate) fn unexpected(self) -> Error {
-        Error::Unexpected { status: self.status, needed: self.text.len(), text: self.text }
     }
 }
 
