@@ -11,7 +11,7 @@ import (
 )
 
 const (
-	malformedLine = "refused: command line\n"
+	malformedLine = "refused: command line"
 	unset         = math.MaxUint64
 	mostRoom      = 1 << 40
 )
@@ -24,18 +24,18 @@ type answer struct {
 }
 
 // Calls the library with room for a text of this size, and once more if that is too short. The answer is a result or a refusal.
-func ask(room int, call func(out []byte, needed *uint64) int32) (answer, error) {
+func ask(room int, call func(out []byte, needed *length) int32) (answer, error) {
 	if found := libraryVersion(); found < headerVersion {
 		return answer{}, fmt.Errorf("libima_verify has version %d of the interface, and %d or later is needed", found, headerVersion)
 	}
-	out, needed := make([]byte, room), uint64(unset)
+	out, needed := make([]byte, room), length(unset)
 	status := call(out, &needed)
-	if status == tooShort && uint64(room) < needed && needed <= mostRoom {
+	if status == tooShort && length(room) < needed && needed <= mostRoom {
 		out, needed = make([]byte, needed), unset
 		status = call(out, &needed)
 	}
-	if needed > uint64(len(out)) {
-		return answer{}, &UnexpectedError{status, needed, nil}
+	if needed > length(len(out)) {
+		return answer{}, &UnexpectedError{status, uint64(needed), nil}
 	}
 	given := answer{status, out[:needed]}
 	switch status {
@@ -47,22 +47,17 @@ func ask(room int, call func(out []byte, needed *uint64) int32) (answer, error) 
 	return answer{}, given.unexpected()
 }
 
-// The answer to a call, which is one line of JSON. It is no refusal. Of a call that requests registers, that may be malformed.
-func askFor(requests bool, call func(out []byte, needed *uint64) int32) (answer, error) {
+// What is read from the answer to a call, if it is no refusal. Of a call that requests registers, that may be malformed.
+func askFor[T any](read func(a answer) (T, error), room int, requests bool, call func(out []byte, needed *length) int32) (T, error) {
 	given, err := ask(room, call)
 	if err == nil && given.status == refused {
-		return answer{}, given.refusal(requests)
+		err = given.refusal(requests)
 	}
-	return given, err
-}
-
-// The same of an answer that is text.
-func askForText(room int, requests bool, call func(out []byte, needed *uint64) int32) (answer, error) {
-	given, err := ask(room, call)
-	if err == nil && given.status == refused {
-		return answer{}, given.refusalOfText(requests)
+	if err != nil {
+		var none T
+		return none, err
 	}
-	return given, err
+	return read(given)
 }
 
 func (a answer) unexpected() error {
@@ -84,11 +79,6 @@ func readLine[T any](status int32, line []byte, from func(r *reader, o object) T
 	return value, nil
 }
 
-// Whether the status says that all values are as expected, as they are or are not.
-func (a answer) says(all bool) bool {
-	return a.status == done && all || a.status == differs && !all
-}
-
 // The line of an answer that is one.
 func (a answer) line() string {
 	return string(bytes.TrimSuffix(a.text, []byte("\n")))
@@ -97,42 +87,41 @@ func (a answer) line() string {
 func (a answer) verdict() (Verdict, error) {
 	return read(a, func(r *reader, o object) Verdict {
 		v := Verdict{Events: r.number(o, "events", math.MaxUint64), Locality: uint8(r.number(o, "locality", math.MaxUint8)),
-			Entries: r.number(o, "entries", math.MaxUint64), JSON: a.line()}
+			Entries: r.number(o, "entries", math.MaxUint64), Rows: r.rows(o), JSON: a.line()}
 		v.BootAggregate = oneOf(r, o, "boot_aggregate", AggregateGood, AggregateWrong, AggregateNoBank, AggregateMissing)
-		v.Rows, v.Matches = r.rows(o)
-		v.Matches = v.Matches && v.BootAggregate == AggregateGood
-		r.require(a.says(v.Matches) && r.saysMatch(o) == v.Matches)
+		v.Matches = r.matches(a.status, o, v.Rows, v.BootAggregate == AggregateGood)
 		return v
 	})
 }
 
-// The verdict on a list alone. A list has registers in all banks.
+// The verdict on a list alone.
 func (a answer) listVerdict() (ListVerdict, error) {
 	return read(a, func(r *reader, o object) ListVerdict {
-		v := ListVerdict{Entries: r.number(o, "entries", math.MaxUint64), JSON: a.line()}
-		v.Rows, v.Matches = r.rows(o)
-		v.Matches = v.Matches && v.Entries > 0
-		for _, row := range v.Rows {
-			r.require(row.State != StateAbsent)
-		}
-		r.require(a.says(v.Matches) && r.saysMatch(o) == v.Matches)
+		v := ListVerdict{Entries: r.number(o, "entries", math.MaxUint64), Rows: r.rows(o), JSON: a.line()}
+		v.Matches = r.matches(a.status, o, v.Rows, v.Entries > 0)
 		return v
 	})
 }
 
 func (a answer) places() (Places, error) {
 	return read(a, func(r *reader, o object) Places {
-		p, missing := Places{Located: true, JSON: a.line()}, false
-		for _, row := range member[[]object](r, o, "registers") {
-			place := r.placeRow(row)
-			r.require(place.Place.Kind == PlaceMissing || !missing)
-			missing = place.Place.Kind == PlaceMissing
-			p.Rows, p.Located = append(p.Rows, place), p.Located && place.Place.isReached()
+		p, located := Places{JSON: a.line()}, true
+		for _, o := range member[[]object](r, o, "registers") {
+			row := r.placeRow(o)
+			p.Rows, located = append(p.Rows, row), located && row.Place.isReached()
 		}
-		r.require(len(p.Rows) > 0)
-		r.require(a.says(p.Located) && member[bool](r, o, "located") == p.Located)
+		r.require(member[bool](r, o, "located") == located && a.status == statusOf(located))
+		p.Located = located && len(p.Rows) > 0
 		return p
 	})
+}
+
+// The status of a report or of places.
+func statusOf(all bool) int32 {
+	if all {
+		return done
+	}
+	return differs
 }
 
 func (a answer) registers() ([]Register, error) {
@@ -149,10 +138,7 @@ func (a answer) registers() ([]Register, error) {
 
 // The entries, which are none only of an empty list, or before a fault.
 func (a answer) entries(isEmpty bool) (*Listing[Entry], error) {
-	lines, fault, err := a.lines()
-	if err == nil && fault == nil && (a.status != done || isEmpty != (len(lines) == 0)) {
-		err = a.unexpected()
-	}
+	lines, fault, err := a.linesAndFault(isEmpty)
 	if err != nil {
 		return nil, err
 	}
@@ -161,7 +147,7 @@ func (a answer) entries(isEmpty bool) (*Listing[Entry], error) {
 
 // The events, after the algorithms. Without these there is nothing but a fault.
 func (a answer) events() (*EventListing, error) {
-	lines, fault, err := a.lines()
+	lines, fault, err := a.linesAndFault(false)
 	if err == nil && fault != nil && len(lines) == 0 {
 		err = fault
 	}
@@ -170,9 +156,6 @@ func (a answer) events() (*EventListing, error) {
 	}
 	end := bytes.IndexByte(lines, '\n') + 1
 	algorithms, err := readLine(a.status, lines[:end], (*reader).algorithms)
-	if err == nil && fault == nil && a.status != done {
-		err = a.unexpected()
-	}
 	if err != nil {
 		return nil, err
 	}
@@ -180,16 +163,35 @@ func (a answer) events() (*EventListing, error) {
 }
 
 // The lines before the fault, if the status says that the last line is one, and the fault.
-func (a answer) lines() ([]byte, *RefusedError, error) {
+func (a answer) linesAndFault(isEmpty bool) ([]byte, *RefusedError, error) {
 	if a.status != refused {
-		if len(a.text) > 0 && a.text[len(a.text)-1] != '\n' {
-			return nil, nil, a.unexpected()
-		}
-		return a.text, nil, nil
+		lines, err := a.lines(isEmpty)
+		return lines, nil, err
 	}
 	end := bytes.LastIndexByte(bytes.TrimSuffix(a.text, []byte("\n")), '\n') + 1
-	fault, err := readLine(a.status, a.text[end:], (*reader).fault)
-	return a.text[:end], fault, err
+	line, err := answer{a.status, a.text[end:]}.faultLine()
+	if err != nil {
+		return nil, nil, err
+	}
+	fault, err := faultIn(line)
+	if err != nil {
+		return nil, nil, a.unexpected()
+	}
+	return a.text[:end], fault, nil
+}
+
+// Lines as they are, which are none only if they have to be.
+func (a answer) lines(isEmpty bool) ([]byte, error) {
+	if a.status != done || isEmpty != (len(a.text) == 0) || !isEmpty && a.text[len(a.text)-1] != '\n' {
+		return nil, a.unexpected()
+	}
+	return a.text, nil
+}
+
+// The same with no more memory than they need.
+func (a answer) copied(isEmpty bool) ([]byte, error) {
+	lines, err := a.lines(isEmpty)
+	return append(make([]byte, 0, len(lines)), lines...), err
 }
 
 // Next gives the next item, or, after the last, io.EOF, or what is wrong with the input: a *RefusedError that says where it is
@@ -220,57 +222,36 @@ func (l *Listing[T]) Fault() error {
 	return l.fault
 }
 
-const (
-	digits       = `(0|[1-9][0-9]*)`
-	registerLine = `(?:1?[0-9]|2[0-3]) `
-)
+const digits = `(0|[1-9][0-9]*)`
 
-var (
-	faultLine = regexp.MustCompile(`^refused: (?:(log) fault ` + digits + `(?: at event ` + digits + `)?|(list|replay) fault ` + digits +
-		` at entry ` + digits + `|(expected) fault ` + digits + `(?: at line ` + digits + `)?)$`)
-	expectedLines = regexp.MustCompile(`^(?:(?:sha1 ` + registerLine + `[0-9a-f]{40}|sha256 ` + registerLine + `[0-9a-f]{64}|sha384 ` +
-		registerLine + `[0-9a-f]{96}|sha512 ` + registerLine + `[0-9a-f]{128})\n)+$`)
-)
+var faultLine = regexp.MustCompile(`^refused: (?:(log) fault ` + digits + `(?: at event ` + digits + `)?|(list|replay) fault ` + digits +
+	` at entry ` + digits + `|(expected) fault ` + digits + `(?: at line ` + digits + `)?)$`)
 
-// The lines of expected registers, at least one, as they are.
-func (a answer) expected() ([]byte, error) {
-	if a.status != done || !expectedLines.Match(a.text) {
-		return nil, a.unexpected()
+// The line of a fault, without its line feed: the text, or the message of one that is JSON.
+func (a answer) faultLine() (string, error) {
+	if bytes.HasPrefix(a.text, []byte("{")) {
+		return read(a, func(r *reader, o object) string { return member[string](r, member[object](r, o, "fault"), "message") })
 	}
-	return append(make([]byte, 0, len(a.text)), a.text...), nil
-}
-
-// The entries of a list, in the kernel's form, as they are.
-func (a answer) shown() ([]byte, error) {
-	if a.status != done || len(a.text) > 0 && a.text[len(a.text)-1] != '\n' {
-		return nil, a.unexpected()
+	if !bytes.HasSuffix(a.text, []byte("\n")) {
+		return "", a.unexpected()
 	}
-	return append(make([]byte, 0, len(a.text)), a.text...), nil
+	return a.line(), nil
 }
 
 // The error of a refusal.
 func (a answer) refusal(requests bool) error {
-	fault, err := read(a, func(r *reader, o object) error {
-		if f := member[object](r, o, "fault"); requests && member[string](r, f, "kind") == "command_line" {
-			return ErrMalformed
-		}
-		return r.fault(o)
-	})
+	line, err := a.faultLine()
 	if err != nil {
 		return err
 	}
-	return fault
-}
-
-// The same of a refusal that is text.
-func (a answer) refusalOfText(requests bool) error {
-	if requests && string(a.text) == malformedLine {
+	if requests && line == malformedLine {
 		return ErrMalformed
 	}
-	if fault, err := faultIn(a.line()); err == nil && bytes.HasSuffix(a.text, []byte("\n")) {
-		return fault
+	fault, err := faultIn(line)
+	if err != nil {
+		return a.unexpected()
 	}
-	return a.unexpected()
+	return fault
 }
 
 func faultIn(line string) (*RefusedError, error) {

@@ -17,8 +17,6 @@ package imaverify
 import (
 	"errors"
 	"fmt"
-	"regexp"
-	"strings"
 )
 
 // Algorithm is that of a bank of registers.
@@ -62,8 +60,8 @@ type Row struct {
 
 // Verdict is that on a log, a list and expected registers.
 //
-// Matches says that the boot aggregate is good, that each expected register has its value, and that no required one is missing. It says
-// nothing of registers that have no row. JSON is the report as `ima-agent verify --json` prints it, without the line feed.
+// Matches says that the boot aggregate is good, that each expected register has its value, that there is one, and that no required one is
+// missing. It says nothing of registers that have no row. JSON is the report as `ima-agent verify --json` prints it, without the line feed.
 type Verdict struct {
 	Events        uint64
 	Locality      uint8
@@ -81,8 +79,8 @@ func (v Verdict) Compared() int {
 
 // ListVerdict is that on a list without a log, and expected registers.
 //
-// Matches says that the list has an entry, that each expected register has its value, and that no required one is missing. JSON is the
-// report as `ima-agent replay --json` prints it, without the line feed.
+// Matches says that the list has an entry, that each expected register has its value, that there is one, and that no required one is
+// missing. JSON is the report as `ima-agent replay --json` prints it, without the line feed.
 type ListVerdict struct {
 	Entries uint64
 	Rows    []Row
@@ -134,8 +132,8 @@ type PlaceRow struct {
 	Place     Place
 }
 
-// Places says where each expected register first has its value. Located says that each was reached, and that no required one is
-// missing. JSON is what `ima-agent locate --json` prints, without the line feed.
+// Places says where each expected register first has its value. Located says that each was reached, that there is one, and that no
+// required one is missing. JSON is what `ima-agent locate --json` prints, without the line feed.
 type Places struct {
 	Rows    []PlaceRow
 	Located bool
@@ -256,106 +254,66 @@ func Version() uint32 {
 	return libraryVersion()
 }
 
-// Verify gives the verdict on a firmware event log, a measurement list and the expected registers that a text states. It is VerifyRequired
-// of the registers that the text names, or of sha256:0 if it names none: so a verdict on nothing is no match.
+// Verify gives the verdict on a firmware event log, a measurement list and the expected registers that a text states. Nothing is required;
+// a verdict on no registers is no match, whatever its JSON says.
 func Verify(log, list, expected []byte) (Verdict, error) {
-	return VerifyRequired(log, list, expected, namedIn(expected))
+	return askFor(answer.verdict, room, false, func(out []byte, needed *length) int32 { return callVerify(log, list, expected, out, needed) })
 }
 
 // VerifyRequired does the same, where require names the registers that must be among the expected ones, as "sha256:0-10" or
 // "sha256:0-7,sha1:10". Each that is not has a row whose state is StateMissing, and then the verdict is no match.
 func VerifyRequired(log, list, expected []byte, require string) (Verdict, error) {
-	answer, err := askFor(true, func(out []byte, needed *uint64) int32 {
-		return callVerify(log, list, expected, []byte(require), out, needed)
+	return askFor(answer.verdict, room, true, func(out []byte, needed *length) int32 {
+		return callVerifyRequired(log, list, expected, []byte(require), out, needed)
 	})
-	if err != nil {
-		return Verdict{}, err
-	}
-	return answer.verdict()
 }
 
-// Locate says where each expected register first has its value. Inputs, refusals and what is required are those of Verify.
+// Locate says where each expected register first has its value. Inputs and refusals are those of Verify.
 func Locate(log, list, expected []byte) (Places, error) {
-	return LocateRequired(log, list, expected, namedIn(expected))
+	return askFor(answer.places, room, false, func(out []byte, needed *length) int32 { return callLocate(log, list, expected, out, needed) })
 }
 
 // LocateRequired does the same, where require is as in VerifyRequired.
 func LocateRequired(log, list, expected []byte, require string) (Places, error) {
-	answer, err := askFor(true, func(out []byte, needed *uint64) int32 {
-		return callLocate(log, list, expected, []byte(require), out, needed)
+	return askFor(answer.places, room, true, func(out []byte, needed *length) int32 {
+		return callLocateRequired(log, list, expected, []byte(require), out, needed)
 	})
-	if err != nil {
-		return Places{}, err
-	}
-	return answer.places()
-}
-
-var namedRegister = regexp.MustCompile(`(?m)^(sha1|sha256|sha384|sha512) (1?[0-9]|2[0-3]) `)
-
-// Each register that a text of expected ones names, as what is required, so that none of these is missing.
-func namedIn(expected []byte) string {
-	var named []string
-	isNamed := map[string]bool{}
-	for _, words := range namedRegister.FindAllSubmatch(expected, -1) {
-		if name := string(words[1]) + ":" + string(words[2]); !isNamed[name] {
-			named, isNamed[name] = append(named, name), true
-		}
-	}
-	if len(named) == 0 {
-		return "sha256:0"
-	}
-	return strings.Join(named, ",")
 }
 
 // ReplayRequired gives the verdict on a measurement list without a log, and the expected registers that a text states. The list is replayed
 // from the registers' reset values, so a register that the firmware extends too differs. require is as in VerifyRequired. A list without
 // entries is no match.
 func ReplayRequired(list, expected []byte, require string) (ListVerdict, error) {
-	answer, err := askFor(true, func(out []byte, needed *uint64) int32 {
+	return askFor(answer.listVerdict, room, true, func(out []byte, needed *length) int32 {
 		return callReplay(list, expected, []byte(require), out, needed)
 	})
-	if err != nil {
-		return ListVerdict{}, err
-	}
-	return answer.listVerdict()
 }
 
 // ExpectedFrom gives the lines of expected registers, for Verify and Locate, of what tpm2_pcrread or tpm2_checkquote printed: of the
 // registers in a range, as "0-10" or "4", or of all, if that is empty; at least one, else the text is refused. Neither who wrote the text
 // nor whether a quote holds is known from it: take the values of a quote that was checked, or of a machine that is trusted.
 func ExpectedFrom(printed []byte, registers string) ([]byte, error) {
-	answer, err := askForText(room, registers != "", func(out []byte, needed *uint64) int32 {
+	read := func(a answer) ([]byte, error) { return a.copied(false) }
+	return askFor(read, room, registers != "", func(out []byte, needed *length) int32 {
 		return callExpected(printed, []byte(registers), out, needed)
 	})
-	if err != nil {
-		return nil, err
-	}
-	return answer.expected()
 }
 
 // Registers gives the registers that differ from their reset values after a firmware event log.
 func Registers(log []byte) ([]Register, error) {
-	answer, err := askFor(false, func(out []byte, needed *uint64) int32 { return callRegisters(log, out, needed) })
-	if err != nil {
-		return nil, err
-	}
-	return answer.registers()
+	return askFor(answer.registers, room, false, func(out []byte, needed *length) int32 { return callRegisters(log, out, needed) })
 }
 
 // ListRegisters gives the registers, in banks of all algorithms, that differ from their reset values after a measurement list without a
 // log.
 func ListRegisters(list []byte) ([]Register, error) {
-	answer, err := askFor(false, func(out []byte, needed *uint64) int32 { return callListRegisters(list, out, needed) })
-	if err != nil {
-		return nil, err
-	}
-	return answer.registers()
+	return askFor(answer.registers, room, false, func(out []byte, needed *length) int32 { return callListRegisters(list, out, needed) })
 }
 
 // Entries gives the entries of a measurement list, one after another by Next, each with whether it is genuine. Of a damaged list the
 // entries before the fault come, and then its *RefusedError, which Fault knows from the start.
 func Entries(list []byte) (*Listing[Entry], error) {
-	answer, err := ask(roomOfLines(len(list)), func(out []byte, needed *uint64) int32 { return callEntries(list, out, needed) })
+	answer, err := ask(roomOfLines(len(list)), func(out []byte, needed *length) int32 { return callEntries(list, out, needed) })
 	if err != nil {
 		return nil, err
 	}
@@ -365,7 +323,7 @@ func Entries(list []byte) (*Listing[Entry], error) {
 // Events gives the events of a firmware event log after its header, one after another by Next. Of a damaged log the events before the fault
 // come, and then its *RefusedError, which Fault knows from the start; if the fault is in the header, it comes at once.
 func Events(log []byte) (*EventListing, error) {
-	answer, err := ask(roomOfLines(len(log)), func(out []byte, needed *uint64) int32 { return callEvents(log, out, needed) })
+	answer, err := ask(roomOfLines(len(log)), func(out []byte, needed *length) int32 { return callEvents(log, out, needed) })
 	if err != nil {
 		return nil, err
 	}
@@ -375,11 +333,8 @@ func Events(log []byte) (*EventListing, error) {
 // Show gives the entries of a measurement list, each in the kernel's form. Paths stand as they are: they may have line feeds and
 // control bytes. Entries gives each by itself.
 func Show(list []byte) ([]byte, error) {
-	answer, err := askForText(roomOfEntries(len(list)), false, func(out []byte, needed *uint64) int32 { return callShow(list, out, needed) })
-	if err != nil {
-		return nil, err
-	}
-	return answer.shown()
+	read := func(a answer) ([]byte, error) { return a.copied(len(list) == 0) }
+	return askFor(read, roomOfEntries(len(list)), false, func(out []byte, needed *length) int32 { return callShow(list, out, needed) })
 }
 
 // Room for the entries of a list of this size: an entry's text is at most twice as long as the entry.

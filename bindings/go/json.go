@@ -86,7 +86,6 @@ func (r *reader) digest(o object, name string, algorithm Algorithm) []byte {
 
 // A name, which stands in hexadecimal if it is not UTF-8.
 func (r *reader) name(o object, name string) []byte {
-	r.require(has(o, name) != has(o, name+"_hex"))
 	if has(o, name) {
 		return []byte(member[string](r, o, name))
 	}
@@ -96,55 +95,37 @@ func (r *reader) name(o object, name string) []byte {
 func (r *reader) row(o object) Row {
 	row := Row{Algorithm: r.algorithm(o, "bank"), Register: r.register(o)}
 	row.State = oneOf(r, o, "state", StateMatch, StateDiffer, StateAbsent, StateMissing)
-	r.require(has(o, "value") == (row.State == StateDiffer))
 	if row.State == StateDiffer {
 		row.Value = r.digest(o, "value", row.Algorithm)
 	}
 	return row
 }
 
-// The rows of a report, and whether each matches. Since something is required, there is one. Those of missing registers come after the
-// others.
-func (r *reader) rows(o object) ([]Row, bool) {
+func (r *reader) rows(o object) []Row {
 	var rows []Row
-	match := true
 	for _, o := range member[[]object](r, o, "registers") {
-		row := r.row(o)
-		r.require(row.State == StateMissing || len(rows) == compared(rows))
-		rows, match = append(rows, row), match && row.State == StateMatch
+		rows = append(rows, r.row(o))
 	}
-	r.require(len(rows) > 0)
-	return rows, match
+	return rows
 }
 
-func (r *reader) saysMatch(o object) bool {
-	return oneOf(r, o, "verdict", "match", "differ") == "match"
+// Whether a report is a match of at least one register. Its status, its verdict and its rows say the same.
+func (r *reader) matches(status int32, o object, rows []Row, isGood bool) bool {
+	matches := isGood
+	for _, row := range rows {
+		matches = matches && row.State == StateMatch
+	}
+	r.require((oneOf(r, o, "verdict", "match", "differ") == "match") == matches && status == statusOf(matches))
+	return matches && len(rows) > 0
 }
 
 func (r *reader) placeRow(o object) PlaceRow {
 	row := PlaceRow{Algorithm: r.algorithm(o, "bank"), Register: r.register(o)}
 	row.Place.Kind = oneOf(r, o, "place", PlaceReset, PlaceEvent, PlaceEntry, PlaceNowhere, PlaceAbsent, PlaceMissing)
-	isNumbered := row.Place.Kind == PlaceEvent || row.Place.Kind == PlaceEntry
-	r.require(has(o, "number") == isNumbered)
-	if isNumbered {
+	if row.Place.Kind == PlaceEvent || row.Place.Kind == PlaceEntry {
 		row.Place.Number = r.number(o, "number", math.MaxUint64)
 	}
 	return row
-}
-
-// The fault of a line. Its members say what its message says; the line of a text of expected registers is in the message alone.
-func (r *reader) fault(o object) *RefusedError {
-	fault := member[object](r, o, "fault")
-	said, err := faultIn(member[string](r, fault, "message"))
-	if r.require(err == nil); r.wrong {
-		return nil
-	}
-	r.require(member[string](r, fault, "kind") == string(said.Kind) && r.number(fault, "number", math.MaxUint64) == said.Number)
-	if point, isPlaced := map[Kind]string{KindLog: "event", KindList: "entry", KindReplay: "entry"}[said.Kind]; isPlaced {
-		r.require(has(fault, point) == said.HasPlace)
-		r.require(!said.HasPlace || r.number(fault, point, math.MaxUint64) == said.Place)
-	}
-	return said
 }
 
 func (r *reader) entry(o object, number uint64) Entry {
@@ -152,18 +133,13 @@ func (r *reader) entry(o object, number uint64) Entry {
 		TemplateDigest: r.digest(o, "template_digest", SHA1),
 		Violation:      member[bool](r, o, "violation"), Genuine: member[bool](r, o, "genuine")}
 	r.require(r.number(o, "entry", math.MaxUint64) == number)
-	r.require(e.Violation == (string(e.TemplateDigest) == string(make([]byte, 20))) && (e.Genuine || !e.Violation))
 	if has(o, "payload") {
-		for _, name := range []string{"algorithm", "digest", "path", "path_hex", "signature"} {
-			r.require(!has(o, name))
-		}
 		e.Payload = r.bytes(o, "payload")
 		return e
 	}
 	algorithm := r.algorithm(o, "algorithm")
 	e.File = &File{algorithm, r.digest(o, "digest", algorithm), string(r.name(o, "path")), nil}
-	r.require(has(o, "signature") == (e.Template == "ima-sig"))
-	if has(o, "signature") {
+	if e.Template == "ima-sig" {
 		e.File.Signature = r.bytes(o, "signature")
 	}
 	return e

@@ -26,6 +26,9 @@ const (
 	headerVersion = C.IMA_VERIFY_VERSION
 )
 
+// The size of a text in C.
+type length = C.size_t
+
 // Where an input without bytes points, since no pointer may be null.
 var nothing [1]byte
 
@@ -45,68 +48,51 @@ func libraryVersion() uint32 {
 	return uint32(C.ima_verify_version())
 }
 
-func callVerify(log, list, expected, require, out []byte, needed *uint64) int32 {
-	length := C.size_t(*needed)
-	status := C.ima_verify_json(start(log), size(log), start(list), size(list), start(expected), size(expected),
-		start(require), size(require), start(out), size(out), &length)
-	*needed = uint64(length)
-	return int32(status)
+func callVerify(log, list, expected, out []byte, needed *length) int32 {
+	return int32(C.ima_verify_json(start(log), size(log), start(list), size(list), start(expected), size(expected),
+		start(out), size(out), needed))
 }
 
-func callLocate(log, list, expected, require, out []byte, needed *uint64) int32 {
-	length := C.size_t(*needed)
-	status := C.ima_locate_json(start(log), size(log), start(list), size(list), start(expected), size(expected),
-		start(require), size(require), start(out), size(out), &length)
-	*needed = uint64(length)
-	return int32(status)
+func callVerifyRequired(log, list, expected, require, out []byte, needed *length) int32 {
+	return int32(C.ima_verify_required_json(start(log), size(log), start(list), size(list), start(expected), size(expected),
+		start(require), size(require), start(out), size(out), needed))
 }
 
-func callReplay(list, expected, require, out []byte, needed *uint64) int32 {
-	length := C.size_t(*needed)
-	status := C.ima_replay_required_json(start(list), size(list), start(expected), size(expected), start(require), size(require),
-		start(out), size(out), &length)
-	*needed = uint64(length)
-	return int32(status)
+func callLocate(log, list, expected, out []byte, needed *length) int32 {
+	return int32(C.ima_locate_json(start(log), size(log), start(list), size(list), start(expected), size(expected),
+		start(out), size(out), needed))
 }
 
-func callExpected(printed, registers, out []byte, needed *uint64) int32 {
-	length := C.size_t(*needed)
-	status := C.ima_expected(start(printed), size(printed), start(registers), size(registers), start(out), size(out), &length)
-	*needed = uint64(length)
-	return int32(status)
+func callLocateRequired(log, list, expected, require, out []byte, needed *length) int32 {
+	return int32(C.ima_locate_required_json(start(log), size(log), start(list), size(list), start(expected), size(expected),
+		start(require), size(require), start(out), size(out), needed))
 }
 
-func callRegisters(log, out []byte, needed *uint64) int32 {
-	length := C.size_t(*needed)
-	status := C.ima_registers_json(start(log), size(log), start(out), size(out), &length)
-	*needed = uint64(length)
-	return int32(status)
+func callReplay(list, expected, require, out []byte, needed *length) int32 {
+	return int32(C.ima_replay_required_json(start(list), size(list), start(expected), size(expected),
+		start(require), size(require), start(out), size(out), needed))
 }
 
-func callListRegisters(list, out []byte, needed *uint64) int32 {
-	length := C.size_t(*needed)
-	status := C.ima_replay_json(start(list), size(list), start(out), size(out), &length)
-	*needed = uint64(length)
-	return int32(status)
+func callExpected(printed, registers, out []byte, needed *length) int32 {
+	return int32(C.ima_expected(start(printed), size(printed), start(registers), size(registers), start(out), size(out), needed))
 }
 
-func callEvents(log, out []byte, needed *uint64) int32 {
-	length := C.size_t(*needed)
-	status := C.ima_events_json(start(log), size(log), start(out), size(out), &length)
-	*needed = uint64(length)
-	return int32(status)
+func callRegisters(log, out []byte, needed *length) int32 {
+	return int32(C.ima_registers_json(start(log), size(log), start(out), size(out), needed))
 }
 
-func callEntries(list, out []byte, needed *uint64) int32 {
-	length := C.size_t(*needed)
-	status := C.ima_entries_json(start(list), size(list), start(out), size(out), &length)
-	*needed = uint64(length)
-	return int32(status)
+func callListRegisters(list, out []byte, needed *length) int32 {
+	return int32(C.ima_replay_json(start(list), size(list), start(out), size(out), needed))
 }
 
-func callShow(list, out []byte, needed *uint64) int32 {
-	length := C.size_t(*needed)
-	status := C.ima_show(start(list), size(list), start(out), size(out), &length)
-	*needed = uint64(length)
-	return int32(status)
+func callEvents(log, out []byte, needed *length) int32 {
+	return int32(C.ima_events_json(start(log), size(log), start(out), size(out), needed))
+}
+
+func callEntries(list, out []byte, needed *length) int32 {
+	return int32(C.ima_entries_json(start(list), size(list), start(out), size(out), needed))
+}
+
+func callShow(list, out []byte, needed *length) int32 {
+	return int32(C.ima_show(start(list), size(list), start(out), size(out), needed))
 }

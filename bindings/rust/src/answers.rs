@@ -3,10 +3,12 @@
 use crate::library::{DIFFERS, DONE, REFUSED};
 use crate::{Algorithm, BootAggregate, Content, Entries, Entry, Error, Event, Events, File, Kind, ListVerdict, LogAlgorithm};
 use crate::{Place, PlaceRow, Places, Register, Row, State, Verdict};
-use serde_json::Value;
+use serde::de::{DeserializeOwned, Error as _};
+use serde::{Deserialize, Deserializer};
+use std::collections::BTreeMap;
 
-const REGISTERS: u64 = 24;
-const MALFORMED_LINE: &[u8] = b"refused: command line\n";
+const REGISTERS: u8 = 24;
+const MALFORMED_LINE: &str = "refused: command line";
 
 /// An answer of the library.
 #[derive(Debug)]
@@ -17,76 +19,77 @@ pub(crate) struct Answer {
 
 impl Answer {
     pub(crate) fn verdict(self) -> Result<Verdict, Error> {
-        self.read(read_verdict)
+        self.read(|answer| {
+            let Report { events, locality, boot_aggregate, rest } = object(&answer.text)?;
+            let matches = answer.matches(&rest, boot_aggregate == BootAggregate::Good)?;
+            let (entries, rows, json) = (rest.entries, rest.registers, answer.line()?);
+            Some(Verdict { events, locality, entries, boot_aggregate, rows, matches, json })
+        })
     }
 
     /// The verdict on a list alone.
     pub(crate) fn list_verdict(self) -> Result<ListVerdict, Error> {
-        self.read(read_list_verdict)
+        self.read(|answer| {
+            let report: ListReport = object(&answer.text)?;
+            let matches = answer.matches(&report, report.entries > 0)?;
+            Some(ListVerdict { entries: report.entries, rows: report.registers, matches, json: answer.line()? })
+        })
     }
 
     pub(crate) fn places(self) -> Result<Places, Error> {
-        self.read(read_places)
+        self.read(|answer| {
+            let PlacesLine { registers: rows, located } = object(&answer.text)?;
+            let are_reached = rows.iter().all(|row| !matches!(row.place, Place::Nowhere | Place::Absent | Place::Missing));
+            let says = located == are_reached && answer.says(located);
+            says.then_some(Places { located: located && !rows.is_empty(), rows, json: answer.line()? })
+        })
     }
 
     pub(crate) fn registers(self) -> Result<Vec<Register>, Error> {
         self.read(|answer| {
-            let value = object(&answer.text)?;
-            (answer.status == DONE).then_some(())?;
-            array(&value, "registers")?.iter().map(register).collect()
+            let Registers { registers } = object(&answer.text)?;
+            let fit = registers.iter().all(|register| register.value.len() == register.algorithm.digest_size());
+            (answer.status == DONE && fit).then_some(registers)
         })
     }
 
     /// The entries, which are none only of an empty list, or before a fault.
     pub(crate) fn entries(self, is_empty: bool) -> Result<Entries, Error> {
-        let (end, fault) = self.lines()?;
-        if fault.is_none() && (self.status != DONE || is_empty != (end == 0)) {
-            return Err(self.unexpected());
-        }
+        let (end, fault) = self.end_and_fault(is_empty)?;
         Ok(Entries(Lines { text: self.text, status: self.status, start: 0, end, number: 0, fault, is_over: false }))
     }
 
     /// The events, after the algorithms. Without these there is nothing but a fault.
     pub(crate) fn events(self) -> Result<Events, Error> {
-        let (end, fault) = self.lines()?;
+        let (end, fault) = self.end_and_fault(false)?;
         if let (0, Some(fault)) = (end, &fault) {
             return Err(fault.clone());
         }
         let start = self.text.iter().position(|byte| *byte == b'\n').map_or(0, |at| at + 1);
-        match object(&self.text[..start]).and_then(|value| algorithms(&value)) {
-            Some(algorithms) if self.status == DONE || fault.is_some() => {
-                let lines = Lines { text: self.text, status: self.status, start, end, number: 1, fault, is_over: false };
-                Ok(Events { lines, algorithms })
-            }
-            _ => Err(self.unexpected()),
-        }
+        let Some(Algorithms { algorithms }) = object(&self.text[..start]) else { return Err(self.unexpected()) };
+        let lines = Lines { text: self.text, status: self.status, start, end, number: 1, fault, is_over: false };
+        Ok(Events { lines, algorithms })
     }
 
     /// Where the lines before the fault end, if the status says that the last line is one, and the fault.
-    fn lines(&self) -> Result<(usize, Option<Error>), Error> {
+    fn end_and_fault(&self, is_empty: bool) -> Result<(usize, Option<Error>), Error> {
         if self.status != REFUSED {
-            return match self.text.last() {
-                None | Some(b'\n') => Ok((self.text.len(), None)),
-                Some(_) => Err(self.to_unexpected()),
-            };
+            return if self.is_lines(is_empty) { Ok((self.text.len(), None)) } else { Err(self.unexpected()) };
         }
         let before = self.text.strip_suffix(b"\n").unwrap_or_default();
         let end = before.iter().rposition(|byte| *byte == b'\n').map_or(0, |at| at + 1);
-        let fault = object(&self.text[end..]).and_then(|value| refusal(&value)).ok_or_else(|| self.to_unexpected())?;
+        let fault = fault_line(&self.text[end..]).and_then(|line| refusal_in(&line)).ok_or_else(|| self.unexpected())?;
         Ok((end, Some(fault)))
     }
 
-    /// The lines of expected registers, at least one, as they are.
-    pub(crate) fn expected(self) -> Result<Vec<u8>, Error> {
-        self.read(|answer| {
-            let lines = std::str::from_utf8(&answer.text).ok()?.strip_suffix('\n')?;
-            (answer.status == DONE && lines.split('\n').all(|line| is_register_line(line).is_some())).then(|| answer.text.clone())
-        })
+    /// Whether the answer is lines, which are none only if they have to be.
+    fn is_lines(&self, is_empty: bool) -> bool {
+        self.status == DONE && self.text.last() == if is_empty { None } else { Some(&b'\n') }
     }
 
-    /// The entries of a list, in the kernel's form, as they are.
-    pub(crate) fn shown(mut self) -> Result<Vec<u8>, Error> {
-        if self.status != DONE || !matches!(self.text.last(), None | Some(b'\n')) {
+    /// Lines as they are.
+    pub(crate) fn lines(mut self, is_empty: bool) -> Result<Vec<u8>, Error> {
+        if !self.is_lines(is_empty) {
             return Err(self.unexpected());
         }
         self.text.shrink_to_fit();
@@ -98,24 +101,10 @@ impl Answer {
         if self.status != REFUSED {
             return Ok(self);
         }
-        Err(self.read(|answer| {
-            let value = object(&answer.text)?;
-            let is_request = value.get("fault")?.get("kind")? == "command_line";
-            if requests && is_request {
-                Some(Error::Malformed)
-            } else {
-                refusal(&value)
-            }
+        Err(self.read(|answer| match fault_line(&answer.text)? {
+            line if requests && line == MALFORMED_LINE => Some(Error::Malformed),
+            line => refusal_in(&line),
         })?)
-    }
-
-    /// The same of an answer that is text.
-    pub(crate) fn accepted_text(self, requests: bool) -> Result<Self, Error> {
-        match self.status {
-            REFUSED if requests && self.text == MALFORMED_LINE => Err(Error::Malformed),
-            REFUSED => Err(self.read(|answer| refusal_in(std::str::from_utf8(&answer.text).ok()?.strip_suffix('\n')?))?),
-            _ => Ok(self),
-        }
     }
 
     fn read<T>(self, read: impl FnOnce(&Self) -> Option<T>) -> Result<T, Error> {
@@ -135,12 +124,20 @@ impl Answer {
         self.status == if all { DONE } else { DIFFERS }
     }
 
-    fn to_unexpected(&self) -> Error {
-        Error::Unexpected { status: self.status, needed: self.text.len(), text: self.text.clone() }
+    /// Whether a report is a match of at least one register. Its status, its verdict and its rows say the same.
+    fn matches(&self, report: &ListReport, is_good: bool) -> Option<bool> {
+        let rows = &report.registers;
+        let matches = is_good && rows.iter().all(|row| row.state == State::Match);
+        let fit = rows.iter().all(|row| match &row.state {
+            State::Differ(value) => value.len() == row.algorithm.digest_size(),
+            _ => true,
+        });
+        let says = self.says(matches) && matches == (report.verdict == Said::Match);
+        (says && fit).then_some(matches && !rows.is_empty())
     }
 
-    pub(crate) fn unexpected(self) -> Error {
-        Error::Unexpected { status: self.status, needed: self.text.len(), text: self.text }
+    pub(crate) fn unexpected(&self) -> Error {
+        Error::Unexpected { status: self.status, needed: self.text.len(), text: self.text.clone() }
     }
 }
 
@@ -161,7 +158,7 @@ impl Lines {
         self.fault.as_ref()
     }
 
-    fn next<T>(&mut self, read: impl FnOnce(&Value, u64) -> Option<T>) -> Option<Result<T, Error>> {
+    fn next<L: DeserializeOwned, T>(&mut self, read: impl FnOnce(L, u64) -> Option<T>) -> Option<Result<T, Error>> {
         if self.is_over {
             return None;
         }
@@ -171,7 +168,7 @@ impl Lines {
             return self.fault.clone().map(Err);
         };
         let line = &rest[..length];
-        let item = object(line).and_then(|value| read(&value, self.number));
+        let item = object(line).and_then(|value| read(value, self.number));
         let item = item.ok_or_else(|| Error::Unexpected { status: self.status, needed: line.len(), text: line.to_vec() });
         self.is_over = item.is_err();
         (self.start, self.number) = (self.start + length, self.number + 1);
@@ -187,162 +184,157 @@ impl Lines {
     }
 }
 
-fn read_verdict(answer: &Answer) -> Option<Verdict> {
-    let value = object(&answer.text)?;
-    let boot_aggregate = match string(&value, "boot_aggregate")? {
-        "good" => BootAggregate::Good,
-        "wrong" => BootAggregate::Wrong,
-        "nobank" => BootAggregate::NoBank,
-        "missing" => BootAggregate::Missing,
-        _ => return None,
-    };
-    let rows = rows(&value)?;
-    let matches = boot_aggregate == BootAggregate::Good && rows.iter().all(|row| row.state == State::Match);
-    let (events, entries) = (number(&value, "events", u64::MAX)?, number(&value, "entries", u64::MAX)?);
-    let locality = number(&value, "locality", u8::MAX.into())? as u8;
-    let says = answer.says(matches) && says_match(&value)? == matches;
-    says.then_some(Verdict { events, locality, entries, boot_aggregate, rows, matches, json: answer.line()? })
+/// The members of lines.
+#[derive(Deserialize)]
+struct Report {
+    events: u64,
+    locality: u8,
+    boot_aggregate: BootAggregate,
+    #[serde(flatten)]
+    rest: ListReport,
 }
 
-/// A list has registers in all banks.
-fn read_list_verdict(answer: &Answer) -> Option<ListVerdict> {
-    let value = object(&answer.text)?;
-    let (entries, rows) = (number(&value, "entries", u64::MAX)?, rows(&value)?);
-    let matches = entries > 0 && rows.iter().all(|row| row.state == State::Match);
-    let says = answer.says(matches) && says_match(&value)? == matches && rows.iter().all(|row| row.state != State::Absent);
-    says.then_some(ListVerdict { entries, rows, matches, json: answer.line()? })
+#[derive(Deserialize)]
+struct ListReport {
+    entries: u64,
+    registers: Vec<Row>,
+    verdict: Said,
 }
 
-fn read_places(answer: &Answer) -> Option<Places> {
-    let value = object(&answer.text)?;
-    let rows = array(&value, "registers")?.iter().map(place_row).collect::<Option<Vec<_>>>()?;
-    let located = rows.iter().all(|row| !matches!(row.place, Place::Nowhere | Place::Absent | Place::Missing));
-    let are_last = missing_are_last(rows.iter().map(|row| row.place == Place::Missing));
-    let says = answer.says(located) && value.get("located")?.as_bool()? == located;
-    (says && are_last).then_some(Places { rows, located, json: answer.line()? })
+#[derive(Deserialize, PartialEq)]
+#[serde(rename_all = "lowercase")]
+enum Said {
+    Match,
+    Differ,
 }
 
-/// The rows of a report.
-fn rows(value: &Value) -> Option<Vec<Row>> {
-    let rows = array(value, "registers")?.iter().map(row).collect::<Option<Vec<_>>>()?;
-    missing_are_last(rows.iter().map(|row| row.state == State::Missing)).then_some(rows)
+#[derive(Deserialize)]
+struct PlacesLine {
+    registers: Vec<PlaceRow>,
+    located: bool,
 }
 
-/// Since something is required, there is a row. Those of missing registers come after the others.
-fn missing_are_last(rows: impl Iterator<Item = bool>) -> bool {
-    let rows: Vec<_> = rows.collect();
-    !rows.is_empty() && rows.windows(2).all(|pair| pair[0] <= pair[1])
+#[derive(Deserialize)]
+struct Registers {
+    registers: Vec<Register>,
 }
 
-fn says_match(value: &Value) -> Option<bool> {
-    match string(value, "verdict")? {
-        "match" => Some(true),
-        "differ" => Some(false),
-        _ => None,
+#[derive(Deserialize)]
+struct Algorithms {
+    algorithms: Vec<LogAlgorithm>,
+}
+
+#[derive(Deserialize)]
+struct FaultLine {
+    fault: Fault,
+}
+
+#[derive(Deserialize)]
+struct Fault {
+    message: String,
+}
+
+#[derive(Deserialize)]
+struct EntryLine {
+    entry: u64,
+    #[serde(deserialize_with = "register")]
+    register: u8,
+    template: Option<String>,
+    template_hex: Option<Bytes>,
+    template_digest: Bytes,
+    violation: bool,
+    genuine: bool,
+    algorithm: Option<Algorithm>,
+    digest: Option<Bytes>,
+    path: Option<String>,
+    path_hex: Option<Bytes>,
+    signature: Option<Bytes>,
+    payload: Option<Bytes>,
+}
+
+#[derive(Deserialize)]
+struct EventLine {
+    event: u64,
+    register: u32,
+    #[serde(rename = "type")]
+    name: Option<String>,
+    type_number: u32,
+    digests: BTreeMap<Algorithm, Bytes>,
+    data: Bytes,
+}
+
+/// Bytes in lower case hexadecimal.
+#[derive(Deserialize)]
+struct Bytes(#[serde(deserialize_with = "bytes")] Vec<u8>);
+
+pub(crate) fn bytes<'de, D: Deserializer<'de>>(from: D) -> Result<Vec<u8>, D::Error> {
+    let digits = String::deserialize(from)?;
+    let digit = |byte: &u8| (*byte as char).to_digit(16).filter(|_| !byte.is_ascii_uppercase());
+    let pairs = digits.as_bytes().chunks(2).map(|pair| Some((16 * digit(&pair[0])? + digit(pair.get(1)?)?) as u8));
+    pairs.collect::<Option<_>>().ok_or_else(|| D::Error::custom("no hexadecimal"))
+}
+
+pub(crate) fn register<'de, D: Deserializer<'de>>(from: D) -> Result<u8, D::Error> {
+    let register = u8::deserialize(from)?;
+    if register < REGISTERS {
+        Ok(register)
+    } else {
+        Err(D::Error::custom("no register"))
     }
 }
 
-fn row(value: &Value) -> Option<Row> {
-    let algorithm = algorithm(value, "bank")?;
-    let state = match string(value, "state")? {
-        "match" => State::Match,
-        "differ" => State::Differ(digest(value, "value", algorithm)?),
-        "absent" => State::Absent,
-        "missing" => State::Missing,
-        _ => return None,
-    };
-    let is_whole = value.get("value").is_some() == matches!(state, State::Differ(_));
-    is_whole.then_some(Row { algorithm, register: register_number(value)?, state })
-}
-
-fn place_row(value: &Value) -> Option<PlaceRow> {
-    let place = match string(value, "place")? {
-        "reset" => Place::Reset,
-        "event" => Place::Event(number(value, "number", u64::MAX)?),
-        "entry" => Place::Entry(number(value, "number", u64::MAX)?),
-        "nowhere" => Place::Nowhere,
-        "absent" => Place::Absent,
-        "missing" => Place::Missing,
-        _ => return None,
-    };
-    let is_whole = value.get("number").is_some() == matches!(place, Place::Event(_) | Place::Entry(_));
-    is_whole.then_some(PlaceRow { algorithm: algorithm(value, "bank")?, register: register_number(value)?, place })
-}
-
-fn register(value: &Value) -> Option<Register> {
-    let algorithm = algorithm(value, "bank")?;
-    Some(Register { algorithm, register: register_number(value)?, value: digest(value, "value", algorithm)? })
-}
-
-fn entry(value: &Value, expected: u64) -> Option<Entry> {
-    let (template, template_digest) = (name(value, "template")?, digest(value, "template_digest", Algorithm::Sha1)?);
-    let (violation, genuine) = (value.get("violation")?.as_bool()?, value.get("genuine")?.as_bool()?);
-    let is_violation = template_digest == [0; 20];
-    if number(value, "entry", u64::MAX)? != expected || violation != is_violation || violation && !genuine {
+/// The object of a line, which ends with its only line feed.
+fn object<T: DeserializeOwned>(line: &[u8]) -> Option<T> {
+    let text = line.strip_suffix(b"\n")?;
+    if !text.starts_with(b"{") || text.contains(&b'\n') {
         return None;
     }
-    let content = if value.get("payload").is_some() {
-        let has_fields = ["algorithm", "digest", "path", "path_hex", "signature"].iter().any(|name| value.get(*name).is_some());
-        (!has_fields).then_some(())?;
-        Content::Payload(bytes(value, "payload")?)
-    } else {
-        Content::File(file(value, template == b"ima-sig")?)
-    };
-    Some(Entry { number: expected, register: register_number(value)?, template, template_digest, violation, genuine, content })
+    serde_json::from_slice(text).ok()
 }
 
-fn file(value: &Value, is_signed: bool) -> Option<File> {
-    let algorithm = algorithm(value, "algorithm")?;
-    let signature = match value.get("signature") {
-        Some(_) if is_signed => Some(bytes(value, "signature")?),
-        None if !is_signed => None,
-        _ => return None,
+fn entry(line: EntryLine, number: u64) -> Option<Entry> {
+    let template = name(line.template, line.template_hex)?;
+    let content = match (line.payload, line.algorithm) {
+        (Some(Bytes(payload)), _) => Content::Payload(payload),
+        (None, algorithm) => {
+            let algorithm = algorithm?;
+            let signature = if template == b"ima-sig" { Some(line.signature?.0) } else { None };
+            Content::File(File {
+                algorithm,
+                digest: digest(line.digest?, algorithm)?,
+                path: name(line.path, line.path_hex)?,
+                signature,
+            })
+        }
     };
-    Some(File { algorithm, digest: digest(value, "digest", algorithm)?, path: name(value, "path")?, signature })
+    (line.entry == number).then_some(())?;
+    let template_digest = digest(line.template_digest, Algorithm::Sha1)?;
+    let (register, violation, genuine) = (line.register, line.violation, line.genuine);
+    Some(Entry { number, register, template, template_digest, violation, genuine, content })
 }
 
-fn event(value: &Value, expected: u64) -> Option<Event> {
-    let digest_of = |(name, _): (&String, &Value)| {
-        let algorithm = Algorithm::of(name)?;
-        Some((algorithm, digest(value.get("digests")?, name, algorithm)?))
-    };
-    (number(value, "event", u64::MAX)? == expected).then_some(())?;
-    Some(Event {
-        number: expected,
-        register: number(value, "register", u32::MAX.into())? as u32,
-        name: optional_string(value, "type")?,
-        type_number: number(value, "type_number", u32::MAX.into())? as u32,
-        digests: value.get("digests")?.as_object()?.iter().map(digest_of).collect::<Option<_>>()?,
-        data: bytes(value, "data")?,
-    })
+fn event(line: EventLine, number: u64) -> Option<Event> {
+    (line.event == number).then_some(())?;
+    let digests = line.digests.into_iter().map(|(algorithm, bytes)| Some((algorithm, digest(bytes, algorithm)?)));
+    let (register, name, type_number, data) = (line.register, line.name, line.type_number, line.data.0);
+    Some(Event { number, register, name, type_number, digests: digests.collect::<Option<_>>()?, data })
 }
 
-fn algorithms(value: &Value) -> Option<Vec<LogAlgorithm>> {
-    let algorithm = |row: &Value| {
-        let (id, size) = (number(row, "id", u16::MAX.into())? as u16, number(row, "size", u16::MAX.into())? as u16);
-        Some(LogAlgorithm { name: optional_string(row, "name")?, id, size })
-    };
-    array(value, "algorithms")?.iter().map(algorithm).collect()
+fn digest(Bytes(bytes): Bytes, algorithm: Algorithm) -> Option<Vec<u8>> {
+    (bytes.len() == algorithm.digest_size()).then_some(bytes)
 }
 
-/// The refusal that the fault of a line is. Its members say what its message says; the line of a text of expected registers is in the
-/// message alone.
-fn refusal(value: &Value) -> Option<Error> {
-    let fault = value.get("fault")?;
-    let refusal = refusal_in(string(fault, "message")?)?;
-    let Error::Refused { kind, number: said, place, .. } = &refusal else { return None };
-    let (name, point) = match kind {
-        Kind::Log => ("log", Some("event")),
-        Kind::List => ("list", Some("entry")),
-        Kind::Replay => ("replay", Some("entry")),
-        Kind::Expected => ("expected", None),
-    };
-    let is_placed = match point {
-        Some(point) if fault.get(point).is_some() => *place == Some(number(fault, point, u64::MAX)?),
-        Some(_) => place.is_none(),
-        None => true,
-    };
-    (string(fault, "kind")? == name && number(fault, "number", u64::MAX)? == *said && is_placed).then_some(refusal)
+/// A name, which stands in hexadecimal if it is not UTF-8.
+fn name(text: Option<String>, bytes: Option<Bytes>) -> Option<Vec<u8>> {
+    text.map(String::into_bytes).or(bytes.map(|Bytes(bytes)| bytes))
+}
+
+/// The line of a fault, without its line feed: the text, or the message of one that is JSON.
+fn fault_line(text: &[u8]) -> Option<String> {
+    if text.starts_with(b"{") {
+        return object::<FaultLine>(text).map(|line| line.fault.message);
+    }
+    Some(std::str::from_utf8(text).ok()?.strip_suffix('\n')?.to_owned())
 }
 
 /// The refusal that a line states.
@@ -361,85 +353,6 @@ fn refusal_in(line: &str) -> Option<Error> {
         None => None,
     };
     Some(Error::Refused { line: line.to_owned(), kind, number: number_in(digits)?, place })
-}
-
-fn is_register_line(line: &str) -> Option<()> {
-    let (algorithm, _, digits) = register_line(line)?;
-    (bytes_in(digits)?.len() == algorithm.digest_size()).then_some(())
-}
-
-/// The register that a line of expected registers names, and the rest of the line.
-pub(crate) fn register_line(line: &str) -> Option<(Algorithm, u64, &str)> {
-    let (name, rest) = line.split_once(' ')?;
-    let (register, digits) = rest.split_once(' ')?;
-    let register = number_in(register).filter(|register| *register < REGISTERS)?;
-    Some((Algorithm::of(name)?, register, digits))
-}
-
-/// The object of a line, which ends with its only line feed.
-fn object(line: &[u8]) -> Option<Value> {
-    let text = line.strip_suffix(b"\n")?;
-    if text.contains(&b'\n') {
-        return None;
-    }
-    serde_json::from_slice(text).ok().filter(Value::is_object)
-}
-
-fn string<'a>(value: &'a Value, name: &str) -> Option<&'a str> {
-    value.get(name)?.as_str()
-}
-
-/// A string that may not be there.
-fn optional_string(value: &Value, name: &str) -> Option<Option<String>> {
-    match value.get(name) {
-        Some(member) => Some(Some(member.as_str()?.to_owned())),
-        None => Some(None),
-    }
-}
-
-fn array<'a>(value: &'a Value, name: &str) -> Option<&'a Vec<Value>> {
-    value.get(name)?.as_array()
-}
-
-fn number(value: &Value, name: &str, most: u64) -> Option<u64> {
-    value.get(name)?.as_u64().filter(|number| *number <= most)
-}
-
-fn register_number(value: &Value) -> Option<u8> {
-    number(value, "register", REGISTERS - 1).map(|register| register as u8)
-}
-
-fn algorithm(value: &Value, name: &str) -> Option<Algorithm> {
-    Algorithm::of(string(value, name)?)
-}
-
-fn bytes(value: &Value, name: &str) -> Option<Vec<u8>> {
-    bytes_in(string(value, name)?)
-}
-
-fn digest(value: &Value, name: &str, algorithm: Algorithm) -> Option<Vec<u8>> {
-    bytes(value, name).filter(|bytes| bytes.len() == algorithm.digest_size())
-}
-
-/// A name, which stands in hexadecimal if it is not UTF-8.
-fn name(value: &Value, name: &str) -> Option<Vec<u8>> {
-    let other = format!("{name}_hex");
-    match (value.get(name), value.get(&other)) {
-        (Some(text), None) => Some(text.as_str()?.as_bytes().to_vec()),
-        (None, Some(_)) => bytes(value, &other),
-        _ => None,
-    }
-}
-
-/// Bytes in lower case hexadecimal.
-fn bytes_in(digits: &str) -> Option<Vec<u8>> {
-    let digit = |byte: u8| match byte {
-        b'0'..=b'9' => Some(byte - b'0'),
-        b'a'..=b'f' => Some(byte - b'a' + 10),
-        _ => None,
-    };
-    let pairs = digits.as_bytes().chunks(2);
-    pairs.map(|pair| Some(16 * digit(pair[0])? + digit(*pair.get(1)?)?)).collect()
 }
 
 /// A number in decimal, without leading zeros.

@@ -27,12 +27,14 @@ mod library;
 #[doc = include_str!("../README.md")]
 struct Readme;
 
-use std::collections::{BTreeMap, BTreeSet};
+use serde::Deserialize;
+use std::collections::BTreeMap;
 use std::fmt;
 use std::iter::FusedIterator;
 
 /// The algorithm of a bank of registers.
-#[derive(Debug, Clone, Copy, PartialEq, Eq, Hash, PartialOrd, Ord)]
+#[derive(Debug, Clone, Copy, PartialEq, Eq, Hash, PartialOrd, Ord, Deserialize)]
+#[serde(rename_all = "lowercase")]
 pub enum Algorithm {
     Sha1,
     Sha256,
@@ -41,12 +43,6 @@ pub enum Algorithm {
 }
 
 impl Algorithm {
-    const ALL: [Self; 4] = [Self::Sha1, Self::Sha256, Self::Sha384, Self::Sha512];
-
-    fn of(name: &str) -> Option<Self> {
-        Self::ALL.into_iter().find(|algorithm| algorithm.name() == name)
-    }
-
     /// The algorithm's name in texts.
     pub fn name(self) -> &'static str {
         match self {
@@ -69,7 +65,8 @@ impl Algorithm {
 }
 
 /// How the list's first entry compares with the registers after the log.
-#[derive(Debug, Clone, Copy, PartialEq, Eq, Hash)]
+#[derive(Debug, Clone, Copy, PartialEq, Eq, Hash, Deserialize)]
+#[serde(rename_all = "lowercase")]
 pub enum BootAggregate {
     /// It is the boot aggregate of these registers.
     Good,
@@ -82,11 +79,12 @@ pub enum BootAggregate {
 }
 
 /// How a register compares with its expected value.
-#[derive(Debug, Clone, PartialEq, Eq, Hash)]
+#[derive(Debug, Clone, PartialEq, Eq, Hash, Deserialize)]
+#[serde(tag = "state", content = "value", rename_all = "lowercase")]
 pub enum State {
     Match,
     /// The register has this value instead.
-    Differ(Vec<u8>),
+    Differ(#[serde(deserialize_with = "answers::bytes")] Vec<u8>),
     /// The log has no such bank.
     Absent,
     /// It is required, and not among the expected registers.
@@ -94,10 +92,13 @@ pub enum State {
 }
 
 /// An expected register, compared, or a required one that is missing.
-#[derive(Debug, Clone, PartialEq, Eq, Hash)]
+#[derive(Debug, Clone, PartialEq, Eq, Hash, Deserialize)]
 pub struct Row {
+    #[serde(rename = "bank")]
     pub algorithm: Algorithm,
+    #[serde(deserialize_with = "answers::register")]
     pub register: u8,
+    #[serde(flatten)]
     pub state: State,
 }
 
@@ -111,8 +112,8 @@ pub struct Verdict {
     pub boot_aggregate: BootAggregate,
     /// A row for each expected register, in their order, and then one for each that is missing.
     pub rows: Vec<Row>,
-    /// The boot aggregate is good, each expected register has its value, and no required one is missing. Nothing is said of registers
-    /// that have no row.
+    /// The boot aggregate is good, each expected register has its value, there is one, and no required one is missing. Nothing is said of
+    /// registers that have no row.
     pub matches: bool,
     /// The report as `ima-agent verify --json` prints it, without the line feed.
     pub json: String,
@@ -132,7 +133,7 @@ pub struct ListVerdict {
     pub entries: u64,
     /// A row for each expected register, in their order, and then one for each that is missing.
     pub rows: Vec<Row>,
-    /// The list has an entry, each expected register has its value, and no required one is missing.
+    /// The list has an entry, each expected register has its value, there is one, and no required one is missing.
     pub matches: bool,
     /// The report as `ima-agent replay --json` prints it, without the line feed.
     pub json: String,
@@ -150,7 +151,8 @@ fn compared(rows: &[Row]) -> usize {
 }
 
 /// The earliest point at which a register has its expected value.
-#[derive(Debug, Clone, Copy, PartialEq, Eq, Hash)]
+#[derive(Debug, Clone, Copy, PartialEq, Eq, Hash, Deserialize)]
+#[serde(tag = "place", content = "number", rename_all = "lowercase")]
 pub enum Place {
     /// Before the events.
     Reset,
@@ -166,10 +168,13 @@ pub enum Place {
 }
 
 /// Where an expected register first has its value, or that a required one is missing.
-#[derive(Debug, Clone, Copy, PartialEq, Eq, Hash)]
+#[derive(Debug, Clone, Copy, PartialEq, Eq, Hash, Deserialize)]
 pub struct PlaceRow {
+    #[serde(rename = "bank")]
     pub algorithm: Algorithm,
+    #[serde(deserialize_with = "answers::register")]
     pub register: u8,
+    #[serde(flatten)]
     pub place: Place,
 }
 
@@ -179,17 +184,20 @@ pub struct PlaceRow {
 pub struct Places {
     /// A row for each expected register, in their order, and then one for each that is missing.
     pub rows: Vec<PlaceRow>,
-    /// Each value was reached, and no required register is missing.
+    /// Each value was reached, there is one, and no required register is missing.
     pub located: bool,
     /// What `ima-agent locate --json` prints, without the line feed.
     pub json: String,
 }
 
 /// A register and its value.
-#[derive(Debug, Clone, PartialEq, Eq, Hash)]
+#[derive(Debug, Clone, PartialEq, Eq, Hash, Deserialize)]
 pub struct Register {
+    #[serde(rename = "bank")]
     pub algorithm: Algorithm,
+    #[serde(deserialize_with = "answers::register")]
     pub register: u8,
+    #[serde(deserialize_with = "answers::bytes")]
     pub value: Vec<u8>,
 }
 
@@ -252,7 +260,7 @@ pub struct Event {
 }
 
 /// An algorithm of a log's header.
-#[derive(Debug, Clone, PartialEq, Eq, Hash)]
+#[derive(Debug, Clone, PartialEq, Eq, Hash, Deserialize)]
 pub struct LogAlgorithm {
     /// The name, if the algorithm is known here.
     pub name: Option<String>,
@@ -369,10 +377,9 @@ pub fn version() -> u32 {
 
 /// The verdict on a firmware event log, a measurement list and the expected registers that a text states.
 ///
-/// It is that of [`verify_required`] where the registers are required that the text names, or `sha256:0` if it names none: so a verdict on
-/// nothing is no match.
+/// Nothing is required; a verdict on no registers is no match, whatever its `json` says.
 pub fn verify(log: &[u8], list: &[u8], expected: &[u8]) -> Result<Verdict, Error> {
-    verify_required(log, list, expected, &named_in(expected))
+    ask_for(false, |out| library::verify(log, list, expected, out))?.verdict()
 }
 
 /// The same, where `require` names the registers that must be among the expected ones, as `sha256:0-10` or `sha256:0-7,sha1:10`. Each
@@ -388,17 +395,17 @@ pub fn verify(log: &[u8], list: &[u8], expected: &[u8]) -> Result<Verdict, Error
 /// # }
 /// ```
 pub fn verify_required(log: &[u8], list: &[u8], expected: &[u8], require: &str) -> Result<Verdict, Error> {
-    ask_for(true, |out| library::verify(log, list, expected, require.as_bytes(), out))?.verdict()
+    ask_for(true, |out| library::verify_required(log, list, expected, require.as_bytes(), out))?.verdict()
 }
 
-/// Where each expected register first has its value. Inputs, refusals and what is required are those of `verify`.
+/// Where each expected register first has its value. Inputs and refusals are those of `verify`.
 pub fn locate(log: &[u8], list: &[u8], expected: &[u8]) -> Result<Places, Error> {
-    locate_required(log, list, expected, &named_in(expected))
+    ask_for(false, |out| library::locate(log, list, expected, out))?.places()
 }
 
 /// The same, where `require` is as in `verify_required`.
 pub fn locate_required(log: &[u8], list: &[u8], expected: &[u8], require: &str) -> Result<Places, Error> {
-    ask_for(true, |out| library::locate(log, list, expected, require.as_bytes(), out))?.places()
+    ask_for(true, |out| library::locate_required(log, list, expected, require.as_bytes(), out))?.places()
 }
 
 /// The verdict on a measurement list without a log, and the expected registers that a text states.
@@ -417,7 +424,7 @@ pub fn replay_required(list: &[u8], expected: &[u8], require: &str) -> Result<Li
 pub fn expected(printed: &[u8], registers: Option<&str>) -> Result<Vec<u8>, Error> {
     let range = registers.unwrap_or_default();
     let answer = library::ask(library::ROOM, |out| library::expected(printed, range.as_bytes(), out))?;
-    answer.accepted_text(!range.is_empty())?.expected()
+    answer.accepted(!range.is_empty())?.lines(false)
 }
 
 /// The registers that differ from their reset values after a firmware event log.
@@ -474,20 +481,10 @@ pub fn events(log: &[u8]) -> Result<Events, Error> {
 /// bytes. [`entries`] gives each by itself.
 pub fn show(list: &[u8]) -> Result<Vec<u8>, Error> {
     let answer = library::ask(library::room_of_entries(list.len()), |out| library::show(list, out))?;
-    answer.accepted_text(false)?.shown()
+    answer.accepted(false)?.lines(list.is_empty())
 }
 
 /// The answer to a call, which is one line of JSON. It is no refusal. Of a call that requests registers, that may be malformed.
 fn ask_for(requests: bool, call: impl FnMut(&mut [u8]) -> (i32, usize)) -> Result<answers::Answer, Error> {
     library::ask(library::ROOM, call)?.accepted(requests)
-}
-
-/// Each register that a text of expected ones names, as what is required, so that none of these is missing.
-fn named_in(expected: &[u8]) -> String {
-    let lines = expected.split(|byte| *byte == b'\n').filter_map(|line| answers::register_line(std::str::from_utf8(line).ok()?));
-    let named: BTreeSet<_> = lines.map(|(algorithm, register, _)| (algorithm, register)).collect();
-    if named.is_empty() {
-        return "sha256:0".to_owned();
-    }
-    named.iter().map(|(algorithm, register)| format!("{}:{register}", algorithm.name())).collect::<Vec<_>>().join(",")
 }

@@ -38,8 +38,10 @@ mod c {
     }
 
     functions! {
-        ima_verify_json(log log_size, list list_size, expected expected_size, require require_size);
-        ima_locate_json(log log_size, list list_size, expected expected_size, require require_size);
+        ima_verify_json(log log_size, list list_size, expected expected_size);
+        ima_verify_required_json(log log_size, list list_size, expected expected_size, require require_size);
+        ima_locate_json(log log_size, list list_size, expected expected_size);
+        ima_locate_required_json(log log_size, list list_size, expected expected_size, require require_size);
         ima_replay_required_json(list list_size, expected expected_size, require require_size);
         ima_replay_json(list list_size);
         ima_registers_json(log log_size);
@@ -69,8 +71,10 @@ macro_rules! calls {
 }
 
 calls! {
-    verify = ima_verify_json(log, list, expected, require);
-    locate = ima_locate_json(log, list, expected, require);
+    verify = ima_verify_json(log, list, expected);
+    verify_required = ima_verify_required_json(log, list, expected, require);
+    locate = ima_locate_json(log, list, expected);
+    locate_required = ima_locate_required_json(log, list, expected, require);
     replay = ima_replay_required_json(list, expected, require);
     list_registers = ima_replay_json(list);
     registers = ima_registers_json(log);

@@ -145,7 +145,7 @@ fn right_answers_are_read() {
     assert!(answer(DONE, PLACES).places().unwrap().located);
     assert!(!answer(DIFFERS, NOT_LOCATED).places().unwrap().located);
     assert_eq!(answer(DONE, register()).registers().unwrap()[0].value, [0xaa; 20]);
-    assert_eq!(answer(DONE, expected_line().repeat(2)).expected().unwrap(), expected_line().repeat(2).as_bytes());
+    assert_eq!(answer(DONE, expected_line().repeat(2)).lines(false).unwrap(), expected_line().repeat(2).as_bytes());
 }
 
 #[test]
@@ -236,16 +236,13 @@ fn wrong_reports_are_no_verdicts() {
 
 #[test]
 fn wrong_reports_with_missing_registers_are_no_verdicts() {
-    let (right, wrong) = (format!("{ROW},{MISSING}"), format!("{MISSING},{ROW}"));
     let changes = [
-        (right.as_str(), wrong.as_str()),
         (r#""verdict":"differ""#, r#""verdict":"match""#),
         (r#""missing""#, r#""missing","value":"""#),
         (r#""register":4"#, r#""register":24"#),
     ];
     check_changes(Answer::verdict, DIFFERS, &lacking(), &changes);
-    let none = REPORT.replace(ROW, "");
-    for text in [&lacking(), &lacking().replace(r#""differ""#, r#""match""#), &none] {
+    for text in [&lacking(), &lacking().replace(r#""differ""#, r#""match""#)] {
         assert!(is_unexpected(answer(DONE, text).verdict()), "{text}");
     }
 }
@@ -270,20 +267,31 @@ fn right_reports_on_a_list_alone_are_read() {
 
 #[test]
 fn wrong_reports_on_a_list_alone_are_no_verdicts() {
-    let first = format!("{MISSING},{ROW}");
     let changes = [
         (r#""entries":3,"#, ""),
         (":10", ":24"),
-        (ROW, ""),
-        (ROW, first.as_str()),
         (r#""verdict":"match""#, r#""verdict":"differ""#),
         ("}\n", "}"),
         (LIST_REPORT, ""),
     ];
     check_changes(Answer::list_verdict, DONE, LIST_REPORT, &changes);
     assert!(is_unexpected(answer(DIFFERS, LIST_REPORT).list_verdict()));
-    let absent = LIST_REPORT.replace(MATCH, r#""state":"absent""#).replace(r#""verdict":"match""#, r#""verdict":"differ""#);
-    assert!(is_unexpected(answer(DIFFERS, absent).list_verdict()));
+}
+
+#[test]
+fn report_of_no_registers_is_no_match() {
+    let text = REPORT.replace(ROW, "");
+    let verdict = answer(DONE, &text).verdict().unwrap();
+    assert_eq!((verdict.matches, verdict.compared(), verdict.json + "\n"), (false, 0, text));
+    let alone = answer(DONE, LIST_REPORT.replace(ROW, "")).list_verdict().unwrap();
+    assert_eq!((alone.matches, alone.compared()), (false, 0));
+    let none = "{\"registers\":[],\"located\":true}\n";
+    let places = answer(DONE, none).places().unwrap();
+    assert_eq!((places.located, places.rows.len()), (false, 0));
+    assert!(is_unexpected(answer(DIFFERS, none).places()));
+    for wrong in ["{}", "\"\"", "null"] {
+        assert!(is_unexpected(answer(DONE, REPORT.replace(&format!("[{ROW}]"), wrong)).verdict()), "{wrong}");
+    }
 }
 
 #[test]
@@ -308,10 +316,6 @@ fn wrong_answers_are_no_places() {
     assert!(is_unexpected(answer(DIFFERS, PLACES).places()));
     assert!(is_unexpected(answer(DONE, NOT_LOCATED).places()));
     assert!(is_unexpected(answer(DONE, lacking_places()).places()));
-    let first = lacking_places().replace(&format!(",{MISSING_PLACE}"), "").replace('[', &format!("[{MISSING_PLACE},"));
-    assert!(is_unexpected(answer(DIFFERS, first).places()));
-    let none = "{\"registers\":[],\"located\":true}\n";
-    assert!(is_unexpected(answer(DONE, none).places()));
 }
 
 #[test]
@@ -329,25 +333,13 @@ fn wrong_answers_are_no_registers_and_no_lines() {
     ];
     check_changes(Answer::registers, DONE, &register(), &changes);
     assert!(is_unexpected(answer(DIFFERS, register()).registers()));
-    let changes = [
-        ("sha1", "sha"),
-        ("sha1", "sha256"),
-        ("aa", ""),
-        ("aa", "a"),
-        ("aa", "AA"),
-        (" 4", " 24"),
-        (" 4", " 04"),
-        (" 4", ""),
-        ("a\n", "a"),
-        ("a\n", "a\n\n"),
-        ("a\n", "a\nx\n"),
-        (&expected_line(), ""),
-        (&expected_line(), "\n"),
-    ];
-    check_changes(Answer::expected, DONE, &expected_line(), &changes);
-    assert!(is_unexpected(answer(DIFFERS, expected_line()).expected()));
-    assert!(is_unexpected(answer(DIFFERS, "x\n").shown()));
-    assert!(is_unexpected(answer(DONE, "x").shown()));
+    for is_empty in [false, true] {
+        for (status, text) in [(DIFFERS, "x\n"), (DIFFERS, ""), (DONE, "x")] {
+            assert!(is_unexpected(answer(status, text).lines(is_empty)), "{text:?}");
+        }
+    }
+    assert!(is_unexpected(answer(DONE, "").lines(false)));
+    assert!(is_unexpected(answer(DONE, expected_line()).lines(true)));
 }
 
 #[test]
@@ -426,12 +418,9 @@ fn wrong_answers_are_no_entries() {
         (REFUSED, ""),
         (REFUSED, &LIST_FAULT[..LIST_FAULT.len() - 1]),
         (REFUSED, &format!("{LIST_FAULT}\n")),
-        (REFUSED, &LIST_FAULT.replace(r#""entry":2"#, r#""entry":3"#)),
-        (REFUSED, &LIST_FAULT.replace(r#""entry":2,"#, "")),
-        (REFUSED, &LIST_FAULT.replace(r#""number":1"#, r#""number":2"#)),
+        (REFUSED, &format!("{entry}{{}}\n")),
         (REFUSED, MEMORY),
         (REFUSED, MALFORMED),
-        (REFUSED, "refused: list fault 1 at entry 2\n"),
         (DONE, &entry.repeat(2)),
         (DONE, &other),
         (DONE, &format!("{entry}{LIST_FAULT}")),
@@ -461,8 +450,6 @@ fn wrong_lines_are_no_entries() {
         (r#","signature":"""#, ""),
         (r#""entry":0"#, r#""entry":1"#),
         (":10,", ":24,"),
-        ("ima-sig", "ima-ng"),
-        ("false", "true"),
         ("false", "0"),
         ("true", "null"),
         ("sha1", "md5"),
@@ -472,21 +459,13 @@ fn wrong_lines_are_no_entries() {
         (r#""/a""#, "\"/\na\""),
         (r#""/a""#, "\"/\u{1}a\""),
         (r#""path""#, r#""path_hex""#),
-        (r#""path":"/a""#, r#""path":"/a","path_hex":"2f""#),
         (r#""signature":"""#, r#""signature":"0""#),
-        (r#""signature":"""#, r#""signature":"","payload":"""#),
         (r#""template":"ima-sig""#, r#""template":null"#),
     ];
     check_changes(first_entry, DONE, &entry_line(), &changes);
     let other = other_line().replace(r#""entry":1"#, r#""entry":0"#);
     assert!(first_entry(answer(DONE, &other)).is_ok());
-    let changes = [
-        (r#""genuine":true"#, r#""genuine":false"#),
-        (r#""violation":true"#, r#""violation":false"#),
-        (r#","payload":"00""#, ""),
-        (r#""ff0a""#, r#""ff0""#),
-        (r#""template_hex""#, r#""name""#),
-    ];
+    let changes = [(r#","payload":"00""#, ""), (r#""ff0a""#, r#""ff0""#), (r#""template_hex""#, r#""name""#)];
     check_changes(first_entry, DONE, &other, &changes);
 }
 
@@ -507,7 +486,6 @@ fn wrong_answers_are_no_events() {
         (REFUSED, ""),
         (REFUSED, &LOG_FAULT[..LOG_FAULT.len() - 1]),
         (REFUSED, &format!("{event}{LOG_FAULT}")),
-        (REFUSED, &LOG_FAULT.replace(r#""event":2"#, r#""event":1"#)),
         (DONE, &format!("{ALGORITHMS}{event}{event}")),
         (DONE, &format!("{ALGORITHMS}{event}{LOG_FAULT}")),
         (DONE, &format!("{ALGORITHMS}{event}{ALGORITHMS}")),
@@ -575,17 +553,10 @@ fn wrong_refusals_are_no_refusals() {
         "{}\n",
         "{\"fault\":{}}\n",
         "{\"fault\":1}\n",
-        &LIST_FAULT.replace(r#""list""#, r#""log""#),
-        &LIST_FAULT.replace(r#""number":1"#, r#""number":2"#),
-        &LIST_FAULT.replace(r#""entry":2"#, r#""entry":1"#),
-        &LIST_FAULT.replace(r#""entry":2,"#, ""),
-        &LIST_FAULT.replace(r#""kind":"list","#, ""),
+        "{\"fault\":{\"message\":1}}\n",
         &LIST_FAULT.replace("fault 1", "fault 01"),
         &LIST_FAULT.replace(r#""message""#, r#""line""#),
-        &LOG_FAULT.replace(r#""event":2,"#, ""),
-        &LOG_FAULT.replace(" at event 2", ""),
         "{\"fault\":{\"kind\":\"job\",\"number\":7,\"message\":\"refused: job 0 book fault 7\"}}\n",
-        "refused: list fault 1 at entry 2\n",
     ] {
         assert!(is_unexpected(answered(REFUSED, text, text.len())), "{text:?}");
     }
@@ -602,11 +573,10 @@ fn wrong_refusals_are_no_refusals() {
         "refused: command line\n",
         "failed: memory\n",
         "\n\n\n\n",
-        LIST_FAULT,
     ] {
-        assert!(is_unexpected(answer(REFUSED, text).accepted_text(false)), "{text:?}");
+        assert!(is_unexpected(answer(REFUSED, text).accepted(false)), "{text:?}");
     }
-    let error = answer(REFUSED, "refused: log fault 2\n").accepted_text(false).unwrap_err();
+    let error = answer(REFUSED, "refused: log fault 2\n").accepted(false).unwrap_err();
     assert_eq!(error, refused("refused: log fault 2", Kind::Log, 2, None));
 }
 
@@ -617,9 +587,9 @@ fn text_that_names_no_registers_is_malformed() {
         assert!(is_unexpected(said(requests, status, text, text.len())), "{status} {text:?}");
     }
     let line = "refused: command line\n";
-    assert_eq!(answer(REFUSED, line).accepted_text(true).unwrap_err(), Error::Malformed);
-    assert!(is_unexpected(answer(REFUSED, line).accepted_text(false)));
-    assert!(is_unexpected(answer(REFUSED, line.trim_end()).accepted_text(true)));
+    assert_eq!(answer(REFUSED, line).accepted(true).unwrap_err(), Error::Malformed);
+    assert!(is_unexpected(answer(REFUSED, line).accepted(false)));
+    assert!(is_unexpected(answer(REFUSED, line.trim_end()).accepted(true)));
 }
 
 #[test]
@@ -656,7 +626,7 @@ fn text_longer_than_the_buffer_takes_a_second_call() {
             calls += 1;
             show(&list, out)
         });
-        assert_eq!(shown.unwrap().shown().unwrap(), ascii);
+        assert_eq!(shown.unwrap().lines(false).unwrap(), ascii);
         assert_eq!(calls, if room < ascii.len() { 2 } else { 1 });
     }
 }
