@@ -237,11 +237,11 @@ def unread(name, folder):
 
 
 def fault_line_of(words, text):
-    """The line of the fault that these words' output is, as it is without `--json`; or None. (The lines of a list's entries as JSON may
-    stand before it.)"""
+    """The line of the fault that these words' output is, as it is without `--json`; or None. (The lines of entries or events as
+    JSON may stand before it.)"""
     if text.startswith((b"refused: ", b"failed: ")):
         return text[:-1]
-    last = text.splitlines()[-1] if words[0] == "show" and text else text
+    last = text.splitlines()[-1] if words[0] in ("show", "events") and text else text
     return json.loads(last)["fault"]["message"].encode() if last.startswith(b'{"fault":') else None
 
 
