@@ -39,20 +39,6 @@ pub struct Command {
 const SHELL_LINE: &[u8] =
     b"sha256 10 5fcef84d490a160058b8f1b7e33abea9f2df325f2b7ccb294d1d28f3459db9d5\n";
 
-/// The entry as JSON.
-const MEASUREMENT_JSON: &[u8] = b"{\"entry\":0,\"register\":10,\"template\":\"ima-ng\",\
-\"template_digest\":\"83fdff315175587157ed3aa604e7f9ec63ca0b42\",\"violation\":false,\"genuine\":true,\"algorithm\":\"sha256\",\
-\"digest\":\"ba7816bf8f01cfea414140de5dae2223b00361a396177a9cb410ff61f20015ad\",\"path\":\"/bin/sh\"}\n";
-
-/// The log as JSON.
-const EVENT_JSON: &[u8] = b"{\"algorithms\":[{\"name\":\"sha256\",\"id\":11,\"size\":32}]}\n\
-{\"event\":1,\"register\":4,\"type\":\"EV_SEPARATOR\",\"type_number\":4,\
-\"digests\":{\"sha256\":\"0000000000000000000000000000000000000000000000000000000000000000\"},\"data\":\"00000000\"}\n";
-
-/// The register that `printed` states, as JSON.
-const PRINTED_JSON: &[u8] = b"{\"registers\":[{\"bank\":\"sha1\",\"register\":4,\
-\"value\":\"0000000000000000000000000000000000000000\"}]}\n";
-
 /// A measurement, with two workers.
 pub const MEASURE: Command = Command {
     words: &["measure", "--print=registers", "header", "/bin/sh"],
@@ -61,7 +47,7 @@ pub const MEASURE: Command = Command {
 };
 
 /// Every command.
-pub static COMMANDS: [Command; 15] = [
+pub static COMMANDS: [Command; 12] = [
     Command {
         words: &[],
         status: 0,
@@ -81,21 +67,6 @@ pub static COMMANDS: [Command; 15] = [
         words: &["show", "entry"],
         status: 0,
         output: MEASUREMENT_LINE,
-    },
-    Command {
-        words: &["show", "--json", "entry"],
-        status: 0,
-        output: MEASUREMENT_JSON,
-    },
-    Command {
-        words: &["events", "--json", "log"],
-        status: 0,
-        output: EVENT_JSON,
-    },
-    Command {
-        words: &["expected", "--json", "printed"],
-        status: 0,
-        output: PRINTED_JSON,
     },
     Command {
         words: &["replay", "entry"],
