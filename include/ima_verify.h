@@ -160,8 +160,9 @@ int32_t ima_registers_json(const uint8_t *log, size_t log_size, uint8_t *out, si
 
 /* The algorithms that a firmware event log declares, and then its events, each as a line of JSON: what
  * `events --json` prints. Of a damaged log the text has the lines before the fault, and then the fault's, and the
- * function returns IMA_REFUSED. The whole text is in memory, also where `out_size` is 0: two to six bytes for each
- * byte of the log, and up to three times that while it grows. (Version 2.) */
+ * function returns IMA_REFUSED. The whole text is in memory, also where `out_size` is 0: two to seven bytes for
+ * each byte of the log, and up to three times that while it grows. If memory runs out, the text is that fault's line
+ * alone. (Version 2.) */
 int32_t ima_events_json(const uint8_t *log, size_t log_size, uint8_t *out, size_t out_size, size_t *needed);
 
 /* The entries of a measurement list, each as a line of JSON: what `show --json` prints. Whether an entry is genuine
