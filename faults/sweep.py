@@ -5,7 +5,7 @@ faults/sweep.py [ROOT]: the tree with the test binaries and the program that `rt
 
 Each test whose name contains `each_allocation_refused`, and a command of each kind that the cases have, runs again and again. In the
 Nth run its Nth allocation is refused (faults/refuse.c), until a run ends with none refused. A test must pass each time; a command must
-answer as its case wants, or with `failed: memory`, which `--json` has as JSON, and status 3 (`show --json` after lines of entries). A test or command without a refused
+answer as its case wants, or with `failed: memory`, which `--json` has as JSON, and status 3 (`show` and `events` with `--json` after lines that are due). A test or command without a refused
 allocation fails, and so does a run that crashes or takes longer than a minute. Allocations of a test's binary that runs no test do not
 count: as many as that makes, a test makes before it begins. (What a test allocates to prepare its call does count: nothing outside
 tells where that begins.)
@@ -100,8 +100,9 @@ class CommandRun:
         return (OUT_OF_MEMORY, OUT_OF_MEMORY_AS_JSON) if "--json" in self.command.words else (OUT_OF_MEMORY,)
 
     def output_of_memory(self, output):
-        """What is due out of memory, of an output: of a list as JSON its last line, if those before it are the first that the case wants."""
-        if self.command.words[:1] != ["show"] or "--json" not in self.command.words:
+        """What is due out of memory, of an output: of a list's or a log's lines of JSON the last, if those before it are the first that the
+        case wants."""
+        if self.command.words[:1] not in (["show"], ["events"]) or "--json" not in self.command.words:
             return output
         *lines, last = output.splitlines(keepends=True) or [b""]
         wanted = [line.encode() + b"\n" for line in self.command.wanted[: len(lines)]]
