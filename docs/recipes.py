@@ -126,8 +126,8 @@ class Recipes:
         return [json.loads(line) for line in output.splitlines()]
 
     def fails(self, mark, files, agent=""):
-        """Whether the recipe fails, and with another status than that of an answer."""
-        return self.run(mark, files, agent)[0] not in (0, 1)
+        """Whether the recipe fails, and with another status than those of answers (4: no entry, of jq)."""
+        return self.run(mark, files, agent)[0] not in (0, 1, 4)
 
 
 def of_list(*entries):
@@ -141,6 +141,7 @@ def damaged_lists():
 
 
 DYING = "\nkill -9 $$"
+FOREIGN = " | sed 's/.*/{}/'"
 
 
 def judged(recipes):
@@ -164,7 +165,7 @@ def judged(recipes):
     yield "no sums", recipes.fails(JUDGE, of_list(known))
     yield "a program that dies", recipes.fails(JUDGE, of_list(known) | sums, DYING)
     yield "an entry that is left out", recipes.fails(JUDGE, of_list(FIRST, known) | sums, " | sed 1d")
-    yield "another program's JSON", recipes.fails(JUDGE, of_list(known) | sums, " | sed 's/.*/{}/'")
+    yield "another program's JSON", recipes.fails(JUDGE, of_list(known) | sums, FOREIGN)
     yield "another program's text", recipes.fails(JUDGE, of_list(known) | sums, " | sed 's/.*/refused/'")
 
 
@@ -176,7 +177,8 @@ def taken(recipes):
     yield "an earlier list", is_done and (recipes.folder / "known.txt").read_text().split() == wanted
     for what, files in damaged_lists():
         yield what, recipes.fails(TAKE, {"before.list": data for data in files.values()})
-    yield "a program that dies", recipes.fails(TAKE, {"before.list": list_spelling(entries)}, DYING)
+    for what, agent in (("that dies", DYING), ("with other JSON", FOREIGN)):
+        yield f"a program {what}", recipes.fails(TAKE, {"before.list": list_spelling(entries)}, agent)
 
 
 def compared(recipes):
@@ -229,9 +231,12 @@ def paths(recipes):
         entry = of_template(b"ima-modsig", payload)
         wanted = {**{name: value for name, value in entry.as_json(1).items() if name != "payload"}, **path}
         yield what, recipes.shown(PATHS, of_list(FIRST, entry)) == [wanted]
-    for what, files in (*damaged_lists(), ("an empty list", of_list()), ("no such entry", of_list(FIRST))):
+    for what, files in (("an empty list", of_list()), ("no such entry", of_list(FIRST))):
+        yield what, recipes.run(PATHS, files) == (4, b"")
+    for what, files in damaged_lists():
         yield what, recipes.fails(PATHS, files)
-    yield "a program that dies", recipes.fails(PATHS, of_list(of_template(b"x", b"")), DYING)
+    for what, agent in (("that dies", DYING), ("that dies before its first line", " > /dev/null" + DYING), ("with other JSON", FOREIGN)):
+        yield f"a program {what}", recipes.fails(PATHS, of_list(of_template(b"x", b"")), agent)
 
 
 def main():
