@@ -3,8 +3,8 @@ pub mod StatedLaws
 pub mod ExpectedLaws
 pub mod VerdictLaws
 pub mod WatchLaws
+pub mod StepLaws
 pub mod PlaceLaws
-pub mod FollowLaws
 pub mod LocateLaws
 pub mod ReplayLaws
 pub mod ListVerdictLaws

@@ -12,7 +12,6 @@ use Rattle.ima_list.specs.Replaying.{AreGenuine, IsReplayed, digests_of}
 use Rattle.boot_verdict.specs.declared.expected.Expected.{Expected}
 use Rattle.boot_verdict.specs.declared.list_replay.ListReplay.{ListReplay}
 use Rattle.boot_verdict.specs.declared.list_verifier.ListReport.{ListReport}
-use Rattle.boot_verdict.specs.declared.places.Watch.{Watch}
 use Rattle.boot_verdict.specs.declared.report.Row.{Row}
 use Rattle.boot_verdict.specs.declared.verifier.VerifyFault.{VerifyFault}
 use Rattle.boot_verdict.specs.declared.verifier.VerifyFault.TheVariants as faults
@@ -20,6 +19,7 @@ use Rattle.boot_verdict.specs.ListSources.{failures_after_list}
 use Rattle.boot_verdict.specs.ListVerdicts.{IsListVerdictFrom, ListVerdict, list_row_on, list_verdict_of, list_verdict_on, pcr_after_list}
 use Rattle.boot_verdict.specs.Replays.{IsListReplayFault, IsListStart, every_alg}
 use Rattle.boot_verdict.specs.Verdicts.{row_state}
+use Rattle.boot_verdict.specs.parts.Following.{BanksAfter}
 use Rattle.boot_verdict.specs.parts.ListReplays.{IsFaultOfEntries, Replays, ReplaysSource}
 use Rattle.boot_verdict.specs.parts.Rows.{row_of}
 use Rattle.boot_verdict.proofs.ReplayLaws.{only_memory}
@@ -71,11 +71,11 @@ list_verdict_same start banks entries expected count rows reset replayed counts 
     let same = are ∙ list_rows_same start banks entries expected reset replayed in
     λ i. record { entries = counts i; rows = same i }
 
-module _ (start : Watch) (replay : ListReplay) (expected : List Expected) (reset : IsListStart start.banks) where
+module _ (start : Banks) (replay : ListReplay Banks) (expected : List Expected) (reset : IsListStart start) where
   -- The report on a list that a source gave.
   pub list_report_from : (old new : Option (List ℕ)) (limit : ℕ) (result : Result ListReport VerifyFault)
-      → ReplaysSource start old new limit replay
-      → IfOk result (λ report. (from : Watch) (entries : List ListEntry) → IsListStart from.banks → Replays from entries replay
+      → ReplaysSource BanksAfter start old new limit replay
+      → IfOk result (λ report. (from : Banks) (entries : List ListEntry) → IsListStart from → Replays BanksAfter from entries replay
       → AreGenuine entries × (list_verdict_of report ≡ list_verdict_on entries expected))
       → IfOk result (λ report. IsListVerdictFrom old new limit expected (list_verdict_of report))
   list_report_from old new limit (Ok report) source shows =
@@ -93,11 +93,11 @@ module _ (start : Watch) (replay : ListReplay) (expected : List Expected) (reset
   list_report_from old new limit (Err fault) source shows = tt
 
   -- For genuine entries: the report on them, or `Memory`.
-  pub list_report_read : (entries other : List ListEntry) (result : Result ListReport VerifyFault) → Replays start entries replay
+  pub list_report_read : (entries other : List ListEntry) (result : Result ListReport VerifyFault) → Replays BanksAfter start entries replay
       → AreGenuine entries
-      → IfOk result (λ report. (from : Watch) (entries : List ListEntry) → IsListStart from.banks → Replays from entries replay
+      → IfOk result (λ report. (from : Banks) (entries : List ListEntry) → IsListStart from → Replays BanksAfter from entries replay
       → AreGenuine entries × (list_verdict_of report ≡ list_verdict_on entries expected))
-      → IfErr result (λ fault. (from : Watch) (entries : List ListEntry) → Replays from entries replay → IsFaultOfEntries entries fault)
+      → IfErr result (λ fault. (from : Banks) (entries : List ListEntry) → Replays BanksAfter from entries replay → IsFaultOfEntries entries fault)
       → other ≡ entries → ReadsInMemory faults.Memory list_verdict_of result (Ok (list_verdict_on other expected))
   list_report_read entries other (Ok report) replays are ok err same =
       ap (λ (v : ListVerdict). Ok v)
@@ -106,24 +106,24 @@ module _ (start : Watch) (replay : ListReplay) (expected : List Expected) (reset
 
 -- ---- why there is none
 
-no_list_report : (start : Watch) (replay : ListReplay) (old new : Option (List ℕ)) (limit : ℕ) (fault : VerifyFault)
-    → (source : ReplaysSource start old new limit replay) → IsFaultOfEntries source.all.entries fault → IsListReplayFault old new limit fault
+no_list_report : (start : Banks) (replay : ListReplay Banks) (old new : Option (List ℕ)) (limit : ℕ) (fault : VerifyFault)
+    → (source : ReplaysSource BanksAfter start old new limit replay) → IsFaultOfEntries source.all.entries fault → IsListReplayFault old new limit fault
 no_list_report start replay old new limit fault source (inl memory) = rw memory.0 tt
 no_list_report start replay old new limit fault source (inr (first, says, forged)) =
     rw says (source.list, source.came, record { entries = source.all.entries; list_is = source.all.reading; first = forged })
 
-pub list_report_fault : (start : Watch) (replay : ListReplay) (old new : Option (List ℕ)) (limit : ℕ)
-    (result : Result ListReport VerifyFault) → ReplaysSource start old new limit replay
-    → IfErr result (λ fault. (from : Watch) (entries : List ListEntry) → Replays from entries replay → IsFaultOfEntries entries fault)
+pub list_report_fault : (start : Banks) (replay : ListReplay Banks) (old new : Option (List ℕ)) (limit : ℕ)
+    (result : Result ListReport VerifyFault) → ReplaysSource BanksAfter start old new limit replay
+    → IfErr result (λ fault. (from : Banks) (entries : List ListEntry) → Replays BanksAfter from entries replay → IsFaultOfEntries entries fault)
     → IfErr result (IsListReplayFault old new limit)
 list_report_fault start replay old new limit (Ok report) source err = tt
 list_report_fault start replay old new limit (Err fault) source err =
     no_list_report start replay old new limit fault source (err start source.all.entries source.all.replays)
 
 -- The source did not fail.
-pub list_report_counts : (start : Watch) (replay : ListReplay) (entries : List ListEntry) (result : Result ListReport VerifyFault)
-    (failures : ℕ) → Replays start entries replay
-    → IfErr result (λ fault. (from : Watch) (entries : List ListEntry) → Replays from entries replay → IsFaultOfEntries entries fault)
+pub list_report_counts : (start : Banks) (replay : ListReplay Banks) (entries : List ListEntry) (result : Result ListReport VerifyFault)
+    (failures : ℕ) → Replays BanksAfter start entries replay
+    → IfErr result (λ fault. (from : Banks) (entries : List ListEntry) → Replays BanksAfter from entries replay → IsFaultOfEntries entries fault)
     → failures_after_list result failures ≡ failures
 list_report_counts start replay entries (Ok report) failures replays err = refl
 list_report_counts start replay entries (Err fault) failures replays err =

@@ -1,5 +1,6 @@
 -- The places in a log and the list that follows it.
-use Rattle.std.proofs.Common.{◌≡◌, ℕ, List, [], map, Option, sym, ap, ◌∙◌}
+use Rattle.std.proofs.Common.{◌≡◌, ℕ, List, map, length, Option, sym, ap, ◌∙◌}
+use Rattle.std.proofs.lemmas.List.{length-map}
 use Rattle.std.proofs.lemmas.Simd.{map-map}
 use Rattle.pcr_banks.specs.declared.sets.AlgSet.{AlgSet}
 use Rattle.boot_log.specs.declared.header.Row.{Row as TableRow}
@@ -9,31 +10,31 @@ use Rattle.ima_list.specs.Replaying.{AreGenuine}
 use Rattle.boot_verdict.specs.declared.expected.Expected.{Expected}
 use Rattle.boot_verdict.specs.declared.list_replay.ListReplay.{ListReplay}
 use Rattle.boot_verdict.specs.declared.places.Located.{Located}
-use Rattle.boot_verdict.specs.declared.places.Place.{Place}
 use Rattle.boot_verdict.specs.declared.places.Watch.{Watch}
-use Rattle.boot_verdict.specs.Places.{AreLocated, AreLocatedFrom, located_on, place_on}
-use Rattle.boot_verdict.specs.parts.ListReplays.{IsWatched, ReplaysAll, ReplaysSource}
-use Rattle.boot_verdict.specs.parts.LogPlaces.{IsFollowed}
-use Rattle.boot_verdict.specs.parts.Watches.{watched}
-use Rattle.boot_verdict.proofs.PlaceLaws.{place_split}
-use Rattle.boot_verdict.proofs.WatchLaws.{fun_same}
+use Rattle.boot_verdict.specs.Places.{AreLocated, AreLocatedFrom, first_place, located_on}
+use Rattle.boot_verdict.specs.Steps.{OfEvent, events_as_steps, steps_of}
+use Rattle.boot_verdict.specs.parts.Following.{IsWatchAfter, located_after}
+use Rattle.boot_verdict.specs.parts.ListReplays.{AreFollowed, ReplaysAll, ReplaysSource}
+use Rattle.boot_verdict.specs.parts.LogPlaces.{IsFollowed, row_at_reset}
+use Rattle.boot_verdict.proofs.PlaceLaws.{located}
+use Rattle.boot_verdict.proofs.StepLaws.{fun_same}
 
 -- The rows after the list.
 pub located_all : (algs : AlgSet) (events : List LogEvent) (entries : List ListEntry) (expected : List Expected) (start now : Watch)
-    → IsFollowed algs events expected start → IsWatched start entries now → now.rows.items ≡ located_on algs events entries expected
-located_all algs events entries expected start now followed watches =
-    let before = λ (e : Expected). the_row e (place_on algs events [] e) in
-    watches.rows ∙ ap (map (watched start.banks entries)) followed.rows ∙ map-map (watched start.banks entries) before expected
+    → IsFollowed algs events expected start → AreFollowed IsWatchAfter start entries now → now.rows.items ≡ located_on algs events entries expected
+located_all algs events entries expected start now log list =
+    let steps = steps_of events entries in
+    let count = length events in
+    let after = list log.start count (events_as_steps events) (sym (length-map events (λ (event : LogEvent). OfEvent event))) log.after in
+    after.rows
+    ∙ ap (map (λ (row : Located). located_after count log.start.banks steps row.expected)) log.rows
+    ∙ map-map (λ (row : Located). located_after count log.start.banks steps row.expected) (row_at_reset log.start.banks) expected
     ∙ ap (λ (f : Expected → Located). map f expected)
-    (fun_same (λ e. watched start.banks entries (before e)) (λ e. the_row e (place_on algs events entries e)) (λ e.
-    ap (the_row e) (sym (place_split algs events entries start.banks e followed.firmware))))
-  where
-    the_row : Expected → Place → Located
-    the_row e place = record { expected = e; place = place }
+    (fun_same _ _ (λ e. ap (λ (v : Option (List ℕ)). located e (first_place count e v steps)) (log.reset.values e.alg e.register)))
 
 pub located_in : (log list : List ℕ) (algs : AlgSet) (table : List TableRow) (events : List LogEvent) (expected : List Expected)
-    (start now : Watch) (replay : ListReplay) → IsLog log table events → algs ≡ algs_in table → IsFollowed algs events expected start
-    → (all : ReplaysAll start list replay) → AreGenuine all.entries × IsWatched start all.entries now
+    (start now : Watch) (replay : ListReplay Watch) → IsLog log table events → algs ≡ algs_in table → IsFollowed algs events expected start
+    → (all : ReplaysAll IsWatchAfter start list replay) → AreGenuine all.entries × AreFollowed IsWatchAfter start all.entries now
     → AreLocated log list expected now.rows.items
 located_in log list algs table events expected start now replay is same followed all both = record {
   table = table;
@@ -47,9 +48,9 @@ located_in log list algs table events expected start now replay is same followed
 }
 
 pub located_from : (log : List ℕ) (old new : Option (List ℕ)) (limit : ℕ) (algs : AlgSet) (table : List TableRow) (events : List LogEvent)
-    (expected : List Expected) (start now : Watch) (replay : ListReplay) → IsLog log table events → algs ≡ algs_in table
-    → IsFollowed algs events expected start → (source : ReplaysSource start old new limit replay)
-    → AreGenuine source.all.entries × IsWatched start source.all.entries now
+    (expected : List Expected) (start now : Watch) (replay : ListReplay Watch) → IsLog log table events → algs ≡ algs_in table
+    → IsFollowed algs events expected start → (source : ReplaysSource IsWatchAfter start old new limit replay)
+    → AreGenuine source.all.entries × AreFollowed IsWatchAfter start source.all.entries now
     → AreLocatedFrom log old new limit expected now.rows.items
 located_from log old new limit algs table events expected start now replay is same followed source both = record {
   list = source.list;

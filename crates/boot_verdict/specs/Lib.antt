@@ -5,6 +5,7 @@ pub mod ExpectedTexts
 pub mod Verdicts
 pub mod ReportTexts
 pub mod ListSources
+pub mod Steps
 pub mod Places
 pub mod PlaceTexts
 pub mod Replays

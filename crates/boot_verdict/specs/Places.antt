@@ -1,41 +1,28 @@
 -- Where the values of expected registers are first reached, in a firmware log and a measurement list. All of this is this project's
 -- choice. How events and entries change the registers is defined in boot_log and ima_list.
-use Rattle.std.specs.Prelude.{◌≡◌, ℕ, ◌+◌, ◌-◌, ◌&&◌, ◌==◌, nat_le, nat_lt, Bool, true, false, if◌then◌else◌, List, ◌++◌, length, take, map, find, Option, Some, None, Ok}
-use Rattle.std.specs.List.{list_all, range_with_len}
+use Rattle.std.specs.Prelude.{◌≡◌, ℕ, ◌-◌, ◌==◌, nat_le, Bool, true, false, if◌then◌else◌, List, fold, length, take, map, Option, Some, None, Ok}
+use Rattle.std.specs.List.{list_all}
 use Rattle.pcr_banks.specs.declared.alg.Alg.{Alg}
 use Rattle.pcr_banks.specs.declared.sets.AlgSet.{AlgSet}
-use Rattle.pcr_banks.specs.Sets.{has_alg}
-use Rattle.pcr_banks.specs.Registers.{register_count, extended_by_all, reset_value}
 use Rattle.boot_log.specs.declared.header.Row.{Row as TableRow}
 use Rattle.boot_log.specs.Spelling.{LogEvent, IsLog, algs_in}
-use Rattle.boot_log.specs.Replaying.{digests_for, startup_locality}
 use Rattle.ima_list.specs.ListEntry.{ListEntry}
 use Rattle.ima_list.specs.Spelling.{IsReading}
-use Rattle.ima_list.specs.Replaying.{digests_of, AreGenuine}
+use Rattle.ima_list.specs.Replaying.{AreGenuine}
 use Rattle.boot_verdict.specs.declared.expected.Expected.{Expected}
 use Rattle.boot_verdict.specs.declared.places.Located.{Located}
 use Rattle.boot_verdict.specs.declared.places.Place.{Place}
 use Rattle.boot_verdict.specs.declared.places.Place.TheVariants.{Reset, Event, Entry, Nowhere, Absent}
 use Rattle.boot_verdict.specs.ListSources.{CameWhole}
+use Rattle.boot_verdict.specs.Steps.{Step, least_front, pcr_at_reset, stepped, steps_of, value_after}
 use Rattle.boot_verdict.specs.Verdicts.{is_value}
 
--- ---- registers after a front of the log and the list
+-- ---- registers after a front of the steps
 
--- What the first `steps` of the events, and then of the entries, extend a register of a bank with.
-abbrev pub digests_after : List LogEvent → List ListEntry → Alg → ℕ → ℕ → List (List ℕ)
-digests_after events entries alg register steps =
-    digests_for alg register (take steps events) ++ digests_of (take (steps - length events) entries) alg register
-
--- Whether a log with banks of these algorithms has the register.
-abbrev pub has_register : AlgSet → Alg → ℕ → Bool
-has_register algs alg register = has_alg algs alg && nat_lt register register_count
-
--- The register after these steps: its reset value for the locality that the whole log states, extended by each digest in order.
+-- The register after the first `steps` of the log's events and then of the list's entries.
 abbrev pub pcr_after : AlgSet → List LogEvent → List ListEntry → Alg → ℕ → ℕ → Option (List ℕ)
 pcr_after algs events entries alg register steps =
-    if has_register algs alg register then
-    Some (extended_by_all alg (reset_value alg register (startup_locality events)) (digests_after events entries alg register steps))
-    else None
+    value_after alg register (pcr_at_reset algs events alg register) (take steps (steps_of events entries))
 
 -- ---- places
 
@@ -49,25 +36,25 @@ abbrev pub reached_after : AlgSet → List LogEvent → List ListEntry → Expec
 reached_after algs events entries expected steps =
     is_reached expected (pcr_after algs events entries expected.alg expected.register steps)
 
--- The least number of steps after which the register has the expected value, if there is one.
-abbrev pub earliest : AlgSet → List LogEvent → List ListEntry → Expected → Option ℕ
-earliest algs events entries expected =
-    find (reached_after algs events entries expected) (range_with_len 0 (length events + length entries + 1))
-
 -- The place after these steps, where there are so many events. Events count from 1, as in the faults of a log, entries from 0.
 abbrev pub place_after : ℕ → ℕ → Place
 place_after events steps =
     if steps == 0 then Reset else if nat_le steps events then Event steps else Entry (steps - events - 1)
 
-abbrev pub place_of_steps : ℕ → Option ℕ → Place
-place_of_steps events None = Nowhere
-place_of_steps events (Some steps) = place_after events steps
+abbrev pub place_of_front : ℕ → Option (List Step) → Place
+place_of_front events None = Nowhere
+place_of_front events (Some front) = place_after events (length front)
+
+-- The place of the least front of the steps after which a register that begins with this value has the expected one.
+abbrev pub first_place : ℕ → Expected → Option (List ℕ) → List Step → Place
+first_place events expected None steps = Absent
+first_place events expected (Some start) steps =
+    place_of_front events (least_front (λ front. is_value expected (fold (stepped expected.alg expected.register) start front)) steps)
 
 -- The place where the register first has the expected value.
 abbrev pub place_on : AlgSet → List LogEvent → List ListEntry → Expected → Place
 place_on algs events entries expected =
-    if has_register algs expected.alg expected.register then place_of_steps (length events) (earliest algs events entries expected)
-    else Absent
+    first_place (length events) expected (pcr_at_reset algs events expected.alg expected.register) (steps_of events entries)
 
 -- The place of each expected register, in their order.
 abbrev pub located_on : AlgSet → List LogEvent → List ListEntry → List Expected → List Located

@@ -16,6 +16,7 @@ mod replaying;
 mod report;
 mod requirement;
 mod stated;
+mod steps;
 mod texts;
 mod verifier;
 

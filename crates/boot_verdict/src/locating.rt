@@ -1,6 +1,6 @@
 //! Where expected values are first reached, in a firmware event log and a measurement list.
 
-ghost use Rattle.std.specs.Prelude.{◌≡◌, ◌⊎◌, ℕ, List, [], ◌∷◌, ◌++◌, Option, map, option_map, is_some, Ok, IfOk, IfErr, IsErrOf};
+ghost use Rattle.std.specs.Prelude.{◌≡◌, ◌⊎◌, ℕ, List, [], Option, length, map, option_map, is_some, Ok, IfOk, IfErr, IsErrOf};
 ghost use Rattle.pcr_banks.specs.declared.banks.Banks.{Banks};
 ghost use Rattle.pcr_banks.specs.declared.sets.AlgSet.{AlgSet};
 ghost use Rattle.boot_verdict.specs.declared.expected.Expected.{Expected};
@@ -8,23 +8,22 @@ ghost use Rattle.pcr_banks.specs.Digests.{digest_of};
 ghost use Rattle.byte_fields.specs.Reading.{ReadsInMemory};
 ghost use Rattle.byte_streams.specs.Streams.{LosesFront};
 ghost use Rattle.boot_log.specs.declared.header.Row.{Row as TableRow};
-ghost use Rattle.boot_log.specs.Replaying.{IsExtended};
 ghost use Rattle.boot_log.specs.BootLog.{algs_of, events_of};
 ghost use Rattle.boot_log.specs.Spelling.{LogEvent, BeginsWithEvent, IsLog, algs_in, log_event_of};
 ghost use Rattle.ima_list.specs.ListEntry.{ListEntry};
 ghost use Rattle.ima_list.specs.Spelling.{IsReading};
 ghost use Rattle.ima_list.specs.Replaying.{AreGenuine};
 ghost use Rattle.boot_verdict.specs.ListSources.{HoldsGenuineList, failures_after_list};
+ghost use Rattle.boot_verdict.specs.Steps.{events_as_steps};
 ghost use Rattle.boot_verdict.specs.Places.{AreLocated, AreLocatedFrom, located_on};
 ghost use Rattle.boot_verdict.specs.Verdicts.{IsSomeLog, IsVerifyFault, IsVerifyFaultFrom};
-ghost use Rattle.boot_verdict.specs.parts.Watches.{looked_at};
-ghost use Rattle.boot_verdict.specs.parts.LogPlaces.{IsFollowed, StartsAt, place_at_reset, row_at_reset};
+ghost use Rattle.boot_verdict.specs.parts.LogPlaces.{IsFollowed, place_at_reset, row_at_reset};
 
 use crate::expected::Expected;
 use crate::list_replay::ListReplay;
-use crate::places::{Located, Place, Watch, look_at};
+use crate::places::{Located, Place, Watch};
+use crate::steps::{Follow, Step};
 use crate::verifier::VerifyFault;
-use boot_log::laws::events_in_turn_give_the_registers;
 use boot_log::{BootLog, Event, read_log};
 use byte_streams::Source;
 use ima_list::laws::{list_has_one_reading, no_bytes_have_two_readings};
@@ -103,25 +102,14 @@ fn follow_log(alloc: Global, log: &BootLog<'_>, expected: &[Expected]) -> Result
     Ok(watch)
 }
 
-// Replays the events, in order, and looks at the rows after each.
-fn follow_events(watch: &mut Watch, events: &[Event<'_>])
-    ensures { (algs : AlgSet) (expected : List Expected) → StartsAt algs (map log_event_of events.now) expected watch.old
-        → IsFollowed algs (map log_event_of events.now) expected watch.new }
+// Takes the events, in order.
+fn follow_events<F: Follow>(follower: &mut F, events: &[Event<'_>])
+    ensures { (start : F) → F.is_after start (length events.now) [] follower.old
+        → F.is_after start (length events.now) (events_as_steps (map log_event_of events.now)) follower.new }
 {
-    events_in_turn_give_the_registers();
     for index in 0..events.len() {
-        follow_event(watch, &events[index], Place::Event(index + 1));
+        follower.step(&Step::Event(&events[index]), Place::Event(index + 1));
     }
-}
-
-// Replays an event, and gives this place to the rows of its register that have none yet and are reached now.
-fn follow_event(watch: &mut Watch, event: &Event<'_>, place: Place)
-    ensures banks { (start : Banks) (events : List LogEvent) → IsExtended start events watch.old.banks
-        → IsExtended start (events ++ log_event_of event.now ∷ []) watch.new.banks }
-    ensures rows { watch.new.rows.items ≡ map (looked_at watch.new.banks event.now.register place) watch.old.rows.items }
-{
-    event.replay_into(&mut watch.banks);
-    look_at(&mut watch.rows, &watch.banks, event.register, place);
 }
 
 // The row of each expected register, before the first event.

@@ -10,7 +10,6 @@ ghost use Rattle.boot_verdict.specs.parts.Watches.{looked, looked_at};
 use crate::expected::Expected;
 use crate::requirement::Requirement;
 use pcr_banks::{Banks, Digest};
-use std::alloc::Global;
 
 /// Where a register first has its expected value.
 #[derive(Clone, Copy, PartialEq, Eq)]
@@ -69,18 +68,6 @@ pub(crate) struct Watch {
     pub banks: Banks,
     /// The expected registers and their places so far.
     pub rows: Vec<Located>,
-}
-
-impl Watch {
-    /// These registers, without any row.
-    pub fn of_none(alloc: Global, banks: Banks) -> Self
-        ensures { result.banks ≡ banks }
-    {
-        Watch {
-            banks,
-            rows: Vec::new(alloc),
-        }
-    }
 }
 
 /// Looks at each row of this register that has no place yet: if the register now has its value, the row gets this place.

@@ -9,7 +9,6 @@ ghost use Rattle.boot_verdict.specs.ListSources.{HoldsGenuineList, failures_afte
 ghost use Rattle.boot_verdict.specs.Replays.{IsListReplay, IsListReplayFault, IsListReplayFrom, IsListStart, every_alg};
 
 use crate::list_replay::ListReplay;
-use crate::places::Watch;
 use crate::verifier::VerifyFault;
 use byte_streams::Source;
 use ima_list::laws::no_bytes_have_two_readings;
@@ -56,7 +55,6 @@ pub fn replay_from<R: Source>(alloc: Global, list: &mut R, limit: u64) -> Result
     ensures counts { (R.state list.new).failures ≡ failures_after_list result (R.state list.old).failures }
 {
     no_bytes_have_two_readings();
-    let start = Watch::of_none(alloc, list_start());
-    let replay = ListReplay::of_source(alloc, start, list, limit)?;
-    Ok(replay.genuine()?.banks)
+    let replay = ListReplay::of_source(alloc, list_start(), list, limit)?;
+    Ok(replay.genuine()?)
 }

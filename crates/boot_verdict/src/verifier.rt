@@ -12,16 +12,15 @@ ghost use Rattle.boot_log.specs.Replaying.{IsFirmware};
 ghost use Rattle.ima_list.specs.ListEntry.{ListEntry};
 ghost use Rattle.ima_list.specs.Spelling.{IsReading};
 ghost use Rattle.ima_list.specs.Replaying.{AreGenuine};
-ghost use Rattle.boot_verdict.specs.declared.places.Watch.{Watch};
 ghost use Rattle.boot_verdict.specs.declared.verifier.VerifyFault.TheVariants.{Memory, Replay};
 ghost use Rattle.boot_verdict.specs.Verdicts.{HasSomethingToKeep, IsSomeLog, IsVerdict, IsVerdictFrom, IsVerifyFault, IsVerifyFaultFrom, aggregate_of, aggregate_state, fault_of_list, fault_of_log, fault_of_reading, row_state, verdict_of, verdict_on};
 ghost use Rattle.boot_verdict.specs.parts.Rows.{row_of};
 ghost use Rattle.boot_verdict.specs.ListSources.{HoldsGenuineList, failures_after_list};
+ghost use Rattle.boot_verdict.specs.parts.Following.{BanksAfter};
 ghost use Rattle.boot_verdict.specs.parts.ListReplays.{IsFaultOfEntries, Replays};
 
 use crate::expected::Expected;
 use crate::list_replay::ListReplay;
-use crate::places::Watch;
 use crate::report::{Aggregate, Report, Row, State};
 use boot_log::{BootLog, LogFault, read_log};
 use byte_streams::{ReadFault, Source};
@@ -127,7 +126,7 @@ pub fn verify(
     list_has_one_reading(list);
     let log = read_log(alloc, log)?;
     let start = log.registers();
-    let replay = ListReplay::of_list(Watch::of_none(alloc, start), list)?;
+    let replay = ListReplay::of_list(start, list)?;
     report_on(alloc, &log, &start, replay, expected)
 }
 
@@ -163,7 +162,7 @@ pub fn verify_from<R: Source>(
     no_bytes_have_two_readings();
     let firmware = read_log(alloc, log)?;
     let start = firmware.registers();
-    let replay = ListReplay::of_source(alloc, Watch::of_none(alloc, start), list, limit)?;
+    let replay = ListReplay::of_source(alloc, start, list, limit)?;
     report_on(alloc, &firmware, &start, replay, expected)
 }
 
@@ -172,23 +171,23 @@ fn report_on(
     alloc: Global,
     log: &BootLog<'_>,
     start: &Banks,
-    replay: ListReplay,
+    replay: ListReplay<Banks>,
     expected: &[Expected],
 ) -> Result<Report, VerifyFault>
     requires { IsFirmware (algs_of log.now) (events_of log.now) start.now }
-    ensures report { IfOk result (λ report. (from : Watch) (entries : List ListEntry) → from.banks ≡ start.now → Replays from entries replay
+    ensures report { IfOk result (λ report. (entries : List ListEntry) → Replays BanksAfter start.now entries replay
         → AreGenuine entries × (verdict_of report ≡ verdict_on (algs_of log.now) (events_of log.now) entries expected.now)) }
-    ensures fault { IfErr result (λ fault. (from : Watch) (entries : List ListEntry) → Replays from entries replay → IsFaultOfEntries entries fault) }
+    ensures fault { IfErr result (λ fault. (entries : List ListEntry) → Replays BanksAfter start.now entries replay → IsFaultOfEntries entries fault) }
 {
     let entries = replay.entries;
     let stated = replay.stated;
-    let watch = replay.genuine()?;
+    let now = replay.genuine()?;
     Ok(Report {
         events: log.events().len(),
         locality: log.locality(),
         entries,
         aggregate: aggregate_of(start, stated),
-        rows: rows_on(alloc, &watch.banks, expected)?,
+        rows: rows_on(alloc, &now, expected)?,
     })
 }
 

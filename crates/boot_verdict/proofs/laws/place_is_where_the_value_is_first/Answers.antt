@@ -5,7 +5,7 @@ pub returns-clause-first : goal.returns-clause-first
 returns-clause-first c = first_reached
 
 pub returns-clause-nowhere : goal.returns-clause-nowhere
-returns-clause-nowhere c = nowhere_reached
+returns-clause-nowhere c = λ algs events entries e steps same le. nowhere_reached algs events entries e steps same
 
 pub returns-clause-all : goal.returns-clause-all
 returns-clause-all c = all_steps

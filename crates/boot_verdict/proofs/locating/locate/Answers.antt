@@ -63,7 +63,7 @@ returns-clause-located c =
     let found = c.in_ok-firmware.ensures.found in
     let all = c.in_ok-replay.ensures.replays in
     located_in _ c.args.list.now (algs_of log) found.0 (events_of log) c.args.expected.now c.in_ok-start.start _ c.in_ok-replay.replay
-    found.1 found.2 c.in_ok-start.ensures all (c.in_ok-genuine.ensures.watched c.in_ok-start.start all.entries all.replays)
+    found.1 found.2 c.in_ok-start.ensures all (c.in_ok-genuine.ensures.followed c.in_ok-start.start all.entries all.replays)
 
 pub returns-clause-only : goal.returns-clause-only
 returns-clause-only c =
@@ -73,6 +73,6 @@ returns-clause-only c =
     let read = ok_same (algs_in table, events) (algs_of log, events_of log) (c.in_ok-firmware.ensures.only table events is) in
     let same = ok_same entries all.entries (c.list_has_one_reading.ensures.one (Ok entries) (Ok all.entries) list all.reading) in
     let rows = located_all (algs_of log) (events_of log) all.entries c.args.expected.now c.in_ok-start.start _ c.in_ok-start.ensures
-    (c.in_ok-genuine.ensures.watched c.in_ok-start.start all.entries all.replays).1 in
+    (c.in_ok-genuine.ensures.followed c.in_ok-start.start all.entries all.replays).1 in
     ap Ok (located_same (algs_in table) (algs_of log) events (events_of log) entries all.entries c.args.expected.now
     (ap (λ (x : AlgSet × List LogEvent). x.0) read) (ap (λ (x : AlgSet × List LogEvent). x.1) read) same ∙ sym rows)

@@ -4,6 +4,7 @@ use Rattle.pcr_banks.specs.declared.sets.AlgSet.{AlgSet}
 use Rattle.boot_log.specs.Spelling.{LogEvent, algs_in}
 use Rattle.boot_log.specs.BootLog.{algs_of, events_of}
 use Rattle.boot_verdict.specs.Verdicts.{fault_of_log}
+use Rattle.boot_verdict.specs.parts.Following.{IsWatchAfter}
 use Rattle.boot_verdict.proofs.LocateLaws.{located_all, located_from, located_same}
 use Rattle.boot_verdict.proofs.ReplayLaws.{forged_from, list_not_read, not_forged, same_list}
 use Rattle.boot_verdict.proofs.VerdictLaws.{ok_same}
@@ -47,7 +48,7 @@ pub returns-in_err-genuine-clause-only : goal.returns-in_err-genuine-clause-only
 returns-in_err-genuine-clause-only g c =
     let source = c.in_ok-replay.ensures.replays in
     λ table events entries log holds.
-    let same = same_list _ _ _ c.args.limit entries c.in_ok-replay.replay c.no_bytes_have_two_readings.ensures holds source in
+    let same = same_list IsWatchAfter _ _ _ c.args.limit entries c.in_ok-replay.replay c.no_bytes_have_two_readings.ensures holds source in
     absurd (not_forged source.all.entries _ (rw same at holds.genuine)
     (c.in_err-genuine.ensures.fault c.in_ok-start.start source.all.entries source.all.replays))
 
@@ -58,7 +59,7 @@ returns-in_err-genuine-clause-fault g c =
     let source = c.in_ok-replay.ensures.replays in
     rw (p.1, p.2) (
       record { table = found.0; events = events_of c.in_ok-firmware.firmware; log_is = found.1 },
-      forged_from c.in_ok-start.start c.in_ok-replay.replay _ _ c.args.limit _ source
+      forged_from IsWatchAfter c.in_ok-start.start c.in_ok-replay.replay _ _ c.args.limit _ source
           (c.in_err-genuine.ensures.fault c.in_ok-start.start source.all.entries source.all.replays),
     )
 
@@ -69,7 +70,7 @@ returns-clause-located g c =
     let source = c.in_ok-replay.ensures.replays in
     located_from c.args.log.now _ _ c.args.limit (algs_of log) found.0 (events_of log) c.args.expected.now c.in_ok-start.start _
     c.in_ok-replay.replay found.1 found.2 c.in_ok-start.ensures source
-    (c.in_ok-genuine.ensures.watched c.in_ok-start.start source.all.entries source.all.replays)
+    (c.in_ok-genuine.ensures.followed c.in_ok-start.start source.all.entries source.all.replays)
 
 pub returns-clause-only : goal.returns-clause-only
 returns-clause-only g c =
@@ -77,8 +78,8 @@ returns-clause-only g c =
     let source = c.in_ok-replay.ensures.replays in
     λ table events entries is holds.
     let read = ok_same (algs_in table, events) (algs_of log, events_of log) (c.in_ok-firmware.ensures.only table events is) in
-    let same = same_list _ _ _ c.args.limit entries c.in_ok-replay.replay c.no_bytes_have_two_readings.ensures holds source in
+    let same = same_list IsWatchAfter _ _ _ c.args.limit entries c.in_ok-replay.replay c.no_bytes_have_two_readings.ensures holds source in
     let rows = located_all (algs_of log) (events_of log) source.all.entries c.args.expected.now c.in_ok-start.start _ c.in_ok-start.ensures
-    (c.in_ok-genuine.ensures.watched c.in_ok-start.start source.all.entries source.all.replays).1 in
+    (c.in_ok-genuine.ensures.followed c.in_ok-start.start source.all.entries source.all.replays).1 in
     inr (ap Ok (located_same (algs_in table) (algs_of log) events (events_of log) entries source.all.entries c.args.expected.now
     (ap (λ (x : AlgSet × List LogEvent). x.0) read) (ap (λ (x : AlgSet × List LogEvent). x.1) read) same ∙ sym rows))

@@ -38,8 +38,8 @@ returns-clause-only c =
     λ table events entries is list genuine.
     let read = ok_same (algs_in table, events) (algs_of log, events_of log) (c.in_ok-log.ensures.only table events is) in
     let same = ok_same entries all.entries (c.list_has_one_reading.ensures.one (Ok entries) (Ok all.entries) list all.reading) in
-    report_read c.registers-start.result c.of_none.result all.entries c.in_ok-replay.replay
-    (λ those. verdict_on (algs_of log) (events_of log) those c.args.expected.now) _ c.report_on.result c.of_none.ensures all.replays (rw same at genuine)
+    report_read c.registers-start.result all.entries c.in_ok-replay.replay
+    (λ those. verdict_on (algs_of log) (events_of log) those c.args.expected.now) _ c.report_on.result all.replays (rw same at genuine)
     c.report_on.ensures.report c.report_on.ensures.fault
     (sym (verdict_on_same (algs_in table) (algs_of log) events (events_of log) entries all.entries c.args.expected.now
     (ap (λ (x : AlgSet × List LogEvent). x.0) read) (ap (λ (x : AlgSet × List LogEvent). x.1) read) same))
@@ -47,18 +47,18 @@ returns-clause-only c =
 pub returns-clause-report : goal.returns-clause-report
 returns-clause-report c =
     let found = c.in_ok-log.ensures.found in
-    report_of _ c.args.list.now c.args.expected.now c.registers-start.result c.of_none.result c.in_ok-replay.replay (algs_of c.in_ok-log.log)
-    found.0 (events_of c.in_ok-log.log) c.report_on.result found.1 found.2 c.of_none.ensures c.in_ok-replay.ensures.replays
+    report_of _ c.args.list.now c.args.expected.now c.registers-start.result c.in_ok-replay.replay (algs_of c.in_ok-log.log)
+    found.0 (events_of c.in_ok-log.log) c.report_on.result found.1 found.2 c.in_ok-replay.ensures.replays
     c.report_on.ensures.report
 
 pub returns-clause-fault : goal.returns-clause-fault
 returns-clause-fault c =
     let found = c.in_ok-log.ensures.found in
-    report_fault _ c.args.list.now c.of_none.result c.in_ok-replay.replay c.report_on.result
+    report_fault _ c.args.list.now c.registers-start.result c.in_ok-replay.replay c.report_on.result
     (record { table = found.0; events = events_of c.in_ok-log.log; log_is = found.1 }) c.in_ok-replay.ensures.replays c.report_on.ensures.fault
 
 pub returns-clause-memory : goal.returns-clause-memory
 returns-clause-memory c =
     let found = c.in_ok-log.ensures.found in
-    report_memory _ c.args.list.now c.of_none.result c.in_ok-replay.replay c.report_on.result
+    report_memory _ c.args.list.now c.registers-start.result c.in_ok-replay.replay c.report_on.result
     (record { table = found.0; events = events_of c.in_ok-log.log; log_is = found.1 }) c.in_ok-replay.ensures.replays c.report_on.ensures.fault

@@ -1,0 +1,229 @@
+-- Steps: the registers after them, their least fronts, and the places that these lead to.
+use Rattle.std.proofs.Common.{◌≡◌, ℕ, suc, zero, ◌+◌, ◌-◌, ◌<◌, Bool, true, false, cond, eqb, leb, List, [], ◌∷◌, ◌++◌, length, map, take, Option, Some, None, option_map, refl, sym, ap, subst, ◌∙◌, append-nil, append_assoc, arith, inl, inr}
+use Rattle.std.specs.Prelude.{filter, filter_map, find, fold}
+use Rattle.std.specs.List.{cons_option}
+use Rattle.std.specs.Option.{option_or}
+use Rattle.std.proofs.lemmas.Bool.{cases_Bool, eqb-false, ne_eqb}
+use Rattle.std.proofs.lemmas.Bool.Decides.{leb_tells}
+use Rattle.std.proofs.lemmas.List.{length-append, length-map, map-append}
+use Rattle.std.proofs.lemmas.List.Folds.{find-append}
+use Rattle.std.proofs.lemmas.List.Sums.{fold-append}
+use Rattle.pcr_banks.specs.declared.alg.Alg.{Alg}
+use Rattle.pcr_banks.specs.declared.banks.Banks.{Banks}
+use Rattle.pcr_banks.specs.Registers.{extended_by, extended_by_all, extended_value, value_at}
+use Rattle.pcr_banks.specs.Sets.{digest_in}
+use Rattle.boot_log.specs.Spelling.{LogEvent, no_action}
+use Rattle.boot_log.specs.Replaying.{IsExtended, digests_for, is_extended_into}
+use Rattle.boot_log.proofs.ListLaws.{find_map}
+use Rattle.ima_list.specs.ListEntry.{ListEntry}
+use Rattle.ima_list.specs.Digesting.{bank_digest}
+use Rattle.ima_list.specs.Replaying.{IsReplayed, digests_of}
+use Rattle.boot_verdict.specs.declared.places.Place.TheVariants.{Event, Entry}
+use Rattle.boot_verdict.specs.Places.{place_after}
+use Rattle.boot_verdict.specs.Steps.{Step, OfEvent, OfEntry, digest_of_step, entries_as_steps, events_as_steps, fronts, least_front, stepped, steps_of, value_after}
+use Rattle.boot_verdict.specs.parts.Following.{AreAfter, BanksAfter, register_of}
+use Rattle.boot_verdict.specs.parts.ListReplays.{AreFollowed}
+
+-- ---- registers
+
+one_digest : (alg : Alg) (v : List ℕ) (digest : Option (List ℕ)) (rest : List (List ℕ))
+    → extended_by_all alg (extended_by alg digest v) rest ≡ extended_by_all alg v (cons_option digest rest)
+one_digest alg v None rest = refl
+one_digest alg v (Some digest) rest = refl
+
+event_by : (alg : Alg) (r : ℕ) (v : List ℕ) (event : LogEvent) (events : List LogEvent) (into : Bool)
+    → ((w : List ℕ) → fold (stepped alg r) w (events_as_steps events) ≡ extended_by_all alg w (digests_for alg r events))
+    → fold (stepped alg r) (extended_by alg (cond into (digest_in event.digests alg) None) v) (events_as_steps events)
+    ≡ extended_by_all alg v (filter_map (λ event. digest_in event.digests alg) (cond into (event ∷ filter (is_extended_into r) events) (filter (is_extended_into r) events)))
+event_by alg r v event events true rest =
+    let digest = digest_in event.digests alg in
+    rest (extended_by alg digest v) ∙ one_digest alg v digest (digests_for alg r events)
+event_by alg r v event events false rest = rest v
+
+pub events_value : (alg : Alg) (r : ℕ) (v : List ℕ) (events : List LogEvent)
+    → fold (stepped alg r) v (events_as_steps events) ≡ extended_by_all alg v (digests_for alg r events)
+events_value alg r v [] = refl
+events_value alg r v (event ∷ events) = event_by alg r v event events (is_extended_into r event) (λ w. events_value alg r w events)
+
+entry_by : (alg : Alg) (r : ℕ) (v : List ℕ) (entry : ListEntry) (entries : List ListEntry) (same : Bool)
+    → ((w : List ℕ) → fold (stepped alg r) w (entries_as_steps entries) ≡ extended_by_all alg w (digests_of entries alg r))
+    → fold (stepped alg r) (extended_by alg (cond same (Some (bank_digest entry alg)) None) v) (entries_as_steps entries)
+    ≡ extended_by_all alg v (map (λ entry. bank_digest entry alg) (cond same (entry ∷ filter (λ entry. eqb entry.register r) entries) (filter (λ entry. eqb entry.register r) entries)))
+entry_by alg r v entry entries true rest = rest (extended_value alg v (bank_digest entry alg))
+entry_by alg r v entry entries false rest = rest v
+
+pub entries_value : (alg : Alg) (r : ℕ) (v : List ℕ) (entries : List ListEntry)
+    → fold (stepped alg r) v (entries_as_steps entries) ≡ extended_by_all alg v (digests_of entries alg r)
+entries_value alg r v [] = refl
+entries_value alg r v (entry ∷ entries) = entry_by alg r v entry entries (eqb entry.register r) (λ w. entries_value alg r w entries)
+
+pub steps_value : (alg : Alg) (r : ℕ) (v : List ℕ) (events : List LogEvent) (entries : List ListEntry)
+    → fold (stepped alg r) v (steps_of events entries)
+    ≡ extended_by_all alg (extended_by_all alg v (digests_for alg r events)) (digests_of entries alg r)
+steps_value alg r v events entries =
+    fold-append (stepped alg r) v (events_as_steps events) (entries_as_steps entries)
+    ∙ ap (λ (w : List ℕ). fold (stepped alg r) w (entries_as_steps entries)) (events_value alg r v events)
+    ∙ entries_value alg r (extended_by_all alg v (digests_for alg r events)) entries
+
+-- A step of another register extends nothing.
+nothing_for : (alg : Alg) (r : ℕ) (step : Step) → eqb r (register_of step) ≡ false → digest_of_step alg r step ≡ None
+nothing_for alg r (OfEvent event) other =
+    let apart : eqb event.register r ≡ false = ne_eqb event.register r (λ same. eqb-false r event.register other (sym same)) in
+    elim (cases_Bool (eqb event.kind no_action)) [
+      | inl quiet ↦ rw quiet refl
+      | inr loud ↦ rw (loud, apart) refl
+    ]
+nothing_for alg r (OfEntry entry) other =
+    let apart : eqb entry.register r ≡ false = ne_eqb entry.register r (λ same. eqb-false r entry.register other (sym same)) in
+    rw apart refl
+
+pub value_quiet : (alg : Alg) (r : ℕ) (v : List ℕ) (steps : List Step) (step : Step) → eqb r (register_of step) ≡ false
+    → fold (stepped alg r) v (steps ++ step ∷ []) ≡ fold (stepped alg r) v steps
+value_quiet alg r v steps step other = fold-append (stepped alg r) v steps (step ∷ []) ∙ rw (nothing_for alg r step other) refl
+
+pub value_joined : (alg : Alg) (r : ℕ) (start : Option (List ℕ)) (before after : List Step)
+    → value_after alg r (value_after alg r start before) after ≡ value_after alg r start (before ++ after)
+value_joined alg r None before after = refl
+value_joined alg r (Some v) before after = ap (λ (w : List ℕ). Some w) (sym (fold-append (stepped alg r) v before after))
+
+pub value_same : (value : Option (List ℕ)) → value ≡ option_map (λ bytes. bytes) value
+value_same None = refl
+value_same (Some bytes) = refl
+
+-- Functions with the same values are the same.
+pub fun_same : {A B : Type 0} (f g : A → B) → ((x : A) → f x ≡ g x) → f ≡ g
+fun_same f g same = λ i x. same x i
+
+-- ---- banks
+
+none_changes : (alg : Alg) (value : Option (List ℕ)) → value ≡ option_map (λ bytes. extended_by_all alg bytes []) value
+none_changes alg None = refl
+none_changes alg (Some bytes) = refl
+
+pub event_taken : (old new : Banks) (event : LogEvent)
+    → ((start : Banks) (events : List LogEvent) → IsExtended start events old → IsExtended start (events ++ event ∷ []) new)
+    → AreAfter old (OfEvent event ∷ []) new
+event_taken old new event replays =
+    let more = replays old [] (record { active = λ a. refl; values = λ a r. none_changes a (value_at old a r) }) in
+    record {
+      active = more.active;
+      values = λ a r. more.values a r ∙ ap (λ (f : List ℕ → List ℕ). option_map f (value_at old a r))
+          (fun_same _ _ (λ v. sym (events_value a r v (event ∷ []))));
+    }
+
+pub entry_taken : (old new : Banks) (entry : ListEntry)
+    → ((start : Banks) (entries : List ListEntry) → IsReplayed start entries old → IsReplayed start (entries ++ entry ∷ []) new)
+    → AreAfter old (OfEntry entry ∷ []) new
+entry_taken old new entry replays =
+    let more = replays old [] (record { active = λ a. refl; values = λ a r. none_changes a (value_at old a r) }) in
+    record {
+      active = more.active;
+      values = λ a r. more.values a r ∙ ap (λ (f : List ℕ → List ℕ). option_map f (value_at old a r))
+          (fun_same _ _ (λ v. sym (entries_value a r v (entry ∷ []))));
+    }
+
+pub none_taken : (banks : Banks) → AreAfter banks [] banks
+none_taken banks = record { active = λ a. refl; values = λ a r. value_same (value_at banks a r) }
+
+pub banks_more : (start old new : Banks) (before : List Step) (step : Step) → AreAfter start before old → AreAfter old (step ∷ []) new
+    → AreAfter start (before ++ step ∷ []) new
+banks_more start old new before step earlier one = record {
+  active = λ a. one.active a ∙ earlier.active a;
+  values = λ a r. one.values a r ∙ ap (λ (v : Option (List ℕ)). value_after a r v (step ∷ [])) (earlier.values a r)
+      ∙ value_joined a r (value_at start a r) before (step ∷ []);
+}
+
+-- Banks that follow a list are its replay.
+pub replayed_by : (start now : Banks) (entries : List ListEntry) → AreFollowed BanksAfter start entries now → IsReplayed start entries now
+replayed_by start now entries followed =
+    let after = followed start 0 [] refl (none_taken start) in
+    record {
+      active = after.active;
+      values = λ a r. after.values a r ∙ ap (λ (f : List ℕ → List ℕ). option_map f (value_at start a r))
+          (fun_same _ _ (λ v. entries_value a r v entries));
+    }
+
+-- ---- fronts
+
+fronts_more : (steps : List Step) (step : Step) → fronts (steps ++ step ∷ []) ≡ fronts steps ++ (steps ++ step ∷ []) ∷ []
+fronts_more [] step = refl
+fronts_more (first ∷ steps) step =
+    ap (λ (l : List (List Step)). [] ∷ map (λ front. first ∷ front) l) (fronts_more steps step)
+    ∙ ap (λ (l : List (List Step)). [] ∷ l) (map-append (λ (front : List Step). first ∷ front) (fronts steps) ((steps ++ step ∷ []) ∷ []))
+
+-- The least front, or all steps if there was none.
+abbrev pub or_all : Option (List Step) → List Step → Bool → Option (List Step)
+or_all found steps passes = option_or found (cond passes (Some steps) None)
+
+pub least_more : (test : List Step → Bool) (steps : List Step) (step : Step)
+    → least_front test (steps ++ step ∷ []) ≡ or_all (least_front test steps) (steps ++ step ∷ []) (test (steps ++ step ∷ []))
+least_more test steps step =
+    ap (find test) (fronts_more steps step) ∙ find-append test (fronts steps) ((steps ++ step ∷ []) ∷ [])
+
+-- What the least front of the steps tells.
+abbrev pub TellsLeast : (List Step → Bool) → List Step → Option (List Step) → Type 0
+TellsLeast test steps None = (n : ℕ) → test (take n steps) ≡ false
+TellsLeast test steps (Some front) =
+    (front ≡ take (length front) steps) × (test front ≡ true) × ((n : ℕ) → n < length front → test (take n steps) ≡ false)
+
+-- The first step in front of each.
+least_within : (test : List Step → Bool) (step : Step) (steps : List Step) (found : Option (List Step)) → test [] ≡ false
+    → TellsLeast (λ front. test (step ∷ front)) steps found → TellsLeast test (step ∷ steps) (option_map (λ front. step ∷ front) found)
+least_within test step steps None fails tells = by
+  where
+    by : (n : ℕ) → test (take n (step ∷ steps)) ≡ false
+    by zero = fails
+    by (suc n) = tells n
+least_within test step steps (Some front) fails tells = (ap (λ (l : List Step). step ∷ l) tells.0, tells.1, by)
+  where
+    by : (n : ℕ) → n < length (step ∷ front) → test (take n (step ∷ steps)) ≡ false
+    by zero lt = fails
+    by (suc n) lt = tells.2 n (omega (arith, lt))
+
+nothing_taken : (test : List Step → Bool) → test [] ≡ false → (n : ℕ) → test (take n []) ≡ false
+nothing_taken test fails zero = fails
+nothing_taken test fails (suc n) = fails
+
+pub least_tells : (test : List Step → Bool) (steps : List Step) → TellsLeast test steps (least_front test steps)
+least_tells test [] = elim (cases_Bool (test [])) [
+  | inl passes ↦ rw passes (refl, passes, λ n lt. absurd (omega (arith, lt)))
+  | inr fails ↦ rw fails (nothing_taken test fails)
+]
+least_tells test (step ∷ steps) = elim (cases_Bool (test [])) [
+  | inl passes ↦ rw passes (refl, passes, λ n lt. absurd (omega (arith, lt)))
+  | inr fails ↦ rw (fails, find_map test (λ front. step ∷ front) (fronts steps))
+      (least_within test step steps (least_front (λ front. test (step ∷ front)) steps) fails (least_tells (λ front. test (step ∷ front)) steps))
+]
+
+-- ---- the places of steps in turn
+
+pub event_place : (events i : ℕ) (before : List Step) → i ≡ length before → i < events → Event (i + 1) ≡ place_after events (length before + 1)
+event_place events i before at within = elim (leb_tells (length before + 1) events) [
+  | inl le ↦
+      let some : eqb (length before + 1) 0 ≡ false = ne_eqb (length before + 1) 0 (λ e. absurd (omega (arith, e))) in
+      rw (some, le.0) (ap (λ (n : ℕ). Event (n + 1)) at)
+  | inr gt ↦ let more = gt.1 in absurd (omega (arith, more, at, within))
+]
+
+pub entries_joined : (log : List Step) (entries : List ListEntry) (entry : ListEntry)
+    → (log ++ entries_as_steps entries) ++ OfEntry entry ∷ [] ≡ log ++ entries_as_steps (entries ++ entry ∷ [])
+entries_joined log entries entry =
+    append_assoc log (entries_as_steps entries) (OfEntry entry ∷ [])
+    ∙ ap (λ (l : List Step). log ++ l) (sym (map-append (λ (entry : ListEntry). OfEntry entry) entries (entry ∷ [])))
+
+pub events_joined : (events : List LogEvent) (event : LogEvent)
+    → events_as_steps events ++ OfEvent event ∷ [] ≡ events_as_steps (events ++ event ∷ [])
+events_joined events event = sym (map-append (λ (event : LogEvent). OfEvent event) events (event ∷ []))
+
+pub entry_place : (log : List Step) (entries : List ListEntry) (events j : ℕ) → events ≡ length log → j ≡ length entries
+    → Entry j ≡ place_after events (length (log ++ entries_as_steps entries) + 1)
+entry_place log entries events j size at =
+    let many : length (log ++ entries_as_steps entries) + 1 ≡ events + j + 1 =
+    omega (arith, size, at, length-append log (entries_as_steps entries), length-map entries (λ (entry : ListEntry). OfEntry entry)) in
+    elim (leb_tells (events + j + 1) events) [
+      | inl le ↦ let few = le.1 in absurd (omega (arith, few))
+      | inr gt ↦
+          let some : eqb (events + j + 1) 0 ≡ false = ne_eqb (events + j + 1) 0 (λ e. absurd (omega (arith, e))) in
+          let left : events + j + 1 - events - 1 ≡ j = omega arith in
+          rw (many, some, gt.0, left) refl
+    ]
