@@ -1,4 +1,4 @@
-use Rattle.std.proofs.Common.{refl, sym, subst, ◌∙◌, inl, inr}
+use Rattle.std.proofs.Common.{refl, sym, ◌∙◌, inl, inr}
 use Rattle.std.proofs.lemmas.Result.{err_from_is_err_and}
 use Rattle.boot_verdict.specs.parts.Following.{BanksAfter}
 use Rattle.boot_verdict.proofs.ListVerdictLaws.{list_report_counts, list_report_fault, list_report_from, list_report_read}

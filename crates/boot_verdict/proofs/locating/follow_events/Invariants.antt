@@ -1,4 +1,4 @@
-use Rattle.std.proofs.Common.{List, [], length, map, take}
+use Rattle.std.proofs.Common.{[], length, map, take}
 use Rattle.boot_log.specs.Spelling.{log_event_of}
 use Rattle.boot_verdict.specs.Steps.{events_as_steps}
 use Rattle.boot_verdict.proofs.locating.follow_events.Given as goal

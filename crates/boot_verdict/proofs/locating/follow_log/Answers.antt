@@ -1,8 +1,5 @@
 use Rattle.std.proofs.Common.{◌≡◌, List, length, map, sym, subst}
-use Rattle.pcr_banks.specs.Registers.{IsReset}
 use Rattle.boot_log.specs.Spelling.{LogEvent, log_event_of}
-use Rattle.boot_log.specs.Replaying.{startup_locality}
-use Rattle.boot_log.specs.BootLog.{algs_of, events_of}
 use Rattle.std.proofs.lemmas.List.{length-map}
 use Rattle.boot_verdict.specs.Steps.{events_as_steps}
 use Rattle.boot_verdict.specs.declared.places.Watch.{Watch}

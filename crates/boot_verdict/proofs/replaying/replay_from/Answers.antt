@@ -1,4 +1,4 @@
-use Rattle.std.proofs.Common.{refl, sym, subst, inl, inr}
+use Rattle.std.proofs.Common.{refl, inl, inr}
 use Rattle.std.proofs.lemmas.Result.{err_from_is_err_and}
 use Rattle.boot_verdict.specs.parts.Following.{BanksAfter}
 use Rattle.boot_verdict.proofs.ReplayLaws.{forged_from, list_not_read, list_registers, list_registers_from, not_forged, same_list}
