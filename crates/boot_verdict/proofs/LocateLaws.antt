@@ -32,33 +32,27 @@ located_all algs events entries expected start now log list =
     ∙ ap (λ (f : Expected → Located). map f expected)
     (fun_same _ _ (λ e. ap (λ (v : Option (List ℕ)). located e (first_place count e v steps)) (log.reset.values e.alg e.register)))
 
-pub located_in : (log list : List ℕ) (algs : AlgSet) (table : List TableRow) (events : List LogEvent) (expected : List Expected)
-    (start now : Watch) (replay : ListReplay Watch) → IsLog log table events → algs ≡ algs_in table → IsFollowed algs events expected start
+pub located_in : (log list : List ℕ) (table : List TableRow) (events : List LogEvent) (expected : List Expected)
+    (start now : Watch) (replay : ListReplay Watch) → IsLog log table events → IsFollowed (algs_in table) events expected start
     → (all : ReplaysAll IsWatchAfter start list replay) → AreGenuine all.entries × AreFollowed IsWatchAfter start all.entries now
     → AreLocated log list expected now.rows.items
-located_in log list algs table events expected start now replay is same followed all both = record {
+located_in log list table events expected start now replay is followed all both = record {
   table = table;
   events = events;
   entries = all.entries;
   log_is = is;
   list_is = all.reading;
   genuine = both.0;
-  located_are = located_all algs events all.entries expected start now followed both.1
-      ∙ ap (λ (a : AlgSet). located_on a events all.entries expected) same;
+  located_are = located_all (algs_in table) events all.entries expected start now followed both.1;
 }
 
-pub located_from : (log : List ℕ) (old new : Option (List ℕ)) (limit : ℕ) (algs : AlgSet) (table : List TableRow) (events : List LogEvent)
-    (expected : List Expected) (start now : Watch) (replay : ListReplay Watch) → IsLog log table events → algs ≡ algs_in table
-    → IsFollowed algs events expected start → (source : ReplaysSource IsWatchAfter start old new limit replay)
+pub located_from : (log : List ℕ) (old new : Option (List ℕ)) (limit : ℕ) (table : List TableRow) (events : List LogEvent)
+    (expected : List Expected) (start now : Watch) (replay : ListReplay Watch) → IsLog log table events
+    → IsFollowed (algs_in table) events expected start → (source : ReplaysSource IsWatchAfter start old new limit replay)
     → AreGenuine source.all.entries × AreFollowed IsWatchAfter start source.all.entries now
     → AreLocatedFrom log old new limit expected now.rows.items
-located_from log old new limit algs table events expected start now replay is same followed source both = record {
+located_from log old new limit table events expected start now replay is followed source both = record {
   list = source.list;
   came = source.came;
-  located_are = located_in log source.list algs table events expected start now replay is same followed source.all both;
+  located_are = located_in log source.list table events expected start now replay is followed source.all both;
 }
-
--- The rows on the same parts.
-pub located_same : (algs other : AlgSet) (events more : List LogEvent) (entries others : List ListEntry) (expected : List Expected)
-    → algs ≡ other → events ≡ more → entries ≡ others → located_on algs events entries expected ≡ located_on other more others expected
-located_same algs other events more entries others expected a b c = λ i. located_on (a i) (b i) (c i) expected

@@ -1,5 +1,5 @@
 -- The verdict: registers of the log and of the list, and which fault comes first.
-use Rattle.std.proofs.Common.{◌≡◌, ◌⊎◌, ℕ, List, length, map, Option, Some, option_map, Result, Ok, Err, refl, ap, ◌∙◌, inl, inr}
+use Rattle.std.proofs.Common.{◌≡◌, ◌⊎◌, ℕ, List, length, map, Option, Some, option_map, Result, Ok, Err, refl, ap, subst, ◌∙◌, inl, inr}
 use Rattle.pcr_banks.specs.declared.alg.Alg.{Alg}
 use Rattle.pcr_banks.specs.declared.banks.Banks.{Banks}
 use Rattle.pcr_banks.specs.declared.digest.Digest.{Digest}
@@ -10,7 +10,7 @@ use Rattle.pcr_banks.specs.Registers.{value_at, extended_by_all}
 use Rattle.pcr_banks.proofs.SetLaws.{same_bytes}
 use Rattle.boot_log.specs.declared.fault.LogFault.{LogFault}
 use Rattle.boot_log.specs.declared.fault.LogFault.TheVariants as logs
-use Rattle.boot_log.specs.Spelling.{LogEvent}
+use Rattle.boot_log.specs.Spelling.{LogEvent, HasLogFault}
 use Rattle.boot_log.specs.Reading.{log_fault}
 use Rattle.boot_log.specs.Replaying.{IsFirmware, startup_locality}
 use Rattle.ima_list.specs.declared.fault.ListFault.{ListFault}
@@ -22,8 +22,9 @@ use Rattle.ima_list.specs.Replaying.{IsReplayed, digests_of}
 use Rattle.boot_verdict.specs.declared.expected.Expected.{Expected}
 use Rattle.boot_verdict.specs.declared.report.Aggregate.{Aggregate}
 use Rattle.boot_verdict.specs.declared.report.Row.{Row}
+use Rattle.boot_verdict.specs.declared.verifier.VerifyFault.{VerifyFault}
 use Rattle.boot_verdict.specs.declared.verifier.VerifyFault.TheVariants as faults
-use Rattle.boot_verdict.specs.Verdicts.{Verdict, verdict_on, IsVerifyFault, IsSomeLog, aggregate_of, aggregate_state, stated_aggregate, booted_aggregate, pcr_after_log, fault_of_list, fault_of_log, pcr_after_log_and_list, row_on, row_state}
+use Rattle.boot_verdict.specs.Verdicts.{Verdict, verdict_on, IsVerifyFault, IsVerifyFaultFrom, IsSomeLog, aggregate_of, aggregate_state, stated_aggregate, booted_aggregate, pcr_after_log, fault_of_list, fault_of_log, pcr_after_log_and_list, row_on, row_state}
 use Rattle.boot_verdict.specs.parts.Rows.{row_of}
 
 -- ---- registers
@@ -121,6 +122,19 @@ log_first log list (logs.MissingDigest event) (inl e) = absurd cc
 log_first log list (logs.BadRegister event) (inr first) = first
 log_first log list (logs.BadRegister event) (inl e) = absurd cc
 
+pub log_first_from : (log : List ℕ) (source : Option (List ℕ)) (limit : ℕ) (fault : LogFault) → log_fault log ≡ Some fault
+    → IsVerifyFaultFrom log source source limit (fault_of_log fault)
+log_first_from log source limit logs.Memory first = tt
+log_first_from log source limit (logs.Truncated event) first = (first, refl)
+log_first_from log source limit logs.NotCryptoAgile first = (first, refl)
+log_first_from log source limit logs.BadHeader first = (first, refl)
+log_first_from log source limit logs.DigestSize first = (first, refl)
+log_first_from log source limit logs.NoBank first = (first, refl)
+log_first_from log source limit (logs.UnknownAlg event) first = (first, refl)
+log_first_from log source limit (logs.DoubleDigest event) first = (first, refl)
+log_first_from log source limit (logs.MissingDigest event) first = (first, refl)
+log_first_from log source limit (logs.BadRegister event) first = (first, refl)
+
 -- The verifier's fault is `Memory` only if the log's is.
 pub log_memory : (fault : LogFault) → fault_of_log fault ≡ faults.Memory → fault ≡ logs.Memory
 log_memory logs.Memory e = refl
@@ -133,6 +147,16 @@ log_memory (logs.UnknownAlg event) e = absurd cc
 log_memory (logs.DoubleDigest event) e = absurd cc
 log_memory (logs.MissingDigest event) e = absurd cc
 log_memory (logs.BadRegister event) e = absurd cc
+
+-- A log's own fault is never `Memory`.
+pub log_not_memory : {A : Type 0} (log : List ℕ) (fault : LogFault) → HasLogFault log fault
+    → ◌≡◌ {A = Result A VerifyFault} (Err (fault_of_log fault)) (Err faults.Memory) → ⊥
+log_not_memory log fault has memory =
+    let same : fault_of_log fault ≡ faults.Memory = cc in
+    elim (subst (HasLogFault log) (log_memory fault same) has) [
+      | inl header ↦ header.fault_is
+      | inr event ↦ event.fault_is
+    ]
 
 pub list_memory : (fault : ListFault) → fault_of_list fault ≡ faults.Memory → fault ≡ lists.Memory
 list_memory lists.Memory e = refl

@@ -1,6 +1,6 @@
 -- The verdict on a firmware log, a measurement list and expected registers. All of this is this project's choice. How events and
 -- entries change the registers is defined in boot_log and ima_list.
-use Rattle.std.specs.Prelude.{◌≡◌, ◌⊎◌, ℕ, ◌&&◌, nat_lt, Bool, true, false, if◌then◌else◌, List, [], ◌∷◌, length, map, bytes_eq, Option, Some, None, option_map, Ok, Err}
+use Rattle.std.specs.Prelude.{◌≡◌, ℕ, ◌&&◌, nat_lt, Bool, true, false, if◌then◌else◌, List, [], ◌∷◌, length, map, bytes_eq, Option, Some, None, option_map, Ok, Err}
 use Rattle.std.specs.List.{list_all}
 use Rattle.pcr_banks.specs.declared.alg.Alg.{Alg}
 use Rattle.pcr_banks.specs.declared.sets.AlgSet.{AlgSet}
@@ -13,7 +13,7 @@ use Rattle.byte_streams.specs.declared.pieces.ReadFault.TheVariants as reads
 use Rattle.boot_log.specs.declared.fault.LogFault.{LogFault}
 use Rattle.boot_log.specs.declared.fault.LogFault.TheVariants as logs
 use Rattle.boot_log.specs.declared.header.Row.{Row as TableRow}
-use Rattle.boot_log.specs.Spelling.{LogEvent, BeginsWithEvent, IsLog, algs_in}
+use Rattle.boot_log.specs.Spelling.{LogEvent, IsLog, algs_in}
 use Rattle.boot_log.specs.Reading.{log_fault}
 use Rattle.boot_log.specs.Replaying.{firmware_value, startup_locality}
 use Rattle.ima_list.specs.declared.fault.ListFault.{ListFault}
@@ -157,9 +157,9 @@ pub record IsGenuineList (list : List ℕ) : Type 0 where
   pub list_is : IsReading list (Ok entries)
   pub genuine : AreGenuine entries
 
--- Something must be kept in memory: an event at the front of the log; or rows, after a log and a list of genuine entries.
+-- Something must be kept in memory: rows, after a log and a list of genuine entries.
 abbrev pub HasSomethingToKeep : List ℕ → List ℕ → Type 0
-HasSomethingToKeep log list = BeginsWithEvent log ⊎ (IsSomeLog log × IsGenuineList list)
+HasSomethingToKeep log list = IsSomeLog log × IsGenuineList list
 
 -- Why there is no verdict: the first of these that holds, the log before the list, and the list before its entries; or memory ran
 -- out.

@@ -8,8 +8,8 @@ ghost use Rattle.pcr_banks.specs.Digests.{digest_of};
 ghost use Rattle.byte_fields.specs.Reading.{ReadsInMemory};
 ghost use Rattle.byte_streams.specs.Streams.{LosesFront};
 ghost use Rattle.boot_log.specs.declared.header.Row.{Row as TableRow};
-ghost use Rattle.boot_log.specs.BootLog.{algs_of, events_of};
-ghost use Rattle.boot_log.specs.Spelling.{LogEvent, BeginsWithEvent, IsLog, algs_in, log_event_of};
+ghost use Rattle.boot_log.specs.LogViews.{HasLent, log_bytes};
+ghost use Rattle.boot_log.specs.Spelling.{LogEvent, IsLog, algs_in};
 ghost use Rattle.ima_list.specs.ListEntry.{ListEntry};
 ghost use Rattle.ima_list.specs.Spelling.{IsReading};
 ghost use Rattle.ima_list.specs.Replaying.{AreGenuine};
@@ -24,7 +24,7 @@ use crate::list_replay::ListReplay;
 use crate::places::{Located, Place, Watch};
 use crate::steps::{Follow, Step};
 use crate::verifier::VerifyFault;
-use boot_log::{BootLog, Event, read_log};
+use boot_log::{LogEvents, LogView};
 use byte_streams::Source;
 use ima_list::laws::{list_has_one_reading, no_bytes_have_two_readings};
 use pcr_banks::{Banks, Digest};
@@ -34,8 +34,7 @@ use std::alloc::{AllocError, Global};
 /// entry of the measurement list, which follows them. The rows are in the order of `expected`. Later changes of the register do not
 /// matter: see [`crate::verify`] for the values at the end.
 ///
-/// Fails with the faults of [`crate::verify`]. [`VerifyFault::Memory`] is possible only if the log begins with a header and an event,
-/// or if the log is valid.
+/// Fails with the faults of [`crate::verify`]. [`VerifyFault::Memory`] is possible only if the log is valid.
 pub fn locate(
     alloc: Global,
     log: &[u8],
@@ -50,10 +49,10 @@ pub fn locate(
         → ReadsInMemory VerifyFault.Memory (λ located. located.items) result (Ok (located_on (algs_in table) events entries expected.now)) }
     // Any other fault is the first cause.
     ensures fault { IfErr result (IsVerifyFault log.now list.now) }
-    ensures memory { IsErrOf result VerifyFault.Memory → BeginsWithEvent log.now ⊎ IsSomeLog log.now }
+    ensures memory { IsErrOf result VerifyFault.Memory → IsSomeLog log.now }
 {
     list_has_one_reading(list);
-    let firmware = read_log(alloc, log)?;
+    let firmware = LogView::new(log)?;
     let start = follow_log(alloc, &firmware, expected)?;
     let replay = ListReplay::of_list(start, list)?;
     Ok(replay.genuine()?.rows)
@@ -78,22 +77,23 @@ pub fn locate_from<R: Source>(
         ⊎ ReadsInMemory VerifyFault.Memory (λ located. located.items) result (Ok (located_on (algs_in table) events entries expected.now)) }
     // Any fault is the first cause.
     ensures fault { IfErr result (IsVerifyFaultFrom log.now (R.state list.old).remaining (R.state list.new).remaining limit) }
-    ensures memory { IsErrOf result VerifyFault.Memory → BeginsWithEvent log.now ⊎ IsSomeLog log.now }
+    ensures memory { IsErrOf result VerifyFault.Memory → IsSomeLog log.now }
     // In any case the source loses bytes from its front, and nothing else.
     ensures front { LosesFront (R.state list.old).remaining (R.state list.new).remaining }
     ensures telling { is_some (R.state list.new).remaining ≡ is_some (R.state list.old).remaining }
     ensures counts { (R.state list.new).failures ≡ failures_after_list result (R.state list.old).failures }
 {
     no_bytes_have_two_readings();
-    let firmware = read_log(alloc, log)?;
+    let firmware = LogView::new(log)?;
     let start = follow_log(alloc, &firmware, expected)?;
     let replay = ListReplay::of_source(alloc, start, list, limit)?;
     Ok(replay.genuine()?.rows)
 }
 
 // The registers after the log's events, and the places of the expected values among them.
-fn follow_log(alloc: Global, log: &BootLog<'_>, expected: &[Expected]) -> Result<Watch, AllocError>
-    ensures { IfOk result (IsFollowed (algs_of log.now) (events_of log.now) expected.now) }
+fn follow_log(alloc: Global, log: &LogView<'_>, expected: &[Expected]) -> Result<Watch, AllocError>
+    ensures { (table : List TableRow) (events : List LogEvent) → IsLog (log_bytes log.now) table events
+        → IfOk result (IsFollowed (algs_in table) events expected.now) }
 {
     let banks = log.reset_registers();
     let rows = rows_at_reset(alloc, &banks, expected)?;
@@ -103,12 +103,12 @@ fn follow_log(alloc: Global, log: &BootLog<'_>, expected: &[Expected]) -> Result
 }
 
 // Takes the events, in order.
-fn follow_events<F: Follow>(follower: &mut F, events: &[Event<'_>])
-    ensures { (start : F) → F.is_after start (length events.now) [] follower.old
-        → F.is_after start (length events.now) (events_as_steps (map log_event_of events.now)) follower.new }
+fn follow_events<F: Follow>(follower: &mut F, mut events: LogEvents<'_>)
+    ensures { (start : F) (bytes : List ℕ) (table : List TableRow) (all : List LogEvent) → HasLent bytes [] events.entry → IsLog bytes table all
+        → F.is_after start (length all) [] follower.old → F.is_after start (length all) (events_as_steps all) follower.new }
 {
-    for index in 0..events.len() {
-        follower.step(&Step::Event(&events[index]), Place::Event(index + 1));
+    while let Some(event) = events.next_event() {
+        follower.step(&Step::Event(&event), Place::Event(events.count()));
     }
 }
 

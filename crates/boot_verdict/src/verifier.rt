@@ -6,8 +6,8 @@ ghost use Rattle.pcr_banks.specs.Digests.{alg_of, bytes_of, digest_of};
 ghost use Rattle.byte_fields.specs.Reading.{ReadsInMemory};
 ghost use Rattle.byte_streams.specs.Streams.{LosesFront};
 ghost use Rattle.boot_log.specs.declared.header.Row.{Row as TableRow};
-ghost use Rattle.boot_log.specs.BootLog.{algs_of, events_of};
-ghost use Rattle.boot_log.specs.Spelling.{LogEvent, BeginsWithEvent, IsLog, algs_in};
+ghost use Rattle.boot_log.specs.LogViews.{log_bytes};
+ghost use Rattle.boot_log.specs.Spelling.{LogEvent, IsLog, algs_in};
 ghost use Rattle.boot_log.specs.Replaying.{IsFirmware};
 ghost use Rattle.ima_list.specs.ListEntry.{ListEntry};
 ghost use Rattle.ima_list.specs.Spelling.{IsReading};
@@ -22,7 +22,7 @@ ghost use Rattle.boot_verdict.specs.parts.ListReplays.{IsFaultOfEntries, Replays
 use crate::expected::Expected;
 use crate::list_replay::ListReplay;
 use crate::report::{Aggregate, Report, Row, State};
-use boot_log::{BootLog, LogFault, read_log};
+use boot_log::{LogFault, LogView};
 use byte_streams::{ReadFault, Source};
 use ima_list::laws::{list_has_one_reading, no_bytes_have_two_readings};
 use ima_list::{ListFault, ReplayFault, boot_aggregate};
@@ -106,7 +106,7 @@ impl From<AllocError> for VerifyFault {
 ///
 /// Fails with the first fault of the log, else of the list, else with [`VerifyFault::Replay`] for the first entry that is not
 /// genuine: neither a violation nor one with the template digest of its own bytes. [`VerifyFault::Memory`] is possible only if
-/// the log begins with a header and an event, or if the log and the list are valid and all entries genuine.
+/// the log and the list are valid and all entries genuine.
 pub fn verify(
     alloc: Global,
     log: &[u8],
@@ -124,7 +124,7 @@ pub fn verify(
     ensures memory { IsErrOf result VerifyFault.Memory → HasSomethingToKeep log.now list.now }
 {
     list_has_one_reading(list);
-    let log = read_log(alloc, log)?;
+    let log = LogView::new(log)?;
     let start = log.registers();
     let replay = ListReplay::of_list(start, list)?;
     report_on(alloc, &log, &start, replay, expected)
@@ -153,14 +153,14 @@ pub fn verify_from<R: Source>(
         ⊎ ReadsInMemory VerifyFault.Memory verdict_of result (Ok (verdict_on (algs_in table) events entries expected.now)) }
     // Any fault is the first cause.
     ensures fault { IfErr result (IsVerifyFaultFrom log.now (R.state list.old).remaining (R.state list.new).remaining limit) }
-    ensures memory { IsErrOf result VerifyFault.Memory → BeginsWithEvent log.now ⊎ IsSomeLog log.now }
+    ensures memory { IsErrOf result VerifyFault.Memory → IsSomeLog log.now }
     // In any case the source loses bytes from its front, and nothing else.
     ensures front { LosesFront (R.state list.old).remaining (R.state list.new).remaining }
     ensures telling { is_some (R.state list.new).remaining ≡ is_some (R.state list.old).remaining }
     ensures counts { (R.state list.new).failures ≡ failures_after_list result (R.state list.old).failures }
 {
     no_bytes_have_two_readings();
-    let firmware = read_log(alloc, log)?;
+    let firmware = LogView::new(log)?;
     let start = firmware.registers();
     let replay = ListReplay::of_source(alloc, start, list, limit)?;
     report_on(alloc, &firmware, &start, replay, expected)
@@ -169,21 +169,22 @@ pub fn verify_from<R: Source>(
 // The report on a log that leaves the registers `start`, a list replayed from them, and expected registers.
 fn report_on(
     alloc: Global,
-    log: &BootLog<'_>,
+    log: &LogView<'_>,
     start: &Banks,
     replay: ListReplay<Banks>,
     expected: &[Expected],
 ) -> Result<Report, VerifyFault>
-    requires { IsFirmware (algs_of log.now) (events_of log.now) start.now }
-    ensures report { IfOk result (λ report. (entries : List ListEntry) → Replays BanksAfter start.now entries replay
-        → AreGenuine entries × (verdict_of report ≡ verdict_on (algs_of log.now) (events_of log.now) entries expected.now)) }
+    requires { (table : List TableRow) (events : List LogEvent) → IsLog (log_bytes log.now) table events → IsFirmware (algs_in table) events start.now }
+    ensures report { (table : List TableRow) (events : List LogEvent) → IsLog (log_bytes log.now) table events
+        → IfOk result (λ report. (entries : List ListEntry) → Replays BanksAfter start.now entries replay
+        → AreGenuine entries × (verdict_of report ≡ verdict_on (algs_in table) events entries expected.now)) }
     ensures fault { IfErr result (λ fault. (entries : List ListEntry) → Replays BanksAfter start.now entries replay → IsFaultOfEntries entries fault) }
 {
     let entries = replay.entries;
     let stated = replay.stated;
     let now = replay.genuine()?;
     Ok(Report {
-        events: log.events().len(),
+        events: log.count(),
         locality: log.locality(),
         entries,
         aggregate: aggregate_of(start, stated),

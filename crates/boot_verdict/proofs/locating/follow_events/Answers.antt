@@ -1,37 +1,38 @@
-use Rattle.std.proofs.Common.{◌≡◌, ◌<◌, List, length, map, take, arith, sym, ap, subst, ◌∙◌}
-use Rattle.std.proofs.lemmas.List.{length-map, length-take, map_more, take_all}
+use Rattle.std.proofs.Common.{◌≡◌, ℕ, ◌+◌, ◌∷◌, ◌++◌, [], List, length, arith, refl, ap, subst, ◌∙◌}
+use Rattle.std.proofs.lemmas.List.{length-append, length-map}
+use Rattle.boot_log.proofs.LogLaws.{one_reading}
 use Rattle.boot_log.specs.Spelling.{LogEvent, log_event_of}
+use Rattle.boot_verdict.specs.declared.places.Place.TheVariants.{Event}
 use Rattle.boot_verdict.specs.Steps.{Step, OfEvent, events_as_steps}
 use Rattle.boot_verdict.proofs.StepLaws.{event_place, events_joined}
 use Rattle.boot_verdict.proofs.locating.follow_events.Goals as goal
 
-pub loop-index-init : goal.loop-index-init
-loop-index-init g c = λ start none. none
+pub loop-event-init : goal.loop-event-init
+loop-event-init g c = λ start bytes table all lent is none. ([], lent, none)
 
-pub loop-index-preserved : goal.loop-index-preserved
-loop-index-preserved g c =
-    let events = c.args.events.now in
-    let index = c.loop-index.index in
-    let taken = map log_event_of (take index events) in
-    let lt : index < length events = c.loop-index-test.true in
-    let size : index ≡ length (events_as_steps taken) =
-    omega (
-      arith,
-      lt,
-      length-map taken (λ (event : LogEvent). OfEvent event),
-      length-map (take index events) log_event_of,
-      length-take index events,
-    ) in
-    λ start none.
-    subst (λ (steps : List Step). g.F.Follow.is_after start (length events) steps c.step.new.self)
-    (events_joined taken _ ∙ ap events_as_steps (sym (map_more log_event_of events index _ lt)))
-    (c.step.ensures start (length events) (events_as_steps taken) (event_place (length events) index (events_as_steps taken) size lt)
-    (c.loop-index.invariant start none))
+pub loop-event-preserved : goal.loop-event-preserved
+loop-event-preserved g c =
+    let event = log_event_of c.in-Some.event in
+    λ start bytes table all none is first.
+    let before = c.loop-event.invariant start bytes table all none is first in
+    let lent = (rw c.in-Some.is at c.next_event.ensures.event) bytes before.0 before.1 in
+    let later = (rw c.in-Some.is at c.next_event.ensures.front) bytes table before.0 all before.1 is in
+    let many = ap (λ (l : List LogEvent). length l) later.1 in
+    let size : length (events_as_steps before.0) ≡ length before.0 = length-map before.0 (λ (event : LogEvent). OfEvent event) in
+    let number = c.count.ensures bytes (before.0 ++ event ∷ []) lent in
+    let place : c.count.result ≡ length (events_as_steps before.0) + 1 = omega (arith, number, size, length-append before.0 (event ∷ [])) in (
+      before.0 ++ event ∷ [],
+      lent,
+      subst (λ (steps : List Step). g.F.Follow.is_after start (length all) steps c.step.new.self) (events_joined before.0 event)
+          (c.step.ensures start (length all) (events_as_steps before.0)
+          (ap (λ (n : ℕ). Event n) place ∙ event_place (length all) (length (events_as_steps before.0)) (events_as_steps before.0) refl
+          (omega (arith, size, many, length-append before.0 (event ∷ later.0)))) before.2),
+    )
 
 pub returns : goal.returns
 returns g c =
-    let events = c.args.events.now in
-    let all : c.loop-index.index ≡ length events = omega (arith, c.loop-index-test.false, c.loop-index.auto) in
-    λ start none.
-    subst (λ (es : List _). g.F.Follow.is_after start (length events) (events_as_steps (map log_event_of es)) c.loop-index.follower)
-    (take_all c.loop-index.index events (omega (arith, all))) (c.loop-index.invariant start none)
+    λ start bytes table all none is first.
+    let before = c.loop-event.invariant start bytes table all none is first in
+    let whole = (rw c.in_default.is at c.next_event.ensures.end) bytes before.0 before.1 in
+    subst (λ (es : List LogEvent). g.F.Follow.is_after start (length all) (events_as_steps es) c.loop-event.follower)
+    (one_reading bytes whole.0 table before.0 all whole.1 is).1 before.2

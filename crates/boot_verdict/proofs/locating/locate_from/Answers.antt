@@ -1,13 +1,12 @@
-use Rattle.std.proofs.Common.{List, Ok, ap, refl, sym, ◌∙◌, inl, inr}
+use Rattle.std.proofs.Common.{ℕ, List, Ok, ap, refl, subst, sym, ◌∙◌, inl, inr}
 use Rattle.std.proofs.lemmas.Result.{err_from_is_err_and}
-use Rattle.pcr_banks.specs.declared.sets.AlgSet.{AlgSet}
-use Rattle.boot_log.specs.Spelling.{LogEvent, algs_in}
-use Rattle.boot_log.specs.BootLog.{algs_of, events_of}
-use Rattle.boot_verdict.specs.Verdicts.{fault_of_log}
+use Rattle.boot_log.specs.Spelling.{IsLog, algs_in}
+use Rattle.ima_list.specs.ListEntry.{ListEntry}
+use Rattle.boot_verdict.specs.Places.{located_on}
 use Rattle.boot_verdict.specs.parts.Following.{IsWatchAfter}
-use Rattle.boot_verdict.proofs.LocateLaws.{located_all, located_from, located_same}
+use Rattle.boot_verdict.proofs.LocateLaws.{located_all, located_from}
 use Rattle.boot_verdict.proofs.ReplayLaws.{forged_from, list_not_read, not_forged, same_list}
-use Rattle.boot_verdict.proofs.VerdictLaws.{ok_same}
+use Rattle.boot_verdict.proofs.VerdictLaws.{log_first_from, log_not_memory}
 use Rattle.boot_verdict.proofs.locating.locate_from.Goals as goal
 
 pub returns-in_err-firmware-clause-located : goal.returns-in_err-firmware-clause-located
@@ -28,12 +27,19 @@ returns-in_err-genuine-clause-located g c =
 
 pub returns-in_err-firmware-clause-only : goal.returns-in_err-firmware-clause-only
 returns-in_err-firmware-clause-only g c =
-    let p = err_from_is_err_and c.from_residual.result c.from_residual.ensures.1 in
     λ table events entries log holds.
-    inr (rw (p.1, p.2) (elim (c.in_err-firmware.ensures.only table events log) [
-      | inl memory ↦ inl (ap fault_of_log memory)
-      | inr bad ↦ absurd cc
-    ]))
+    let there = c.in_err-firmware.ensures.only table events log in
+    absurd cc
+
+pub returns-in_err-firmware-clause-fault : goal.returns-in_err-firmware-clause-fault
+returns-in_err-firmware-clause-fault g c =
+    let p = err_from_is_err_and c.from_residual.result c.from_residual.ensures.1 in
+    rw (p.1, p.2) (log_first_from _ _ c.args.limit c.in_err-firmware.field-0.0 c.in_err-firmware.ensures.fault)
+
+pub returns-in_err-firmware-clause-memory : goal.returns-in_err-firmware-clause-memory
+returns-in_err-firmware-clause-memory g c =
+    let p = err_from_is_err_and c.from_residual.result c.from_residual.ensures.1 in
+    rw (p.1, p.2) (λ memory. absurd (log_not_memory _ c.in_err-firmware.field-0.0 c.in_err-firmware.ensures.first memory))
 
 pub returns-in_err-replay-clause-only : goal.returns-in_err-replay-clause-only
 returns-in_err-replay-clause-only g c =
@@ -55,31 +61,29 @@ returns-in_err-genuine-clause-only g c =
 pub returns-in_err-genuine-clause-fault : goal.returns-in_err-genuine-clause-fault
 returns-in_err-genuine-clause-fault g c =
     let p = err_from_is_err_and c.from_residual-in_err-genuine.result c.from_residual-in_err-genuine.ensures.1 in
-    let found = c.in_ok-firmware.ensures.found in
+    let sound = c.in_ok-firmware.ensures.sound in
     let source = c.in_ok-replay.ensures.replays in
     rw (p.1, p.2) (
-      record { table = found.0; events = events_of c.in_ok-firmware.firmware; log_is = found.1 },
+      record { table = sound.0; events = sound.1; log_is = sound.2 },
       forged_from IsWatchAfter c.in_ok-start.start c.in_ok-replay.replay _ _ c.args.limit _ source
           (c.in_err-genuine.ensures.fault c.in_ok-start.start source.all.entries source.all.replays),
     )
 
 pub returns-clause-located : goal.returns-clause-located
 returns-clause-located g c =
-    let log = c.in_ok-firmware.firmware in
-    let found = c.in_ok-firmware.ensures.found in
+    let sound = c.in_ok-firmware.ensures.sound in
+    let viewed = subst (λ (bytes : List ℕ). IsLog bytes sound.0 sound.1) (sym c.in_ok-firmware.ensures.found) sound.2 in
     let source = c.in_ok-replay.ensures.replays in
-    located_from c.args.log.now _ _ c.args.limit (algs_of log) found.0 (events_of log) c.args.expected.now c.in_ok-start.start _
-    c.in_ok-replay.replay found.1 found.2 c.in_ok-start.ensures source
+    located_from c.args.log.now _ _ c.args.limit sound.0 sound.1 c.args.expected.now c.in_ok-start.start _
+    c.in_ok-replay.replay sound.2 (c.in_ok-start.ensures sound.0 sound.1 viewed) source
     (c.in_ok-genuine.ensures.followed c.in_ok-start.start source.all.entries source.all.replays)
 
 pub returns-clause-only : goal.returns-clause-only
 returns-clause-only g c =
-    let log = c.in_ok-firmware.firmware in
     let source = c.in_ok-replay.ensures.replays in
     λ table events entries is holds.
-    let read = ok_same (algs_in table, events) (algs_of log, events_of log) (c.in_ok-firmware.ensures.only table events is) in
     let same = same_list IsWatchAfter _ _ _ c.args.limit entries c.in_ok-replay.replay c.no_bytes_have_two_readings.ensures holds source in
-    let rows = located_all (algs_of log) (events_of log) source.all.entries c.args.expected.now c.in_ok-start.start _ c.in_ok-start.ensures
-    (c.in_ok-genuine.ensures.followed c.in_ok-start.start source.all.entries source.all.replays).1 in
-    inr (ap Ok (located_same (algs_in table) (algs_of log) events (events_of log) entries source.all.entries c.args.expected.now
-    (ap (λ (x : AlgSet × List LogEvent). x.0) read) (ap (λ (x : AlgSet × List LogEvent). x.1) read) same ∙ sym rows))
+    let viewed = subst (λ (bytes : List ℕ). IsLog bytes table events) (sym c.in_ok-firmware.ensures.found) is in
+    let rows = located_all (algs_in table) events source.all.entries c.args.expected.now c.in_ok-start.start _
+    (c.in_ok-start.ensures table events viewed) (c.in_ok-genuine.ensures.followed c.in_ok-start.start source.all.entries source.all.replays).1 in
+    inr (ap Ok (ap (λ (those : List ListEntry). located_on (algs_in table) events those c.args.expected.now) same ∙ sym rows))

@@ -1,8 +1,6 @@
-use Rattle.std.proofs.Common.{length, ap, sym, ◌∙◌, refl, inl, inr}
-use Rattle.std.proofs.lemmas.List.{length-map}
+use Rattle.std.proofs.Common.{ap, ◌∙◌, refl, inl, inr}
 use Rattle.std.proofs.lemmas.Result.{err_from_is_err_and}
-use Rattle.boot_log.specs.Spelling.{log_event_of}
-use Rattle.boot_log.specs.BootLog.{algs_of, events_of}
+use Rattle.boot_log.specs.Spelling.{algs_in}
 use Rattle.boot_verdict.specs.Verdicts.{aggregate_of}
 use Rattle.boot_verdict.proofs.StepLaws.{replayed_by}
 use Rattle.boot_verdict.proofs.VerdictLaws.{verdict_same}
@@ -20,16 +18,16 @@ returns-in_err-rows_on-clause-fault c =
 
 pub returns-clause-report : goal.returns-clause-report
 returns-clause-report c =
-    λ entries replays.
+    λ table events is entries replays.
     let both = c.in_ok-now.ensures.followed c.args.start.now entries replays in
-    let algs = algs_of c.args.log.now in
-    let events = events_of c.args.log.now in
+    let algs = algs_in table in
+    let firmware = c.requires table events is in
     let replayed = replayed_by c.args.start.now c.in_ok-now.now entries both.1 in (
       both.0,
-      verdict_same algs events entries c.args.start.now c.in_ok-now.now c.args.expected.now _ _ _ _ _ c.requires replayed
-          (sym (length-map c.events.result.now log_event_of) ∙ ap (λ l. length l) c.events.ensures)
-          c.locality.ensures
+      verdict_same algs events entries c.args.start.now c.in_ok-now.now c.args.expected.now _ _ _ _ _ firmware replayed
+          (c.count.ensures table events is)
+          (c.locality.ensures table events is)
           replays.count
-          (c.aggregate_of.ensures algs events c.requires ∙ ap (aggregate_of algs events) replays.stated)
+          (c.aggregate_of.ensures algs events firmware ∙ ap (aggregate_of algs events) replays.stated)
           c.in_ok-rows_on.ensures,
     )
