@@ -21,7 +21,7 @@ use crate::output::Form;
 use crate::progress::Progress;
 use crate::replaying::registers_in;
 use crate::showing::lines;
-use boot_log::{BootLog, read_log};
+use boot_log::LogView;
 use boot_verdict::write_registers;
 use byte_streams::VecSink;
 use command_line::{JsonPlan, JsonPrint, NameEnd, Plan, Print};
@@ -200,7 +200,7 @@ fn measured<R: Threads + Wait + Sync, F: Files, P: Progress>(
         IsMeasuringFault (files_in (F.told files.old)) (failing_in (F.told files.old)) bytes (manner_of asked.entry) (map string_bytes asked.entry.files.now) fault)) }
 {
     let bytes = loaded(alloc, files, Some(asked.log))?;
-    let log = read_log(alloc, &bytes)?;
+    let log = LogView::new(&bytes)?;
     let names = lent(alloc, asked.files)?;
     measured_into(
         rt,
@@ -233,7 +233,7 @@ fn measured_listed<R: Threads + Wait + Sync, F: Files, P: Progress>(
         IsListedFault (F.told files.old) bytes (manner_of asked.entry) (map string_bytes asked.entry.files.now) names.now ends fault)) }
 {
     let bytes = loaded(alloc, files, Some(asked.log))?;
-    let log = read_log(alloc, &bytes)?;
+    let log = LogView::new(&bytes)?;
     let text = loaded(alloc, files, Some(names))?;
     let all = with_names_in(alloc, asked.files, &text, names, ends)?;
     measured_into(
@@ -248,13 +248,13 @@ fn measured_listed<R: Threads + Wait + Sync, F: Files, P: Progress>(
     )
 }
 
-// Measures the files of these names over a log that was read. Its bytes, `_bytes`, serve the contract alone.
+// Measures the files of these names over a log that was looked through. Its bytes, `_bytes`, serve the contract alone.
 fn measured_into<R: Threads + Wait + Sync, S: SharedFiles + Sync, P: Progress>(
     rt: &R,
     alloc: Global,
     files: &S,
     _bytes: &[u8],
-    log: &BootLog,
+    log: &LogView<'_>,
     asked: Measuring,
     names: &[&str],
     progress: &P,

@@ -10,7 +10,7 @@ use crate::fault::RunFault;
 use crate::files::Files;
 use crate::hexadecimal::{HexFault, decode_hexadecimal};
 use crate::inputs::loaded;
-use boot_log::read_log;
+use boot_log::{LogView, read_log};
 use boot_verdict::{EventData, write_events, write_registers};
 use byte_streams::{Failed, VecSink};
 use command_line::DataShown;
@@ -89,7 +89,7 @@ pub fn registers_on(alloc: Global, log: &[u8]) -> Result<Vec<u8>, RunFault>
     ensures shown { IfOk result (λ shown. ShowsRegistersAfter log.now shown.items) }
     ensures fault { IfErr result (IsNoLogFor log.now) }
 {
-    let registers = registers_of(alloc, log)?;
+    let registers = registers_of(log)?;
     let mut shown = VecSink::new(Vec::new(alloc));
     match write_registers(&registers.now, &registers.start, &mut shown) {
         Ok(()) => Ok(shown.into_bytes()),
@@ -107,11 +107,11 @@ pub(crate) struct LogRegisters {
 }
 
 /// The registers of this log, before they are shown.
-pub(crate) fn registers_of(alloc: Global, log: &[u8]) -> Result<LogRegisters, RunFault>
+pub(crate) fn registers_of(log: &[u8]) -> Result<LogRegisters, RunFault>
     ensures registers { IfOk result (λ registers. AreRegistersAfter log.now registers.start registers.now) }
     ensures fault { IfErr result (IsNoLogFor log.now) }
 {
-    let log = read_log(alloc, log)?;
+    let log = LogView::new(log)?;
     Ok(LogRegisters {
         start: log.reset_registers(),
         now: log.registers(),

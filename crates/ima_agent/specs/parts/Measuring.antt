@@ -2,10 +2,10 @@
 use Rattle.std.specs.Prelude.{◌≡◌, ℕ, ◌<◌, ◌⊎◌, List, length, map, slice_get, Some, IfSome, String, string_bytes}
 use Rattle.std.specs.Borrow.{Bor}
 use Rattle.std.specs.Global.{Global}
-use Rattle.boot_log.specs.declared.log.BootLog.{BootLog}
-use Rattle.boot_log.specs.BootLog.{algs_of, events_of}
+use Rattle.boot_log.specs.declared.log_view.LogView.{LogView}
+use Rattle.boot_log.specs.LogViews.{log_bytes}
 use Rattle.boot_log.specs.declared.header.Row.{Row}
-use Rattle.boot_log.specs.Spelling.{IsLog, algs_in}
+use Rattle.boot_log.specs.Spelling.{LogEvent, IsLog}
 use Rattle.hash_workers.specs.declared.fault.JobFault.{JobFault}
 use Rattle.hash_workers.specs.declared.fault.JobFault.TheVariants as faults
 use Rattle.command_line.specs.declared.plan.Plan.{Plan}
@@ -44,9 +44,12 @@ IsFileFaultOf names number faults.Source fault =
     ((name : List ℕ) × (slice_get names number ≡ Some name) × IsNotRead name fault) ⊎ (fault ≡ runs.Memory)
 IsFileFaultOf names number faults.Memory fault = fault ≡ runs.Memory
 
--- The bytes are a log, and this is what was read of it.
-abbrev pub IsReadLog : List ℕ → BootLog → Type 0
-IsReadLog bytes log = (table : List Row) × IsLog bytes table (events_of log) × (algs_of log ≡ algs_in table)
+-- The view is that of the log in these bytes.
+pub record IsReadLog (bytes : List ℕ) (log : LogView) : Type 0 where
+  pub bytes_are : log_bytes log ≡ bytes
+  pub table : List Row
+  pub events : List LogEvent
+  pub log_is : IsLog bytes table events
 
 -- The plan is to measure files.
 abbrev pub MeasuresFiles : Plan → Type 0

@@ -32,7 +32,7 @@ fn registers_on(alloc: Global, log: &[u8]) -> Result<Vec<u8>, RunFault>
     ensures shown { IfOk result (λ shown. ShowsJsonRegisters log.now shown.items) }
     ensures fault { IfErr result (IsNoLogFor log.now) }
 {
-    let registers = registers_of(alloc, log)?;
+    let registers = registers_of(log)?;
     Ok(registers_in(alloc, Form::Json, &registers.now, &registers.start)?)
 }
 

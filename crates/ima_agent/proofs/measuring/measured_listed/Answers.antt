@@ -28,7 +28,7 @@ returns-in_err-log-clause-fault g c =
       c.in_ok-bytes.ensures.all,
       listed_log (g.F.Files.told c.args.files.now) c.in_ok-bytes.bytes.items (manner_of c.args.asked)
           (map string_bytes c.args.asked.files.now) c.args.names.now c.args.ends c.in_err-log.field-0.0
-          (rw c.deref.ensures.value at c.in_err-log.ensures.fault),
+          (inr (rw c.deref.ensures.value at c.in_err-log.ensures.fault)),
     ))
 
 pub returns-in_err-text-clause-shown : goal.returns-in_err-text-clause-shown
