@@ -1,5 +1,5 @@
 -- Outputs that are written while their input is read: what was sent of a list is what the program is asked for.
-use Rattle.std.proofs.Common.{◌≡◌, ◌⊎◌, ℕ, ◌+◌, ◌<◌, true, List, [], ◌++◌, length, Option, None, Some, Result, Ok, Err, refl, sym, ap, subst, ◌∙◌, append_assoc, append-nil, arith, inl, inr, codes, string_bytes}
+use Rattle.std.proofs.Common.{◌≡◌, ◌⊎◌, ℕ, ◌<◌, true, List, [], ◌++◌, length, Option, None, Some, Result, Ok, Err, refl, sym, ap, subst, ◌∙◌, append_assoc, append-nil, arith, inl, inr, codes, string_bytes}
 use Rattle.std.specs.Prelude.{IfSome, IsTrue, String}
 use Rattle.std.specs.Global.{Global}
 use Rattle.std.specs.Io.KnownBytes.{IsAtEnd}
@@ -182,7 +182,6 @@ module _ (inputs : Inputs) (name : List ℕ) where
       are = begins.are;
       parts = ap (λ (l : List ℕ). l ++ more) begins.parts ∙ append_assoc (list_spelling es) rest more;
     }
-
 
     whole_of : (list over : List ℕ) → CameFrom old.remaining new.remaining input_limit list over → over ≡ [] → IsAtEnd new.remaining
         → Holds inputs (Some name) list
