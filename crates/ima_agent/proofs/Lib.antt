@@ -10,7 +10,6 @@ pub mod ListVerifyingLaws
 pub mod ExpectingLaws
 pub mod EscapingLaws
 pub mod EntryLineLaws
-pub mod EventLineLaws
 pub mod EventStreamingLaws
 pub mod JsonLaws
 pub mod StreamingLaws

@@ -16,7 +16,6 @@ use Rattle.boot_verdict.specs.ListSources.{CameFrom, CameWhole, FailsFor}
 use Rattle.boot_verdict.specs.Replays.{IsListReplayFault, IsListReplayFrom, IsListStart}
 use Rattle.boot_verdict.specs.Verdicts.{IsForged}
 use Rattle.ima_agent.specs.declared.fault.RunFault.{RunFault}
-use Rattle.ima_agent.specs.declared.fault.RunFault.TheVariants as runs
 use Rattle.ima_agent.specs.Faults.{IsFaultOfVerdict, fault_of_list}
 use Rattle.ima_agent.specs.Loading.{HasFailed, Inputs, OfInput, input_limit}
 use Rattle.ima_agent.specs.declared.output.Form.{Form}

@@ -1,38 +1,36 @@
 -- Outputs that are written while their input is read: what was sent of a list is what the program is asked for.
-use Rattle.std.proofs.Common.{◌≡◌, ◌⊎◌, ℕ, ◌+◌, ◌<◌, ◌≤◌, true, List, [], ◌++◌, length, Option, None, Some, Result, Ok, Err, refl, sym, ap, subst, ◌∙◌, append_assoc, append-nil, arith, inl, inr, codes, string_bytes}
+use Rattle.std.proofs.Common.{◌≡◌, ◌⊎◌, ℕ, ◌<◌, true, List, [], ◌++◌, length, Option, None, Some, Result, Ok, Err, refl, sym, ap, subst, ◌∙◌, append_assoc, append-nil, arith, inl, inr, codes, string_bytes}
 use Rattle.std.specs.Prelude.{IfSome, IsTrue, String}
 use Rattle.std.specs.Global.{Global}
 use Rattle.std.specs.Io.KnownBytes.{IsAtEnd}
 use Rattle.std.proofs.lemmas.List.{length-append}
-use Rattle.std.proofs.lemmas.Option.{same_Some}
 use Rattle.byte_streams.specs.declared.streams.Failed.{Failed}
-use Rattle.byte_streams.specs.Streams.{Sends, SinkState, SourceState, TakesPart}
+use Rattle.byte_streams.specs.Streams.{Sends, SinkState, SourceState}
 use Rattle.byte_streams.proofs.SinkLaws.{Sends-none, Sends-then}
 use Rattle.ima_list.specs.declared.fault.ListFault.{ListFault}
 use Rattle.ima_list.specs.declared.fault.ListFault.TheVariants as lists
 use Rattle.ima_list.specs.ListEntry.{ListEntry}
 use Rattle.ima_list.specs.ListFaults.{list_fault_entry}
 use Rattle.ima_list.specs.Spelling.{BeginsWith, IsLongest, IsReading, list_spelling}
-use Rattle.boot_verdict.specs.ListSources.{CameFrom, FailsFor}
+use Rattle.boot_verdict.specs.ListSources.{CameFrom, FailsFor, IsSound}
 use Rattle.json_texts.specs.declared.entry_lines.EntriesFault.{EntriesFault}
 use Rattle.json_texts.specs.declared.entry_lines.EntriesFault.TheVariants as entries
 use Rattle.json_texts.specs.FaultJson.{fault_json}
 use Rattle.json_texts.specs.ItemLines.{entry_lines}
 use Rattle.json_texts.specs.JsonValues.{line_of}
-use Rattle.json_texts.specs.SentEntries.{SendsEntries}
+use Rattle.json_texts.specs.SentEntries.{AreAllIn, SendsEntries}
 use Rattle.command_line.specs.declared.json_plan.JsonPlan.TheVariants as jsons
 use Rattle.command_line.specs.declared.plan.Plan.TheVariants.{Json}
 use Rattle.ima_agent.specs.declared.fault.RunFault.{RunFault}
 use Rattle.ima_agent.specs.declared.fault.RunFault.TheVariants as runs
 use Rattle.ima_agent.specs.declared.streaming.StreamFault.{StreamFault}
 use Rattle.ima_agent.specs.declared.streaming.StreamFault.TheVariants as streams
-use Rattle.ima_agent.specs.JsonFaults.{IsFailure, IsFaultAsJson, ToldAsJson}
-use Rattle.ima_agent.specs.JsonShowing.{FailsAfterEntries, ShowsEntries, ShowsEntriesOf}
-use Rattle.ima_agent.specs.Faults.{fault_of_list}
-use Rattle.ima_agent.specs.Loading.{HasFailed, Holds, HoldsTooMuch, Inputs, IsInputFault, IsNotRead, IsTooLong, input_limit}
+use Rattle.ima_agent.specs.JsonFaults.{IsFailure, ToldAsJson}
+use Rattle.ima_agent.specs.JsonShowing.{EndsAfterEntries, ShowsEntriesOf}
+use Rattle.ima_agent.specs.Loading.{HasFailed, Holds, Inputs, IsNotRead, IsTooLong, input_limit}
 use Rattle.ima_agent.specs.Program.{Answers, IsOutcome}
-use Rattle.ima_agent.specs.Streaming.{GoesOn, Streams, as_sent}
-use Rattle.ima_agent.specs.parts.Streaming.{IsStreamFaultOf, IsStreamResultOf, SendsEntriesOf}
+use Rattle.ima_agent.specs.Streaming.{Streams}
+use Rattle.ima_agent.specs.parts.Streaming.{IsStreamResultOf, SendsEntriesOf}
 use Rattle.ima_agent.proofs.EntryLineLaws.{fault_count}
 use Rattle.ima_agent.proofs.VerifyingLaws.{HasAll, held_more, held_whole, longer}
 
@@ -64,7 +62,7 @@ sent_less old new fault other text more sends = record {
 
 -- ---- the line of `Memory`, of which there is always one
 
-pub memory_told : ToldAsJson runs.Memory (line_of (fault_json (Some (codes "memory")) None None (codes "failed: memory"))) 3
+pub memory_told : ToldAsJson runs.Memory (line_of (fault_json (codes "memory") None None (codes "failed: memory"))) 3
 memory_told = (record { message = codes "failed: memory"; message_is = refl; text_is = refl }, refl)
 
 -- ---- the entries of a list
@@ -80,49 +78,63 @@ too_much (Some all) old new limit list over has came size some =
     let more = longer (Some all) old new limit list over has came some in
     omega (arith, size, more.1, ap length more.2, length-append list more.0)
 
+-- The entries are all of the bytes that came.
+abbrev AreAll : List ℕ → List ListEntry → List ℕ → Type 0
+AreAll list es rest = IsLongest list es rest × IsSound list
+
+all_in : (list : List ℕ) (es : List ListEntry) (rest : List ℕ) → BeginsWith list es rest → AreAllIn list es → AreAll list es rest
+all_in list es rest begins (inl reading) = (record { begins = begins; longest = reading.longest }, inl (es, reading))
+all_in list es rest begins (inr reading) = (
+  record {
+    begins = begins;
+    longest = λ others left starts. omega (arith, reading.fault_is.0, reading.longest.longest others left starts);
+  },
+  inr (length es, reading),
+)
+
 module _ (inputs : Inputs) (name : List ℕ) where
   -- The line of a fault of the input, or of memory, follows the lines of entries.
-  fails_after : (bytes : List ℕ) (es : List ListEntry) (rest : List ℕ) (fault : RunFault) → Holds inputs (Some name) bytes
-      → BeginsWith bytes es rest → IsInputFault inputs (Some name) fault → (last : List ℕ) (status : ℕ) → IsFailure true fault last status
-      → ShowsEntriesOf inputs name (entry_lines es ++ last) status
-  fails_after bytes es rest fault held begins is last status (inl told) = inr (record {
-    bytes = bytes;
+  fails_after : (came more : List ℕ) (es : List ListEntry) (rest : List ℕ) (fault : RunFault) → Holds inputs (Some name) (came ++ more)
+      → BeginsWith came es rest → EndsAfterEntries inputs name came es rest fault → (last : List ℕ) (status : ℕ)
+      → IsFailure true fault last status → ShowsEntriesOf inputs name (entry_lines es ++ last) status
+  fails_after came more es rest fault held begins ends last status (inl told) = inr (record {
+    came = came;
+    more = more;
     entries = es;
     rest = rest;
     fault = fault;
     last = last;
     held = held;
-    begins = begins;
-    fault_is = is;
+    ends = ends;
     told = told;
     text_is = refl;
   })
-  fails_after bytes es rest fault held begins is last status (inr told) = inr (record {
-    bytes = bytes;
+  fails_after came more es rest fault held begins ends last status (inr told) = inr (record {
+    came = came;
+    more = more;
     entries = es;
     rest = rest;
     fault = runs.Memory;
     last = last;
     held = held;
-    begins = begins;
-    fault_is = inr (inr refl);
+    ends = inr (inr (refl, begins));
     told = told;
     text_is = refl;
   })
 
   -- The input was not opened.
-  pub not_opened : (sink : SinkState) (fault : RunFault) → IsNotRead name fault ⊎ (fault ≡ runs.Memory) → IsTrue (inputs.may_fail (Some name))
-      → Streams (ShowsEntriesOf inputs name) sink sink (Err (streams.Run fault))
-  not_opened sink fault cause may =
+  pub not_opened : (sink : SinkState) (fault : RunFault) → IsReading [] (Ok []) → IsNotRead name fault ⊎ (fault ≡ runs.Memory)
+      → IsTrue (inputs.may_fail (Some name)) → Streams (ShowsEntriesOf inputs name) sink sink (Err (streams.Run fault))
+  not_opened sink fault nothing cause may =
       let any = held_any (inputs.held (Some name)) in
-      let is : IsInputFault inputs (Some name) fault = elim cause [
-        | inl says ↦ inr (inl (says, may))
-        | inr memory ↦ inr (inr memory)
+      let ends : EndsAfterEntries inputs name [] [] [] fault = elim cause [
+        | inl says ↦ inl ((says, may), nothing, inl ([], nothing))
+        | inr memory ↦ inr (inr (memory, nothing.begins))
       ] in
       record {
         text = [];
         sends = Sends-none sink tt;
-        goes_on = fails_after any.0 [] any.0 fault any.1 (record { are = tt; parts = refl }) is;
+        goes_on = fails_after [] any.0 [] [] fault any.1 nothing.begins ends;
       }
 
   -- The line of the list's fault, or of memory, follows those of the entries before it.
@@ -149,34 +161,27 @@ module _ (inputs : Inputs) (name : List ℕ) where
         }),
       )
   damaged bytes es rest first held begins reading names last status (inr told) =
-      fails_after bytes es rest runs.Memory held begins (inr (inr refl)) last status (inl told)
+      fails_after bytes [] es rest runs.Memory (subst (λ (all : List ℕ). Holds inputs (Some name) all) (sym (append-nil bytes)) held) begins
+      (inr (inr (refl, begins))) last status (inl told)
 
   module _ (old new : SourceState) (sink_old sink_new : SinkState) (has : HasAll (inputs.held (Some name)) old.remaining)
       (failing : HasFailed old new → IsTrue (inputs.may_fail (Some name))) where
-    -- What came of the input, and its entries.
-    record Came (list over : List ℕ) (es : List ListEntry) : Type 0 where
-      all : List ℕ
+    -- The input begins with the bytes that came.
+    record Came (list : List ℕ) : Type 0 where
       more : List ℕ
-      rest : List ℕ
-      held : Holds inputs (Some name) all
-      parts : all ≡ list ++ more
-      begins : BeginsWith all es rest
+      held : Holds inputs (Some name) (list ++ more)
 
-    came_of : (list over : List ℕ) (es : List ListEntry) (rest : List ℕ) → CameFrom old.remaining new.remaining input_limit list over
-        → BeginsWith list es rest → Came list over es
-    came_of list over es rest came begins =
+    came_of : (list over : List ℕ) → CameFrom old.remaining new.remaining input_limit list over → Came list
+    came_of list over came =
         let more = held_more (inputs.held (Some name)) old.remaining new.remaining input_limit list over has came in
-        record {
-          all = more.all;
-          more = more.more;
-          rest = rest ++ more.more;
-          held = more.held;
-          parts = more.parts;
-          begins = record {
-            are = begins.are;
-            parts = more.parts ∙ ap (λ (l : List ℕ). l ++ more.more) begins.parts ∙ append_assoc (list_spelling es) rest more.more;
-          };
-        }
+        record { more = more.more; held = subst (λ (all : List ℕ). Holds inputs (Some name) all) more.parts more.held }
+
+    more_begins : (list more : List ℕ) (es : List ListEntry) (rest : List ℕ) → BeginsWith list es rest
+        → BeginsWith (list ++ more) es (rest ++ more)
+    more_begins list more es rest begins = record {
+      are = begins.are;
+      parts = ap (λ (l : List ℕ). l ++ more) begins.parts ∙ append_assoc (list_spelling es) rest more;
+    }
 
     whole_of : (list over : List ℕ) → CameFrom old.remaining new.remaining input_limit list over → over ≡ [] → IsAtEnd new.remaining
         → Holds inputs (Some name) list
@@ -190,35 +195,39 @@ module _ (inputs : Inputs) (name : List ℕ) where
         → Sends {A = Unit {0}} {E = EntriesFault} sink_old sink_new (Ok tt) (entry_lines sends.entries)
         → Streams (ShowsEntriesOf inputs name) sink_old sink_new (Err (streams.Run (runs.List first)))
     lasting first sends fails names sent =
-        let came = came_of sends.list sends.over sends.entries sends.rest sends.came sends.begins in
+        let came = came_of sends.list sends.over sends.came in
         record {
           text = entry_lines sends.entries;
           sends = sent_ok sink_old sink_new tt tt (entry_lines sends.entries) sent;
-          goes_on = damaged came.all sends.entries came.rest first came.held came.begins
-              (subst (λ (l : List ℕ). IsReading l (Err first)) (sym came.parts) (fails.1 came.more)) names;
+          goes_on = damaged (sends.list ++ came.more) sends.entries (sends.rest ++ came.more) first came.held
+              (more_begins sends.list came.more sends.entries sends.rest sends.begins) (fails.1 came.more) names;
         }
 
     -- The input, or memory, failed.
     breaks_off : (list over : List ℕ) (es : List ListEntry) (rest : List ℕ) (fault : RunFault)
         → CameFrom old.remaining new.remaining input_limit list over → BeginsWith list es rest
-        → Sends {A = Unit {0}} {E = EntriesFault} sink_old sink_new (Ok tt) (entry_lines es) → IsInputFault inputs (Some name) fault
-        → Streams (ShowsEntriesOf inputs name) sink_old sink_new (Err (streams.Run fault))
-    breaks_off list over es rest fault from begins sent is =
-        let came = came_of list over es rest from begins in
+        → Sends {A = Unit {0}} {E = EntriesFault} sink_old sink_new (Ok tt) (entry_lines es)
+        → EndsAfterEntries inputs name list es rest fault → Streams (ShowsEntriesOf inputs name) sink_old sink_new (Err (streams.Run fault))
+    breaks_off list over es rest fault from begins sent ends =
+        let came = came_of list over from in
         record {
           text = entry_lines es;
           sends = sent_ok sink_old sink_new tt tt (entry_lines es) sent;
-          goes_on = fails_after came.all es came.rest fault came.held came.begins is;
+          goes_on = fails_after list came.more es rest fault came.held begins ends;
         }
 
-    source_fault : (fault : RunFault) → HasFailed old new → IsNotRead name fault ⊎ (fault ≡ runs.Memory) → IsInputFault inputs (Some name) fault
-    source_fault fault failed (inl says) = inr (inl (says, failing failed))
-    source_fault fault failed (inr memory) = inr (inr memory)
+    source_ends : (list : List ℕ) (es : List ListEntry) (rest : List ℕ) (fault : RunFault) → HasFailed old new → AreAll list es rest
+        → IsNotRead name fault ⊎ (fault ≡ runs.Memory) → EndsAfterEntries inputs name list es rest fault
+    source_ends list es rest fault failed all (inl says) = inl ((says, failing failed), all.0, all.1)
+    source_ends list es rest fault failed all (inr memory) = inr (inr (memory, all.0.begins))
 
-    long_fault : (fault : RunFault) → HoldsTooMuch inputs (Some name) → IsTooLong name fault ⊎ (fault ≡ runs.Memory)
-        → IsInputFault inputs (Some name) fault
-    long_fault fault long (inl says) = inl (says, long)
-    long_fault fault long (inr memory) = inr (inr memory)
+    long_ends : (list over : List ℕ) (es : List ListEntry) (rest : List ℕ) (fault : RunFault)
+        → CameFrom old.remaining new.remaining input_limit list over → length list ≡ input_limit → 0 < length over → AreAll list es rest
+        → IsTooLong name fault ⊎ (fault ≡ runs.Memory) → EndsAfterEntries inputs name list es rest fault
+    long_ends list over es rest fault from size some all (inl says) =
+        let long = too_much (inputs.held (Some name)) old.remaining new.remaining input_limit list over has from size some in
+        inr (inl (says, long, size, all.0, all.1))
+    long_ends list over es rest fault from size some all (inr memory) = inr (inr (memory, all.0.begins))
 
     -- What was sent of the entries is what is asked for.
     shown : (first : Result (Unit {0}) EntriesFault) (result : Result (Unit {0}) StreamFault)
@@ -234,15 +243,15 @@ module _ (inputs : Inputs) (name : List ℕ) where
       );
     })
     shown (Err entries.Sink) result sends (fault, is, says) failed =
-        let came = came_of sends.list sends.over sends.entries sends.rest sends.came sends.begins in
+        let came = came_of sends.list sends.over sends.came in
         rw (is, says.1) (record {
           text = entry_lines sends.entries;
           sends = sent_err sink_old sink_new entries.Sink says.0 (entry_lines sends.entries) sends.sends;
           goes_on = (
-            line_of (fault_json (Some (codes "memory")) None None (codes "failed: memory")),
+            line_of (fault_json (codes "memory") None None (codes "failed: memory")),
             3,
-            fails_after came.all sends.entries came.rest runs.Memory came.held came.begins (inr (inr refl))
-                (line_of (fault_json (Some (codes "memory")) None None (codes "failed: memory"))) 3 (inl memory_told),
+            fails_after sends.list came.more sends.entries sends.rest runs.Memory came.held sends.begins (inr (inr (refl, sends.begins)))
+                (line_of (fault_json (codes "memory") None None (codes "failed: memory"))) 3 (inl memory_told),
           );
         })
     shown (Err (entries.List (lists.Truncated entry))) result sends (fault, is, says) failed =
@@ -260,13 +269,15 @@ module _ (inputs : Inputs) (name : List ℕ) where
     shown (Err (entries.List lists.Memory)) result sends (fault, is, says) failed = absurd sends.ends.0.0
     shown (Err entries.Source) result sends (fault, is, says) failed =
         rw (is, says.1) (breaks_off sends.list sends.over sends.entries sends.rest says.0 sends.came sends.begins sends.sends
-        (source_fault says.0 (failed refl) says.2))
+        (source_ends sends.list sends.entries sends.rest says.0 (failed refl)
+        (all_in sends.list sends.entries sends.rest sends.begins sends.ends.1) says.2))
     shown (Err entries.TooLong) result sends (fault, is, says) failed =
         rw (is, says.1) (breaks_off sends.list sends.over sends.entries sends.rest says.0 sends.came sends.begins sends.sends
-        (long_fault says.0 (too_much (inputs.held (Some name)) old.remaining new.remaining input_limit sends.list sends.over has sends.came sends.ends.0
-        sends.ends.1) says.2))
+        (long_ends sends.list sends.over sends.entries sends.rest says.0 sends.came sends.ends.0 sends.ends.1
+        (all_in sends.list sends.entries sends.rest sends.begins sends.ends.2) says.2))
     shown (Err entries.Memory) result sends (fault, is, says) failed =
-        rw (is, says) (breaks_off sends.list sends.over sends.entries sends.rest runs.Memory sends.came sends.begins sends.sends (inr (inr refl)))
+        rw (is, says) (breaks_off sends.list sends.over sends.entries sends.rest runs.Memory sends.came sends.begins sends.sends
+        (inr (inr (refl, sends.begins))))
 
     pub entries_shown : (result : Result (Unit {0}) StreamFault) → SendsEntriesOf name old new sink_old sink_new result
         → Streams (ShowsEntriesOf inputs name) sink_old sink_new result

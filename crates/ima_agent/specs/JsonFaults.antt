@@ -88,7 +88,7 @@ fault_head runs.Memory = memory_head
 pub record IsFaultAsJson (fault : RunFault) (text : List ℕ) : Type 0 where
   pub message : List ℕ
   pub message_is : message ++ codes "\n" ≡ fault_line fault
-  pub text_is : text ≡ line_of (fault_json (Some (fault_head fault).kind) (fault_head fault).number (fault_head fault).place message)
+  pub text_is : text ≡ line_of (fault_json (fault_head fault).kind (fault_head fault).number (fault_head fault).place message)
 
 -- The same, with the status after the fault.
 abbrev pub ToldAsJson : RunFault → List ℕ → ℕ → Type 0

@@ -1,5 +1,5 @@
 -- Plans with `--json`, and those that request the same without it. All of this is this project's choice.
-use Rattle.std.specs.Prelude.{Option, Some, None}
+use Rattle.std.specs.Prelude.{Some, None}
 use Rattle.command_line.specs.declared.json_plan.JsonPlan.{JsonPlan}
 use Rattle.command_line.specs.declared.json_plan.JsonPlan.TheVariants as jsons
 use Rattle.command_line.specs.declared.json_plan.JsonPrint.{JsonPrint}

@@ -1,9 +1,10 @@
 -- The registers and the events of a log, and the entries of a list, as the program shows them with `--json`. All of this is this project's choice.
-use Rattle.std.specs.Prelude.{◌≡◌, ℕ, ◌⊎◌, List, ◌++◌, Some, Ok, Err}
+use Rattle.std.specs.Prelude.{◌≡◌, ℕ, ◌⊎◌, List, ◌++◌, length, Some, Ok, Err}
 use Rattle.pcr_banks.specs.declared.banks.Banks.{Banks}
 use Rattle.ima_list.specs.declared.fault.ListFault.{ListFault}
 use Rattle.ima_list.specs.ListEntry.{ListEntry}
 use Rattle.ima_list.specs.Spelling.{BeginsWith, IsLongest, IsReading}
+use Rattle.boot_verdict.specs.ListSources.{IsSound}
 use Rattle.boot_log.specs.declared.header.Row.{Row}
 use Rattle.boot_log.specs.declared.fault.LogFault.{LogFault}
 use Rattle.boot_log.specs.LogReading.{FailsAfter, FailsFirst}
@@ -16,7 +17,7 @@ use Rattle.json_texts.specs.RegisterJson.{registers_json}
 use Rattle.ima_agent.specs.declared.fault.RunFault.{RunFault}
 use Rattle.ima_agent.specs.declared.fault.RunFault.TheVariants as runs
 use Rattle.ima_agent.specs.JsonFaults.{ToldAsJson}
-use Rattle.ima_agent.specs.Loading.{Holds, Inputs, IsInputFault, OfInput}
+use Rattle.ima_agent.specs.Loading.{Holds, HoldsTooMuch, Inputs, IsInputFault, IsReadFailure, IsTooLong, OfInput, input_limit}
 use Rattle.ima_agent.specs.Showing.{AreRegistersAfter}
 
 -- The bytes are a firmware event log, and what is shown is the line of the registers that differ from their reset values after its
@@ -96,17 +97,26 @@ pub record ShowsEntriesToFault (bytes shown : List ℕ) (status : ℕ) : Type 0 
 abbrev pub ShowsEntries : List ℕ → List ℕ → ℕ → Type 0
 ShowsEntries bytes shown status = ShowsAllEntries bytes shown status ⊎ ShowsEntriesToFault bytes shown status
 
--- The file of this name begins with these entries, and then its input failed, is longer than an input may be, or memory ran out. What is
--- shown are the lines of the entries, and then that of the fault, with its status.
+-- Why no more entries of the file of this name are shown, of which the bytes `came` were read. It could not be opened or read, or it is
+-- longer than an input may be and its first bytes came, as many as one may have: then these are all entries that came whole, and none
+-- was refused. Or memory ran out after these.
+abbrev pub EndsAfterEntries : Inputs → List ℕ → List ℕ → List ListEntry → List ℕ → RunFault → Type 0
+EndsAfterEntries inputs name came entries rest fault =
+    (IsReadFailure inputs (Some name) fault × IsLongest came entries rest × IsSound came)
+    ⊎ (IsTooLong name fault × HoldsTooMuch inputs (Some name) × (length came ≡ input_limit) × IsLongest came entries rest × IsSound came)
+    ⊎ ((fault ≡ runs.Memory) × BeginsWith came entries rest)
+
+-- The file of this name begins with the bytes `came`, and these with entries. What is shown are the lines of the entries, and then that of
+-- the fault why there are no more, with its status.
 pub record FailsAfterEntries (inputs : Inputs) (name shown : List ℕ) (status : ℕ) : Type 0 where
-  pub bytes : List ℕ
+  pub came : List ℕ
+  pub more : List ℕ
   pub entries : List ListEntry
   pub rest : List ℕ
   pub fault : RunFault
   pub last : List ℕ
-  pub held : Holds inputs (Some name) bytes
-  pub begins : BeginsWith bytes entries rest
-  pub fault_is : IsInputFault inputs (Some name) fault
+  pub held : Holds inputs (Some name) (came ++ more)
+  pub ends : EndsAfterEntries inputs name came entries rest fault
   pub told : ToldAsJson fault last status
   pub text_is : shown ≡ entry_lines entries ++ last
 

@@ -19,7 +19,8 @@ pub enum Form {
 pub struct Output {
     /// The text, or a binary list.
     pub text: Vec<u8>,
-    /// The exit status once all of it is written: 0, or 1 for a verdict that does not match or a value that was not reached.
+    /// The exit status once all of it is written: 0; 1 for a verdict that does not match or a value that was not reached; or that of the
+    /// fault that a text of JSON lines ends with.
     pub status: u8,
 }
 

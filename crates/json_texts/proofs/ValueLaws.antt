@@ -32,7 +32,7 @@ use Rattle.json_texts.specs.declared.faults.FaultPlace.{FaultPlace}
 use Rattle.json_texts.specs.declared.faults.FaultPlace.TheVariants.{Event, Entry}
 use Rattle.json_texts.specs.JsonValues.{IsCount, IsOneLine, Member, array_of}
 use Rattle.json_texts.specs.EventJson.{algorithm_json, algorithms_json, digest_members, digests_json, event_json, name_members, type_members}
-use Rattle.json_texts.specs.FaultJson.{fault_json, fault_members, kind_members, number_at, number_members, place_members}
+use Rattle.json_texts.specs.FaultJson.{fault_json, fault_members, number_at, number_members, place_members}
 use Rattle.json_texts.specs.MissingJson.{missing_among, missing_in, missing_json, value_if_missing}
 use Rattle.json_texts.specs.PlaceJson as place
 use Rattle.json_texts.specs.PlaceJson.{IsCountedPlace, located_json, places_json, places_values}
@@ -75,10 +75,6 @@ one_text name text = member_plain 0 name _ [] (string_plain 0 text) (no_members_
 
 -- ---- faults
 
-kind_plain : (kind : Option (List ℕ)) → ArePlain 0 (kind_members kind)
-kind_plain None = no_members_plain 0
-kind_plain (Some kind) = one_text _ kind
-
 number_of_fault : (number : Option ℕ) → IfSome number IsCount → ArePlain 0 (number_members number)
 number_of_fault None fits = no_members_plain 0
 number_of_fault (Some number) fits = member_plain 0 _ _ [] (number_plain 0 number fits) (no_members_plain 0)
@@ -88,10 +84,10 @@ place_of_fault None fits = no_members_plain 0
 place_of_fault (Some (Event number)) fits = member_plain 0 _ _ [] (number_plain 0 number fits) (no_members_plain 0)
 place_of_fault (Some (Entry number)) fits = member_plain 0 _ _ [] (number_plain 0 number fits) (no_members_plain 0)
 
-pub fault_line : (kind : Option (List ℕ)) (number : Option ℕ) (place : Option FaultPlace) (message : List ℕ)
+pub fault_line : (kind : List ℕ) (number : Option ℕ) (place : Option FaultPlace) (message : List ℕ)
     → IfSome number IsCount → IfSome place (λ at. IsCount (number_at at)) → IsOneLine (fault_json kind number place message)
 fault_line kind number place message fits placed =
-    let members = members_joined 0 (kind_members kind) _ (kind_plain kind)
+    let members = member_plain 0 _ _ _ (string_plain 0 kind)
     (members_joined 0 (number_members number) _ (number_of_fault number fits)
     (members_joined 0 (place_members place) _ (place_of_fault place placed) (one_text _ message))) in
     one_line 2 (fault_json kind number place message)

@@ -6,10 +6,6 @@ use Rattle.json_texts.specs.declared.faults.FaultPlace.{FaultPlace}
 use Rattle.json_texts.specs.declared.faults.FaultPlace.TheVariants.{Event, Entry}
 use Rattle.json_texts.specs.JsonValues.{Member, number_json, object_of}
 
-abbrev pub kind_members : Option (List ℕ) → List Member
-kind_members None = []
-kind_members (Some kind) = (codes "kind", json.string kind) ∷ []
-
 abbrev pub number_members : Option ℕ → List Member
 number_members None = []
 number_members (Some number) = (codes "number", number_json number) ∷ []
@@ -26,11 +22,11 @@ number_at (Event number) = number
 number_at (Entry number) = number
 
 -- What is told of the fault.
-abbrev pub fault_members : Option (List ℕ) → Option ℕ → Option FaultPlace → List ℕ → List Member
+abbrev pub fault_members : List ℕ → Option ℕ → Option FaultPlace → List ℕ → List Member
 fault_members kind number place message =
-    kind_members kind ++ (number_members number ++ (place_members place ++ (codes "message", json.string message) ∷ []))
+    (codes "kind", json.string kind) ∷ (number_members number ++ (place_members place ++ (codes "message", json.string message) ∷ []))
 
--- A fault, in an object of its own: no other line has a member `fault`.
-abbrev pub fault_json : Option (List ℕ) → Option ℕ → Option FaultPlace → List ℕ → Json
+-- A fault, in an object of its own. A law says that no other value has a member `fault`.
+abbrev pub fault_json : List ℕ → Option ℕ → Option FaultPlace → List ℕ → Json
 fault_json kind number place message =
     object_of ((codes "fault", object_of (fault_members kind number place message)) ∷ [])

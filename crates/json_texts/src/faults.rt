@@ -1,10 +1,10 @@
 //! The line of a fault.
 
-ghost use Rattle.std.specs.Prelude.{◌≡◌, [], ◌∷◌, ◌++◌, option_map, OnOk, OnErr};
+ghost use Rattle.std.specs.Prelude.{◌≡◌, [], ◌∷◌, ◌++◌, OnOk, OnErr};
 ghost use Rattle.std.specs.Str.{IsUtf8};
 ghost use Rattle.json.specs.Tree.{json_tokens};
 ghost use Rattle.json_texts.specs.JsonValues.{line_of};
-ghost use Rattle.json_texts.specs.FaultJson.{fault_json, fault_members, kind_members, number_members, place_members};
+ghost use Rattle.json_texts.specs.FaultJson.{fault_json, fault_members, number_members, place_members};
 ghost use Rattle.json_texts.specs.parts.WrittenParts.{members_written};
 
 use crate::lines::{begin_line, end_line};
@@ -24,8 +24,8 @@ pub enum FaultPlace {
 /// What a fault's line tells.
 #[derive(Clone, Copy)]
 pub struct FaultText<'a> {
-    /// The kind of the fault, where it has one: the word of the program's own line for it, such as `replay`.
-    pub kind: Option<&'a str>,
+    /// The kind of the fault, in one word, such as `replay`.
+    pub kind: &'a str,
     /// Its number among the faults of its kind, where it has one.
     pub number: Option<u32>,
     /// Where it is, if it names a place.
@@ -34,8 +34,8 @@ pub struct FaultText<'a> {
     pub message: &'a str,
 }
 
-/// Appends the line of a fault: an object with the one member `fault`, which is an object with `kind`, `number`, `event` or `entry`, each
-/// where the fault has it, and `message`.
+/// Appends the line of a fault: an object with the one member `fault`, which is an object with `kind`; `number` and `event` or `entry`,
+/// each where the fault has it; and `message`.
 ///
 /// Fails only if memory runs out; the vector then is as before.
 pub fn append_fault(
@@ -44,9 +44,9 @@ pub fn append_fault(
     line: &mut Vec<u8>,
 ) -> Result<(), AllocError>
     ensures ok { OnOk result (line.new.items ≡ line.old.items ++ line_of
-        (fault_json (option_map (λ kind. kind.now) fault.now.kind) fault.now.number fault.now.place fault.now.message.now)) }
+        (fault_json fault.now.kind.now fault.now.number fault.now.place fault.now.message.now)) }
     ensures utf8 { OnOk result (IsUtf8 (line_of
-        (fault_json (option_map (λ kind. kind.now) fault.now.kind) fault.now.number fault.now.place fault.now.message.now))) }
+        (fault_json fault.now.kind.now fault.now.number fault.now.place fault.now.message.now))) }
     ensures err { OnErr result (line.new.items ≡ line.old.items) }
 {
     let start = line.len();
@@ -58,7 +58,7 @@ pub fn append_fault(
 fn write_fault(fault: &FaultText<'_>, writer: &mut Writer) -> Result<(), AllocError>
     ensures before { writer.new.before ≡ writer.old.before }
     ensures tokens { OnOk result (writer.new.tokens ≡ writer.old.tokens ++ json_tokens
-        (fault_json (option_map (λ kind. kind.now) fault.now.kind) fault.now.number fault.now.place fault.now.message.now)) }
+        (fault_json fault.now.kind.now fault.now.number fault.now.place fault.now.message.now)) }
 {
     writer.begin_object()?;
     writer.key("fault")?;
@@ -73,24 +73,13 @@ fn write_fault(fault: &FaultText<'_>, writer: &mut Writer) -> Result<(), AllocEr
 fn write_members(fault: &FaultText<'_>, writer: &mut Writer) -> Result<(), AllocError>
     ensures before { writer.new.before ≡ writer.old.before }
     ensures tokens { OnOk result (writer.new.tokens ≡ writer.old.tokens ++ members_written
-        (fault_members (option_map (λ kind. kind.now) fault.now.kind) fault.now.number fault.now.place fault.now.message.now)) }
+        (fault_members fault.now.kind.now fault.now.number fault.now.place fault.now.message.now)) }
 {
-    write_kind(fault.kind, writer)?;
+    write_text("kind", fault.kind, writer)?;
     write_fault_number(fault.number, writer)?;
     write_place(fault.place, writer)?;
     write_text("message", fault.message, writer)?;
     Ok(())
-}
-
-fn write_kind(kind: Option<&str>, writer: &mut Writer) -> Result<(), AllocError>
-    ensures before { writer.new.before ≡ writer.old.before }
-    ensures tokens { OnOk result (writer.new.tokens
-        ≡ writer.old.tokens ++ members_written (kind_members (option_map (λ kind. kind.now) kind.entry))) }
-{
-    match kind {
-        Some(kind) => write_text("kind", kind, writer),
-        None => Ok(()),
-    }
 }
 
 fn write_fault_number(number: Option<u32>, writer: &mut Writer) -> Result<(), AllocError>

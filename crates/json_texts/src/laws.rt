@@ -1,6 +1,6 @@
 //! Laws: consequences of the definitions, each the contract of a function that does nothing, or only reads.
 
-ghost use Rattle.std.specs.Prelude.{◌≡◌, ℕ, ◌↔◌, List, Option, IfSome, IsTrue};
+ghost use Rattle.std.specs.Prelude.{◌≡◌, ℕ, ◌↔◌, List, codes, Option, Some, None, IfSome, IsTrue};
 ghost use Rattle.std.specs.List.{AllByRecursion};
 ghost use Rattle.hex.specs.Hex.{IsBytes};
 ghost use Rattle.pcr_banks.specs.declared.banks.Banks.{Banks};
@@ -14,11 +14,12 @@ ghost use Rattle.boot_verdict.specs.declared.places.Located.{Located};
 ghost use Rattle.boot_verdict.specs.declared.requirement.BankRange.{BankRange};
 ghost use Rattle.boot_verdict.specs.ListVerdicts.{ListVerdict};
 ghost use Rattle.boot_verdict.specs.Verdicts.{Verdict};
+ghost use Rattle.json.specs.Find.{get};
 ghost use Rattle.json_texts.specs.declared.faults.FaultPlace.{FaultPlace};
-ghost use Rattle.json_texts.specs.JsonValues.{IsCount, IsOneLine, line_of};
+ghost use Rattle.json_texts.specs.JsonValues.{IsCount, IsOneLine, line_of, object_of};
 ghost use Rattle.json_texts.specs.EntryJson.{entry_json, is_genuine};
 ghost use Rattle.json_texts.specs.EventJson.{algorithms_json, event_json};
-ghost use Rattle.json_texts.specs.FaultJson.{fault_json, number_at};
+ghost use Rattle.json_texts.specs.FaultJson.{fault_json, fault_members, number_at};
 ghost use Rattle.json_texts.specs.PlaceJson.{IsCountedPlace, places_json};
 ghost use Rattle.json_texts.specs.RegisterJson.{expected_json, registers_json};
 ghost use Rattle.json_texts.specs.ReportJson.{list_report_json, report_json};
@@ -43,8 +44,24 @@ pub fn each_value_is_one_line()
     ensures places { (required : Option (List BankRange)) (located : List Located)
         → AllByRecursion (λ row. IsCount row.expected.register × IsCountedPlace row.place) located
         → IsOneLine (places_json required located) }
-    ensures fault { (kind : Option (List ℕ)) (number : Option ℕ) (place : Option FaultPlace) (message : List ℕ)
+    ensures fault { (kind : List ℕ) (number : Option ℕ) (place : Option FaultPlace) (message : List ℕ)
         → IfSome number IsCount → IfSome place (λ at. IsCount (number_at at)) → IsOneLine (fault_json kind number place message) }
+{}
+
+/// Only a fault's value has a member `fault`.
+pub fn only_faults_have_a_fault()
+    ensures fault { (kind : List ℕ) (number : Option ℕ) (place : Option FaultPlace) (message : List ℕ)
+        → get (codes "fault") (fault_json kind number place message) ≡ Some (object_of (fault_members kind number place message)) }
+    ensures entry { (number : ℕ) (entry : ListEntry) → get (codes "fault") (entry_json number entry) ≡ None }
+    ensures event { (number : ℕ) (event : LogEvent) → get (codes "fault") (event_json number event) ≡ None }
+    ensures algorithms { (rows : List TableRow) → get (codes "fault") (algorithms_json rows) ≡ None }
+    ensures registers { (now start : Banks) → get (codes "fault") (registers_json now start) ≡ None }
+    ensures expected { (range : RegisterRange) (expected : List Expected) → get (codes "fault") (expected_json range expected) ≡ None }
+    ensures report { (required : Option (List BankRange)) (verdict : Verdict) → get (codes "fault") (report_json required verdict) ≡ None }
+    ensures list_report { (required : Option (List BankRange)) (verdict : ListVerdict)
+        → get (codes "fault") (list_report_json required verdict) ≡ None }
+    ensures places { (required : Option (List BankRange)) (located : List Located)
+        → get (codes "fault") (places_json required located) ≡ None }
 {}
 
 /// An entry's line says that it is genuine exactly where it is.

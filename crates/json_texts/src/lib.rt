@@ -1,8 +1,8 @@
 //! What this project tells, as lines of JSON (RFC 8259): reports, places, registers, a log's events, a list's entries, and faults.
 //!
 //! Each value is an object on one line, in UTF-8. Its members have a fixed order. Numbers are JSON numbers; digests and data are strings
-//! of lower case hexadecimal digits. A line is appended to a vector of the caller's, which [`send_line`] empties into a sink;
-//! [`send_entries`] sends the lines of a list, and [`send_events`] those of a log, while it is read.
+//! of lower case hexadecimal digits. A line is appended to a vector of the caller's; [`send_entries`] sends the lines of a list to a sink,
+//! and [`send_events`] those of a log, while it is read.
 #![tactic(auto)]
 
 mod entries;
@@ -25,7 +25,6 @@ pub use event_lines::{EventsFault, send_events};
 pub use events::{append_algorithms, append_event};
 pub use expected::append_expected;
 pub use faults::{FaultPlace, FaultText, append_fault};
-pub use lines::send_line;
-pub use places::append_places;
+pub use places::{append_places, finds};
 pub use registers::append_registers;
-pub use reports::{append_list_report, append_report};
+pub use reports::{append_list_report, append_report, list_meets, meets};

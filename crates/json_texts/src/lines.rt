@@ -12,7 +12,7 @@ use std::mem;
 
 /// Sends all bytes of the vector, and empties it; it keeps its room for the next line. After `Err` the sink has taken a prefix of
 /// them, and the vector is empty too.
-pub fn send_line<S: Sink>(line: &mut Vec<u8>, sink: &mut S) -> Result<(), Failed>
+pub(crate) fn send_line<S: Sink>(line: &mut Vec<u8>, sink: &mut S) -> Result<(), Failed>
     ensures sent { Sends (S.state sink.old) (S.state sink.new) result line.old.items }
     ensures emptied { line.new.items ≡ [] }
 {

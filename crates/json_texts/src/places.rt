@@ -57,8 +57,8 @@ fn write_places(
     Ok(())
 }
 
-// Whether each value was reached at some place, and no required register is missing.
-fn finds(located: &[Located], requirement: Option<&Requirement>) -> bool
+/// Whether each expected register has its value somewhere and no required one is missing: what the member `located` of their line says.
+pub fn finds(located: &[Located], requirement: Option<&Requirement>) -> bool
     ensures { result ≡ finds (option_map (λ ranges. ranges.now) requirement.entry) located.now }
 {
     match requirement {

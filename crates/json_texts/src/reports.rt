@@ -90,8 +90,8 @@ fn write_report(
     Ok(())
 }
 
-// Whether the report matches, and no required register is missing.
-fn meets(report: &Report, requirement: Option<&Requirement>) -> bool
+/// Whether the report matches and no required register is missing: whether its line has the verdict `match`.
+pub fn meets(report: &Report, requirement: Option<&Requirement>) -> bool
     ensures { result ≡ meets (option_map (λ ranges. ranges.now) requirement.entry) (verdict_of report.now) }
 {
     match requirement {
@@ -119,8 +119,8 @@ fn write_list_report(
     Ok(())
 }
 
-// The same as `meets`, of a list alone.
-fn list_meets(report: &ListReport, requirement: Option<&Requirement>) -> bool
+/// The same as [`meets`], of a list alone.
+pub fn list_meets(report: &ListReport, requirement: Option<&Requirement>) -> bool
     ensures { result ≡ list_meets (option_map (λ ranges. ranges.now) requirement.entry) (list_verdict_of report.now) }
 {
     match requirement {

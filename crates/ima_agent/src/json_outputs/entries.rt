@@ -1,7 +1,6 @@
 //! The entries of a list with `--json`.
 
-ghost use Rattle.std.specs.Prelude.{◌≡◌, ◌++◌, List, ℕ, IfOk};
-ghost use Rattle.ima_agent.specs.JsonFaults.{ToldAsJson};
+ghost use Rattle.std.specs.Prelude.{◌≡◌, IfOk};
 ghost use Rattle.ima_agent.specs.JsonShowing.{ShowsEntriesOf, entry_lines};
 ghost use Rattle.ima_agent.specs.Streaming.{Streams};
 ghost use Rattle.ima_agent.specs.parts.Streaming.{IsStreamFaultOf, SendsEntriesOf};
@@ -9,11 +8,10 @@ ghost use Rattle.ima_agent.specs.parts.Streaming.{IsStreamFaultOf, SendsEntriesO
 use crate::fault::RunFault;
 use crate::files::Files;
 use crate::inputs::{INPUT_LIMIT, not_read, too_long};
-use crate::output::Output;
 use crate::streaming::StreamFault;
-use crate::texts::{append_json_fault, status_of};
 use byte_streams::{Failed, Sink, Source};
 use ima_list::Entry;
+use ima_list::laws::entries_to_the_end_are_the_reading;
 use json_texts::{EntriesFault, append_entry, send_entries};
 use std::alloc::{AllocError, Global};
 
@@ -27,6 +25,7 @@ pub(crate) fn entries_sent<F: Files, S: Sink>(
 ) -> Result<(), StreamFault>
     ensures { Streams (ShowsEntriesOf (F.told files.old) list.now) (S.state sink.old) (S.state sink.new) result }
 {
+    entries_to_the_end_are_the_reading();
     match files.source(Some(list)) {
         Ok(mut source) => entries_from(alloc, &mut source, list, sink),
         Err(Failed) => Err(StreamFault::Run(not_read(alloc, list))),
@@ -59,18 +58,6 @@ fn stream_fault(alloc: Global, name: &str, fault: EntriesFault) -> StreamFault
         EntriesFault::TooLong => StreamFault::Run(too_long(alloc, name)),
         EntriesFault::Memory => StreamFault::Run(RunFault::Memory),
     }
-}
-
-/// These lines, and then that of the fault, with its status.
-pub(super) fn ended(alloc: Global, lines: Vec<u8>, fault: &RunFault) -> Result<Output, AllocError>
-    ensures { IfOk result (λ output. (last : List ℕ) × ToldAsJson fault.now last output.status × (output.text.items ≡ lines.items ++ last)) }
-{
-    let mut text = lines;
-    append_json_fault(alloc, fault, &mut text)?;
-    Ok(Output {
-        text,
-        status: status_of(fault),
-    })
 }
 
 /// The lines of entries, one after another.

@@ -1,6 +1,7 @@
 //! The events of a log with `--json`.
 
-ghost use Rattle.std.specs.Prelude.{◌≡◌, IfOk, IfErr};
+ghost use Rattle.std.specs.Prelude.{◌≡◌, ◌++◌, List, ℕ, IfOk, IfErr};
+ghost use Rattle.ima_agent.specs.JsonFaults.{ToldAsJson};
 ghost use Rattle.ima_agent.specs.JsonShowing.{ShowsEventsOf, ShowsJsonEvents};
 ghost use Rattle.ima_agent.specs.Streaming.{Streams};
 ghost use Rattle.ima_agent.specs.declared.fault.RunFault.TheVariants.{Memory};
@@ -9,12 +10,11 @@ ghost use Rattle.ima_agent.specs.parts.Streaming.{ShowsEventsIn};
 use crate::fault::RunFault;
 use crate::files::Files;
 use crate::inputs::loaded;
-use crate::json_outputs::entries::ended;
 use crate::output::Output;
 use crate::streaming::StreamFault;
-use boot_log::LogReader;
-use byte_streams::{Failed, Sink};
-use json_texts::{EventsFault, append_algorithms, append_event, send_events};
+use crate::texts::{append_json_fault, status_of};
+use byte_streams::{Failed, Sink, VecSink};
+use json_texts::{EventsFault, send_events};
 use std::alloc::{AllocError, Global};
 
 /// Sends the line of the algorithms that the log in the file of this name declares, and the lines of its events while they are read; of a
@@ -56,22 +56,27 @@ pub fn json_events_on(alloc: Global, log: &[u8]) -> Result<Output, RunFault>
     Ok(events_of(alloc, log)?)
 }
 
-/// The line of the algorithms that the log in these bytes declares, and the lines of its events; of a damaged one those before its fault,
-/// and then the fault's, with its status.
-pub(crate) fn events_of(alloc: Global, log: &[u8]) -> Result<Output, AllocError>
+fn events_of(alloc: Global, log: &[u8]) -> Result<Output, AllocError>
     ensures { IfOk result (λ output. ShowsJsonEvents log.now output.text.items output.status) }
 {
-    let mut text = Vec::new(alloc);
-    let mut reader = match LogReader::new(log) {
-        Ok(reader) => reader,
-        Err(fault) => return ended(alloc, text, &RunFault::Log(fault)),
-    };
-    append_algorithms(alloc, reader.declared(), &mut text)?;
-    loop {
-        match reader.next_event() {
-            Ok(Some(event)) => append_event(alloc, reader.count(), &event, &mut text)?,
-            Ok(None) => return Ok(Output::done(text)),
-            Err(fault) => return ended(alloc, text, &RunFault::Log(fault)),
+    let mut lines = VecSink::new(Vec::new(alloc));
+    match send_events(alloc, log, &mut lines) {
+        Ok(()) => Ok(Output::done(lines.into_bytes())),
+        Err(EventsFault::Log(fault)) => {
+            with_fault(alloc, lines.into_bytes(), &RunFault::Log(fault))
         }
+        Err(EventsFault::Sink | EventsFault::Memory) => Err(AllocError),
     }
+}
+
+// These lines, and then that of the fault, with its status.
+fn with_fault(alloc: Global, lines: Vec<u8>, fault: &RunFault) -> Result<Output, AllocError>
+    ensures { IfOk result (λ output. (last : List ℕ) × ToldAsJson fault.now last output.status × (output.text.items ≡ lines.items ++ last)) }
+{
+    let mut text = lines;
+    append_json_fault(alloc, fault, &mut text)?;
+    Ok(Output {
+        text,
+        status: status_of(fault),
+    })
 }

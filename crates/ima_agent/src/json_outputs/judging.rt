@@ -17,8 +17,8 @@ use crate::locating::found;
 use crate::output::Output;
 use crate::requiring::requirement_in;
 use crate::verifying::judged;
-use boot_verdict::{ListReport, Located, Report, Requirement, all_found, required_found};
-use json_texts::{append_list_report, append_places, append_report};
+use boot_verdict::{ListReport, Located, Report, Requirement};
+use json_texts::{append_list_report, append_places, append_report, finds, list_meets, meets};
 use std::alloc::{AllocError, Global};
 
 /// The line of the report on the log, the list and the expected registers in the files of these names. Where the text `required` is
@@ -78,16 +78,6 @@ pub(super) fn report_line(
     Ok(Output::told(line, meets(report, requirement)))
 }
 
-// Whether all matches, and no required register is missing.
-fn meets(report: &Report, requirement: Option<&Requirement>) -> bool
-    ensures { result ≡ meets (option_map (λ ranges. ranges.now) requirement.entry) (verdict_of report.now) }
-{
-    match requirement {
-        None => report.matches(),
-        Some(requirement) => report.meets(requirement),
-    }
-}
-
 /// The line of the places of the expected registers in the log and the list, in the files of these names. Where the text `required` is
 /// given, it spells which registers are required, and is read first.
 pub(super) fn places<F: Files>(
@@ -145,16 +135,6 @@ pub(super) fn places_line(
     Ok(Output::told(line, finds(places, requirement)))
 }
 
-// Whether each value was reached, and no required register is missing.
-fn finds(places: &[Located], requirement: Option<&Requirement>) -> bool
-    ensures { result ≡ finds (option_map (λ ranges. ranges.now) requirement.entry) places.now }
-{
-    match requirement {
-        None => all_found(places),
-        Some(requirement) => required_found(places, requirement),
-    }
-}
-
 /// The line of the report on the list and the expected registers in the files of these names. Where the text `required` is
 /// given, it spells which registers are required, and is read first.
 pub(super) fn list_report<F: Files>(
@@ -208,14 +188,4 @@ pub(super) fn list_report_line(
     let mut line = Vec::new(alloc);
     append_list_report(alloc, report, requirement, &mut line)?;
     Ok(Output::told(line, list_meets(report, requirement)))
-}
-
-// Whether all matches, and no required register is missing.
-fn list_meets(report: &ListReport, requirement: Option<&Requirement>) -> bool
-    ensures { result ≡ list_meets (option_map (λ ranges. ranges.now) requirement.entry) (list_verdict_of report.now) }
-{
-    match requirement {
-        None => report.matches(),
-        Some(requirement) => report.meets(requirement),
-    }
 }

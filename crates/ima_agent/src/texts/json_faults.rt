@@ -69,7 +69,7 @@ pub(crate) fn append_json_fault(
     let message = message_of(alloc, line_of(fault))?;
     let head = head_of(fault);
     let told = FaultText {
-        kind: Some(head.kind),
+        kind: head.kind,
         number: head.number,
         place: head.place,
         message: &message,

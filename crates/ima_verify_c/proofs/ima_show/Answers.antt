@@ -1,4 +1,4 @@
-use Rattle.std.proofs.Common.{refl, inr, rules, w32}
+use Rattle.std.proofs.Common.{rules, w32}
 use mir.Val.{SFits}
 use Rattle.std.proofs.Math.Facts.{to_z-of_z}
 use Rattle.ima_verify_c.proofs.GivingLaws.{gives_fitted}

@@ -1,12 +1,12 @@
-use Rattle.std.proofs.Common.{append_assoc, refl}
-use Rattle.std.specs.Prelude.{option_map}
-use Rattle.json_texts.specs.FaultJson.{fault_members}
+use Rattle.std.proofs.Common.{[], ◌∷◌, ◌++◌, append_assoc, codes, refl}
+use Rattle.json.specs.Json.{string}
+use Rattle.json_texts.specs.FaultJson.{number_members, place_members}
 use Rattle.json_texts.proofs.WrittenLaws.{members_and_end}
 use Rattle.json_texts.proofs.faults.write_fault.Goals as goal
 
 pub returns-clause-tokens : goal.returns-clause-tokens
 returns-clause-tokens c =
-    let kind = option_map (λ kind. kind.now) c.args.fault.now.kind in
+    let fault = c.args.fault.now in
     rw (
       c.in_ok-end_object-2.ensures.ok,
       c.in_ok-end_object.ensures.ok,
@@ -14,6 +14,6 @@ returns-clause-tokens c =
       c.in_ok-begin_object-2.ensures.ok,
       c.in_ok-key.ensures.ok,
       c.in_ok-begin_object.ensures.ok,
-      members_and_end (fault_members kind c.args.fault.now.number c.args.fault.now.place c.args.fault.now.message.now),
+      members_and_end (number_members fault.number ++ (place_members fault.place ++ (codes "message", string fault.message.now) ∷ [])),
     )
     (simp append_assoc refl)

@@ -1,4 +1,4 @@
-use Rattle.std.proofs.Common.{refl}
+use Rattle.std.proofs.Common.{[], refl}
 use Rattle.ima_agent.proofs.StreamingLaws.{entries_shown, not_opened}
 use Rattle.ima_agent.proofs.json_outputs.entries.entries_sent.Goals as goal
 
@@ -9,5 +9,6 @@ returns-in-Ok g c =
 
 pub returns-in-Err : goal.returns-in-Err
 returns-in-Err g c =
-    not_opened (g.F.Files.told c.args.files.now) c.args.list.now (g.S.Sink.state c.args.sink.now) c.not_read.result c.not_read.ensures
+    not_opened (g.F.Files.told c.args.files.now) c.args.list.now (g.S.Sink.state c.args.sink.now) c.not_read.result
+    (c.entries_to_the_end_are_the_reading.ensures [] [] (record { are = tt; parts = refl })) c.not_read.ensures
     (c.in-Err.ensures.refused refl)
