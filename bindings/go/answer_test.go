@@ -403,7 +403,7 @@ func TestTextThatNamesNoRegistersIsMalformed(t *testing.T) {
 		})
 		return err
 	}
-	for _, text := range []string{malformed, malformedLine + "\n"} {
+	for _, text := range []string{malformed, "refused: command line\n"} {
 		equal(t, said(true, refused, text), ErrMalformed)
 		checkUnexpected(t, said(true, refused, text[:len(text)-1]), text)
 		checkUnexpected(t, said(true, 5, text), text)
