@@ -172,9 +172,16 @@ def judged(recipes):
 def taken(recipes):
     """The digests of an earlier boot."""
     entries = [FIRST, *PASSED_OVER.values(), *SHOWN.values()]
-    wanted = [entry.fields().digest.hex() for entry in entries if is_confirmed(entry) and entry.fields()]
+    known = [entry.as_json(0) for entry in entries if is_confirmed(entry) and entry.fields()]
     is_done = recipes.run(TAKE, {"before.list": list_spelling(entries)}) == (0, b"")
-    yield "an earlier list", is_done and (recipes.folder / "known.txt").read_text().split() == wanted
+    sums = (recipes.folder / "known.txt").read_bytes()
+    *lines, end = [line.split("  ", 1) for line in sums.decode().split("\n")]
+    found = [[digest, json.loads(f'"{path}"')] for digest, path in lines]
+    wanted = [[line["digest"], line.get("path", line.get("path_hex"))] for line in known]
+    yield "an earlier list", is_done and end == [""] and found == wanted
+    rest = [entry.as_json(number) for number, entry in enumerate(entries) if not (is_confirmed(entry) and entry.fields())]
+    shown = recipes.shown(JUDGE, {"ima.list": list_spelling(entries), "known.txt": sums})
+    yield "what an earlier list makes known", shown == [*rest, {"judged": len(entries)}]
     for what, files in damaged_lists():
         yield what, recipes.fails(TAKE, {"before.list": data for data in files.values()})
     for what, agent in (("that dies", DYING), ("with other JSON", FOREIGN)):

@@ -2,7 +2,6 @@ package imaverify
 
 import (
 	"bytes"
-	"errors"
 	"fmt"
 	"io"
 	"math"
@@ -11,9 +10,8 @@ import (
 )
 
 const (
-	malformedLine = "refused: command line"
-	unset         = math.MaxUint64
-	mostRoom      = 1 << 40
+	unset    = math.MaxUint64
+	mostRoom = 1 << 40
 )
 
 // An answer of the library, and the text that it gave. The methods read the text, and give an *UnexpectedError unless it is as
@@ -42,7 +40,9 @@ func ask(room int, call func(out []byte, needed *length) int32) (answer, error) 
 	case done, differs, refused:
 		return given, nil
 	case outOfMemory:
-		return answer{}, ErrOutOfMemory
+		if len(given.text) == 0 || faultIn(given.text[given.lastLine():]) == ErrOutOfMemory {
+			return answer{}, ErrOutOfMemory
+		}
 	}
 	return answer{}, given.unexpected()
 }
@@ -64,15 +64,21 @@ func (a answer) unexpected() error {
 	return &UnexpectedError{a.status, uint64(len(a.text)), a.text}
 }
 
-// What is read from an answer of one line.
+// Where the last line starts.
+func (a answer) lastLine() int {
+	return bytes.LastIndexByte(bytes.TrimSuffix(a.text, []byte("\n")), '\n') + 1
+}
+
+// What is read from an answer of one line, which states no fault.
 func read[T any](a answer, from func(r *reader, o object) T) (T, error) {
 	return readLine(a.status, a.text, from)
 }
 
 func readLine[T any](status int32, line []byte, from func(r *reader, o object) T) (T, error) {
 	var r reader
-	value := from(&r, r.object(line))
-	if r.wrong {
+	o := r.object(line)
+	value := from(&r, o)
+	if r.wrong || has(o, "fault") {
 		var none T
 		return none, answer{status, line}.unexpected()
 	}
@@ -168,13 +174,9 @@ func (a answer) linesAndFault(isEmpty bool) ([]byte, *RefusedError, error) {
 		lines, err := a.lines(isEmpty)
 		return lines, nil, err
 	}
-	end := bytes.LastIndexByte(bytes.TrimSuffix(a.text, []byte("\n")), '\n') + 1
-	line, err := answer{a.status, a.text[end:]}.faultLine()
-	if err != nil {
-		return nil, nil, err
-	}
-	fault, err := faultIn(line)
-	if err != nil {
+	end := a.lastLine()
+	fault, isInput := faultIn(a.text[end:]).(*RefusedError)
+	if !isInput {
 		return nil, nil, a.unexpected()
 	}
 	return a.text[:end], fault, nil
@@ -227,34 +229,37 @@ const digits = `(0|[1-9][0-9]*)`
 var faultLine = regexp.MustCompile(`^refused: (?:(log) fault ` + digits + `(?: at event ` + digits + `)?|(list|replay) fault ` + digits +
 	` at entry ` + digits + `|(expected) fault ` + digits + `(?: at line ` + digits + `)?)$`)
 
-// The line of a fault, without its line feed: the text, or the message of one that is JSON.
-func (a answer) faultLine() (string, error) {
-	if bytes.HasPrefix(a.text, []byte("{")) {
-		return read(a, func(r *reader, o object) string { return member[string](r, member[object](r, o, "fault"), "message") })
-	}
-	if !bytes.HasSuffix(a.text, []byte("\n")) {
-		return "", a.unexpected()
-	}
-	return a.line(), nil
-}
-
 // The error of a refusal.
 func (a answer) refusal(requests bool) error {
-	line, err := a.faultLine()
-	if err != nil {
-		return err
+	fault := faultIn(a.text)
+	if _, isInput := fault.(*RefusedError); isInput || requests && fault == ErrMalformed {
+		return fault
 	}
-	if requests && line == malformedLine {
-		return ErrMalformed
-	}
-	fault, err := faultIn(line)
-	if err != nil {
-		return a.unexpected()
-	}
-	return fault
+	return a.unexpected()
 }
 
-func faultIn(line string) (*RefusedError, error) {
+// The error that the line of a fault states, or nil if it states none.
+func faultIn(line []byte) error {
+	if bytes.HasPrefix(line, []byte("{")) {
+		var r reader
+		if fault := r.fault(r.object(line)); !r.wrong {
+			return fault
+		}
+		return nil
+	}
+	if text := bytes.TrimSuffix(line, []byte("\n")); len(text) < len(line) {
+		return faultSaidBy(string(text))
+	}
+	return nil
+}
+
+func faultSaidBy(line string) error {
+	switch line {
+	case "refused: command line":
+		return ErrMalformed
+	case "failed: memory":
+		return ErrOutOfMemory
+	}
 	var words []string
 	for k, word := range faultLine.FindStringSubmatch(line) {
 		if k > 0 && word != "" {
@@ -262,12 +267,15 @@ func faultIn(line string) (*RefusedError, error) {
 		}
 	}
 	if len(words) == 0 {
-		return nil, errors.New("no fault")
+		return nil
 	}
 	number, err := strconv.ParseUint(words[1], 10, 64)
 	fault := &RefusedError{Line: line, Kind: Kind(words[0]), Number: number, HasPlace: len(words) == 3}
 	if err == nil && fault.HasPlace {
 		fault.Place, err = strconv.ParseUint(words[2], 10, 64)
 	}
-	return fault, err
+	if err != nil {
+		return nil
+	}
+	return fault
 }

@@ -267,6 +267,39 @@ func TestWrongAnswersAreNoRegistersAndNoLines(t *testing.T) {
 	}
 }
 
+// A line with a member in front.
+func with(fault, line string) string {
+	return strings.Replace(line, "{", "{"+fault+",", 1)
+}
+
+func TestResultThatStatesAFaultIsNone(t *testing.T) {
+	for _, fault := range []string{`"fault":null`, `"fault":{}`, listFault[1 : len(listFault)-2], memoryFault[1 : len(memoryFault)-2]} {
+		for _, result := range []struct {
+			read   func(status int32, text string) error
+			status int32
+			text   string
+		}{{readVerdict, done, report}, {readVerdict, differs, differing}, {readListVerdict, done, listReport}, {readPlaces, done, placesLine},
+			{readPlaces, differs, notLocated}, {readRegisters, done, register}, {readEntries, done, entryLine},
+			{readEvents, done, algorithms + eventLine}} {
+			checkUnexpected(t, result.read(result.status, with(fault, result.text)), fault+result.text)
+			equal(t, result.read(result.status, with(`"faults":null`, result.text)), nil)
+		}
+		checkUnexpected(t, readVerdict(done, strings.Replace(report, "}\n", ","+fault+"}\n", 1)), fault)
+		checkUnexpected(t, readEvents(done, algorithms+with(fault, eventLine)), fault)
+	}
+}
+
+func TestEntryThatContradictsItselfIsNone(t *testing.T) {
+	zeros, violation := strings.Repeat("0", 40), strings.Replace(otherLine, `"entry":1`, `"entry":0`, 1)
+	checkChanges(t, readEntries, done, violation, [][2]string{
+		{zeros, zeros[1:] + "1"}, {zeros, "1" + zeros[1:]}, {zeros, strings.Repeat("f", 40)}, {`"genuine":true`, `"genuine":false`},
+		{`"violation":true`, `"violation":false`},
+	})
+	checkChanges(t, readEntries, done, entryLine, [][2]string{{`"violation":false`, `"violation":true`}, {strings.Repeat("1", 40), zeros}})
+	found, err := drained(of(done, strings.Replace(entryLine, `"genuine":true`, `"genuine":false`, 1)).entries(false))
+	equal(t, []interface{}{found[0].Genuine, found[0].Violation, err}, []interface{}{false, false, nil})
+}
+
 func TestEntriesAreRead(t *testing.T) {
 	found, err := drained(of(done, entryLine+otherLine).entries(false))
 	digest := []byte(strings.Repeat("\xaa", 20))
@@ -370,7 +403,7 @@ func TestTextThatNamesNoRegistersIsMalformed(t *testing.T) {
 		})
 		return err
 	}
-	for _, text := range []string{malformed, malformedLine + "\n"} {
+	for _, text := range []string{malformed, "refused: command line\n"} {
 		equal(t, said(true, refused, text), ErrMalformed)
 		checkUnexpected(t, said(true, refused, text[:len(text)-1]), text)
 		checkUnexpected(t, said(true, 5, text), text)
@@ -409,6 +442,41 @@ func TestWrongRefusalsAreNoRefusals(t *testing.T) {
 	checkRefused(t, of(refused, "refused: log fault 2\n").refusal(false), RefusedError{"refused: log fault 2", KindLog, 2, 0, false})
 }
 
+func TestFaultWhoseMembersContradictIsNone(t *testing.T) {
+	refusal := func(status int32, text string) error { return of(status, text).refusal(true) }
+	for line, place := range map[string]string{listFault: `"entry"`, logFault: `"event"`} {
+		changes := [][2]string{
+			{`"kind":"l`, `"kind":"x`}, {`"kind":"l`, `"kind":"replay","x":"`}, {`"kind":"`, `"kinds":"`},
+			{`"number":1`, `"number":2`}, {`"number":1`, `"number":"1"`}, {`"number":1`, `"number":true`}, {`"number":1`, `"number":null`},
+			{`"number":1`, `"number":1.0`}, {`"number":1,`, ``}, {place + `:2`, place + `:3`}, {place + `:2,`, ``},
+			{place + `:2`, `"event":2,"entry":2`}, {`"message":"refused: l`, `"message":"refused: replay fault 1 at entry 2","x":"`},
+			{` fault 1 at`, ` fault 2 at`}, {` 2"}`, ` 3"}`},
+		}
+		checkChanges(t, refusal, refused, line, changes)
+		checkChanges(t, readEntries, refused, entryLine+line, changes)
+		checkChanges(t, readEvents, refused, algorithms+line, changes)
+	}
+	for _, line := range []string{`{"fault":{"kind":"log","number":2,"message":"refused: log fault 2"}}` + "\n",
+		`{"fault":{"kind":"expected","number":1,"message":"refused: expected fault 1 at line 2"}}` + "\n"} {
+		checkChanges(t, refusal, refused, line, [][2]string{{`"message"`, `"event":0,"message"`}, {`"message"`, `"entry":2,"message"`}})
+	}
+	checkChanges(t, refusal, refused, malformed, [][2]string{{"command_line", "list"}, {"command_line", "memory"},
+		{`"message"`, `"number":1,"message"`}})
+	more := strings.Replace(listFault, `{"kind"`, `{"x":0,"kind"`, 1)
+	checkRefused(t, refusal(refused, more), RefusedError{"refused: list fault 1 at entry 2", KindList, 1, 2, true})
+}
+
+func TestFaultIsOfTheStatus(t *testing.T) {
+	for _, text := range []string{memoryFault, strings.Replace(memoryFault, "failed: memory", "refused: command line", 1), "failed: memory\n"} {
+		checkUnexpected(t, of(refused, text).refusal(true), text)
+	}
+	for _, text := range []string{listFault, logFault, malformed, report, entryLine, memoryFault[:len(memoryFault)-1],
+		strings.Replace(memoryFault, `"memory"`, `"list"`, 1), strings.Replace(memoryFault, `"message"`, `"number":1,"message"`, 1),
+		"refused: log fault 2\n"} {
+		checkUnexpected(t, answered(outOfMemory, text, uint64(len(text))), text)
+	}
+}
+
 func TestErrorsSayWhatIsWrong(t *testing.T) {
 	equal(t, ErrOutOfMemory.Error(), "libima_verify got no memory")
 	equal(t, ErrMalformed.Error(), "the text names no registers in its form, as sha256:0-10 or 0-10")
@@ -417,7 +485,7 @@ func TestErrorsSayWhatIsWrong(t *testing.T) {
 }
 
 func TestNoMemoryIsItsError(t *testing.T) {
-	for _, text := range []string{memoryFault, "failed: memory\n", ""} {
+	for _, text := range []string{memoryFault, entryLine + memoryFault, "failed: memory\n", ""} {
 		equal(t, answered(outOfMemory, text, uint64(len(text))), ErrOutOfMemory)
 	}
 }

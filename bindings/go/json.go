@@ -12,6 +12,9 @@ const registersOfBank = 24
 
 var digestSizes = map[Algorithm]int{SHA1: 20, SHA256: 32, SHA384: 48, SHA512: 64}
 
+// The members of faults that tell the place.
+var placeNames = map[Kind]string{KindLog: "event", KindList: "entry", KindReplay: "entry"}
+
 type object map[string]json.RawMessage
 
 // What reads objects of JSON. From the first thing that is not as it should be it is wrong.
@@ -133,6 +136,7 @@ func (r *reader) entry(o object, number uint64) Entry {
 		TemplateDigest: r.digest(o, "template_digest", SHA1),
 		Violation:      member[bool](r, o, "violation"), Genuine: member[bool](r, o, "genuine")}
 	r.require(r.number(o, "entry", math.MaxUint64) == number)
+	r.require(e.Violation == bytes.Equal(e.TemplateDigest, make([]byte, digestSizes[SHA1])) && (e.Genuine || !e.Violation))
 	if has(o, "payload") {
 		e.Payload = r.bytes(o, "payload")
 		return e
@@ -143,6 +147,25 @@ func (r *reader) entry(o object, number uint64) Entry {
 		e.File.Signature = r.bytes(o, "signature")
 	}
 	return e
+}
+
+// The error of a fault. Its members say the same as its message, which alone has the line of a text.
+func (r *reader) fault(o object) error {
+	fault := member[object](r, o, "fault")
+	said := faultSaidBy(member[string](r, fault, "message"))
+	kind, numbers := map[error]string{ErrMalformed: "command_line", ErrOutOfMemory: "memory"}[said], map[string]uint64{}
+	if refusal, isInput := said.(*RefusedError); isInput {
+		kind, numbers["number"] = string(refusal.Kind), refusal.Number
+		if name := placeNames[refusal.Kind]; refusal.HasPlace && name != "" {
+			numbers[name] = refusal.Place
+		}
+	}
+	r.require(said != nil && member[string](r, fault, "kind") == kind)
+	for _, name := range []string{"number", "event", "entry"} {
+		number, isSaid := numbers[name]
+		r.require(has(fault, name) == isSaid && (!isSaid || r.number(fault, name, math.MaxUint64) == number))
+	}
+	return said
 }
 
 func (r *reader) algorithms(o object) []LogAlgorithm {

@@ -13,8 +13,11 @@ from ._results import (
 DONE, DIFFERS, REFUSED, OUT_OF_MEMORY = range(4)
 REGISTERS = 24
 UINT16, UINT32, UINT64 = 2**16 - 1, 2**32 - 1, 2**64 - 1
-REFUSED_REQUEST = "refused: command line"
+REQUEST, MEMORY = "command_line", "memory"
 
+# The lines of the faults that are no input's, with their kinds, and the members that tell the place of the others.
+_LINES = {"refused: command line": REQUEST, "failed: memory": MEMORY}
+_PLACES = {"log": "event", "list": "entry", "replay": "entry"}
 _NUMBER = "(0|[1-9][0-9]{0,19})"
 _FAULT = re.compile(
     f"refused: (?:(log) fault {_NUMBER}(?: at event {_NUMBER})?"
@@ -23,6 +26,7 @@ _FAULT = re.compile(
 )
 
 Object = Dict[str, Any]
+_Fault = Tuple[str, str, Optional[int], Optional[int]]  # the line, the kind, the number and the place
 _Member = TypeVar("_Member", str, int, bool, List[Any], Object)
 
 
@@ -42,7 +46,7 @@ def _reading(status: int, text: bytes) -> Iterator[None]:
 def read_verdict(status: int, text: bytes) -> Verdict:
     """The verdict that a report states."""
     with _reading(status, text):
-        report = _object_of(text)
+        report = _result_of(text)
         aggregate, rows = BootAggregate(report["boot_aggregate"]), _rows_of(report)
         matches = _matches(status, report, rows, aggregate is BootAggregate.GOOD)
         events, locality, entries = _number(report, "events"), _number(report, "locality", 255), _number(report, "entries")
@@ -52,7 +56,7 @@ def read_verdict(status: int, text: bytes) -> Verdict:
 def read_list_verdict(status: int, text: bytes) -> ListVerdict:
     """The verdict on a list alone that a report states."""
     with _reading(status, text):
-        report = _object_of(text)
+        report = _result_of(text)
         entries, rows = _number(report, "entries"), _rows_of(report)
         return ListVerdict(entries, rows, _matches(status, report, rows, entries > 0), text[:-1].decode())
 
@@ -60,7 +64,7 @@ def read_list_verdict(status: int, text: bytes) -> ListVerdict:
 def read_places(status: int, text: bytes) -> Places:
     """The places that an answer states."""
     with _reading(status, text):
-        answer = _object_of(text)
+        answer = _result_of(text)
         rows = tuple(map(_place_row_of, _member(answer, "registers", list)))
         located = all(row.place not in (Place.NOWHERE, Place.ABSENT, Place.MISSING) for row in rows)
         _require(_member(answer, "located", bool) == located and status == (DONE if located else DIFFERS))
@@ -71,7 +75,7 @@ def read_registers(status: int, text: bytes) -> Tuple[Register, ...]:
     """The registers that an answer states."""
     with _reading(status, text):
         _require(status == DONE)
-        return tuple(map(_register_of, _member(_object_of(text), "registers", list)))
+        return tuple(map(_register_of, _member(_result_of(text), "registers", list)))
 
 
 def read_entries(status: int, text: bytes, is_empty: bool) -> Entries:
@@ -80,7 +84,7 @@ def read_entries(status: int, text: bytes, is_empty: bool) -> Entries:
 
     def read(line: bytes, number: int) -> Entry:
         with _reading(status, line):
-            return _entry_of(_object_of(line), number)
+            return _entry_of(_result_of(line), number)
 
     return Entries(read, lines, 0, fault)
 
@@ -92,11 +96,11 @@ def read_events(status: int, text: bytes) -> Events:
         raise fault
     start = lines.find(b"\n") + 1
     with _reading(status, text):
-        algorithms = tuple(map(_algorithm_of, _member(_object_of(lines[:start]), "algorithms", list)))
+        algorithms = tuple(map(_algorithm_of, _member(_result_of(lines[:start]), "algorithms", list)))
 
     def read(line: bytes, number: int) -> Event:
         with _reading(status, line):
-            return _event_of(_object_of(line), number)
+            return _event_of(_result_of(line), number)
 
     return Events(read, lines[start:], 1, fault, algorithms)
 
@@ -112,11 +116,13 @@ def raise_failure(status: int, text: bytes, request: Optional[object] = None) ->
     """Raises what an answer says, if its status is that of a failure; ValueError if it says that this request is wrong."""
     if status == REFUSED:
         with _reading(status, text):
-            line = _fault_line_of(text)
-            is_request = request is not None and line == REFUSED_REQUEST
-            failure = ValueError(f"not of its form: {request!r}") if is_request else _refused_of(line)
+            line, kind, number, place = _fault_of(text)
+            is_request = request is not None and kind == REQUEST
+            failure = ValueError(f"not of its form: {request!r}") if is_request else _refused_of(line, kind, number, place)
         raise failure
     if status == OUT_OF_MEMORY:
+        with _reading(status, text):
+            _require(not text or _fault_of(text[_last_line_of(text):])[1] == MEMORY)
         raise MemoryError("libima_verify got no memory")
     if status not in (DONE, DIFFERS):
         unexpected(status, text)
@@ -127,25 +133,43 @@ def _lines_of(status: int, text: bytes, is_empty: bool) -> Tuple[bytes, Optional
     if status != REFUSED:
         raise_failure(status, text)
         return read_lines(status, text, is_empty), None
-    end = text.rfind(b"\n", 0, -1) + 1
+    end = _last_line_of(text)
     with _reading(status, text):
-        return text[:end], _refused_of(_fault_line_of(text[end:]))
+        return text[:end], _refused_of(*_fault_of(text[end:]))
 
 
-def _fault_line_of(text: bytes) -> str:
-    """The line of a fault, without its line feed: the text, or the message of one that is JSON."""
-    if text.startswith(b"{"):
-        return _member(_object_of(text)["fault"], "message", str)
-    _require(text.endswith(b"\n"))
-    return text[:-1].decode()
+def _last_line_of(text: bytes) -> int:
+    """Where the last line starts."""
+    return text.rfind(b"\n", 0, -1) + 1
 
 
-def _refused_of(line: str) -> Refused:
+def _fault_of(text: bytes) -> _Fault:
+    """The fault that a line states. The members of one that is JSON say the same as its message, which alone has the line of a text."""
+    if not text.startswith(b"{"):
+        _require(text.endswith(b"\n"))
+        return _fault_said_by(text[:-1].decode())
+    fault = _member(_object_of(text), "fault", dict)
+    line, kind, number, place = _fault_said_by(_member(fault, "message", str))
+    numbers = {name: _number(fault, name) for name in ("number", "event", "entry") if name in fault}
+    said = {name: value for name, value in (("number", number), (_PLACES.get(kind), place)) if name and value is not None}
+    _require(_member(fault, "kind", str) == kind and numbers == said)
+    return line, kind, numbers.get("number"), place
+
+
+def _fault_said_by(line: str) -> _Fault:
+    if line in _LINES:
+        return line, _LINES[line], None, None
     match = _FAULT.fullmatch(line)
     if match is None:
         raise ValueError(line)
     kind, number, *place = (field for field in match.groups() if field is not None)
-    return Refused(line, Kind(kind), int(number), int(place[0]) if place else None)
+    return line, kind, int(number), int(place[0]) if place else None
+
+
+def _refused_of(line: str, kind: str, number: Optional[int], place: Optional[int]) -> Refused:
+    if number is None:
+        raise ValueError(line)
+    return Refused(line, Kind(kind), number, place)
 
 
 def _rows_of(report: Object) -> Tuple[Row, ...]:
@@ -178,9 +202,10 @@ def _register_of(row: Object) -> Register:
 
 def _entry_of(entry: Object, number: int) -> Entry:
     _require(_number(entry, "entry") == number)
-    template = _name(entry, "template")
-    front = (number, _number(entry, "register", REGISTERS - 1), template, _bytes(entry, "template_digest", 20),
-             _member(entry, "violation", bool), _member(entry, "genuine", bool))
+    template, digest_of_template = _name(entry, "template"), _bytes(entry, "template_digest", 20)
+    violation, genuine = _member(entry, "violation", bool), _member(entry, "genuine", bool)
+    _require(violation == (not any(digest_of_template)) and (genuine or not violation))
+    front = number, _number(entry, "register", REGISTERS - 1), template, digest_of_template, violation, genuine
     if "payload" in entry:
         return Entry(*front, payload=_bytes(entry, "payload"))
     algorithm, path = Algorithm(entry["algorithm"]), _name(entry, "path")
@@ -205,6 +230,13 @@ def _event_of(event: Object, number: int) -> Event:
 def _algorithm_of(row: Object) -> LogAlgorithm:
     name = _member(row, "name", str) if "name" in row else None
     return LogAlgorithm(name, _number(row, "id", UINT16), _number(row, "size", UINT16))
+
+
+def _result_of(line: bytes) -> Object:
+    """The object of a line that states no fault."""
+    value = _object_of(line)
+    _require("fault" not in value)
+    return value
 
 
 def _object_of(line: bytes) -> Object:

@@ -219,19 +219,21 @@ class LogAlgorithm:
 
 
 class Listing(Iterator[_Item]):
-    """What an input has, one item after another, and then, if the input is damaged, the `Refused` that says where.
+    """What an input has, one item after another, and then, if the input is damaged, the `Refused` that says where; after it comes nothing.
 
     `fault` is this refusal, or None, from the start: look at it if you stop before the end, which tells nothing of what comes later."""
 
     def __init__(self, read: Callable[[bytes, int], _Item], lines: bytes, first: int, fault: Optional[Refused]):
         self.fault = fault
         self._read, self._lines, self._number, self._start = read, lines, first, 0
+        self._is_over = False
 
     def __next__(self) -> _Item:
         if self._start == len(self._lines):
-            if self.fault is not None:
-                raise self.fault
-            raise StopIteration
+            is_over, self._is_over = self._is_over, True
+            if self.fault is None or is_over:
+                raise StopIteration
+            raise self.fault
         end = self._lines.index(b"\n", self._start) + 1
         item = self._read(self._lines[self._start:end], self._number)  # (if this fails, so it does the next time)
         self._start, self._number = end, self._number + 1

@@ -240,6 +240,17 @@ class Answers(unittest.TestCase):
         self.assertEqual(_answers.read_lines(0, b"", True), b"")
 
 
+    def test_result_that_states_a_fault_is_none(self):
+        for read, status, text in (
+            (_answers.read_verdict, 0, REPORT), (_answers.read_verdict, 1, DIFFERING), (_answers.read_list_verdict, 0, LIST_REPORT),
+            (_answers.read_places, 0, PLACES), (_answers.read_places, 1, NOT_LOCATED), (_answers.read_registers, 0, REGISTERS),
+        ):
+            for fault in (b'"fault":null', b'"fault":{}', FAULT[1:-2], MEMORY[1:-2]):
+                self.check_wrong(read, status, text.replace(b"{", b"{" + fault + b",", 1))
+                self.check_wrong(read, status, text.replace(b"}\n", b"," + fault + b"}\n"))
+            read(status, text.replace(b"{", b'{"faults":null,', 1))
+
+
 class Listings(unittest.TestCase):
     """What a library may answer of entries and events, and what not."""
 
@@ -264,10 +275,12 @@ class Listings(unittest.TestCase):
         self.assertEqual((listing.fault.number, listing.fault.place), (1, 2))
         for _ in range(count):
             next(listing)
+        with self.assertRaises(ima_verify.Refused) as caught:
+            next(listing)
+        self.assertIs(caught.exception, listing.fault)
         for _ in range(2):
-            with self.assertRaises(ima_verify.Refused) as caught:
-                next(listing)
-            self.assertIs(caught.exception, listing.fault)
+            self.assertRaises(StopIteration, next, listing)
+        self.assertEqual((list(listing), listing.fault.number), ([], 1))
 
     def test_what_stands_before_a_fault_comes_first(self):
         self.check_faulty(_answers.read_entries(2, ENTRY + OTHER + FAULT, False), 2)
@@ -322,6 +335,24 @@ class Listings(unittest.TestCase):
         for old, new in ((b',"payload":"00"', b""), (b'"ff0a"', b'"ff0"'), (b'"template_hex"', b'"name"')):
             self.check_wrong(_answers.read_entries, 0, other.replace(old, new, 1), False)
 
+    def test_entry_that_contradicts_itself_is_none(self):
+        violation = OTHER.replace(b'"entry":1', b'"entry":0')
+        for text, old, new in (
+            (violation, 40 * b"0", 39 * b"0" + b"1"), (violation, 40 * b"0", b"1" + 39 * b"0"), (violation, 40 * b"0", 40 * b"f"),
+            (violation, b'"genuine":true', b'"genuine":false'), (violation, b'"violation":true', b'"violation":false'),
+            (ENTRY, b'"violation":false', b'"violation":true'), (ENTRY, 40 * b"1", 40 * b"0"),
+        ):
+            self.assertIn(old, text)
+            self.check_wrong(_answers.read_entries, 0, text.replace(old, new, 1), False)
+        (not_genuine,) = _answers.read_entries(0, ENTRY.replace(b'"genuine":true', b'"genuine":false'), False)
+        self.assertEqual((not_genuine.genuine, not_genuine.violation), (False, False))
+
+    def test_line_that_states_a_fault_is_no_item(self):
+        for fault in (b'"fault":null', FAULT[1:-2]):
+            self.check_wrong(_answers.read_entries, 0, ENTRY.replace(b"{", b"{" + fault + b",", 1), False)
+            self.check_wrong(_answers.read_events, 0, ALGORITHMS.replace(b"{", b"{" + fault + b",", 1) + EVENT)
+            self.check_wrong(_answers.read_events, 0, ALGORITHMS + EVENT.replace(b"{", b"{" + fault + b",", 1))
+
     def test_wrong_answers_are_no_events(self):
         for words in ((0, b""), (0, EVENT), (0, ALGORITHMS[:-1]), (0, LOG_FAULT), (1, ALGORITHMS), (2, ALGORITHMS), (2, b""),
                       (2, LOG_FAULT[:-1]), (2, EVENT + LOG_FAULT), (5, ALGORITHMS)):
@@ -351,7 +382,7 @@ class Failures(unittest.TestCase):
     def test_refusals_are_read(self):
         for text, kind, number, place in (
             (b'{"fault":{"kind":"log","number":2,"message":"refused: log fault 2"}}\n', "log", 2, None), (LOG_FAULT, "log", 1, 2),
-            (FAULT, "list", 1, 2), (FAULT.replace(b"list", b"replay"), "replay", 1, 2),
+            (FAULT, "list", 1, 2), (FAULT.replace(b"list", b"replay"), "replay", 1, 2), (FAULT.replace(b'{"kind"', b'{"x":0,"kind"'), "list", 1, 2),
             (b'{"fault":{"kind":"expected","number":1,"message":"refused: expected fault 1 at line 2"}}\n', "expected", 1, 2),
             (b'{"fault":{"kind":"expected","number":6,"message":"refused: expected fault 6"}}\n', "expected", 6, None),
         ):
@@ -372,6 +403,44 @@ class Failures(unittest.TestCase):
         for status in (-1, 4, 5, 1 << 30):
             self.check_wrong(status, REPORT)
             self.check_wrong(status, FAULT)
+
+    def test_fault_whose_members_contradict_is_none(self):
+        for fault in (FAULT, LOG_FAULT):
+            place = b"entry" if fault is FAULT else b"event"
+            for old, new in (
+                (b'"kind":"l', b'"kind":"x'), (b'"kind":"l', b'"kind":"replay","x":"'), (b'"kind":"', b'"kinds":"'),
+                (b'"number":1', b'"number":2'), (b'"number":1', b'"number":"1"'), (b'"number":1', b'"number":true'),
+                (b'"number":1', b'"number":null'), (b'"number":1', b'"number":1.0'), (b'"number":1,', b""),
+                (b'"%b":2' % place, b'"%b":3' % place), (b'"%b":2,' % place, b""), (b'"%b":2' % place, b'"event":2,"entry":2'),
+                (b'"message":"refused: l', b'"message":"refused: replay fault 1 at entry 2","x":"'),
+                (b" fault 1 at", b" fault 2 at"), (b' 2"}', b' 3"}'),
+            ):
+                self.assertIn(old, fault)
+                text = fault.replace(old, new, 1)
+                self.check_wrong(2, text)
+                for read, before in ((_answers.read_entries, ENTRY), (_answers.read_events, ALGORITHMS)):
+                    more = (False,) if before is ENTRY else ()
+                    self.assertRaises(ima_verify.LibraryError, read, 2, before + text, *more)
+        nameless = b'{"fault":{"kind":"log","number":2,"message":"refused: log fault 2"}}\n'
+        at_a_line = b'{"fault":{"kind":"expected","number":1,"message":"refused: expected fault 1 at line 2"}}\n'
+        for text in (nameless, at_a_line):
+            self.check_wrong(2, text.replace(b'"message"', b'"event":0,"message"'))
+            self.check_wrong(2, text.replace(b'"message"', b'"entry":2,"message"'))
+        for old, new in ((b"command_line", b"list"), (b'"message"', b'"number":1,"message"'), (b"command_line", b"memory")):
+            self.check_wrong(2, REQUEST.replace(old, new, 1), "x")
+
+    def test_fault_is_of_the_status(self):
+        for text in (MEMORY, MEMORY.replace(b"failed: memory", b"refused: command line"), b"failed: memory\n"):
+            self.check_wrong(2, text)
+            self.check_wrong(2, text, "x")
+        for text in (FAULT, LOG_FAULT, REQUEST, REPORT, ENTRY, MEMORY[:-1], MEMORY.replace(b'"memory"', b'"list"'),
+                     MEMORY.replace(b'"message"', b'"number":1,"message"'), b"refused: log fault 2\n"):
+            self.check_wrong(3, text)
+            self.assertRaises(ima_verify.LibraryError, _answers.read_entries, 3, text, False)
+            self.assertRaises(ima_verify.LibraryError, _answers.read_events, 3, text)
+        for status in (0, 1):
+            for text in (FAULT, MEMORY):
+                self.assertRaises(ima_verify.LibraryError, _answers.read_verdict, status, text)
 
     def test_wrong_refusals_of_texts_are_no_refusals(self):
         for text in (b"", b"refused: log fault 1 at event 0", b"refused: log fault 1 at entry 0\n", b"refused: list fault 1\n",

@@ -1,6 +1,6 @@
 //! Reads the library's answers. What is not as `docs/formats.md` has it is an `Unexpected`.
 
-use crate::library::{DIFFERS, DONE, REFUSED};
+use crate::library::{DIFFERS, DONE, OUT_OF_MEMORY, REFUSED};
 use crate::{Algorithm, BootAggregate, Content, Entries, Entry, Error, Event, Events, File, Kind, ListVerdict, LogAlgorithm};
 use crate::{Place, PlaceRow, Places, Register, Row, State, Verdict};
 use serde::de::{DeserializeOwned, Error as _};
@@ -8,7 +8,6 @@ use serde::{Deserialize, Deserializer};
 use std::collections::BTreeMap;
 
 const REGISTERS: u8 = 24;
-const MALFORMED_LINE: &str = "refused: command line";
 
 /// An answer of the library.
 #[derive(Debug)]
@@ -38,7 +37,7 @@ impl Answer {
 
     pub(crate) fn places(self) -> Result<Places, Error> {
         self.read(|answer| {
-            let PlacesLine { registers: rows, located } = object(&answer.text)?;
+            let PlacesLine { registers: rows, located, .. } = object(&answer.text)?;
             let are_reached = rows.iter().all(|row| !matches!(row.place, Place::Nowhere | Place::Absent | Place::Missing));
             let says = located == are_reached && answer.says(located);
             says.then_some(Places { located: located && !rows.is_empty(), rows, json: answer.line()? })
@@ -47,7 +46,7 @@ impl Answer {
 
     pub(crate) fn registers(self) -> Result<Vec<Register>, Error> {
         self.read(|answer| {
-            let Registers { registers } = object(&answer.text)?;
+            let Registers { registers, .. } = object(&answer.text)?;
             let fit = registers.iter().all(|register| register.value.len() == register.algorithm.digest_size());
             (answer.status == DONE && fit).then_some(registers)
         })
@@ -66,7 +65,7 @@ impl Answer {
             return Err(fault.clone());
         }
         let start = self.text.iter().position(|byte| *byte == b'\n').map_or(0, |at| at + 1);
-        let Some(Algorithms { algorithms }) = object(&self.text[..start]) else { return Err(self.unexpected()) };
+        let Some(Algorithms { algorithms, .. }) = object(&self.text[..start]) else { return Err(self.unexpected()) };
         let lines = Lines { text: self.text, status: self.status, start, end, number: 1, fault, is_over: false };
         Ok(Events { lines, algorithms })
     }
@@ -76,10 +75,17 @@ impl Answer {
         if self.status != REFUSED {
             return if self.is_lines(is_empty) { Ok((self.text.len(), None)) } else { Err(self.unexpected()) };
         }
+        let end = self.last_line();
+        match fault_in(&self.text[end..]) {
+            Some(fault @ Error::Refused { .. }) => Ok((end, Some(fault))),
+            _ => Err(self.unexpected()),
+        }
+    }
+
+    /// Where the last line starts.
+    fn last_line(&self) -> usize {
         let before = self.text.strip_suffix(b"\n").unwrap_or_default();
-        let end = before.iter().rposition(|byte| *byte == b'\n').map_or(0, |at| at + 1);
-        let fault = fault_line(&self.text[end..]).and_then(|line| refusal_in(&line)).ok_or_else(|| self.unexpected())?;
-        Ok((end, Some(fault)))
+        before.iter().rposition(|byte| *byte == b'\n').map_or(0, |at| at + 1)
     }
 
     /// Whether the answer is lines, which are none only if they have to be.
@@ -101,10 +107,21 @@ impl Answer {
         if self.status != REFUSED {
             return Ok(self);
         }
-        Err(self.read(|answer| match fault_line(&answer.text)? {
-            line if requests && line == MALFORMED_LINE => Some(Error::Malformed),
-            line => refusal_in(&line),
-        })?)
+        Err(match fault_in(&self.text) {
+            Some(fault @ Error::Refused { .. }) => fault,
+            Some(Error::Malformed) if requests => Error::Malformed,
+            _ => self.unexpected(),
+        })
+    }
+
+    /// The error of an answer whose status is that of no result and no refusal.
+    pub(crate) fn failure(&self) -> Error {
+        let is_memory = || self.text.is_empty() || fault_in(&self.text[self.last_line()..]) == Some(Error::OutOfMemory);
+        if self.status == OUT_OF_MEMORY && is_memory() {
+            Error::OutOfMemory
+        } else {
+            self.unexpected()
+        }
     }
 
     fn read<T>(self, read: impl FnOnce(&Self) -> Option<T>) -> Result<T, Error> {
@@ -184,6 +201,16 @@ impl Lines {
     }
 }
 
+/// The member `fault` of a result, which has none: it cannot be read.
+#[derive(Default)]
+struct NoFault;
+
+impl<'de> Deserialize<'de> for NoFault {
+    fn deserialize<D: Deserializer<'de>>(_: D) -> Result<Self, D::Error> {
+        Err(D::Error::custom("a fault"))
+    }
+}
+
 /// The members of lines.
 #[derive(Deserialize)]
 struct Report {
@@ -199,6 +226,8 @@ struct ListReport {
     entries: u64,
     registers: Vec<Row>,
     verdict: Said,
+    #[serde(default, rename = "fault")]
+    _fault: NoFault,
 }
 
 #[derive(Deserialize, PartialEq)]
@@ -212,16 +241,22 @@ enum Said {
 struct PlacesLine {
     registers: Vec<PlaceRow>,
     located: bool,
+    #[serde(default, rename = "fault")]
+    _fault: NoFault,
 }
 
 #[derive(Deserialize)]
 struct Registers {
     registers: Vec<Register>,
+    #[serde(default, rename = "fault")]
+    _fault: NoFault,
 }
 
 #[derive(Deserialize)]
 struct Algorithms {
     algorithms: Vec<LogAlgorithm>,
+    #[serde(default, rename = "fault")]
+    _fault: NoFault,
 }
 
 #[derive(Deserialize)]
@@ -231,6 +266,10 @@ struct FaultLine {
 
 #[derive(Deserialize)]
 struct Fault {
+    kind: String,
+    number: Option<u64>,
+    event: Option<u64>,
+    entry: Option<u64>,
     message: String,
 }
 
@@ -250,6 +289,8 @@ struct EntryLine {
     path_hex: Option<Bytes>,
     signature: Option<Bytes>,
     payload: Option<Bytes>,
+    #[serde(default, rename = "fault")]
+    _fault: NoFault,
 }
 
 #[derive(Deserialize)]
@@ -261,6 +302,8 @@ struct EventLine {
     type_number: u32,
     digests: BTreeMap<Algorithm, Bytes>,
     data: Bytes,
+    #[serde(default, rename = "fault")]
+    _fault: NoFault,
 }
 
 /// Bytes in lower case hexadecimal.
@@ -310,6 +353,8 @@ fn entry(line: EntryLine, number: u64) -> Option<Entry> {
     (line.entry == number).then_some(())?;
     let template_digest = digest(line.template_digest, Algorithm::Sha1)?;
     let (register, violation, genuine) = (line.register, line.violation, line.genuine);
+    let agree = violation == template_digest.iter().all(|byte| *byte == 0) && (genuine || !violation);
+    agree.then_some(())?;
     Some(Entry { number, register, template, template_digest, violation, genuine, content })
 }
 
@@ -329,17 +374,30 @@ fn name(text: Option<String>, bytes: Option<Bytes>) -> Option<Vec<u8>> {
     text.map(String::into_bytes).or(bytes.map(|Bytes(bytes)| bytes))
 }
 
-/// The line of a fault, without its line feed: the text, or the message of one that is JSON.
-fn fault_line(text: &[u8]) -> Option<String> {
-    if text.starts_with(b"{") {
-        return object::<FaultLine>(text).map(|line| line.fault.message);
+/// The error that the line of a fault states. The members of one that is JSON say the same as its message, which alone has the line of a
+/// text.
+fn fault_in(text: &[u8]) -> Option<Error> {
+    if !text.starts_with(b"{") {
+        return fault_said_by(std::str::from_utf8(text).ok()?.strip_suffix('\n')?);
     }
-    Some(std::str::from_utf8(text).ok()?.strip_suffix('\n')?.to_owned())
+    let Fault { kind, number, event, entry, message } = object::<FaultLine>(text)?.fault;
+    let fault = fault_said_by(&message)?;
+    let said = match fault {
+        Error::Refused { kind: Kind::Log, number, place, .. } => ("log", Some(number), place, None),
+        Error::Refused { kind: Kind::List, number, place, .. } => ("list", Some(number), None, place),
+        Error::Refused { kind: Kind::Replay, number, place, .. } => ("replay", Some(number), None, place),
+        Error::Refused { kind: Kind::Expected, number, .. } => ("expected", Some(number), None, None),
+        Error::Malformed => ("command_line", None, None, None),
+        _ => ("memory", None, None, None),
+    };
+    (said == (kind.as_str(), number, event, entry)).then_some(fault)
 }
 
-/// The refusal that a line states.
-fn refusal_in(line: &str) -> Option<Error> {
+/// The error that the line of a fault states as text.
+fn fault_said_by(line: &str) -> Option<Error> {
     let (kind, digits, place) = match line.split(' ').collect::<Vec<_>>()[..] {
+        ["refused:", "command", "line"] => return Some(Error::Malformed),
+        ["failed:", "memory"] => return Some(Error::OutOfMemory),
         ["refused:", "log", "fault", digits] => (Kind::Log, digits, None),
         ["refused:", "log", "fault", digits, "at", "event", place] => (Kind::Log, digits, Some(place)),
         ["refused:", "list", "fault", digits, "at", "entry", place] => (Kind::List, digits, Some(place)),

@@ -35,6 +35,7 @@ use std::iter::FusedIterator;
 /// The algorithm of a bank of registers.
 #[derive(Debug, Clone, Copy, PartialEq, Eq, Hash, PartialOrd, Ord, Deserialize)]
 #[serde(rename_all = "lowercase")]
+#[non_exhaustive]
 pub enum Algorithm {
     Sha1,
     Sha256,
@@ -326,6 +327,7 @@ impl FusedIterator for Events {}
 
 /// What is refused.
 #[derive(Debug, Clone, Copy, PartialEq, Eq, Hash)]
+#[non_exhaustive]
 pub enum Kind {
     Log,
     List,
@@ -336,6 +338,7 @@ pub enum Kind {
 
 /// Why there is no result.
 #[derive(Debug, Clone, PartialEq, Eq, Hash)]
+#[non_exhaustive]
 pub enum Error {
     /// An input is refused: `docs/formats.md` says what each fault means.
     Refused {

@@ -102,8 +102,7 @@ pub(crate) fn ask(room: usize, mut call: impl FnMut(&mut [u8]) -> (i32, usize)) 
     let answer = Answer { status, text: out };
     match status {
         DONE | DIFFERS | REFUSED => Ok(answer),
-        OUT_OF_MEMORY => Err(Error::OutOfMemory),
-        _ => Err(answer.unexpected()),
+        _ => Err(answer.failure()),
     }
 }
 

@@ -342,6 +342,55 @@ fn wrong_answers_are_no_registers_and_no_lines() {
     assert!(is_unexpected(answer(DONE, expected_line()).lines(true)));
 }
 
+/// A line with a member in front.
+fn with(member: &str, line: &str) -> String {
+    line.replacen('{', &format!("{{{member},"), 1)
+}
+
+type Reads = fn(Answer) -> Result<(), Error>;
+
+#[test]
+fn result_that_states_a_fault_is_none() {
+    let results: [(Reads, i32, String); 9] = [
+        (|answer| answer.verdict().map(drop), DONE, REPORT.to_owned()),
+        (|answer| answer.verdict().map(drop), DIFFERS, differing()),
+        (|answer| answer.list_verdict().map(drop), DONE, LIST_REPORT.to_owned()),
+        (|answer| answer.places().map(drop), DONE, PLACES.to_owned()),
+        (|answer| answer.places().map(drop), DIFFERS, NOT_LOCATED.to_owned()),
+        (|answer| answer.registers().map(drop), DONE, register()),
+        (|answer| first_entry(answer).map(drop), DONE, entry_line()),
+        (|answer| answer.events().map(drop), DONE, ALGORITHMS.to_owned()),
+        (|answer| first_event(answer).map(drop), DONE, ALGORITHMS.to_owned() + &event_line()),
+    ];
+    for (read, status, text) in &results {
+        let [refusal, memory] = [LIST_FAULT, MEMORY].map(|line| &line[1..line.len() - 2]);
+        for fault in [r#""fault":null"#, r#""fault":{}"#, refusal, memory] {
+            assert!(is_unexpected(read(answer(*status, with(fault, text)))), "{text:?}");
+            let at_the_end = format!("{},{fault}}}\n", text.strip_suffix("}\n").unwrap());
+            assert!(is_unexpected(read(answer(*status, at_the_end))), "{text:?}");
+        }
+        assert_eq!(read(answer(*status, with(r#""faults":null"#, text))), Ok(()));
+    }
+}
+
+#[test]
+fn entry_that_contradicts_itself_is_none() {
+    let (zeros, ones) = ("0".repeat(40), "1".repeat(40));
+    let violation = other_line().replace(r#""entry":1"#, r#""entry":0"#);
+    let changes = [
+        (r#""genuine":true"#, r#""genuine":false"#),
+        (r#""violation":true"#, r#""violation":false"#),
+        (&zeros, &format!("{}1", &zeros[1..])),
+        (&zeros, &format!("1{}", &zeros[1..])),
+        (&zeros, &"f".repeat(40)),
+    ];
+    check_changes(first_entry, DONE, &violation, &changes);
+    let changes = [(r#""violation":false"#, r#""violation":true"#), (&ones, &zeros)];
+    check_changes(first_entry, DONE, &entry_line(), &changes);
+    let found = first_entry(answer(DONE, entry_line().replace(r#""genuine":true"#, r#""genuine":false"#))).unwrap();
+    assert!(!found.genuine && !found.violation);
+}
+
 #[test]
 fn entries_are_read() {
     let file = File { algorithm: Algorithm::Sha1, digest: vec![0xaa; 20], path: b"/a".to_vec(), signature: Some(Vec::new()) };
@@ -580,6 +629,68 @@ fn wrong_refusals_are_no_refusals() {
     assert_eq!(error, refused("refused: log fault 2", Kind::Log, 2, None));
 }
 
+fn refusal(answer: Answer) -> Result<(), Error> {
+    answer.accepted(true).map(drop)
+}
+
+#[test]
+fn fault_whose_members_contradict_is_none() {
+    for (line, place) in [(LIST_FAULT, r#""entry""#), (LOG_FAULT, r#""event""#)] {
+        let (here, there) = (format!("{place}:2"), format!("{place}:3"));
+        let changes = [
+            (r#""kind":"l"#, r#""kind":"x"#),
+            (r#""kind":"l"#, r#""kind":"replay","x":""#),
+            (r#""kind":""#, r#""kinds":""#),
+            (r#""number":1"#, r#""number":2"#),
+            (r#""number":1"#, r#""number":"1""#),
+            (r#""number":1"#, r#""number":true"#),
+            (r#""number":1"#, r#""number":null"#),
+            (r#""number":1"#, r#""number":1.0"#),
+            (r#""number":1,"#, ""),
+            (&here, &there),
+            (&format!("{here},"), ""),
+            (&here, r#""event":2,"entry":2"#),
+            (r#""message":"refused: l"#, r#""message":"refused: replay fault 1 at entry 2","x":""#),
+            (" fault 1 at", " fault 2 at"),
+            (r#" 2"}"#, r#" 3"}"#),
+        ];
+        check_changes(refusal, REFUSED, line, &changes);
+        check_changes(|answer| answer.entries(false), REFUSED, &(entry_line() + line), &changes);
+        check_changes(Answer::events, REFUSED, &(ALGORITHMS.to_owned() + line), &changes);
+    }
+    for line in [
+        "{\"fault\":{\"kind\":\"log\",\"number\":2,\"message\":\"refused: log fault 2\"}}\n",
+        "{\"fault\":{\"kind\":\"expected\",\"number\":1,\"message\":\"refused: expected fault 1 at line 2\"}}\n",
+    ] {
+        let changes = [(r#""message""#, r#""event":0,"message""#), (r#""message""#, r#""entry":2,"message""#)];
+        check_changes(refusal, REFUSED, line, &changes);
+    }
+    let changes = [("command_line", "list"), ("command_line", "memory"), (r#""message""#, r#""number":1,"message""#)];
+    check_changes(refusal, REFUSED, MALFORMED, &changes);
+    let more = LIST_FAULT.replacen(r#"{"kind""#, r#"{"x":0,"kind""#, 1);
+    assert_eq!(refusal(answer(REFUSED, more)), Err(refused("refused: list fault 1 at entry 2", Kind::List, 1, Some(2))));
+}
+
+#[test]
+fn fault_is_of_the_status() {
+    for text in [MEMORY, &MEMORY.replace("failed: memory", "refused: command line"), "failed: memory\n"] {
+        assert!(is_unexpected(said(true, REFUSED, text, text.len())), "{text:?}");
+    }
+    for text in [
+        LIST_FAULT,
+        LOG_FAULT,
+        MALFORMED,
+        REPORT,
+        &entry_line(),
+        &MEMORY[..MEMORY.len() - 1],
+        &MEMORY.replace(r#""memory""#, r#""list""#),
+        &MEMORY.replace(r#""message""#, r#""number":1,"message""#),
+        "refused: log fault 2\n",
+    ] {
+        assert!(is_unexpected(answered(OUT_OF_MEMORY, text, text.len())), "{text:?}");
+    }
+}
+
 #[test]
 fn text_that_names_no_registers_is_malformed() {
     assert_eq!(said(true, REFUSED, MALFORMED, MALFORMED.len()).unwrap_err(), Error::Malformed);
@@ -594,7 +705,7 @@ fn text_that_names_no_registers_is_malformed() {
 
 #[test]
 fn no_memory_is_its_error() {
-    for text in [MEMORY, "failed: memory\n", ""] {
+    for text in [MEMORY, &(entry_line() + MEMORY), "failed: memory\n", ""] {
         assert_eq!(answered(OUT_OF_MEMORY, text, text.len()).unwrap_err(), Error::OutOfMemory);
     }
     assert_eq!(answered(TOO_SHORT, "", usize::MAX / 2 + 2).unwrap_err(), Error::OutOfMemory);
