@@ -18,7 +18,8 @@ they are refused, and both or neither ask for help, name a sample, or have a tex
 order of the cases, that names no file of the system, in a case whose files have at most 64 KiB.
 
 Before that, the program measures 50 files of 40 MiB within 64 MiB of address space, and shows a list of 64 MiB as JSON, with a peak of
-memory at most 8 MiB above that of an empty one. The last line, 'N passed, M failed', counts all."""
+memory at most 8 MiB above that of an empty one; and it replays a log of 64 MiB, of events of 16 bytes, with a peak at most as much above
+the log's size. The last line, 'N passed, M failed', counts all."""
 
 import json
 import os
@@ -35,10 +36,11 @@ HERE = Path(__file__).resolve().parent
 sys.path[:0] = [str(HERE.parent), str(HERE.parent / "cases")]
 
 import form  # noqa: E402
+import reference  # noqa: E402
 from answers import answer_of, fault_of  # noqa: E402
 from reference.command_line import COMMANDS, HelpAsked, asks_for_help, read_arguments  # noqa: E402
 from reference.faults import Fault  # noqa: E402
-from reference.log import read_log  # noqa: E402
+from reference.log import EV_NO_ACTION, Event, Log, read_log  # noqa: E402
 from reference.measurement_list import BOOT_AGGREGATE, IMA_NG, entry_of, list_text  # noqa: E402
 from reference.registers import SHA256  # noqa: E402
 
@@ -58,6 +60,7 @@ LARGE_FILE_BYTES = 40 * MEBIBYTE
 ADDRESS_SPACE = 64 * MEBIBYTE
 LARGE_SECONDS = 600
 LARGE_LIST_BYTES = 64 * MEBIBYTE
+LARGE_LOG_BYTES = 64 * MEBIBYTE
 MOST_ABOVE_EMPTY = 8 * MEBIBYTE
 
 
@@ -291,6 +294,31 @@ def large_list_fault(program, folder):
     return None if peak <= least + MOST_ABOVE_EMPTY else f"{(peak - least) / MEBIBYTE:.1f} MiB more than an empty list"
 
 
+def large_log_fault(program, folder):
+    """What is wrong with the answers to a log of 64 MiB of events of 16 bytes, or with the memory that they take, or None."""
+    header, event = Log({SHA256.identifier: SHA256.size}, []).spelling(), Event(0, EV_NO_ACTION, {}, b"").spelling()
+    count = (LARGE_LOG_BYTES - len(header)) // len(event)
+    (folder / "empty-log").write_bytes(header)
+    (folder / "large-log").write_bytes(header + event * count)
+    (folder / "expected").write_text(f"sha256 0 {bytes(SHA256.size).hex()}\n")
+    output = folder / "large-log.text"
+    for words in (["registers", "LOG"], ["verify", "LOG", "empty-list", "expected"], ["locate", "LOG", "empty-list", "expected"],
+                  ["measure", "LOG", "empty-list"]):
+        empty, large = ([name if word == "LOG" else word for word in words] for name in ("empty-log", "large-log"))
+        wanted_status, wanted = reference.answer(empty, folder, b"")
+        try:
+            _, least = peak_of([program, *empty], folder, output)
+            status, peak = peak_of([program, *large], folder, output)
+        except (subprocess.TimeoutExpired, ValueError) as fault:
+            return f"{words[0]}: {fault!r}"
+        text = output.read_bytes()
+        if (status, text) != (wanted_status, wanted.replace(b"events 0 ", b"events %d " % count)):
+            return f"{words[0]}: status {status}, {text[:200]!r}"
+        if peak > least + len(header) + len(event) * count + MOST_ABOVE_EMPTY:
+            return f"{words[0]}: {(peak - least) / MEBIBYTE:.1f} MiB more than without events"
+    return None
+
+
 def main():
     root = Path(sys.argv[1] if len(sys.argv) > 1 else HERE.parent).resolve()
     program = root / "crates/ima_agent_program/out/ima_agent_program"
@@ -300,13 +328,16 @@ def main():
         print(f"{large_fault or 'ok'}: {LARGE_FILES} files of 40 MiB measured within 64 MiB of address space", flush=True)
         list_fault = large_list_fault(program, folder)
         print(f"{list_fault or 'ok'}: a list of 64 MiB as JSON within 8 MiB more than an empty one", flush=True)
+        log_fault = large_log_fault(program, folder)
+        print(f"{log_fault or 'ok'}: a log of 64 MiB of small events within its size and 8 MiB", flush=True)
         library = folder / "refuse.so"
         subprocess.run(["cc", "-O2", "-shared", "-fPIC", "-o", library, HERE / "refuse.c", "-ldl"], check=True)
         (tests, faults), (commands, wrong_cases) = test_runs(root, library, folder), command_runs(program, folder)
         faults += wrong_cases + help_faults(commands)
         faults += [f"no {what} is made to have an allocation refused" for what, runs in (("test", tests), ("case", commands)) if not runs]
-        failed = len(faults) + (large_fault is not None) + (list_fault is not None)
-        total, passed = 0, (large_fault is None) + (list_fault is None)
+        large = [large_fault, list_fault, log_fault]
+        failed = len(faults) + sum(fault is not None for fault in large)
+        total, passed = 0, large.count(None)
         for run, (refusals, fault) in zip([*tests, *commands], pool.map(lambda run: sweep(run, library, folder), [*tests, *commands])):
             total += refusals
             failed += fault is not None
