@@ -10,7 +10,7 @@ use crate::fault::RunFault;
 use crate::files::Files;
 use crate::hexadecimal::{HexFault, decode_hexadecimal};
 use crate::inputs::loaded;
-use boot_log::{LogView, read_log};
+use boot_log::LogView;
 use boot_verdict::{EventData, write_events, write_registers};
 use byte_streams::{Failed, VecSink};
 use command_line::DataShown;
@@ -73,7 +73,7 @@ fn events_of(alloc: Global, bytes: &[u8], shown: EventData) -> Result<Vec<u8>, R
     ensures shown { IfOk result (λ text. (requested : DataShown) → shown ≡ data_of requested → ShowsEvents bytes.now requested text.items) }
     ensures fault { IfErr result (IsNoLogFor bytes.now) }
 {
-    let log = read_log(alloc, bytes)?;
+    let log = LogView::new(bytes)?;
     let mut text = VecSink::new(Vec::new(alloc));
     match write_events(&log, shown, &mut text) {
         Ok(()) => Ok(text.into_bytes()),
