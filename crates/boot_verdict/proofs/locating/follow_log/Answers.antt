@@ -10,6 +10,6 @@ returns c =
       start = start;
       reset = c.reset_registers-banks.ensures table events is;
       rows = c.in_ok-rows.ensures;
-      after = c.follow_events.ensures start _ table events c.events.ensures is
+      after = c.follow_events.ensures start _ table events c.events.ensures.none is
           (watch_none c.reset_registers-banks.result (length events) c.args.expected.now c.in_ok-rows.rows c.in_ok-rows.ensures);
     }
