@@ -98,8 +98,8 @@ abbrev pub ShowsEntries : List ℕ → List ℕ → ℕ → Type 0
 ShowsEntries bytes shown status = ShowsAllEntries bytes shown status ⊎ ShowsEntriesToFault bytes shown status
 
 -- Why no more entries of the file of this name are shown, of which the bytes `came` were read. It could not be opened or read, or it is
--- longer than an input may be and its first bytes came, as many as one may have: then these are all entries that came whole, and none
--- was refused. Or memory ran out after these.
+-- longer than an input may be and its first bytes came, as many as one may have: then these are the longest list at the front of what
+-- came, and none was refused (how much of a file came before a read failed, only json_texts' `SendsEntries` says). Or memory ran out.
 abbrev pub EndsAfterEntries : Inputs → List ℕ → List ℕ → List ListEntry → List ℕ → RunFault → Type 0
 EndsAfterEntries inputs name came entries rest fault =
     (IsReadFailure inputs (Some name) fault × IsLongest came entries rest × IsSound came)
