@@ -6,3 +6,4 @@ pub mod WrittenLines
 pub mod RangeEnds
 pub mod RequirementParts
 pub mod Watches
+pub mod CheckpointParts
