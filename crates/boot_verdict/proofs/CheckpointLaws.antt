@@ -1,7 +1,8 @@
 -- Checkpoints: where the lines of their texts are cut, what they state, and that the same data have the same text.
-use Rattle.std.proofs.Common.{rules, ◌≡◌, ℕ, ◌+◌, ◌^◌, ◌<◌, eqb, ltb, cond, Bool, true, false, List, [], ◌∷◌, ◌++◌, length, drop, slice_index, get_or, decimal, codes, Option, None, Some, refl, sym, ap, subst, ◌∙◌, inl, inr, arith, append_assoc, append-nil}
+use Rattle.std.proofs.Common.{rules, ◌≡◌, ℕ, ◌+◌, ◌*◌, ◌^◌, ◌<◌, eqb, ltb, cond, Bool, true, false, List, [], ◌∷◌, ◌++◌, length, drop, slice_index, get_or, decimal, codes, Ok, Option, None, Some, refl, sym, ap, subst, ◌∙◌, inl, inr, arith, append_assoc, append-nil}
 use Rattle.std.specs.Prelude.{◌&&◌, ◌==◌, IfSome, IsSome, IsTrue, flat_map, if◌then◌else◌, is_some, nat_lt, option_map}
-use Rattle.std.specs.List.{AllByRecursion}
+use Rattle.std.specs.List.{AllPass}
+use Rattle.std.specs.Option.{IsSomeAnd}
 use Rattle.std.specs.Str.Iter.{LacksByte}
 use Rattle.std.proofs.lemmas.Bool.{cases_Bool, both_ways, eqb-true}
 use Rattle.std.proofs.lemmas.Bool.Decides.{nat_tests}
@@ -9,13 +10,13 @@ use Rattle.std.proofs.lemmas.Fmt.{decimal_digit}
 use Rattle.std.proofs.Math.ListN.{drop_of_length-le}
 use Rattle.std.proofs.lemmas.List.{append_cancel_left, at_drop_more}
 use Rattle.std.proofs.lemmas.List.Concat.{flat_map-cons}
-use Rattle.hex.specs.Hex.{encode_lower}
+use Rattle.hex.specs.Hex.{decode_of, encode_lower, is_hex_digit}
 use Rattle.hex.proofs.HexLemmas.{decode_of-encode_lower, decode_of-ok, decode_of-same}
 use Rattle.pcr_banks.specs.declared.alg.Alg.{Alg}
 use Rattle.pcr_banks.specs.declared.alg.Alg.TheVariants.{Sha1, Sha256, Sha384, Sha512}
 use Rattle.pcr_banks.specs.declared.banks.Banks.{Banks}
 use Rattle.pcr_banks.specs.declared.digest.Digest.{Digest}
-use Rattle.pcr_banks.specs.Hashing.{all_algs, name_of, same_alg}
+use Rattle.pcr_banks.specs.Hashing.{all_algs, name_of, same_alg, size_of}
 use Rattle.pcr_banks.specs.Digests.{alg_of, bytes_of, digest_of}
 use Rattle.pcr_banks.specs.Registers.{bank_of, is_active, register_count, reset_value, value_at, IsReset}
 use Rattle.pcr_banks.proofs.AlgLaws.{every_alg, same_alg_is}
@@ -25,7 +26,7 @@ use Rattle.pcr_banks.proofs.SetLaws.{bytes_again, has_where}
 use Rattle.boot_verdict.specs.declared.checkpoint.Checkpoint.{Checkpoint}
 use Rattle.boot_verdict.specs.declared.expected.Expected.{Expected}
 use Rattle.boot_verdict.specs.Checkpoints.{HaveValues, IsHash, SameData, SameValues}
-use Rattle.boot_verdict.specs.CheckpointTexts.{bank_lines, banks_lines, checkpoint_text, checkpoint_body, data_lines, seal_line, stated_words, value_line}
+use Rattle.boot_verdict.specs.CheckpointTexts.{bank_lines, banks_lines, checkpoint_text, checkpoint_body, data_lines, number_line, seal_line, stated_line, stated_words, value_line}
 use Rattle.boot_verdict.specs.ExpectedTexts.{IsRegisterLine}
 use Rattle.boot_verdict.specs.RegisterTexts.{all_registers, change_line, register_line}
 use Rattle.boot_verdict.specs.Replays as replays
@@ -36,6 +37,8 @@ use Rattle.boot_verdict.proofs.RegisterLaws as registers
 use Rattle.boot_verdict.proofs.WrittenLaws.{AllShown, IsProper, body, body_shown, body_spells, decimal_above, encoded_above, lacks_feed, line_is, shown, shown_join}
 use Rattle.pcr_banks.proofs.AlgLaws as algs
 use Rattle.boot_verdict.proofs.ExpectedLaws as names
+use Rattle.boot_verdict.proofs.RequirementLaws as colons
+use Rattle.boot_verdict.proofs.StatedLaws.{same_digest}
 
 -- ---- lines
 
@@ -70,6 +73,65 @@ stated_lack None is = search rules
 stated_lack (Some digest) is =
     lacks_feed (stated_words (Some digest)) (shown_join (name_of (alg_of digest)) _ (names.name_above (alg_of digest))
     (omega arith, shown (encode_lower (bytes_of digest)) (encoded_above (bytes_of digest) is.1)))
+
+-- ---- the boot aggregate
+
+not_s : {rest : List ℕ} → codes "none" ≡ 115 ∷ rest → ⊥
+not_s is = let byte : ◌≡◌ {A = ℕ} 110 115 = ap (λ (l : List ℕ). slice_index l 0) is in absurd (omega (arith, byte))
+
+-- What stands before the colon and after it, in the words of a boot aggregate that is one.
+aggregate_cut : (words name digits : List ℕ) (digest : Digest) → words ≡ stated_words (Some digest) → IsSplitOnce 58 words name digits
+    → (name ≡ name_of (alg_of digest)) × (digits ≡ encode_lower (bytes_of digest))
+aggregate_cut words name digits digest is cut =
+    one_cut 58 name (name_of (alg_of digest)) digits (encode_lower (bytes_of digest)) (lacks_from 58 name cut.lacks)
+    (colons.name_lacks (alg_of digest)) (sym cut.parts ∙ is)
+
+pub has_colon : (words : List ℕ) (stated : Option Digest) → (words ≡ codes "none" → ⊥) → words ≡ stated_words stated → LacksByte 58 words → ⊥
+has_colon words None other is lacks = other is
+has_colon words (Some digest) other is lacks =
+    let whole : Lacks 58 (name_of (alg_of digest) ++ 58 ∷ encode_lower (bytes_of digest)) = rw is at (lacks_from 58 words lacks) in
+    not_lacked 58 (name_of (alg_of digest)) (encode_lower (bytes_of digest)) whole
+
+pub has_alg_name : (words name digits : List ℕ) (stated : Option Digest) → (words ≡ codes "none" → ⊥) → words ≡ stated_words stated
+    → IsSplitOnce 58 words name digits → ((alg : Alg) → name_of alg ≡ name → ⊥) → ⊥
+has_alg_name words name digits None other is cut unknown = other is
+has_alg_name words name digits (Some digest) other is cut unknown =
+    unknown (alg_of digest) (sym (aggregate_cut words name digits digest is cut).0)
+
+-- The algorithm that is found, and what the digits spell.
+alg_found : (words name digits : List ℕ) (digest : Digest) (alg : Alg) → words ≡ stated_words (Some digest) → IsSplitOnce 58 words name digits
+    → name_of alg ≡ name → alg ≡ alg_of digest
+alg_found words name digits digest alg is cut named =
+    algs.same_name_is alg (alg_of digest) (named ∙ (aggregate_cut words name digits digest is cut).0)
+
+pub has_digits : (words name digits : List ℕ) (alg : Alg) (stated : Option Digest) → (words ≡ codes "none" → ⊥)
+    → IfSome stated (λ digest. IsHash (alg_of digest) (bytes_of digest)) → words ≡ stated_words stated → IsSplitOnce 58 words name digits
+    → name_of alg ≡ name → ((length digits ≡ 2 * size_of alg) × AllPass is_hex_digit digits → ⊥) → ⊥
+has_digits words name digits alg None other hash is cut named none = other is
+has_digits words name digits alg (Some digest) other hash is cut named none =
+    let spelled = decode_of-ok (encode_lower (bytes_of digest)) (bytes_of digest) (decode_of-encode_lower (bytes_of digest) hash.1) in
+    let size : length (encode_lower (bytes_of digest)) ≡ 2 * size_of (alg_of digest) = spelled.2 ∙ ap (λ (n : ℕ). 2 * n) hash.0 in
+    none (rw (alg_found words name digits digest alg is cut named, (aggregate_cut words name digits digest is cut).1) (size, spelled.1))
+
+pub same_stated : (words name digits : List ℕ) (alg : Alg) (found : Digest) (stated : Option Digest) → (words ≡ codes "none" → ⊥)
+    → IfSome stated (λ digest. IsHash (alg_of digest) (bytes_of digest)) → words ≡ stated_words stated → IsSplitOnce 58 words name digits
+    → name_of alg ≡ name → (alg_of found ≡ alg) × (decode_of digits ≡ Ok (bytes_of found)) → Some found ≡ stated
+same_stated words name digits alg found None other hash is cut named spells = absurd (other is)
+same_stated words name digits alg found (Some digest) other hash is cut named spells =
+    let bytes = decode_of-same digits (bytes_of found) (bytes_of digest) spells.1
+    (ap decode_of (aggregate_cut words name digits digest is cut).1 ∙ decode_of-encode_lower (bytes_of digest) hash.1) in
+    ap (λ (d : Digest). Some d) (same_digest found digest (spells.0 ∙ alg_found words name digits digest alg is cut named) bytes)
+
+not_named : (alg : Alg) (rest : List ℕ) → codes "none" ≡ name_of alg ++ rest → ⊥
+not_named = every_alg (λ alg. (rest : List ℕ) → codes "none" ≡ name_of alg ++ rest → ⊥) (
+  λ rest is. not_s is,
+  (λ rest is. not_s is, (λ rest is. not_s is, (λ rest is. not_s is, tt))),
+)
+
+pub none_stated : (words : List ℕ) (stated : Option Digest) → words ≡ codes "none" → words ≡ stated_words stated → None ≡ stated
+none_stated words None none is = refl
+none_stated words (Some digest) none is =
+    absurd (not_named (alg_of digest) (codes ":" ++ encode_lower (bytes_of digest)) (sym none ∙ is))
 
 -- ---- the line of a register
 
@@ -369,3 +431,52 @@ text_same first second same =
         rw (same.entries, same.bytes, same.stated, banks_same first.before second.before same.before,
         banks_same first.after second.after same.after) refl in
     ap (λ (l : List ℕ). let body = codes "ima-agent checkpoint " ++ (codes "1\n" ++ l) in body ++ seal_line body) lines
+
+-- What holds of the value in an option is passed on.
+pub some_then : {A : Type 0} {P Q : A → Type 0} (o : Option A) → IsSomeAnd o P → ((x : A) → P x → Q x) → IsSomeAnd o Q
+some_then None is next = is
+some_then (Some x) is next = next x is
+
+-- ---- the lines of the data
+
+-- What follows the registers before the list, and the lines before these.
+abbrev pub after_before : Checkpoint → List ℕ → List ℕ
+after_before known rest = codes "after\n" ++ (banks_lines known.after ++ rest)
+
+abbrev pub after_stated : Checkpoint → List ℕ → List ℕ
+after_stated known rest = codes "before\n" ++ (banks_lines known.before ++ after_before known rest)
+
+abbrev pub after_bytes : Checkpoint → List ℕ → List ℕ
+after_bytes known rest = stated_line known.stated ++ after_stated known rest
+
+abbrev pub after_entries : Checkpoint → List ℕ → List ℕ
+after_entries known rest = number_line (codes "bytes ") known.bytes ++ after_bytes known rest
+
+seven : (a b c d e f g rest : List ℕ)
+    → (a ++ (b ++ (c ++ (d ++ (e ++ (f ++ g)))))) ++ rest ≡ a ++ (b ++ (c ++ (d ++ (e ++ (f ++ (g ++ rest))))))
+seven a b c d e f g rest = simp append_assoc refl
+
+pub data_apart : (known : Checkpoint) (rest : List ℕ)
+    → data_lines known ++ rest ≡ number_line (codes "entries ") known.entries ++ after_entries known rest
+data_apart known rest =
+    seven (number_line (codes "entries ") known.entries) (number_line (codes "bytes ") known.bytes) (stated_line known.stated)
+    (codes "before\n") (banks_lines known.before) (codes "after\n") (banks_lines known.after) rest
+
+parts_joined : (entries bytes stated before after : List ℕ)
+    → (codes "ima-agent checkpoint 1\nentries " ++ (entries ++ (codes "\nbytes " ++ (bytes ++ codes "\n"))))
+    ++ (stated ++ ((codes "before\n" ++ before) ++ (codes "after\n" ++ after)))
+    ≡ codes "ima-agent checkpoint " ++ (codes "1\n" ++ ((codes "entries " ++ (entries ++ codes "\n"))
+    ++ ((codes "bytes " ++ (bytes ++ codes "\n")) ++ (stated ++ (codes "before\n" ++ (before ++ (codes "after\n" ++ after)))))))
+parts_joined entries bytes stated before after = simp append_assoc refl
+
+-- The parts of the body, as they are written.
+pub body_parts : (known : Checkpoint)
+    → (codes "ima-agent checkpoint 1\nentries " ++ (decimal known.entries ++ (codes "\nbytes " ++ (decimal known.bytes ++ codes "\n"))))
+    ++ (stated_line known.stated
+    ++ ((codes "before\n" ++ banks_lines known.before) ++ (codes "after\n" ++ banks_lines known.after)))
+    ≡ checkpoint_body known
+body_parts known =
+    let stated = stated_line known.stated in
+    let before = banks_lines known.before in
+    let after = banks_lines known.after in
+    parts_joined (decimal known.entries) (decimal known.bytes) stated before after

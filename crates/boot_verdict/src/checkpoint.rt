@@ -138,7 +138,10 @@ fn number_at<'a>(word: &[u8], text: &'a [u8]) -> Option<(u64, &'a [u8])>
 fn number_named(digits: &[u8]) -> Option<u64>
     ensures { (number : ℕ) → number < 2 ^ 64 → digits.now ≡ decimal number → IsSomeAnd result (λ x. x ≡ number) }
 {
-    str::from_utf8(digits).ok()?.parse::<u64>().ok()
+    match str::from_utf8(digits) {
+        Ok(text) => text.parse::<u64>().ok(),
+        Err(_) => None,
+    }
 }
 
 // The boot aggregate on the line at the front, and what follows the line.
@@ -155,11 +158,18 @@ fn stated_by(words: &[u8]) -> Option<Option<Digest>>
     ensures { (stated : Option Digest) → IfSome stated (λ digest. IsHash (alg_of digest) (bytes_of digest))
         → words.now ≡ stated_words stated → IsSomeAnd result (λ x. x ≡ stated) }
 {
-    if words == b"none".as_slice() {
+    if is_none(words) {
         return Some(None);
     }
     let (name, digits) = split_once(b':', words)?;
     Some(Some(Digest::from_hex(Alg::from_name(name)?, digits)?))
+}
+
+// Whether the words are those for no boot aggregate.
+fn is_none(words: &[u8]) -> bool
+    ensures { IsTrue result ↔ (words.now ≡ codes "none") }
+{
+    words == b"none".as_slice()
 }
 
 // The banks whose lines follow this word, and what follows them.
