@@ -1,6 +1,6 @@
 -- Checkpoints: where the lines of their texts are cut, what they state, and that the same data have the same text.
-use Rattle.std.proofs.Common.{rules, ◌≡◌, ℕ, ◌+◌, ◌*◌, ◌^◌, ◌<◌, eqb, ltb, cond, Bool, true, false, List, [], ◌∷◌, ◌++◌, length, drop, slice_index, get_or, decimal, codes, Ok, Option, None, Some, refl, sym, ap, subst, ◌∙◌, inl, inr, arith, append_assoc, append-nil}
-use Rattle.std.specs.Prelude.{◌&&◌, ◌==◌, IfSome, IsSome, IsTrue, flat_map, if◌then◌else◌, is_some, nat_lt, option_map}
+use Rattle.std.proofs.Common.{rules, ◌≡◌, ℕ, ◌+◌, ◌*◌, ◌^◌, ◌<◌, eqb, ltb, cond, Bool, true, false, List, [], ◌∷◌, ◌++◌, length, drop, slice_index, get_or, decimal, codes, Result, Ok, Err, Option, None, Some, refl, sym, ap, subst, ◌∙◌, inl, inr, arith, append_assoc, append-nil}
+use Rattle.std.specs.Prelude.{◌&&◌, ◌==◌, IfOk, IfSome, IsSome, IsTrue, flat_map, if◌then◌else◌, is_some, nat_lt, option_map}
 use Rattle.std.specs.List.{AllPass}
 use Rattle.std.specs.Option.{IsSomeAnd}
 use Rattle.std.specs.Str.Iter.{LacksByte}
@@ -25,8 +25,8 @@ use Rattle.pcr_banks.specs.Sets.{has_alg}
 use Rattle.pcr_banks.proofs.SetLaws.{bytes_again, has_where}
 use Rattle.boot_verdict.specs.declared.checkpoint.Checkpoint.{Checkpoint}
 use Rattle.boot_verdict.specs.declared.expected.Expected.{Expected}
-use Rattle.boot_verdict.specs.Checkpoints.{HaveValues, IsHash, SameData, SameValues}
-use Rattle.boot_verdict.specs.CheckpointTexts.{bank_lines, banks_lines, checkpoint_text, checkpoint_body, data_lines, number_line, seal_line, stated_line, stated_words, value_line}
+use Rattle.boot_verdict.specs.Checkpoints.{HaveValues, IsCounted, IsHash, SameData, SameValues}
+use Rattle.boot_verdict.specs.CheckpointTexts.{IsOfOtherVersion, bank_lines, banks_lines, checkpoint_text, checkpoint_body, data_lines, number_line, seal_line, stated_line, stated_words, value_line}
 use Rattle.boot_verdict.specs.ExpectedTexts.{IsRegisterLine}
 use Rattle.boot_verdict.specs.RegisterTexts.{all_registers, change_line, register_line}
 use Rattle.boot_verdict.specs.Replays as replays
@@ -480,3 +480,38 @@ body_parts known =
     let before = banks_lines known.before in
     let after = banks_lines known.after in
     parts_joined (decimal known.entries) (decimal known.bytes) stated before after
+
+-- ---- the whole text
+
+three : (a b c rest : List ℕ) → (a ++ (b ++ c)) ++ rest ≡ a ++ (b ++ (c ++ rest))
+three a b c rest = simp append_assoc refl
+
+pub text_begins : (known : Checkpoint)
+    → checkpoint_text known
+    ≡ codes "ima-agent checkpoint " ++ (codes "1\n" ++ (data_lines known ++ seal_line (checkpoint_body known)))
+text_begins known = three (codes "ima-agent checkpoint ") (codes "1\n") (data_lines known) (seal_line (checkpoint_body known))
+
+pub version_is : (known : Checkpoint) (text version : List ℕ) → text ≡ codes "ima-agent checkpoint " ++ version → text ≡ checkpoint_text known
+    → version ≡ codes "1\n" ++ (data_lines known ++ seal_line (checkpoint_body known))
+version_is known text version found is =
+    append_cancel_left (codes "ima-agent checkpoint ") version (codes "1\n" ++ (data_lines known ++ seal_line (checkpoint_body known)))
+    (sym found ∙ is ∙ text_begins known)
+
+pub lines_are : (known : Checkpoint) (text version lines : List ℕ) → text ≡ codes "ima-agent checkpoint " ++ version
+    → version ≡ codes "1\n" ++ lines → text ≡ checkpoint_text known → lines ≡ data_lines known ++ seal_line (checkpoint_body known)
+lines_are known text version lines found then_found is =
+    append_cancel_left (codes "1\n") lines (data_lines known ++ seal_line (checkpoint_body known))
+    (sym then_found ∙ version_is known text version found is)
+
+pub counted_same : (first second : Checkpoint) → SameData first second → IsCounted second → IsCounted first
+counted_same first second same counted = rw (same.entries, same.bytes) counted
+
+pub ok_then : {A E : Type 0} {P Q : A → Type 0} (r : Result A E) → IfOk r P → ((x : A) → P x → Q x) → IfOk r Q
+ok_then (Ok x) is next = next x is
+ok_then (Err fault) is next = tt
+
+pub this_version : (text version lines : List ℕ) → text ≡ codes "ima-agent checkpoint " ++ version → version ≡ codes "1\n" ++ lines
+    → IsOfOtherVersion text → ⊥
+this_version text version lines found then_found other =
+    let same = append_cancel_left (codes "ima-agent checkpoint ") other.version version (sym other.begins ∙ found) in
+    other.other lines (same ∙ then_found)

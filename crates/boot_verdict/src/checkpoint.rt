@@ -91,11 +91,27 @@ pub fn read_checkpoint(alloc: Global, text: &[u8]) -> Result<Checkpoint, Checkpo
     let Some(checkpoint) = data_at(lines) else {
         return Err(CheckpointFault::Damaged);
     };
-    if checkpoint.is_counted() && is_text_of(alloc, &checkpoint, text)? {
-        Ok(checkpoint)
-    } else {
-        Err(CheckpointFault::Damaged)
+    checked(alloc, checkpoint, text)
+}
+
+// The checkpoint, if its counts are possible and this is its text.
+fn checked(
+    alloc: Global,
+    checkpoint: Checkpoint,
+    text: &[u8],
+) -> Result<Checkpoint, CheckpointFault>
+    ensures same { IfOk result (λ found. found ≡ checkpoint) }
+    ensures found { IfOk result (λ found. IsCounted found × (text.now ≡ checkpoint_text found)) }
+    ensures only { IsCounted checkpoint → text.now ≡ checkpoint_text checkpoint → IfErr result (λ fault. fault ≡ CheckpointFault.Memory) }
+    ensures version { IsErrOf result CheckpointFault.Version → ⊥ }
+{
+    if !checkpoint.is_counted() {
+        return Err(CheckpointFault::Damaged);
     }
+    if !is_text_of(alloc, &checkpoint, text)? {
+        return Err(CheckpointFault::Damaged);
+    }
+    Ok(checkpoint)
 }
 
 // Whether this is the checkpoint's text.
