@@ -515,3 +515,13 @@ pub this_version : (text version lines : List ℕ) → text ≡ codes "ima-agent
 this_version text version lines found then_found other =
     let same = append_cancel_left (codes "ima-agent checkpoint ") other.version version (sym other.begins ∙ found) in
     other.other lines (same ∙ then_found)
+
+-- Two checkpoints with the data of a third have the same data.
+pub same_both : (found first second : Checkpoint) → SameData found first → SameData found second → SameData first second
+same_both found first second one other = record {
+  entries = sym one.entries ∙ other.entries;
+  bytes = sym one.bytes ∙ other.bytes;
+  stated = sym one.stated ∙ other.stated;
+  before = λ a r. sym (one.before a r) ∙ other.before a r;
+  after = λ a r. sym (one.after a r) ∙ other.after a r;
+}

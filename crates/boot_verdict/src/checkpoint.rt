@@ -19,6 +19,7 @@ use crate::expected::register_on;
 use crate::lines::{after_prefix, split_once};
 use crate::replaying::list_start;
 use crate::texts::write_checkpoint;
+use pcr_banks::laws::{digest_is_a_hash, registers_have_hashes};
 use pcr_banks::{Alg, Banks, Digest, REGISTERS};
 use std::alloc::{AllocError, Global};
 use thiserror::Error;
@@ -44,6 +45,17 @@ impl Checkpoint {
         ensures { IsTrue result ↔ IsCounted self.now }
     {
         self.entries as u64 <= self.bytes && self.bytes < 1 << 63
+    }
+}
+
+/// Law: a checkpoint with possible counts is one that [`read_checkpoint`] reads from its text.
+pub fn counted_checkpoint_is_possible(checkpoint: &Checkpoint)
+    ensures { IsCounted checkpoint.now → IsPossible checkpoint.now }
+{
+    registers_have_hashes(&checkpoint.before);
+    registers_have_hashes(&checkpoint.after);
+    if let Some(digest) = &checkpoint.stated {
+        digest_is_a_hash(digest);
     }
 }
 
@@ -77,9 +89,12 @@ impl From<AllocError> for CheckpointFault {
 pub fn read_checkpoint(alloc: Global, text: &[u8]) -> Result<Checkpoint, CheckpointFault>
     // The text is that of the result, whose counts are possible.
     ensures found { IfOk result (λ found. IsCounted found × (text.now ≡ checkpoint_text found)) }
-    // The text of a checkpoint is read, unless memory runs out. One text is that of one checkpoint.
+    // The text of a checkpoint is read, unless memory runs out.
     ensures only { (checkpoint : Checkpoint) → IsPossible checkpoint → text.now ≡ checkpoint_text checkpoint
         → IfOk result (λ found. SameData found checkpoint) × IfErr result (λ fault. fault ≡ CheckpointFault.Memory) }
+    // It is the text of no other.
+    ensures one { (first second : Checkpoint) → IsPossible first → IsPossible second → text.now ≡ checkpoint_text first
+        → text.now ≡ checkpoint_text second → SameData first second }
     ensures version { IsErrOf result CheckpointFault.Version ↔ IsOfOtherVersion text.now }
 {
     let Some(version) = after_prefix(b"ima-agent checkpoint ", text) else {

@@ -20,7 +20,9 @@ mod stated;
 mod texts;
 mod verifier;
 
-pub use checkpoint::{Checkpoint, CheckpointFault, read_checkpoint};
+pub use checkpoint::{
+    Checkpoint, CheckpointFault, counted_checkpoint_is_possible, read_checkpoint,
+};
 pub use expected::{ExpectFault, Expected, read_expected};
 pub use list_verifier::{ListReport, verify_list_from};
 pub use locating::{locate, locate_from};

@@ -9,11 +9,12 @@ ghost use Rattle.pcr_banks.specs.declared.alg.TheConstants.Alg.{ALL};
 ghost use Rattle.pcr_banks.specs.declared.sets.AlgSet.{AlgSet};
 ghost use Rattle.pcr_banks.specs.declared.sets.PerBank.{PerBank};
 ghost use Rattle.pcr_banks.specs.Hashing.{all_algs, same_alg, size_of};
+ghost use Rattle.pcr_banks.specs.Digests.{alg_of, bytes_of};
 ghost use Rattle.pcr_banks.specs.Sets.{has_alg, digest_for};
 ghost use Rattle.pcr_banks.specs.Registers.{extended_by_all, is_active, register_count, value_at};
 ghost use Rattle.pcr_banks.specs.Binding.{ExtendsBreakHash};
 
-use crate::{Alg, Banks, REGISTERS};
+use crate::{Alg, Banks, Digest, REGISTERS};
 
 /// [`Alg::ALL`](crate::Alg::ALL) is `all_algs`, which lists each algorithm once. A test passes for every algorithm if and only
 /// if it passes for all of the list, and for some algorithm if and only if it passes for one of the list.
@@ -77,8 +78,16 @@ fn register_has_a_hash(banks: &Banks, alg: Alg, register: u32)
     ensures hash { IfSome (value_at banks.now alg register) (λ value. (length value ≡ size_of alg) × IsBytes value) }
 {
     if let Some(value) = banks.read(alg, register) {
-        are_bytes(value.bytes());
+        digest_is_a_hash(&value);
     }
+}
+
+/// A digest has bytes, as many as a hash of its algorithm.
+pub fn digest_is_a_hash(digest: &Digest)
+    ensures size { length (bytes_of digest.now) ≡ size_of (alg_of digest.now) }
+    ensures bytes { IsBytes (bytes_of digest.now) }
+{
+    are_bytes(digest.bytes());
 }
 
 // Bytes are below 256.
