@@ -157,7 +157,7 @@ row_first alg register value rest text is =
 pub has_row : (alg : Alg) (register : ℕ) (value rest text : List ℕ) → text ≡ register_line alg register value ++ rest → LacksByte 10 text → ⊥
 has_row alg register value rest text is lacks =
     let whole : Lacks 10 (body (row alg register value) ++ 10 ∷ rest) =
-        subst (λ (l : List ℕ). Lacks 10 l) (row_first alg register value rest text is) (lacks_from 10 text lacks) in
+    subst (λ (l : List ℕ). Lacks 10 l) (row_first alg register value rest text is) (lacks_from 10 text lacks) in
     not_lacked 10 (body (row alg register value)) rest whole
 
 cut_row : (alg : Alg) (register : ℕ) (value rest text line after : List ℕ) → register < register_count → IsHash alg value
@@ -209,8 +209,8 @@ AreTaken start text now count left =
 pub none_taken : (start : Banks) (text : List ℕ) → AreTaken start text start 0 text
 none_taken start text known alg more have stands active is = (
   λ a r.
-  let none : ltb r 0 ≡ false = grind (arith, nat_tests) in
-  elim (cases_Bool (same_alg a alg)) [ inl same ↦ rw (same, none) refl | inr other ↦ rw other refl ],
+      let none : ltb r 0 ≡ false = grind (arith, nat_tests) in
+      elim (cases_Bool (same_alg a alg)) [ inl same ↦ rw (same, none) refl | inr other ↦ rw other refl ],
   is,
 )
 
@@ -270,12 +270,14 @@ takes_more start text now next i left after taken lt line known alg more have st
     let sets = line alg i value.0 (flat_map (value_line known alg) (drop (i + 1) all_registers) ++ more) lt value.2
     (next_line known alg i value.0 more left lt value.1 so_far.1) in
     let here : (a : Alg) (r : ℕ) → same_alg a alg ≡ true → eqb r i ≡ true → (value_at known a r ≡ Some value.0) × IsSome (value_at start a r) =
-        λ a r same at.
-        let alg_is = same_alg_is a alg same in
-        let number = eqb-true r i at in
-        rw (alg_is, number) (value.1, stands i lt) in
-    (λ a r. chosen (same_alg a alg) (eqb r i) (ltb r i) (ltb r (i + 1)) (value_at start a r) (value_at now a r) (value_at next a r)
-    (value_at known a r) value.0 (here a r) (at_next r i) (past_next r i) (so_far.0 a r) (sets.0 a r), sets.1)
+    λ a r same at.
+    let alg_is = same_alg_is a alg same in
+    let number = eqb-true r i at in
+    rw (alg_is, number) (value.1, stands i lt) in (
+      λ a r. chosen (same_alg a alg) (eqb r i) (ltb r i) (ltb r (i + 1)) (value_at start a r) (value_at now a r) (value_at next a r)
+          (value_at known a r) value.0 (here a r) (at_next r i) (past_next r i) (so_far.0 a r) (sets.0 a r),
+      sets.1,
+    )
 
 pub all_taken : (start : Banks) (text : List ℕ) (now : Banks) (left : List ℕ) → AreTaken start text now 24 left → (known : Banks) (alg : Alg)
     (more : List ℕ) → HaveValues known → HasBank start alg → IsTrue (is_active known alg)
@@ -283,14 +285,14 @@ pub all_taken : (start : Banks) (text : List ℕ) (now : Banks) (left : List ℕ
 all_taken start text now left taken known alg more have stands active is =
     let done = taken known alg more have stands active is in (
       λ a r.
-      done.0 a r
-      ∙ elim (cases_Bool (same_alg a alg)) [
-        | inl same ↦ elim (cases_Bool (ltb r register_count)) [
-          | inl within ↦ rw (same, within) refl
-          | inr out ↦ rw (same, out) refl
-        ]
-        | inr other ↦ rw other refl
-      ],
+          done.0 a r
+          ∙ elim (cases_Bool (same_alg a alg)) [
+            | inl same ↦ elim (cases_Bool (ltb r register_count)) [
+              | inl within ↦ rw (same, within) refl
+              | inr out ↦ rw (same, out) refl
+            ]
+            | inr other ↦ rw other refl
+          ],
       done.1 ∙ ap (λ (l : List ℕ). flat_map (value_line known alg) l ++ more) (drop_of_length-le all_registers {i = 24} (omega (arith, registers.register_count))),
     )
 
@@ -326,7 +328,7 @@ not_none known alg more rest have active is =
     let line = next_line known alg 0 value.0 more (flat_map (value_line known alg) all_registers ++ more) (omega arith) value.1 refl in
     let zero : decimal 0 ≡ 48 ∷ [] = decimal_digit 0 (omega arith) in
     let first : register_line alg 0 value.0 ++ others ≡ name_of alg ++ (32 ∷ 48 ∷ (tail ++ others)) =
-        ap (λ (d : List ℕ). (name_of alg ++ (codes " " ++ (d ++ tail))) ++ others) zero ∙ append_assoc (name_of alg) (32 ∷ 48 ∷ tail) others in
+    ap (λ (d : List ℕ). (name_of alg ++ (codes " " ++ (d ++ tail))) ++ others) zero ∙ append_assoc (name_of alg) (32 ∷ 48 ∷ tail) others in
     let same = append_cancel_left (name_of alg) (32 ∷ 48 ∷ (tail ++ others)) (codes " none\n" ++ rest) (sym first ∙ sym line ∙ is) in
     let byte : ◌≡◌ {A = ℕ} 48 110 = ap (λ (l : List ℕ). slice_index l 1) same in
     absurd (omega (arith, byte))
@@ -345,14 +347,14 @@ bank_none known old new alg more rest text have is found without =
       | inr none ↦
           let lines : bank_lines known alg ≡ name_of alg ++ codes " none\n" = rw none refl in
           let whole : text ≡ name_of alg ++ (codes " none\n" ++ more) =
-              is ∙ ap (λ (l : List ℕ). l ++ more) lines ∙ append_assoc (name_of alg) (codes " none\n") more in
+          is ∙ ap (λ (l : List ℕ). l ++ more) lines ∙ append_assoc (name_of alg) (codes " none\n") more in
           let same = append_cancel_left (name_of alg) (codes " none\n" ++ rest) (codes " none\n" ++ more) (sym found ∙ whole) in (
             λ a r.
-            without a r
-            ∙ elim (cases_Bool (same_alg a alg)) [
-              | inl here ↦ rw (here, same_alg_is a alg here) (sym (no_values known alg have none r))
-              | inr other ↦ rw other refl
-            ],
+                without a r
+                ∙ elim (cases_Bool (same_alg a alg)) [
+                  | inl here ↦ rw (here, same_alg_is a alg here) (sym (no_values known alg have none r))
+                  | inr other ↦ rw other refl
+                ],
             append_cancel_left (codes " none\n") rest more same,
           )
     ]
@@ -428,8 +430,13 @@ banks_same first second same = flat_same (bank_lines first) (bank_lines second) 
 pub text_same : (first second : Checkpoint) → SameData first second → checkpoint_text first ≡ checkpoint_text second
 text_same first second same =
     let lines : data_lines first ≡ data_lines second =
-        rw (same.entries, same.bytes, same.stated, banks_same first.before second.before same.before,
-        banks_same first.after second.after same.after) refl in
+    rw (
+      same.entries,
+      same.bytes,
+      same.stated,
+      banks_same first.before second.before same.before,
+      banks_same first.after second.after same.after,
+    ) refl in
     ap (λ (l : List ℕ). let body = codes "ima-agent checkpoint " ++ (codes "1\n" ++ l) in body ++ seal_line body) lines
 
 -- What holds of the value in an option is passed on.

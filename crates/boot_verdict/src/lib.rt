@@ -33,7 +33,8 @@ pub use replaying::{list_start, replay_from};
 pub use report::{Aggregate, Report, Row, State};
 pub use requirement::{BankRange, Requirement, RequirementFault};
 pub use texts::{
-    EventData, write_checkpoint, write_events, write_expected, write_list_report, write_places, write_registers,
-    write_report, write_required_list_report, write_required_places, write_required_report,
+    EventData, write_checkpoint, write_events, write_expected, write_list_report, write_places,
+    write_registers, write_report, write_required_list_report, write_required_places,
+    write_required_report,
 };
 pub use verifier::{VerifyFault, verify, verify_from};

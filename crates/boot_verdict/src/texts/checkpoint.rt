@@ -121,12 +121,7 @@ fn write_values<S: Sink>(banks: &Banks, alg: Alg, sink: &mut S) -> Result<(), Fa
 }
 
 // Writes the register's line, if it has a value.
-fn write_value<S: Sink>(
-    banks: &Banks,
-    alg: Alg,
-    register: u32,
-    sink: &mut S,
-) -> Result<(), Failed>
+fn write_value<S: Sink>(banks: &Banks, alg: Alg, register: u32, sink: &mut S) -> Result<(), Failed>
     ensures { Sends (S.state sink.old) (S.state sink.new) result (value_line banks.now alg register) }
 {
     write_change(register, None, banks.read(alg, register), sink)

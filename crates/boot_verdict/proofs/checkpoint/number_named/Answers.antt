@@ -15,5 +15,5 @@ pub returns-in-Ok : goal.returns-in-Ok
 returns-in-Ok c =
     λ number small is.
     let parsed : c.parse.result ≡ Ok number =
-        parse-decimal 64 number c.in-Ok.text.now c.parse.result small small (c.in-Ok.ensures.cases.0 ∙ is) c.parse.ensures.value.0 in
+    parse-decimal 64 number c.in-Ok.text.now c.parse.result small small (c.in-Ok.ensures.cases.0 ∙ is) c.parse.ensures.value.0 in
     rw (c.ok.ensures.value ∙ ap result_ok parsed) refl

@@ -32,8 +32,8 @@ returns-clause-only c =
     λ known possible is.
     let found = c.in-Some-data_at.checkpoint in
     let same : SameData found known = c.in-Some-data_at.ensures known (seal_line (checkpoint_body known)) possible
-        (lines_are known c.args.text.now c.in-Some.version.now c.in-Some-after_prefix.lines.now c.in-Some.ensures.found
-        c.in-Some-after_prefix.ensures.found is) in (
+    (lines_are known c.args.text.now c.in-Some.version.now c.in-Some-after_prefix.lines.now c.in-Some.ensures.found
+    c.in-Some-after_prefix.ensures.found is) in (
       ok_then c.checked.result c.checked.ensures.same (λ x e. subst (λ (y : Checkpoint). SameData y known) (sym e) same),
       c.checked.ensures.only (counted_same found known same possible.counted) (is ∙ sym (text_same found known same)),
     )
@@ -67,8 +67,8 @@ pub returns-clause-one : goal.returns-clause-one
 returns-clause-one c =
     λ first second possible other is also.
     let lines = λ (known : Checkpoint) (e : c.args.text.now ≡ checkpoint_text known).
-        lines_are known c.args.text.now c.in-Some.version.now c.in-Some-after_prefix.lines.now c.in-Some.ensures.found
-        c.in-Some-after_prefix.ensures.found e in
+    lines_are known c.args.text.now c.in-Some.version.now c.in-Some-after_prefix.lines.now c.in-Some.ensures.found
+    c.in-Some-after_prefix.ensures.found e in
     same_both c.in-Some-data_at.checkpoint first second
     (c.in-Some-data_at.ensures first (seal_line (checkpoint_body first)) possible (lines first is))
     (c.in-Some-data_at.ensures second (seal_line (checkpoint_body second)) other (lines second also))

@@ -1,4 +1,4 @@
-use Rattle.std.proofs.Common.{◌≡◌, ℕ, ◌<◌, length, arith, List}
+use Rattle.std.proofs.Common.{◌≡◌, ℕ, length, arith, List}
 use Rattle.std.specs.Prelude.{IsTrue, IsSome, IfSome}
 use Rattle.hex.specs.Hex.{IsBytes}
 use Rattle.pcr_banks.specs.Hashing.{size_of}
