@@ -148,7 +148,7 @@ no_value line name rest number digits alg e cut next named none is =
 
 -- ---- a line says one thing
 
-one_line : (line : List ℕ) (e other : Expected) → IsRegisterLine line e → IsRegisterLine line other → e ≡ other
+pub one_line : (line : List ℕ) (e other : Expected) → IsRegisterLine line e → IsRegisterLine line other → e ≡ other
 one_line line e other is another =
     let name = one_cut 32 (name_of e.alg) (name_of other.alg) (decimal e.register ++ (codes " " ++ is.digits))
     (decimal other.register ++ (codes " " ++ another.digits)) (name_lacks e.alg) (name_lacks other.alg) (sym is.spelled ∙ another.spelled) in

@@ -15,3 +15,4 @@ pub mod RangeLaws
 pub mod WrittenLaws
 pub mod LineLaws
 pub mod RequirementLaws
+pub mod CheckpointLaws

@@ -45,7 +45,7 @@ lacks_colon (first ∷ bytes) all =
 name_no_colon : (alg : Alg) → NoColon (name_of alg)
 name_no_colon = every_alg _ (search rules)
 
-name_lacks : (alg : Alg) → Lacks 58 (name_of alg)
+pub name_lacks : (alg : Alg) → Lacks 58 (name_of alg)
 name_lacks alg = lacks_colon (name_of alg) (name_no_colon alg)
 
 pub no_colon : (text : List ℕ) (bank : BankRange) → LacksByte 58 text → IsBankRangeText text bank → ⊥

@@ -17,7 +17,7 @@ use Rattle.boot_verdict.specs.parts.StatedLines.{AddsStated, IsAdded, SaysOnce, 
 
 -- ---- one register
 
-same_digest : (digest other : Digest) → alg_of digest ≡ alg_of other → bytes_of digest ≡ bytes_of other → digest ≡ other
+pub same_digest : (digest other : Digest) → alg_of digest ≡ alg_of other → bytes_of digest ≡ bytes_of other → digest ≡ other
 same_digest digest other algs bytes =
     sym (digest_again digest) ∙ ap (λ (a : Alg). digest_of a (bytes_of digest)) algs
     ∙ ap (λ (b : List ℕ). digest_of (alg_of other) b) bytes ∙ digest_again other

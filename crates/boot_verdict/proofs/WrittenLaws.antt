@@ -105,7 +105,7 @@ all_proper (line ∷ lines) start end expected say =
 digit_above : (c d : ℕ) → hex_digit_value c ≡ Some d → 32 < c
 digit_above c d h = grind (arith)
 
-encoded_above : (bytes : List ℕ) → IsBytes bytes → AllAbove (encode_lower bytes)
+pub encoded_above : (bytes : List ℕ) → IsBytes bytes → AllAbove (encode_lower bytes)
 unfolding encode_with
 encoded_above [] fits = tt
 encoded_above (byte ∷ bytes) fits =
@@ -120,22 +120,22 @@ digits_above (first ∷ digits) all =
     let within = digit_from_value first all.0 in
     (omega (arith, within), digits_above digits all.1)
 
-decimal_above : (n : ℕ) → n < 2 ^ 64 → AllAbove (decimal n)
+pub decimal_above : (n : ℕ) → n < 2 ^ 64 → AllAbove (decimal n)
 decimal_above n small = digits_above (decimal n) ((decimal_is_IsNumeral n small).0.1)
 
 -- Bytes above a carriage return.
-abbrev AllShown : List ℕ → Type 0
+abbrev pub AllShown : List ℕ → Type 0
 AllShown bytes = AllByRecursion (λ byte. 13 < byte) bytes
 
-shown_join : (front rest : List ℕ) → AllAbove front → AllShown rest → AllShown (front ++ rest)
+pub shown_join : (front rest : List ℕ) → AllAbove front → AllShown rest → AllShown (front ++ rest)
 shown_join [] rest all others = others
 shown_join (first ∷ front) rest all others = (omega (arith, all.0), shown_join front rest all.1 others)
 
-shown : (bytes : List ℕ) → AllAbove bytes → AllShown bytes
+pub shown : (bytes : List ℕ) → AllAbove bytes → AllShown bytes
 shown [] all = tt
 shown (first ∷ bytes) all = (omega (arith, all.0), shown bytes all.1)
 
-lacks_feed : (bytes : List ℕ) → AllShown bytes → Lacks 10 bytes
+pub lacks_feed : (bytes : List ℕ) → AllShown bytes → Lacks 10 bytes
 lacks_feed [] all = tt
 lacks_feed (first ∷ bytes) all = (λ e. absurd (omega (arith, e, all.0)), lacks_feed bytes all.1)
 
@@ -157,10 +157,10 @@ kept_whole line all =
 -- ---- lines
 
 -- The line of a register, without its line feed.
-abbrev body : Expected → List ℕ
+abbrev pub body : Expected → List ℕ
 body e = name_of e.alg ++ (codes " " ++ (decimal e.register ++ (codes " " ++ encode_lower (bytes_of e.value))))
 
-body_shown : (e : Expected) → IsProper e → AllShown (body e)
+pub body_shown : (e : Expected) → IsProper e → AllShown (body e)
 body_shown e is =
     shown_join (name_of e.alg) _ (name_above e.alg) (
       omega arith,
@@ -168,7 +168,7 @@ body_shown e is =
           (omega arith, shown (encode_lower (bytes_of e.value)) (encoded_above (bytes_of e.value) is.fits)),
     )
 
-body_spells : (e : Expected) → IsProper e → IsRegisterLine (body e) e
+pub body_spells : (e : Expected) → IsProper e → IsRegisterLine (body e) e
 body_spells e is = record {
   digits = encode_lower (bytes_of e.value);
   exists = is.exists;
@@ -178,7 +178,7 @@ body_spells e is = record {
   spelled = refl;
 }
 
-line_is : (e : Expected) (rest : List ℕ) → expected_line e ++ rest ≡ body e ++ 10 ∷ rest
+pub line_is : (e : Expected) (rest : List ℕ) → expected_line e ++ rest ≡ body e ++ 10 ∷ rest
 line_is e rest =
     let digits = encode_lower (bytes_of e.value) in
     simp append_assoc refl

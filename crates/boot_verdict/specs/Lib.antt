@@ -18,3 +18,5 @@ pub mod Requirements
 pub mod RequiredTexts
 pub mod ListVerdicts
 pub mod WrittenTexts
+pub mod Checkpoints
+pub mod CheckpointTexts

@@ -7,3 +7,4 @@ pub mod RangeEnds
 pub mod RequirementParts
 pub mod Watches
 pub mod Following
+pub mod CheckpointParts

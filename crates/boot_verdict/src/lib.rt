@@ -2,6 +2,7 @@
 //! texts of events, registers, reports and places.
 #![tactic(auto)]
 
+mod checkpoint;
 mod expected;
 pub mod laws;
 mod lines;
@@ -20,6 +21,9 @@ mod steps;
 mod texts;
 mod verifier;
 
+pub use checkpoint::{
+    Checkpoint, CheckpointFault, counted_checkpoint_is_possible, read_checkpoint,
+};
 pub use expected::{ExpectFault, Expected, read_expected};
 pub use list_verifier::{ListReport, verify_list_from};
 pub use locating::{locate, locate_from};
@@ -30,7 +34,8 @@ pub use replaying::{list_start, replay_from};
 pub use report::{Aggregate, Report, Row, State};
 pub use requirement::{BankRange, Requirement, RequirementFault};
 pub use texts::{
-    EventData, write_events, write_expected, write_list_report, write_places, write_registers,
-    write_report, write_required_list_report, write_required_places, write_required_report,
+    EventData, write_checkpoint, write_events, write_expected, write_list_report, write_places,
+    write_registers, write_report, write_required_list_report, write_required_places,
+    write_required_report,
 };
 pub use verifier::{VerifyFault, verify, verify_from};

@@ -1,5 +1,6 @@
-//! The texts of events, expected registers, places, registers and reports.
+//! The texts of checkpoints, events, expected registers, places, registers and reports.
 
+mod checkpoint;
 mod digits;
 mod events;
 mod expected;
@@ -9,6 +10,7 @@ mod registers;
 mod report;
 mod required;
 
+pub use checkpoint::write_checkpoint;
 pub use events::{EventData, write_events};
 pub use expected::write_expected;
 pub use list_report::{write_list_report, write_required_list_report};

@@ -32,15 +32,33 @@ at_set xs i r y lt =
       | inr there ↦ rw there (set_other xs i r y (λ e. both_ways (eqb r i) there (eq-eqb r i e)))
     ]
 
-changed : (alg : Alg) (below here : Bool) (old new digest : List ℕ) (before : Option (List ℕ)) → (here ≡ true → before ≡ Some old)
-    → value_in alg new ≡ extended_value alg (value_in alg old) digest
+-- One register of a bank changed by this, the others as they were.
+abbrev Changes : Alg → (List ℕ → List ℕ) → List (List ℕ) → List (List ℕ) → ℕ → ℕ → Type 0
+Changes alg change registers after index r =
+    in_bank alg (Some after) r
+    ≡ cond (eqb r index) (option_map change (in_bank alg (Some registers) r)) (in_bank alg (Some registers) r)
+
+changed : (alg : Alg) (change : List ℕ → List ℕ) (below here : Bool) (old new : List ℕ) (before : Option (List ℕ))
+    → (here ≡ true → before ≡ Some old) → value_in alg new ≡ change (value_in alg old)
     → cond below (option_map (value_in alg) (cond here (Some new) before)) None
-    ≡ cond here (option_map (extended_by alg (Some digest)) (cond below (option_map (value_in alg) before) None))
-    (cond below (option_map (value_in alg) before) None)
-changed alg false true old new digest before is extended = refl
-changed alg false false old new digest before is extended = refl
-changed alg true false old new digest before is extended = refl
-changed alg true true old new digest before is extended = rw (is refl) (ap (λ (v : List ℕ). Some v) extended)
+    ≡ cond here (option_map change (cond below (option_map (value_in alg) before) None)) (cond below (option_map (value_in alg) before) None)
+changed alg change false true old new before is new_is = refl
+changed alg change false false old new before is new_is = refl
+changed alg change true false old new before is new_is = refl
+changed alg change true true old new before is new_is = rw (is refl) (ap (λ (v : List ℕ). Some v) new_is)
+
+changes_one : (alg : Alg) (change : List ℕ → List ℕ) (registers : List (List ℕ)) (index : ℕ) (old new : List ℕ) → index < length registers
+    → slice_get registers index ≡ Some old → value_in alg new ≡ change (value_in alg old)
+    → (r : ℕ) → Changes alg change registers (set registers index new) index r
+changes_one alg change registers index old new lt is new_is r =
+    rw (at_set registers index r new lt) (changed alg change (ltb r register_count) (eqb r index) old new (slice_get registers r)
+    (λ here. let e : r ≡ index = eqb-true r index here in rw e is) new_is)
+
+-- A register set to a value.
+pub set_one : (alg : Alg) (registers : List (List ℕ)) (index : ℕ) (old new value : List ℕ) → index < length registers
+    → slice_get registers index ≡ Some old → value_in alg new ≡ value
+    → (r : ℕ) → Changes alg (λ _. value) registers (set registers index new) index r
+set_one alg registers index old new value lt is new_is = changes_one alg (λ _. value) registers index old new lt is new_is
 
 -- A register extended by a digest, the others as they were.
 pub extends_one : (alg : Alg) (registers : List (List ℕ)) (index : ℕ) (old new digest : List ℕ) → index < length registers
@@ -48,9 +66,7 @@ pub extends_one : (alg : Alg) (registers : List (List ℕ)) (index : ℕ) (old n
     → ExtendsBank alg (Some registers) (Some (set registers index new)) index (Some digest)
 extends_one alg registers index old new digest lt is extended = record {
   active = refl;
-  values = λ r.
-      rw (at_set registers index r new lt) (changed alg (ltb r register_count) (eqb r index) old new digest (slice_get registers r)
-      (λ here. let e : r ≡ index = eqb-true r index here in rw e is) extended);
+  values = changes_one alg (extended_by alg (Some digest)) registers index old new lt is extended;
 }
 
 kept : (b : Bool) (value : Option (List ℕ)) → value ≡ cond b (option_map (λ v. v) value) value

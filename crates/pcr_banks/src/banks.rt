@@ -1,5 +1,7 @@
-ghost use Rattle.std.specs.Prelude.{◌≡◌, ℕ, ◌<◌, ◌&&◌, nat_lt, if◌then◌else◌, slice_get, option_map, Some, None, is_some, IsTrue, IsSome};
-ghost use Rattle.pcr_banks.specs.Digests.{bytes_of, digest_of};
+ghost use Rattle.std.specs.Prelude.{◌≡◌, ℕ, ◌<◌, ◌&&◌, ◌==◌, nat_lt, if◌then◌else◌, slice_get, option_map, Some, None, false, is_some, IsTrue, IsSome};
+ghost use Rattle.pcr_banks.specs.Hashing.{same_alg};
+ghost use Rattle.pcr_banks.specs.Digests.{alg_of, bytes_of, digest_of};
+ghost use Rattle.pcr_banks.specs.declared.alg.Alg.{Alg};
 ghost use Rattle.pcr_banks.specs.Registers.{register_count, IsReset, Extends, ExtendsBank, extended_value, is_active, value_at, value_in, in_bank, reset_value};
 
 use crate::digest::MOST_BYTES;
@@ -48,6 +50,33 @@ impl Banks {
     {
         let register = self.banks.get(alg).as_ref()?.get(register as usize)?;
         Digest::from_bytes(alg, &register[..alg.size()])
+    }
+
+    /// The banks with this value in a register, of the bank of the digest's algorithm. If that bank is not active, or the register
+    /// is not below [`REGISTERS`], they are as before.
+    pub fn with(self, register: u32, value: &Digest) -> Self
+        ensures active { (a : Alg) → is_active result a ≡ is_active self a }
+        ensures values { (a : Alg) (r : ℕ) → value_at result a r
+            ≡ (if same_alg a (alg_of value.now) && (r == register) then option_map (λ _. bytes_of value.now) (value_at self a r)
+            else value_at self a r) }
+    {
+        let mut banks = self.banks;
+        let alg = value.alg();
+        banks.set(
+            alg,
+            bank_with(*self.banks.get(alg), register as usize, value),
+        );
+        Banks { banks }
+    }
+
+    /// The banks without that of the algorithm.
+    pub fn without(self, alg: Alg) -> Self
+        ensures active { (a : Alg) → is_active result a ≡ (if same_alg a alg then false else is_active self a) }
+        ensures values { (a : Alg) (r : ℕ) → value_at result a r ≡ (if same_alg a alg then None else value_at self a r) }
+    {
+        let mut banks = self.banks;
+        banks.set(alg, None);
+        Banks { banks }
     }
 
     /// Extends a register in each active bank for which there is a digest: the new value is the hash of the old value followed by
@@ -118,6 +147,28 @@ fn reset_register(alg: Alg, register: usize, locality: u8) -> Register
         17..=22 => [0xFF; MOST_BYTES],
         _ => [0x00; MOST_BYTES],
     }
+}
+
+// The bank with this value, which is of its algorithm, in a register, if there are both a bank and such a register.
+fn bank_with(bank: Option<Bank>, index: usize, value: &Digest) -> Option<Bank>
+    ensures active { is_some result ≡ is_some bank }
+    ensures values { (r : ℕ) → in_bank (alg_of value.now) result r
+        ≡ (if r == index then option_map (λ _. bytes_of value.now) (in_bank (alg_of value.now) bank r)
+        else in_bank (alg_of value.now) bank r) }
+{
+    let mut registers = bank?;
+    if index < PLACES {
+        set_register(&mut registers[index], value);
+    }
+    Some(registers)
+}
+
+// Puts a value into a register of its algorithm's bank.
+fn set_register(register: &mut Register, value: &Digest)
+    ensures { value_in (alg_of value.now) register.new ≡ bytes_of value.now }
+{
+    let bytes = value.bytes();
+    register[..bytes.len()].copy_from_slice(bytes);
 }
 
 // Extends a register of the algorithm's bank if there are both a bank and a digest.

@@ -1,18 +1,20 @@
 //! Laws: consequences of the definitions, each the contract of a function that does nothing, or only reads.
 
-ghost use Rattle.std.specs.Prelude.{◌≡◌, ◌↔◌, ◌⊎◌, ℕ, Bool, List, length, count_by, IsTrue};
+ghost use Rattle.std.specs.Prelude.{◌≡◌, ◌↔◌, ◌⊎◌, ℕ, ◌<◌, Bool, List, length, count_by, IsTrue, IsSome, IfSome};
 ghost use Rattle.std.specs.List.{list_all, list_any};
 ghost use Rattle.std.specs.Option.{ForSome};
+ghost use Rattle.hex.specs.Hex.{IsBytes};
 ghost use Rattle.pcr_banks.specs.declared.alg.Alg.{Alg};
 ghost use Rattle.pcr_banks.specs.declared.alg.TheConstants.Alg.{ALL};
 ghost use Rattle.pcr_banks.specs.declared.sets.AlgSet.{AlgSet};
 ghost use Rattle.pcr_banks.specs.declared.sets.PerBank.{PerBank};
 ghost use Rattle.pcr_banks.specs.Hashing.{all_algs, same_alg, size_of};
+ghost use Rattle.pcr_banks.specs.Digests.{alg_of, bytes_of};
 ghost use Rattle.pcr_banks.specs.Sets.{has_alg, digest_for};
-ghost use Rattle.pcr_banks.specs.Registers.{extended_by_all, value_at};
+ghost use Rattle.pcr_banks.specs.Registers.{extended_by_all, is_active, register_count, value_at};
 ghost use Rattle.pcr_banks.specs.Binding.{ExtendsBreakHash};
 
-use crate::{Alg, Banks};
+use crate::{Alg, Banks, Digest, REGISTERS};
 
 /// [`Alg::ALL`](crate::Alg::ALL) is `all_algs`, which lists each algorithm once. A test passes for every algorithm if and only
 /// if it passes for all of the list, and for some algorithm if and only if it passes for one of the list.
@@ -44,6 +46,54 @@ pub fn register_has_the_size_of_a_hash(banks: &Banks, alg: Alg, register: u32)
         let _ = value.bytes();
     }
 }
+
+/// Each register of an active bank has a value: bytes, as many as a hash of the bank's algorithm has.
+pub fn registers_have_hashes(banks: &Banks)
+    ensures whole { (alg : Alg) (register : ℕ) → IsTrue (is_active banks.now alg) → register < register_count
+        → IsSome (value_at banks.now alg register) }
+    ensures hashes { (alg : Alg) (register : ℕ) → IfSome (value_at banks.now alg register)
+        (λ value. (length value ≡ size_of alg) × IsBytes value) }
+{
+    bank_has_hashes(banks, Alg::Sha1);
+    bank_has_hashes(banks, Alg::Sha256);
+    bank_has_hashes(banks, Alg::Sha384);
+    bank_has_hashes(banks, Alg::Sha512);
+}
+
+// The same of one bank.
+fn bank_has_hashes(banks: &Banks, alg: Alg)
+    ensures whole { (register : ℕ) → register < register_count → IsTrue (is_active banks.now alg)
+        → IsSome (value_at banks.now alg register) }
+    ensures hashes { (register : ℕ) → IfSome (value_at banks.now alg register)
+        (λ value. (length value ≡ size_of alg) × IsBytes value) }
+{
+    for register in 0..REGISTERS {
+        register_has_a_hash(banks, alg, register);
+    }
+}
+
+// The same of one register.
+fn register_has_a_hash(banks: &Banks, alg: Alg, register: u32)
+    ensures whole { IsTrue (is_active banks.now alg) → register < register_count → IsSome (value_at banks.now alg register) }
+    ensures hash { IfSome (value_at banks.now alg register) (λ value. (length value ≡ size_of alg) × IsBytes value) }
+{
+    if let Some(value) = banks.read(alg, register) {
+        digest_is_a_hash(&value);
+    }
+}
+
+/// A digest has bytes, as many as a hash of its algorithm.
+pub fn digest_is_a_hash(digest: &Digest)
+    ensures size { length (bytes_of digest.now) ≡ size_of (alg_of digest.now) }
+    ensures bytes { IsBytes (bytes_of digest.now) }
+{
+    are_bytes(digest.bytes());
+}
+
+// Bytes are below 256.
+fn are_bytes(bytes: &[u8])
+    ensures { IsBytes bytes.now }
+{}
 
 /// What the value of a register tells. If two sequences of extends end in the same value, they have the same start value and the
 /// same digests in the same order, or they break the hash. Each extend hashes one input: the value before it, followed by its

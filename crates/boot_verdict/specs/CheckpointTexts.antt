@@ -1,0 +1,62 @@
+-- A checkpoint, as text. All of this is this project's choice.
+use Rattle.std.specs.Prelude.{◌≡◌, ℕ, List, ◌++◌, codes, decimal, flat_map, if◌then◌else◌, Option, Some, None, is_some}
+use Rattle.hex.specs.Hex.{encode_lower}
+use Rattle.pcr_banks.specs.declared.alg.Alg.{Alg}
+use Rattle.pcr_banks.specs.declared.alg.Alg.TheVariants.{Sha256}
+use Rattle.pcr_banks.specs.declared.banks.Banks.{Banks}
+use Rattle.pcr_banks.specs.declared.digest.Digest.{Digest}
+use Rattle.pcr_banks.specs.Hashing.{all_algs, hash_of, name_of}
+use Rattle.pcr_banks.specs.Digests.{alg_of, bytes_of}
+use Rattle.pcr_banks.specs.Registers.{value_at}
+use Rattle.boot_verdict.specs.declared.checkpoint.Checkpoint.{Checkpoint}
+use Rattle.boot_verdict.specs.RegisterTexts.{all_registers, change_line}
+
+-- A line of a word and a number in decimal.
+abbrev pub number_line : List ℕ → ℕ → List ℕ
+number_line word number = word ++ (decimal number ++ codes "\n")
+
+-- The boot aggregate: its algorithm and its digits, or that there is none.
+abbrev pub stated_words : Option Digest → List ℕ
+stated_words None = codes "none"
+stated_words (Some digest) = name_of (alg_of digest) ++ (codes ":" ++ encode_lower (bytes_of digest))
+
+abbrev pub stated_line : Option Digest → List ℕ
+stated_line stated = codes "boot_aggregate " ++ (stated_words stated ++ codes "\n")
+
+-- The line of a register, where it has a value.
+abbrev pub value_line : Banks → Alg → ℕ → List ℕ
+value_line banks alg register = change_line alg register None (value_at banks alg register)
+
+-- The lines of a bank: one for each register, or, where the first has no value, one that says that the bank is not active.
+abbrev pub bank_lines : Banks → Alg → List ℕ
+bank_lines banks alg =
+    if is_some (value_at banks alg 0) then flat_map (value_line banks alg) all_registers else name_of alg ++ codes " none\n"
+
+-- The lines of all banks, in the order of algorithms.
+abbrev pub banks_lines : Banks → List ℕ
+banks_lines banks = flat_map (bank_lines banks) all_algs
+
+-- The lines of the data.
+abbrev pub data_lines : Checkpoint → List ℕ
+data_lines checkpoint =
+    number_line (codes "entries ") checkpoint.entries
+    ++ (number_line (codes "bytes ") checkpoint.bytes
+    ++ (stated_line checkpoint.stated
+    ++ (codes "before\n" ++ (banks_lines checkpoint.before ++ (codes "after\n" ++ banks_lines checkpoint.after)))))
+
+-- What stands before the last line.
+abbrev pub checkpoint_body : Checkpoint → List ℕ
+checkpoint_body checkpoint = codes "ima-agent checkpoint " ++ (codes "1\n" ++ data_lines checkpoint)
+
+-- The last line: the SHA-256 of what stands before it.
+abbrev pub seal_line : List ℕ → List ℕ
+seal_line body = codes "sha256 " ++ (encode_lower (hash_of Sha256 body) ++ codes "\n")
+
+abbrev pub checkpoint_text : Checkpoint → List ℕ
+checkpoint_text checkpoint = checkpoint_body checkpoint ++ seal_line (checkpoint_body checkpoint)
+
+-- The text begins as that of a checkpoint does, but then does not have this version.
+pub record IsOfOtherVersion (text : List ℕ) : Type 0 where
+  pub version : List ℕ
+  pub begins : text ≡ codes "ima-agent checkpoint " ++ version
+  pub other : (rest : List ℕ) → version ≡ codes "1\n" ++ rest → ⊥
