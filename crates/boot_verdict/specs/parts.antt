@@ -8,3 +8,4 @@ pub mod RequirementParts
 pub mod Watches
 pub mod Following
 pub mod CheckpointParts
+pub mod Gathering

@@ -48,7 +48,7 @@ module _ (log : List ℕ) (old new : SinkState) where
     text_is = refl;
   }))
 
-  pub all_shown : SendsEvents log old new (Ok tt) → Streams (ShowsEventsIn log) old new (Ok tt)
+  pub all_shown : SendsEvents log old new (Ok tt) → Streams true (ShowsEventsIn log) old new (Ok tt)
   all_shown (inl sent) = record {
     text = log_lines sent.table sent.events;
     sends = Sends-ok old new tt tt (log_lines sent.table sent.events) sent.sends;
@@ -57,7 +57,7 @@ module _ (log : List ℕ) (old new : SinkState) where
   all_shown (inr none) = absurd none.refused
 
   pub sink_fails : (failed : Failed) → SendsEvents log old new (Err events.Sink)
-      → Streams (ShowsEventsIn log) old new (Err (streams.Sink failed))
+      → Streams true (ShowsEventsIn log) old new (Err (streams.Sink failed))
   sink_fails failed (inl sent) = record {
     text = log_lines sent.table sent.events;
     sends = record { ok = tt; part = sent.sends.part; telling = sent.sends.telling; counts = sent.sends.counts };
@@ -93,7 +93,7 @@ module _ (log : List ℕ) (old new : SinkState) where
   no_line last status (inr told) = inr (inr told)
 
   pub fault_shown : (fault : LogFault) → SendsEvents log old new (Err (events.Log fault))
-      → Streams (ShowsEventsIn log) old new (failed_with (runs.Log fault))
+      → Streams true (ShowsEventsIn log) old new (failed_with (runs.Log fault))
   fault_shown fault (inl sent) = record {
     text = log_lines sent.table sent.events;
     sends = Sends-ok old new tt tt (log_lines sent.table sent.events) sent.sends;
@@ -101,7 +101,7 @@ module _ (log : List ℕ) (old new : SinkState) where
   }
   fault_shown fault (inr none) = record { text = []; sends = Sends-ok old new tt tt [] none.sends; goes_on = no_header fault none }
 
-  pub no_memory_shown : SendsEvents log old new (Err events.Memory) → Streams (ShowsEventsIn log) old new (failed_with runs.Memory)
+  pub no_memory_shown : SendsEvents log old new (Err events.Memory) → Streams true (ShowsEventsIn log) old new (failed_with runs.Memory)
   no_memory_shown (inl sent) = record {
     text = log_lines sent.table sent.events;
     sends = Sends-ok old new tt tt (log_lines sent.table sent.events) sent.sends;
@@ -153,11 +153,11 @@ module _ (inputs : Inputs) (name : List ℕ) where
   not_loaded_told fault is last status (inr told) = inr (runs.Memory, inr (inr refl), told)
 
   pub not_loaded : (sink : SinkState) (fault : RunFault) → IsInputFault inputs (Some name) fault
-      → Streams (ShowsEventsOf inputs name) sink sink (failed_with fault)
+      → Streams true (ShowsEventsOf inputs name) sink sink (failed_with fault)
   not_loaded sink fault is = record { text = []; sends = Sends-none sink tt; goes_on = not_loaded_told fault is }
 
   pub loaded_shown : (log : List ℕ) (old new : SinkState) (result : Result (Unit {0}) StreamFault) → Holds inputs (Some name) log
-      → Streams (ShowsEventsIn log) old new result → Streams (ShowsEventsOf inputs name) old new result
+      → Streams true (ShowsEventsIn log) old new result → Streams true (ShowsEventsOf inputs name) old new result
   loaded_shown log old new result held sent =
       streams_so (ShowsEventsIn log) (ShowsEventsOf inputs name) old new result (of_bytes log held) sent
 

@@ -10,6 +10,7 @@ pub mod ListVerifyingLaws
 pub mod ExpectingLaws
 pub mod EscapingLaws
 pub mod EntryLineLaws
+pub mod EventShowingLaws
 pub mod EventStreamingLaws
 pub mod JsonLaws
 pub mod StreamingLaws

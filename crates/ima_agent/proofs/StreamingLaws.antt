@@ -1,5 +1,5 @@
 -- Outputs that are written while their input is read: what was sent of a list is what the program is asked for.
-use Rattle.std.proofs.Common.{◌≡◌, ◌⊎◌, ℕ, ◌<◌, true, List, [], ◌++◌, length, Option, None, Some, Result, Ok, Err, refl, sym, ap, subst, ◌∙◌, append_assoc, append-nil, arith, inl, inr, codes, string_bytes}
+use Rattle.std.proofs.Common.{◌≡◌, ◌⊎◌, ℕ, ◌<◌, Bool, true, List, [], ◌++◌, length, Option, None, Some, Result, Ok, Err, refl, sym, ap, subst, ◌∙◌, append_assoc, append-nil, arith, inl, inr, codes, string_bytes}
 use Rattle.std.specs.Prelude.{IfSome, IsTrue, String}
 use Rattle.std.specs.Global.{Global}
 use Rattle.std.specs.Io.KnownBytes.{IsAtEnd}
@@ -124,7 +124,7 @@ module _ (inputs : Inputs) (name : List ℕ) where
 
   -- The input was not opened.
   pub not_opened : (sink : SinkState) (fault : RunFault) → IsReading [] (Ok []) → IsNotRead name fault ⊎ (fault ≡ runs.Memory)
-      → IsTrue (inputs.may_fail (Some name)) → Streams (ShowsEntriesOf inputs name) sink sink (Err (streams.Run fault))
+      → IsTrue (inputs.may_fail (Some name)) → Streams true (ShowsEntriesOf inputs name) sink sink (Err (streams.Run fault))
   not_opened sink fault nothing cause may =
       let any = held_any (inputs.held (Some name)) in
       let ends : EndsAfterEntries inputs name [] [] [] fault = elim cause [
@@ -193,7 +193,7 @@ module _ (inputs : Inputs) (name : List ℕ) where
     lasting : (first : ListFault) (sends : SendsEntries old.remaining new.remaining input_limit sink_old sink_new (Err (entries.List first)))
         → FailsFor sends.list first → list_fault_entry first ≡ Some (length sends.entries)
         → Sends {A = Unit {0}} {E = EntriesFault} sink_old sink_new (Ok tt) (entry_lines sends.entries)
-        → Streams (ShowsEntriesOf inputs name) sink_old sink_new (Err (streams.Run (runs.List first)))
+        → Streams true (ShowsEntriesOf inputs name) sink_old sink_new (Err (streams.Run (runs.List first)))
     lasting first sends fails names sent =
         let came = came_of sends.list sends.over sends.came in
         record {
@@ -207,7 +207,7 @@ module _ (inputs : Inputs) (name : List ℕ) where
     breaks_off : (list over : List ℕ) (es : List ListEntry) (rest : List ℕ) (fault : RunFault)
         → CameFrom old.remaining new.remaining input_limit list over → BeginsWith list es rest
         → Sends {A = Unit {0}} {E = EntriesFault} sink_old sink_new (Ok tt) (entry_lines es)
-        → EndsAfterEntries inputs name list es rest fault → Streams (ShowsEntriesOf inputs name) sink_old sink_new (Err (streams.Run fault))
+        → EndsAfterEntries inputs name list es rest fault → Streams true (ShowsEntriesOf inputs name) sink_old sink_new (Err (streams.Run fault))
     breaks_off list over es rest fault from begins sent ends =
         let came = came_of list over from in
         record {
@@ -232,7 +232,7 @@ module _ (inputs : Inputs) (name : List ℕ) where
     -- What was sent of the entries is what is asked for.
     shown : (first : Result (Unit {0}) EntriesFault) (result : Result (Unit {0}) StreamFault)
         → SendsEntries old.remaining new.remaining input_limit sink_old sink_new first → IsStreamResultOf name first result
-        → (first ≡ Err entries.Source → HasFailed old new) → Streams (ShowsEntriesOf inputs name) sink_old sink_new result
+        → (first ≡ Err entries.Source → HasFailed old new) → Streams true (ShowsEntriesOf inputs name) sink_old sink_new result
     shown (Ok tt) result sends is failed = rw is (record {
       text = entry_lines sends.entries;
       sends = sent_ok sink_old sink_new tt tt (entry_lines sends.entries) sends.sends;
@@ -280,14 +280,14 @@ module _ (inputs : Inputs) (name : List ℕ) where
         (inr (inr (refl, sends.begins))))
 
     pub entries_shown : (result : Result (Unit {0}) StreamFault) → SendsEntriesOf name old new sink_old sink_new result
-        → Streams (ShowsEntriesOf inputs name) sink_old sink_new result
+        → Streams true (ShowsEntriesOf inputs name) sink_old sink_new result
     entries_shown result of = shown of.first result of.sends of.result_is of.failed
 
 -- ---- the outcome of a plan
 
 -- What is asked for in one way is asked for in another.
-pub streams_so : (P Q : List ℕ → ℕ → Type 0) (old new : SinkState) (result : Result (Unit {0}) StreamFault)
-    → ((text : List ℕ) (status : ℕ) → P text status → Q text status) → Streams P old new result → Streams Q old new result
+pub streams_so : {json : Bool} (P Q : List ℕ → ℕ → Type 0) (old new : SinkState) (result : Result (Unit {0}) StreamFault)
+    → ((text : List ℕ) (status : ℕ) → P text status → Q text status) → Streams json P old new result → Streams json Q old new result
 streams_so P Q old new (Ok tt) so sent = record { text = sent.text; sends = sent.sends; goes_on = so sent.text 0 sent.goes_on }
 streams_so P Q old new (Err (streams.Sink failed)) so sent =
     record {
@@ -309,7 +309,7 @@ entries_outcome inputs list text status (inr fails) = inr (inr fails)
 
 -- ---- the answer to what was sent
 
-pub answers_done : (P : List ℕ → ℕ → Type 0) (old new : SinkState) → Streams P old new (Ok tt) → Answers P 0 old new
+pub answers_done : {json : Bool} (P : List ℕ → ℕ → Type 0) (old new : SinkState) → Streams json P old new (Ok tt) → Answers P 0 old new
 answers_done P old new sent = record {
   text = sent.text;
   status = 0;
@@ -319,7 +319,7 @@ answers_done P old new sent = record {
   answer_is = refl;
 }
 
-pub answers_cut : (P : List ℕ → ℕ → Type 0) (old new : SinkState) (failed : Failed) → Streams P old new (Err (streams.Sink failed))
+pub answers_cut : {json : Bool} (P : List ℕ → ℕ → Type 0) (old new : SinkState) (failed : Failed) → Streams json P old new (Err (streams.Sink failed))
     → Answers P 3 old new
 answers_cut P old new failed sent = record {
   text = sent.text ++ sent.goes_on.0;
@@ -330,8 +330,8 @@ answers_cut P old new failed sent = record {
   answer_is = refl;
 }
 
-pub answers_failed : (P : List ℕ → ℕ → Type 0) (old mid new : SinkState) (fault : RunFault) (answer : ℕ)
-    → Streams P old mid (Err (streams.Run fault)) → Answers (IsFailure true fault) answer mid new → Answers P answer old new
+pub answers_failed : {json : Bool} (P : List ℕ → ℕ → Type 0) (old mid new : SinkState) (fault : RunFault) (answer : ℕ)
+    → Streams json P old mid (Err (streams.Run fault)) → Answers (IsFailure json fault) answer mid new → Answers P answer old new
 answers_failed P old mid new fault answer sent told = record {
   text = sent.text ++ told.text;
   status = told.status;

@@ -21,7 +21,7 @@ use crate::measuring::measured_for;
 use crate::output::{DONE, FAILED, Form, Output};
 use crate::progress::{NoProgress, Progress};
 use crate::replaying::replayed;
-use crate::showing::{registers_after, shown_events, shown_list, shown_registers};
+use crate::showing::{registers_after, shown_list, shown_registers};
 use crate::streaming::{StreamFault, is_streamed, streamed_for};
 use crate::texts::{json_fault_line, json_memory_line, status_of, write_fault};
 use crate::verifying::{verified, verified_with};
@@ -74,7 +74,8 @@ fn exits_with(status: u8) -> ExitCode
 /// or the report on the list alone and expected registers; `events` writes the lines of a log's events, and `show` those of a list's
 /// entries; and `--help` writes the help.
 ///
-/// The whole output is prepared before its first byte is written; a fault is written as one line. But `show --json` writes the lines of
+/// The whole output is prepared before its first byte is written; a fault is written as one line. But `events` looks its log through
+/// for a fault, and then writes the lines of the events one after another, so that memory does not grow with them; `show --json` writes the lines of
 /// the entries while it reads the list, so that memory does not grow with the list, and `events --json` those of the events while it
 /// reads the loaded log: a fault's line then comes after those of the entries or events before it, whatever the fault. The status is 0 on success, 1
 /// if the report does not match, a register's value was not reached or a required register is missing, 2 for refused input, and 3 if
@@ -151,7 +152,7 @@ fn run_streamed<F: Files, S: Sink, P: Progress>(
             FAILED
         }
         Err(StreamFault::Run(fault)) => {
-            let status = failed_as_json(alloc, &fault, sink);
+            let status = failed_as(alloc, is_json(plan), &fault, sink);
             explain_fault(alloc, &fault, words, progress);
             status
         }
@@ -351,7 +352,6 @@ fn text_for<R: Threads + Wait + Sync, F: Files, P: Progress>(
             expected_from(alloc, files, printed, registers.as_deref(), Form::Text)
         }
         Plan::RegistersAfter { log } => registers_after(alloc, files, log),
-        Plan::Events { log, data } => shown_events(alloc, files, log, *data),
         Plan::Replay { list } => replayed(alloc, files, list, Form::Text),
         Plan::Show { list } => shown_list(alloc, files, list),
         _ => unreachable!(),

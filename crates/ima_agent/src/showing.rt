@@ -1,18 +1,24 @@
 //! The registers and the events of a log and the entries of a list, as text.
 
-ghost use Rattle.std.specs.Prelude.{◌≡◌, ◌⊎◌, ◌++◌, List, ℕ, flat_map, None, Some, IfOk, IfErr, OnOk};
+ghost use Rattle.std.specs.Prelude.{◌≡◌, ◌⊎◌, ◌++◌, List, ℕ, false, flat_map, None, Some, IfOk, IfErr, OnOk};
 ghost use Rattle.ima_list.specs.Lines.{line_of};
 ghost use Rattle.ima_agent.specs.Loading.{IsInputFault, OfInput};
-ghost use Rattle.ima_agent.specs.Showing.{AreRegistersAfter, IsFitted, IsNoListFor, IsNoLogFor, IsRefusedFor, ShowsEvents, ShowsList, ShowsRegisters, ShowsRegistersAfter, data_of};
+ghost use Rattle.ima_agent.specs.Showing.{AreRegistersAfter, IsFitted, IsNoListFor, IsNoLogFor, IsRefusedFor, ShowsList, ShowsRegisters, ShowsRegistersAfter, data_of};
 ghost use Rattle.ima_agent.specs.parts.Showing.{HasAdded, IsKept};
+ghost use Rattle.boot_log.specs.declared.header.Row.{Row};
+ghost use Rattle.boot_log.specs.LogViews.{log_bytes};
+ghost use Rattle.boot_log.specs.Spelling.{IsLog, LogEvent};
+ghost use Rattle.ima_agent.specs.Streaming.{Streams};
+ghost use Rattle.ima_agent.specs.parts.Streaming.{ShowsPlainEventsIn, ShowsPlainEventsOf};
 
 use crate::fault::RunFault;
 use crate::files::Files;
 use crate::hexadecimal::{HexFault, decode_hexadecimal};
 use crate::inputs::loaded;
+use crate::streaming::StreamFault;
 use boot_log::LogView;
 use boot_verdict::{EventData, write_events, write_registers};
-use byte_streams::{Failed, VecSink};
+use byte_streams::{Failed, Sink, VecSink};
 use command_line::DataShown;
 use ima_list::laws::entries_to_the_end_are_the_reading;
 use ima_list::{Entry, EntryRef};
@@ -43,19 +49,48 @@ pub(crate) fn registers_after<F: Files>(
     registers_on(alloc, &bytes)
 }
 
-/// The lines of the header and the events of the log in the file of this name.
-pub(crate) fn shown_events<F: Files>(
+/// Writes the lines of the header and the events of the log in the file of this name, which is looked through for its fault before.
+pub(crate) fn events_written<F: Files, S: Sink>(
     alloc: Global,
     files: &mut F,
     log: &str,
     requested: DataShown,
-) -> Result<Vec<u8>, RunFault>
-    ensures shown { IfOk result (λ shown. OfInput (F.told files.old) (Some log.now) (λ bytes. ShowsEvents bytes requested shown.items)) }
-    ensures fault { IfErr result (λ fault. IsInputFault (F.told files.old) (Some log.now) fault
-        ⊎ OfInput (F.told files.old) (Some log.now) (λ bytes. IsNoLogFor bytes fault)) }
+    sink: &mut S,
+) -> Result<(), StreamFault>
+    ensures { Streams false (ShowsPlainEventsOf (F.told files.old) log.now requested) (S.state sink.old) (S.state sink.new) result }
 {
-    let bytes = loaded(alloc, files, Some(log))?;
-    events_of(alloc, &bytes, data_of(requested))
+    match loaded(alloc, files, Some(log)) {
+        Ok(bytes) => events_of(alloc, &bytes, requested, sink),
+        Err(fault) => Err(StreamFault::Run(fault)),
+    }
+}
+
+// The same of the log in these bytes.
+fn events_of<S: Sink>(
+    alloc: Global,
+    bytes: &[u8],
+    requested: DataShown,
+    sink: &mut S,
+) -> Result<(), StreamFault>
+    ensures { Streams false (ShowsPlainEventsIn bytes.now requested) (S.state sink.old) (S.state sink.new) result }
+{
+    let log = match viewed(bytes) {
+        Ok(log) => log,
+        Err(fault) => return Err(StreamFault::Run(fault)),
+    };
+    match write_events(alloc, &log, data_of(requested), sink) {
+        Ok(()) => Ok(()),
+        Err(fault) => Err(StreamFault::Sink(fault)),
+    }
+}
+
+// The log in these bytes, looked through.
+fn viewed(bytes: &[u8]) -> Result<LogView<'_>, RunFault>
+    ensures view { IfOk result (λ view. log_bytes view ≡ bytes.now) }
+    ensures sound { IfOk result (λ _. (table : List Row) × (events : List LogEvent) × IsLog bytes.now table events) }
+    ensures fault { IfErr result (IsNoLogFor bytes.now) }
+{
+    Ok(LogView::new(bytes)?)
 }
 
 // What an event's line has of its data, as the arguments request it.
@@ -65,19 +100,6 @@ fn data_of(requested: DataShown) -> EventData
     match requested {
         DataShown::Size => EventData::Size,
         DataShown::Bytes => EventData::Bytes,
-    }
-}
-
-// The lines of the header and the events of this log.
-fn events_of(alloc: Global, bytes: &[u8], shown: EventData) -> Result<Vec<u8>, RunFault>
-    ensures shown { IfOk result (λ text. (requested : DataShown) → shown ≡ data_of requested → ShowsEvents bytes.now requested text.items) }
-    ensures fault { IfErr result (IsNoLogFor bytes.now) }
-{
-    let log = LogView::new(bytes)?;
-    let mut text = VecSink::new(Vec::new(alloc));
-    match write_events(&log, shown, &mut text) {
-        Ok(()) => Ok(text.into_bytes()),
-        Err(Failed) => Err(RunFault::Memory),
     }
 }
 

@@ -1,6 +1,7 @@
 //! Outputs that are written while their input is read.
 
 ghost use Rattle.std.specs.Prelude.{◌≡◌, true, false};
+ghost use Rattle.command_line.specs.Commands.{is_json};
 ghost use Rattle.command_line.specs.declared.plan.Plan.TheVariants.{Json};
 ghost use Rattle.ima_agent.specs.Program.{IsOutcome};
 ghost use Rattle.ima_agent.specs.Streaming.{Streams};
@@ -9,6 +10,7 @@ ghost use Rattle.ima_agent.specs.parts.Program.{IsStreamed, IsStreamedJson, IsWh
 use crate::fault::RunFault;
 use crate::files::Files;
 use crate::json_outputs::{entries_sent, events_sent};
+use crate::showing::events_written;
 use byte_streams::{Failed, Sink};
 use command_line::{JsonPlan, Plan};
 use std::alloc::Global;
@@ -29,7 +31,7 @@ pub(crate) fn is_streamed(plan: &Plan) -> bool
 {
     matches!(
         plan,
-        Plan::Json(JsonPlan::Events { .. } | JsonPlan::Show { .. })
+        Plan::Events { .. } | Plan::Json(JsonPlan::Events { .. } | JsonPlan::Show { .. })
     )
 }
 
@@ -41,9 +43,10 @@ pub(crate) fn streamed_for<F: Files, S: Sink>(
     sink: &mut S,
 ) -> Result<(), StreamFault>
     requires { IsStreamed plan.now }
-    ensures { Streams (IsOutcome (F.told files.old) plan.now) (S.state sink.old) (S.state sink.new) result }
+    ensures { Streams (is_json plan.now) (IsOutcome (F.told files.old) plan.now) (S.state sink.old) (S.state sink.new) result }
 {
     match plan {
+        Plan::Events { log, data } => events_written(alloc, files, log, *data, sink),
         Plan::Json(plan) => streamed_json(alloc, plan, files, sink),
         _ => unreachable!(),
     }
@@ -57,7 +60,7 @@ fn streamed_json<F: Files, S: Sink>(
     sink: &mut S,
 ) -> Result<(), StreamFault>
     requires { IsStreamedJson plan.now }
-    ensures { Streams (IsOutcome (F.told files.old) (Json plan.now)) (S.state sink.old) (S.state sink.new) result }
+    ensures { Streams true (IsOutcome (F.told files.old) (Json plan.now)) (S.state sink.old) (S.state sink.new) result }
 {
     match plan {
         JsonPlan::Events { log } => events_sent(alloc, files, log, sink),

@@ -2,20 +2,21 @@
 use Rattle.command_line.specs.declared.json_plan.JsonPlan.{JsonPlan}
 use Rattle.command_line.specs.declared.json_plan.JsonPlan.TheVariants as jsons
 use Rattle.command_line.specs.declared.plan.Plan.{Plan}
-use Rattle.command_line.specs.declared.plan.Plan.TheVariants.{Verify, VerifyRequired, Locate, LocateRequired, ReplayExpected, Json, Help}
+use Rattle.command_line.specs.declared.plan.Plan.TheVariants.{Verify, VerifyRequired, Locate, LocateRequired, Events, ReplayExpected, Json, Help}
 
 -- The plan shows something of its inputs: it is not the help.
 abbrev pub ShowsInputs : Plan → Type 0
 ShowsInputs (Help text) = ⊥
 ShowsInputs plan = Unit {0}
 
--- The plan shows a text of its inputs, and its exit status is 0 whatever the text says.
+-- The plan shows a text of its inputs, which is prepared whole, and its exit status is 0 whatever the text says.
 abbrev pub ShowsText : Plan → Type 0
 ShowsText (Help text) = ⊥
 ShowsText (Verify log list expected) = ⊥
 ShowsText (VerifyRequired log list expected required) = ⊥
 ShowsText (Locate log list expected) = ⊥
 ShowsText (LocateRequired log list expected required) = ⊥
+ShowsText (Events log requested) = ⊥
 ShowsText (ReplayExpected list expected required) = ⊥
 ShowsText (Json plan) = ⊥
 ShowsText plan = Unit {0}
@@ -28,6 +29,7 @@ IsStreamedJson plan = ⊥
 
 -- The same of a plan.
 abbrev pub IsStreamed : Plan → Type 0
+IsStreamed (Events log requested) = Unit {0}
 IsStreamed (Json plan) = IsStreamedJson plan
 IsStreamed plan = ⊥
 
@@ -39,5 +41,6 @@ IsWholeJson plan = Unit {0}
 
 -- The output of the plan is prepared whole.
 abbrev pub IsWhole : Plan → Type 0
+IsWhole (Events log requested) = ⊥
 IsWhole (Json plan) = IsWholeJson plan
 IsWhole plan = Unit {0}

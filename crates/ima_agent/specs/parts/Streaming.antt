@@ -1,5 +1,5 @@
 -- The entries of a list from one source, and why not all were sent; the events of a log.
-use Rattle.std.specs.Prelude.{◌≡◌, ℕ, ◌⊎◌, List, Result, Ok, Err}
+use Rattle.std.specs.Prelude.{◌≡◌, ℕ, ◌⊎◌, false, List, Some, Result, Ok, Err}
 use Rattle.byte_streams.specs.declared.streams.Failed.{Failed}
 use Rattle.byte_streams.specs.Streams.{SinkState, SourceState}
 use Rattle.json_texts.specs.declared.entry_lines.EntriesFault.{EntriesFault}
@@ -10,9 +10,11 @@ use Rattle.ima_agent.specs.declared.fault.RunFault.TheVariants as runs
 use Rattle.ima_agent.specs.declared.streaming.StreamFault.{StreamFault}
 use Rattle.ima_agent.specs.declared.streaming.StreamFault.TheVariants as streams
 use Rattle.ima_agent.specs.Faults.{fault_of_list}
-use Rattle.ima_agent.specs.JsonFaults.{ToldAsJson}
+use Rattle.command_line.specs.declared.plan.DataShown.{DataShown}
+use Rattle.ima_agent.specs.JsonFaults.{IsFailure, ToldAsJson}
 use Rattle.ima_agent.specs.JsonShowing.{RunsOutAfterEvents, ShowsJsonEvents}
-use Rattle.ima_agent.specs.Loading.{HasFailed, IsNotRead, IsTooLong, input_limit}
+use Rattle.ima_agent.specs.Loading.{HasFailed, Inputs, IsInputFault, IsNotRead, IsTooLong, OfInput, input_limit}
+use Rattle.ima_agent.specs.Showing.{IsNoLogFor, ShowsEvents}
 
 -- The fault of the run for why not all entries of the input of this name were sent.
 abbrev pub IsStreamFaultOf : List ℕ → EntriesFault → StreamFault → Type 0
@@ -33,6 +35,17 @@ pub record SendsEntriesOf (name : List ℕ) (old new : SourceState) (sink_old si
   pub sends : SendsEntries old.remaining new.remaining input_limit sink_old sink_new first
   pub result_is : IsStreamResultOf name first result
   pub failed : first ≡ Err entries.Source → HasFailed old new
+
+-- The plain lines of the log in these bytes are shown, or why not.
+abbrev pub ShowsPlainEventsIn : List ℕ → DataShown → List ℕ → ℕ → Type 0
+ShowsPlainEventsIn log requested shown status =
+    (ShowsEvents log requested shown × (status ≡ 0)) ⊎ ((fault : RunFault) × IsNoLogFor log fault × IsFailure false fault shown status)
+
+-- The same of the log in the file of this name.
+abbrev pub ShowsPlainEventsOf : Inputs → List ℕ → DataShown → List ℕ → ℕ → Type 0
+ShowsPlainEventsOf inputs name requested shown status =
+    OfInput inputs (Some name) (λ log. ShowsPlainEventsIn log requested shown status)
+    ⊎ ((fault : RunFault) × IsInputFault inputs (Some name) fault × IsFailure false fault shown status)
 
 -- The log in these bytes is shown while its events are read; after them, or before the first line, memory may run out.
 abbrev pub ShowsEventsIn : List ℕ → List ℕ → ℕ → Type 0

@@ -1,6 +1,6 @@
 //! The entries of a list with `--json`.
 
-ghost use Rattle.std.specs.Prelude.{◌≡◌, IfOk};
+ghost use Rattle.std.specs.Prelude.{◌≡◌, true, IfOk};
 ghost use Rattle.ima_agent.specs.JsonShowing.{ShowsEntriesOf, entry_lines};
 ghost use Rattle.ima_agent.specs.Streaming.{Streams};
 ghost use Rattle.ima_agent.specs.parts.Streaming.{IsStreamFaultOf, SendsEntriesOf};
@@ -23,7 +23,7 @@ pub(crate) fn entries_sent<F: Files, S: Sink>(
     list: &str,
     sink: &mut S,
 ) -> Result<(), StreamFault>
-    ensures { Streams (ShowsEntriesOf (F.told files.old) list.now) (S.state sink.old) (S.state sink.new) result }
+    ensures { Streams true (ShowsEntriesOf (F.told files.old) list.now) (S.state sink.old) (S.state sink.new) result }
 {
     entries_to_the_end_are_the_reading();
     match files.source(Some(list)) {

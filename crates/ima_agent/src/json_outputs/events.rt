@@ -1,6 +1,6 @@
 //! The events of a log with `--json`.
 
-ghost use Rattle.std.specs.Prelude.{◌≡◌, ◌++◌, List, ℕ, IfOk, IfErr};
+ghost use Rattle.std.specs.Prelude.{true, ◌≡◌, ◌++◌, List, ℕ, IfOk, IfErr};
 ghost use Rattle.ima_agent.specs.JsonFaults.{ToldAsJson};
 ghost use Rattle.ima_agent.specs.JsonShowing.{ShowsEventsOf, ShowsJsonEvents};
 ghost use Rattle.ima_agent.specs.Streaming.{Streams};
@@ -25,7 +25,7 @@ pub(crate) fn events_sent<F: Files, S: Sink>(
     log: &str,
     sink: &mut S,
 ) -> Result<(), StreamFault>
-    ensures { Streams (ShowsEventsOf (F.told files.old) log.now) (S.state sink.old) (S.state sink.new) result }
+    ensures { Streams true (ShowsEventsOf (F.told files.old) log.now) (S.state sink.old) (S.state sink.new) result }
 {
     match loaded(alloc, files, Some(log)) {
         Ok(bytes) => events_in(alloc, &bytes, sink),
@@ -35,7 +35,7 @@ pub(crate) fn events_sent<F: Files, S: Sink>(
 
 // The same of the log in these bytes.
 fn events_in<S: Sink>(alloc: Global, log: &[u8], sink: &mut S) -> Result<(), StreamFault>
-    ensures { Streams (ShowsEventsIn log.now) (S.state sink.old) (S.state sink.new) result }
+    ensures { Streams true (ShowsEventsIn log.now) (S.state sink.old) (S.state sink.new) result }
 {
     match send_events(alloc, log, sink) {
         Ok(()) => Ok(()),

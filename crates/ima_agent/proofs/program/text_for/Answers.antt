@@ -6,9 +6,6 @@ returns-in-Registers-clause-fault g c = rw c.in-Registers.is c.shown_registers.e
 pub returns-in-RegistersAfter-clause-fault : goal.returns-in-RegistersAfter-clause-fault
 returns-in-RegistersAfter-clause-fault g c = rw c.in-RegistersAfter.is (rw c.deref-in-RegistersAfter.ensures at c.registers_after.ensures.fault)
 
-pub returns-in-Events-clause-fault : goal.returns-in-Events-clause-fault
-returns-in-Events-clause-fault g c = rw c.in-Events.is (rw c.deref-in-Events.ensures at c.shown_events.ensures.fault)
-
 pub returns-in-Replay-clause-fault : goal.returns-in-Replay-clause-fault
 returns-in-Replay-clause-fault g c = rw c.in-Replay.is (rw c.deref-in-Replay.ensures at c.replayed.ensures.fault)
 
