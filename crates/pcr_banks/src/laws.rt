@@ -73,11 +73,11 @@ fn bank_has_hashes(banks: &Banks, alg: Alg)
 }
 
 // The same of one register.
-fn register_has_a_hash(banks: &Banks, alg: Alg, register: u32)
-    ensures whole { IsTrue (is_active banks.now alg) → register < register_count → IsSome (value_at banks.now alg register) }
-    ensures hash { IfSome (value_at banks.now alg register) (λ value. (length value ≡ size_of alg) × IsBytes value) }
+fn register_has_a_hash(banks: &Banks, alg: Alg, index: u32)
+    ensures whole { IsTrue (is_active banks.now alg) → index < register_count → IsSome (value_at banks.now alg index) }
+    ensures hash { IfSome (value_at banks.now alg index) (λ value. (length value ≡ size_of alg) × IsBytes value) }
 {
-    if let Some(value) = banks.read(alg, register) {
+    if let Some(value) = banks.read(alg, index) {
         digest_is_a_hash(&value);
     }
 }
