@@ -20,3 +20,4 @@ pub mod ListVerdicts
 pub mod WrittenTexts
 pub mod Checkpoints
 pub mod CheckpointTexts
+pub mod Sessions

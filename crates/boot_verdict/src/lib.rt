@@ -16,6 +16,7 @@ mod register_range;
 mod replaying;
 mod report;
 mod requirement;
+mod session;
 mod stated;
 mod steps;
 mod texts;
@@ -33,6 +34,7 @@ pub use register_range::RegisterRange;
 pub use replaying::{list_start, replay_from};
 pub use report::{Aggregate, Report, Row, State};
 pub use requirement::{BankRange, Requirement, RequirementFault};
+pub use session::{ResumeFault, Session};
 pub use texts::{
     EventData, write_checkpoint, write_events, write_expected, write_list_report, write_places,
     write_registers, write_report, write_required_list_report, write_required_places,

@@ -166,8 +166,8 @@ pub fn verify_from<R: Source>(
     report_on(alloc, &firmware, &start, replay, expected)
 }
 
-// The report on a log that leaves the registers `start`, a list replayed from them, and expected registers.
-fn report_on(
+/// The report on a log that leaves the registers `start`, a list replayed from them, and expected registers.
+pub(crate) fn report_on(
     alloc: Global,
     log: &LogView<'_>,
     start: &Banks,
