@@ -96,7 +96,7 @@ fun_same f g same = λ i x. same x i
 
 -- ---- banks
 
-none_changes : (alg : Alg) (value : Option (List ℕ)) → value ≡ option_map (λ bytes. extended_by_all alg bytes []) value
+pub none_changes : (alg : Alg) (value : Option (List ℕ)) → value ≡ option_map (λ bytes. extended_by_all alg bytes []) value
 none_changes alg None = refl
 none_changes alg (Some bytes) = refl
 

@@ -67,6 +67,11 @@ IsMoreFault list old new limit fault = IsListFaultAfter list old new limit fault
 abbrev pub SameValues : Banks → Banks → Type 0
 SameValues first second = (a : Alg) (r : ℕ) → value_at first a r ≡ value_at second a r
 
+-- The same banks are active, and all registers have the same values.
+pub record AreSameBanks (first second : Banks) : Type 0 where
+  pub active : (a : Alg) → is_active first a ≡ is_active second a
+  pub values : SameValues first second
+
 -- Two checkpoints of the same data.
 pub record SameData (first second : Checkpoint) : Type 0 where
   pub entries : first.entries ≡ second.entries

@@ -1,6 +1,6 @@
 //! Where a verification stopped, and its text read back.
 
-ghost use Rattle.std.specs.Prelude.{◌≡◌, ◌↔◌, ◌+◌, ◌^◌, ◌<◌, ◌≤◌, ℕ, true, is_some, List, ◌++◌, [], codes, decimal, flat_map, IfOk, IfErr, IfSome, IfNone, IsErrOf, IsTrue, Option};
+ghost use Rattle.std.specs.Prelude.{◌≡◌, ◌↔◌, ◌+◌, ◌^◌, ◌<◌, ◌≤◌, ℕ, true, is_some, List, ◌++◌, [], codes, decimal, flat_map, IfOk, IfErr, IfSome, IfNone, IsErrOf, IsTrue, Option, None};
 ghost use Rattle.std.specs.Option.{IsSomeAnd};
 ghost use Rattle.pcr_banks.specs.declared.alg.Alg.{Alg};
 ghost use Rattle.pcr_banks.specs.declared.banks.Banks.{Banks};
@@ -99,6 +99,7 @@ impl Checkpoint {
     pub(crate) fn replay(&self) -> ListReplay<Banks>
         ensures replays { (list : List ℕ) → IsCheckpoint list self.now → ReplaysAll BanksAfter self.now.before list result }
         ensures entries { result.entries ≡ self.now.entries }
+        ensures forged { result.forged ≡ None }
     {
         ListReplay {
             follower: self.after,

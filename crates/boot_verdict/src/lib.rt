@@ -16,6 +16,7 @@ mod register_range;
 mod replaying;
 mod report;
 mod requirement;
+mod same_banks;
 mod session;
 mod stated;
 mod steps;

@@ -1,26 +1,22 @@
 //! A verification of a list that grows: of a log, it takes the list's bytes as they come, and reports on what it has taken.
 
-ghost use Rattle.std.specs.Prelude.{◌≡◌, ◌⊎◌, ◌≤◌, ◌+◌, ◌<◌, ◌^◌, ℕ, List, [], ◌++◌, Some, min, max, true, is_some, IsOk, IfOk, IfErr, IsErrOf, OnOk, OnErr};
+ghost use Rattle.std.specs.Prelude.{◌≡◌, List, [], Some, is_some, IsOk, IfOk, IfErr, IsErrOf, OnOk, OnErr, ℕ};
 ghost use Rattle.byte_streams.specs.Streams.{LosesFront};
 ghost use Rattle.boot_log.specs.Reading.{log_fault};
 ghost use Rattle.boot_log.specs.declared.header.Row.{Row as TableRow};
 ghost use Rattle.boot_log.specs.Spelling.{LogEvent, IsLog};
-ghost use Rattle.pcr_banks.specs.Registers.{value_at};
-ghost use Rattle.boot_verdict.specs.Checkpoints.{IsCheckpoint, IsMoreFault, SameValues, most_after};
+ghost use Rattle.boot_verdict.specs.Checkpoints.{IsCheckpoint, IsMoreFault, most_after};
 ghost use Rattle.boot_verdict.specs.ListSources.{failures_after_list};
 ghost use Rattle.boot_verdict.specs.Verdicts.{IsVerdict, verdict_of};
-ghost use Rattle.boot_verdict.specs.parts.Following.{BanksAfter};
-ghost use Rattle.boot_verdict.specs.parts.ListReplays.{Replays};
 
 use crate::checkpoint::Checkpoint;
 use crate::expected::Expected;
 use crate::list_replay::ListReplay;
 use crate::report::Report;
+use crate::same_banks::are_same_banks;
 use crate::verifier::{VerifyFault, report_on};
 use boot_log::{LogFault, LogView};
 use byte_streams::Source;
-use ima_list::laws::entries_to_the_end_are_the_reading;
-use pcr_banks::{Alg, Banks, REGISTERS};
 use std::alloc::Global;
 use thiserror::Error;
 
@@ -74,7 +70,7 @@ impl<'a> Session<'a> {
             Ok(log) => log,
             Err(fault) => return Err(ResumeFault::Log(fault)),
         };
-        if !are_same(&log.registers(), &known.before) {
+        if !are_same_banks(&log.registers(), &known.before) {
             return Err(ResumeFault::OtherBoot);
         }
         Ok(Session { log, known })
@@ -108,7 +104,8 @@ impl<'a> Session<'a> {
         ensures telling { is_some (R.state source.new).remaining ≡ is_some (R.state source.old).remaining }
         ensures counts { (R.state source.new).failures ≡ failures_after_list result (R.state source.old).failures }
     {
-        self.known = self.known.go_on(alloc, source, limit)?;
+        let next = self.known.go_on(alloc, source, limit)?;
+        self.known = next;
         Ok(())
     }
 
@@ -120,28 +117,4 @@ impl<'a> Session<'a> {
     {
         report_on(alloc, &self.log, &self.known.before, self.known.replay(), expected)
     }
-}
-
-// Whether all registers have the same values.
-fn are_same(first: &Banks, second: &Banks) -> bool
-    ensures same { result ≡ true → SameValues first.now second.now }
-    ensures apart { SameValues first.now second.now → result ≡ true }
-{
-    are_same_in(first, second, Alg::Sha1)
-        && are_same_in(first, second, Alg::Sha256)
-        && are_same_in(first, second, Alg::Sha384)
-        && are_same_in(first, second, Alg::Sha512)
-}
-
-// Whether all registers of the bank have the same values.
-fn are_same_in(first: &Banks, second: &Banks, alg: Alg) -> bool
-    ensures same { result ≡ true → (r : ℕ) → value_at first.now alg r ≡ value_at second.now alg r }
-    ensures apart { ((r : ℕ) → value_at first.now alg r ≡ value_at second.now alg r) → result ≡ true }
-{
-    for register in 0..REGISTERS {
-        if first.read(alg, register) != second.read(alg, register) {
-            return false;
-        }
-    }
-    true
 }

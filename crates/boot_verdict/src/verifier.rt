@@ -174,9 +174,8 @@ pub(crate) fn report_on(
     replay: ListReplay<Banks>,
     expected: &[Expected],
 ) -> Result<Report, VerifyFault>
-    requires { (table : List TableRow) (events : List LogEvent) → IsLog (log_bytes log.now) table events → IsFirmware (algs_in table) events start.now }
     ensures report { (table : List TableRow) (events : List LogEvent) → IsLog (log_bytes log.now) table events
-        → IfOk result (λ report. (entries : List ListEntry) → Replays BanksAfter start.now entries replay
+        → IsFirmware (algs_in table) events start.now → IfOk result (λ report. (entries : List ListEntry) → Replays BanksAfter start.now entries replay
         → AreGenuine entries × (verdict_of report ≡ verdict_on (algs_in table) events entries expected.now)) }
     ensures fault { IfErr result (λ fault. (entries : List ListEntry) → Replays BanksAfter start.now entries replay → IsFaultOfEntries entries fault) }
 {
