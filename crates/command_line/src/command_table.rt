@@ -282,7 +282,7 @@ registers, one object on one line; not with --print binary",
             },
             ArgumentRow {
                 id: "resume",
-                help: "Go on from the checkpoint in FILE: LIST then has only the bytes after it",
+                help: "Go on from the checkpoint in FILE, your own: LIST then has only the bytes after it",
                 form: Form::Optional { value: "FILE" },
             },
             JSON,
