@@ -22,3 +22,4 @@ pub mod WrittenTexts
 pub mod Checkpoints
 pub mod CheckpointTexts
 pub mod Sessions
+pub mod Fronts

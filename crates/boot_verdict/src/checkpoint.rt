@@ -109,8 +109,8 @@ impl Checkpoint {
         }
     }
 
-    // How many bytes may follow, where `limit` are allowed.
-    fn room(&self, limit: u64) -> u64
+    /// How many bytes may follow, where `limit` are allowed.
+    pub(crate) fn room(&self, limit: u64) -> u64
         ensures room { result ≡ most_after self.now limit }
         ensures entries { self.now.entries + result < 2 ^ 64 }
         ensures bytes { self.now.bytes + result < 2 ^ 64 }

@@ -3,8 +3,10 @@
 #![tactic(auto)]
 
 mod checkpoint;
+mod confirming;
 mod expected;
 mod front_report;
+mod fronts;
 pub mod laws;
 mod lines;
 mod list_replay;

@@ -35,8 +35,8 @@ pub enum ResumeFault {
 /// and keeps none of them.
 #[derive(Drop)]
 pub struct Session<'a> {
-    log: LogView<'a>,
-    known: Checkpoint,
+    pub(crate) log: LogView<'a>,
+    pub(crate) known: Checkpoint,
 }
 
 impl<'a> Session<'a> {

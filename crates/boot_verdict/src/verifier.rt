@@ -226,8 +226,8 @@ fn state_of(expected: &Expected, value: Option<Digest>) -> State
     }
 }
 
-// The state of the boot aggregate that the list states, if any. `start` has the log's registers.
-fn aggregate_of(start: &Banks, stated: Option<Digest>) -> Aggregate
+/// The state of the boot aggregate that the list states, if any. `start` has the log's registers.
+pub(crate) fn aggregate_of(start: &Banks, stated: Option<Digest>) -> Aggregate
     ensures { (algs : AlgSet) (events : List LogEvent) → IsFirmware algs events start.now
         → result ≡ aggregate_of algs events (option_map (λ digest. (alg_of digest, bytes_of digest)) stated) }
 {
