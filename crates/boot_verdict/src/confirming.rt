@@ -1,6 +1,6 @@
 //! The confirmed front of a list that grows: the shortest with which the verdict is `match`.
 
-ghost use Rattle.std.specs.Prelude.{◌≡◌, ◌×◌, List, ℕ, is_some, option_map, IfOk, IfErr, IfSome, IfNone, OnErr};
+ghost use Rattle.std.specs.Prelude.{◌≡◌, List, ℕ, is_some, option_map, IfOk, IfErr, IfSome, IfNone, OnErr};
 ghost use Rattle.byte_streams.specs.Streams.{LosesFront};
 ghost use Rattle.pcr_banks.specs.declared.sets.AlgSet.{AlgSet};
 ghost use Rattle.pcr_banks.specs.Digests.{alg_of, bytes_of};
@@ -79,6 +79,7 @@ impl Session<'_> {
 }
 
 // What a search found.
+#[derive(Drop)]
 struct Search {
     // The checkpoint of the confirmed front, if there is one.
     front: Option<Checkpoint>,
@@ -123,7 +124,7 @@ impl Checkpoint {
     // The replay of the list, searched for a front: its end may be one.
     fn searching<'a>(&self, expected: &'a [Expected]) -> ListReplay<Confirming<'a>>
         ensures replays { (list : List ℕ) → IsCheckpoint list self.now
-            → ReplaysAll IsConfirmingAfter (search_before self.now expected) list result }
+            → ReplaysAll IsConfirmingAfter (search_before self.now expected.entry) list result }
         ensures entries { result.entries ≡ self.now.entries }
     {
         ListReplay {

@@ -38,7 +38,7 @@ pub(crate) struct Confirming<'a> {
 impl<'a> Confirming<'a> {
     /// After the list of this checkpoint: its end may be the front.
     pub fn after(known: &Checkpoint, expected: &'a [Expected]) -> Self
-        ensures { result ≡ search_after known.now expected }
+        ensures { result ≡ search_after known.now expected.entry }
     {
         let search = Confirming {
             banks: known.after,

@@ -1,5 +1,6 @@
 -- The search for the confirmed front, step by step.
-use Rattle.std.specs.Prelude.{◌≡◌, ℕ, ◌+◌, ◌-◌, ◌^◌, ◌<◌, ◌≤◌, min, nat_le, ◌==◌, ◌&&◌, Bor, Bool, true, false, if◌then◌else◌, List, length, take, fold, Option, Some, None}
+use Rattle.std.specs.Prelude.{◌≡◌, ℕ, ◌+◌, ◌-◌, ◌^◌, ◌<◌, ◌≤◌, min, nat_le, ◌==◌, ◌&&◌, Bool, true, false, if◌then◌else◌, List, length, take, fold, Option, Some, None}
+use Rattle.std.specs.Borrow.{Bor}
 use Rattle.std.specs.List.{list_all}
 use Rattle.pcr_banks.specs.declared.banks.Banks.{Banks}
 use Rattle.pcr_banks.specs.Registers.{value_at}
