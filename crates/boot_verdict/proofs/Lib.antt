@@ -17,3 +17,4 @@ pub mod LineLaws
 pub mod RequirementLaws
 pub mod CheckpointLaws
 pub mod SessionLaws
+pub mod FrontLaws
