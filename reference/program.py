@@ -82,13 +82,12 @@ class Inputs:
                 return b"", not_read(name)
 
     def save(self, name, data):
-        """Makes a file of these bytes, or leaves what has the name as it is ('Going on from a checkpoint')."""
+        """Makes a file of these bytes, or leaves what has the name as it is ('Going on from a checkpoint'). It is not synced, which nothing here
+        can tell."""
         beside = f"{name}.new"
         try:
             with open(beside, "wb", opener=lambda path, flags: os.open(path, flags, 0o666, dir_fd=self.folder)) as file:
                 file.write(data)
-                file.flush()
-                os.fsync(file.fileno())
             os.rename(beside, name, src_dir_fd=self.folder, dst_dir_fd=self.folder)
         except (OSError, ValueError):
             raise not_written(name) from None
