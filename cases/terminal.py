@@ -75,9 +75,9 @@ LIST = {
 }
 REPLAY = {1: "its template digest is not the SHA-1 of what it covers, and it is no violation"}
 CHECKPOINT = {
-    1: "it is not the text of a checkpoint, or it is damaged",
-    2: "it is of another version",
-    3: "it is of another boot: the log's registers are not those before its list",
+    1: "the file is not a whole checkpoint, as it was saved",
+    2: "the checkpoint is of another version",
+    3: "the checkpoint is of another boot: the log's registers are not those it began from",
 }
 EXPECTED = {1: "is not a register line", 2: "names a register a second time"}
 PRINTED = {

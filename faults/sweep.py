@@ -18,8 +18,8 @@ they are refused, and both or neither ask for help, name a sample, or have a tex
 order of the cases, that names no file of the system, in a case whose files have at most 64 KiB.
 
 Before that, the program measures 50 files of 40 MiB within 64 MiB of address space, and shows a list of 64 MiB as JSON, with a peak of
-memory at most 8 MiB above that of an empty one; and it replays a log of 64 MiB, of events of 16 bytes, with a peak at most as much above
-the log's size. The last line, 'N passed, M failed', counts all."""
+memory at most 8 MiB above that of an empty one; and it replays a log of 64 MiB, of events of 16 bytes, and shows its events, with a peak
+at most as much above the log's size. The last line, 'N passed, M failed', counts all."""
 
 import json
 import os
@@ -297,14 +297,17 @@ def large_list_fault(program, folder):
 
 def large_log_fault(program, folder):
     """What is wrong with the answers to a log of 64 MiB of events of 16 bytes, or with the memory that they take, or None."""
-    header, event = Log({SHA256.identifier: SHA256.size}, []).spelling(), Event(0, EV_NO_ACTION, {}, b"").spelling()
+    small = Event(0, EV_NO_ACTION, {}, b"")
+    header, event = Log({SHA256.identifier: SHA256.size}, []).spelling(), small.spelling()
     count = (LARGE_LOG_BYTES - len(header)) // len(event)
     (folder / "empty-log").write_bytes(header)
     (folder / "large-log").write_bytes(header + event * count)
     (folder / "expected").write_text(f"sha256 0 {bytes(SHA256.size).hex()}\n")
     output = folder / "large-log.text"
-    for words in (["registers", "LOG"], ["verify", "LOG", "empty-list", "expected"], ["locate", "LOG", "empty-list", "expected"],
-                  ["measure", "LOG", "empty-list"]):
+    line = small.line("%d", False).encode()
+    lines = b"".join(line % number for number in range(1, count + 1))
+    for words, more in ((["registers", "LOG"], b""), (["events", "LOG"], lines), (["verify", "LOG", "empty-list", "expected"], b""),
+                        (["locate", "LOG", "empty-list", "expected"], b""), (["measure", "LOG", "empty-list"], b"")):
         empty, large = ([name if word == "LOG" else word for word in words] for name in ("empty-log", "large-log"))
         wanted_status, wanted = reference.answer(empty, folder, b"")
         try:
@@ -313,7 +316,7 @@ def large_log_fault(program, folder):
         except (subprocess.TimeoutExpired, ValueError) as fault:
             return f"{words[0]}: {fault!r}"
         text = output.read_bytes()
-        if (status, text) != (wanted_status, wanted.replace(b"events 0 ", b"events %d " % count)):
+        if (status, text) != (wanted_status, wanted.replace(b"events 0 ", b"events %d " % count) + more):
             return f"{words[0]}: status {status}, {text[:200]!r}"
         if peak > least + len(header) + len(event) * count + MOST_ABOVE_EMPTY:
             return f"{words[0]}: {(peak - least) / MEBIBYTE:.1f} MiB more than without events"

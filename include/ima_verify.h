@@ -29,10 +29,10 @@
  * `failed: memory`, or IMA_TOO_SHORT where `out` has no room for these 15 bytes. With _json the line is
  * `{"fault":{"kind":"memory","message":"failed: memory"}}`, of 55 bytes.
  *
- * A call keeps some 300 bytes for each event of the log, and the text that it gives: a log of 1 GiB of the
- * shortest events has taken 15 GB. So limit the size of what comes from elsewhere (a firmware's log has some
- * 100 KB). A text of ima_show or ima_entries_json that is longer than `out_size` is counted, and no more of it
- * is kept than that and one entry's line. A call takes more than 64 KiB of stack: give a thread at least 256 KiB.
+ * A call keeps no event of a log and no entry of a list, but the text that it gives. That of ima_events_json grows
+ * with the log: so limit the size of what comes from elsewhere (a firmware's log has some 100 KB). A text of
+ * ima_show or ima_entries_json that is longer than `out_size` is counted, and no more of it is kept than that and
+ * one entry's line. A call takes more than 64 KiB of stack: give a thread at least 256 KiB.
  *
  * Threads. Nothing is kept between calls, so any number of threads may call at once, each with its own `out`
  * and `needed`. Do not call from a signal handler, nor in the forked child of a process with threads.

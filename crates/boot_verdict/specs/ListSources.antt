@@ -2,11 +2,10 @@
 use Rattle.std.specs.Prelude.{◌≡◌, ◌⊎◌, ℕ, ◌<◌, ◌≤◌, List, [], ◌++◌, length, Option, Some, Result, Ok, Err}
 use Rattle.std.specs.Io.KnownBytes.{Consumes, IsAtEnd}
 use Rattle.byte_streams.specs.Streams.{failures_after}
-use Rattle.ima_list.specs.declared.fault.ListFault.{ListFault}
 use Rattle.ima_list.specs.declared.fault.ListFault.TheVariants as lists
 use Rattle.ima_list.specs.ListEntry.{ListEntry}
 use Rattle.ima_list.specs.Spelling.{IsReading}
-use Rattle.ima_list.specs.Pieces.{IsLasting}
+pub use Rattle.ima_list.specs.Pieces.{FailsFor}
 use Rattle.ima_list.specs.Replaying.{AreGenuine}
 use Rattle.boot_verdict.specs.declared.verifier.VerifyFault.{VerifyFault}
 use Rattle.boot_verdict.specs.declared.verifier.VerifyFault.TheVariants as faults
@@ -20,10 +19,6 @@ pub record CameFrom (old new : Option (List ℕ)) (limit : ℕ) (list over : Lis
 pub record CameWhole (old new : Option (List ℕ)) (limit : ℕ) (list : List ℕ) : Type 0 where
   pub came : CameFrom old new limit list []
   pub end : IsAtEnd new
-
--- The list has this fault whatever bytes follow: it is not `Truncated`.
-abbrev pub FailsFor : List ℕ → ListFault → Type 0
-FailsFor list fault = IsLasting fault × ((more : List ℕ) → IsReading (list ++ more) (Err fault))
 
 -- The bytes read as a list or as a truncated one: no entry among them is refused.
 abbrev pub IsSound : List ℕ → Type 0

@@ -16,10 +16,12 @@ use Rattle.command_line.specs.declared.json_plan.JsonPrint.{JsonPrint}
 use Rattle.command_line.specs.declared.json_plan.JsonPrint.TheVariants as json_prints
 use Rattle.command_line.specs.declared.plan.DataShown.{DataShown}
 use Rattle.command_line.specs.declared.plan.DataShown.TheVariants.{Size, Bytes}
+use Rattle.command_line.specs.declared.plan.Extent.{Extent}
+use Rattle.command_line.specs.declared.plan.Extent.TheVariants.{Whole, Front}
 use Rattle.command_line.specs.declared.plan.NameEnd.{NameEnd}
 use Rattle.command_line.specs.declared.plan.NameEnd.TheVariants.{LineFeed, Nul}
 use Rattle.command_line.specs.declared.plan.Plan.{Plan}
-use Rattle.command_line.specs.declared.plan.Plan.TheVariants.{Registers, Measure, MeasureListed, Verify, VerifyRequired, Locate, LocateRequired, Expected, RegistersAfter, Events, Show, Replay, ReplayExpected, Json, Help}
+use Rattle.command_line.specs.declared.plan.Plan.TheVariants.{Registers, Measure, MeasureListed, Verify, VerifyRequired, VerifyGrowing, Locate, LocateRequired, Expected, RegistersAfter, Events, Show, Replay, ReplayExpected, Json, Help}
 use Rattle.command_line.specs.declared.plan.Print.{Print}
 use Rattle.command_line.specs.declared.plan.Print.TheVariants as prints
 
@@ -89,7 +91,18 @@ table parsers = (
       ∷ repeated (codes "FILE")
       ∷ [],
 )
-    ∷ (codes "verify", without_default (codes "require") ∷ flag (codes "json") ∷ required (codes "LOG") ∷ required (codes "LIST") ∷ required (codes "EXPECTED") ∷ [])
+    ∷ (
+      codes "verify",
+      without_default (codes "require")
+          ∷ flag (codes "prefix")
+          ∷ without_default (codes "save")
+          ∷ without_default (codes "resume")
+          ∷ flag (codes "json")
+          ∷ required (codes "LOG")
+          ∷ required (codes "LIST")
+          ∷ required (codes "EXPECTED")
+          ∷ [],
+    )
     ∷ (codes "locate", without_default (codes "require") ∷ flag (codes "json") ∷ required (codes "LOG") ∷ required (codes "LIST") ∷ required (codes "EXPECTED") ∷ [])
     ∷ (codes "expected", without_default (codes "registers") ∷ flag (codes "json") ∷ required (codes "PCRREAD") ∷ [])
     ∷ (codes "registers", flag (codes "json") ∷ required (codes "LOG") ∷ [])
@@ -145,6 +158,11 @@ abbrev pub data_value : DataShown → Text
 data_value Size = codes "false"
 data_value Bytes = codes "true"
 
+-- The value that clap gives `--prefix`: `true` if it is present, else `false`.
+abbrev pub extent_value : Extent → Text
+extent_value Whole = codes "false"
+extent_value Front = codes "true"
+
 -- The first value of this name is a number in decimal.
 pub record HasNumber (id : Text) (rows : List Row) (number : ℕ) : Type 0 where
   pub text : Text
@@ -172,8 +190,20 @@ abbrev pub IsGivenAs : Text → List Row → Option (String Global) → Type 0
 IsGivenAs id rows None = all_of id rows ≡ None
 IsGivenAs id rows (Some text) = first_of id rows ≡ Some (string_bytes text)
 
+-- The matches have these options of a list that grows: `--prefix` as the extent, and `--resume` and `--save`.
+pub record HasGrowth (rows : List Row) (extent : Extent) (resume save : Option (String Global)) : Type 0 where
+  pub extent_is : first_of (codes "prefix") rows ≡ Some (extent_value extent)
+  pub resume_is : IsGivenAs (codes "resume") rows resume
+  pub save_is : IsGivenAs (codes "save") rows save
+
+-- At least one of these options is present.
+abbrev pub has_growth : Extent → Option (String Global) → Option (String Global) → Bool
+has_growth Whole None None = false
+has_growth extent resume save = true
+
 -- The plan with `--json` has the options and names of these matches. `Measure` requires that neither `--files-from` nor `--null` is
--- present, and `Replay` that neither EXPECTED nor `--require` is. `Events` has the data with `--data` and without.
+-- present, `Verify` that none of `--prefix`, `--resume` and `--save` is, where `VerifyGrowing` requires one of them, and `Replay` that
+-- neither EXPECTED nor `--require` is. `Events` has the data with `--data` and without.
 abbrev pub HasJsonValues : List Row → JsonPlan → Type 0
 HasJsonValues rows (jsons.Measure alg template workers limit print log files) =
     HasMeasure rows (name_of alg) (template_name template) (json_print_name print) (string_bytes log) workers limit (map string_bytes files.items)
@@ -186,6 +216,12 @@ HasJsonValues rows (jsons.MeasureListed alg template workers limit print log fil
 HasJsonValues rows (jsons.Verify log list expected required) =
     HasEvidence rows (string_bytes log) (string_bytes list) (string_bytes expected)
     × IsGivenAs (codes "require") rows required
+    × HasGrowth rows Whole None None
+HasJsonValues rows (jsons.VerifyGrowing log list expected required extent resume save) =
+    HasEvidence rows (string_bytes log) (string_bytes list) (string_bytes expected)
+    × IsGivenAs (codes "require") rows required
+    × HasGrowth rows extent resume save
+    × (has_growth extent resume save ≡ true)
 HasJsonValues rows (jsons.Locate log list expected required) =
     HasEvidence rows (string_bytes log) (string_bytes list) (string_bytes expected)
     × IsGivenAs (codes "require") rows required
@@ -205,7 +241,8 @@ HasJsonValues rows (jsons.ReplayExpected list expected required) =
     × IsGivenAs (codes "require") rows required
 
 -- The plan has the options and names of these matches. `Measure` requires that neither `--files-from` nor `--null` is present,
--- `Verify`, `Locate` and `Replay` that `--require` is not, and `Replay` also that EXPECTED is not.
+-- `Verify`, `Locate` and `Replay` that `--require` is not, and `Replay` also that EXPECTED is not. `Verify` and `VerifyRequired` require
+-- that none of `--prefix`, `--resume` and `--save` is present, and `VerifyGrowing` that one of them is.
 abbrev pub HasValues : List Row → Plan → Type 0
 HasValues rows Registers = ⊥
 HasValues rows (Measure alg template workers limit print log files) =
@@ -219,9 +256,16 @@ HasValues rows (MeasureListed alg template workers limit print log files names e
 HasValues rows (Verify log list expected) =
     HasEvidence rows (string_bytes log) (string_bytes list) (string_bytes expected)
     × (all_of (codes "require") rows ≡ None)
+    × HasGrowth rows Whole None None
 HasValues rows (VerifyRequired log list expected required) =
     HasEvidence rows (string_bytes log) (string_bytes list) (string_bytes expected)
     × (first_of (codes "require") rows ≡ Some (string_bytes required))
+    × HasGrowth rows Whole None None
+HasValues rows (VerifyGrowing log list expected required extent resume save) =
+    HasEvidence rows (string_bytes log) (string_bytes list) (string_bytes expected)
+    × IsGivenAs (codes "require") rows required
+    × HasGrowth rows extent resume save
+    × (has_growth extent resume save ≡ true)
 HasValues rows (Locate log list expected) =
     HasEvidence rows (string_bytes log) (string_bytes list) (string_bytes expected)
     × (all_of (codes "require") rows ≡ None)

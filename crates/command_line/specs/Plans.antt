@@ -6,7 +6,7 @@ use Rattle.command_line.specs.Commands.{IsMatched}
 use Rattle.command_line.specs.declared.json_plan.JsonPlan.{JsonPlan}
 use Rattle.command_line.specs.declared.json_plan.JsonPlan.TheVariants as jsons
 use Rattle.command_line.specs.declared.plan.Plan.{Plan}
-use Rattle.command_line.specs.declared.plan.Plan.TheVariants.{Registers, Measure, MeasureListed, Verify, VerifyRequired, Locate, LocateRequired, Expected, RegistersAfter, Events, Show, Replay, ReplayExpected, Json, Help}
+use Rattle.command_line.specs.declared.plan.Plan.TheVariants.{Registers, Measure, MeasureListed, Verify, VerifyRequired, VerifyGrowing, Locate, LocateRequired, Expected, RegistersAfter, Events, Show, Replay, ReplayExpected, Json, Help}
 
 -- A measurement has 1 to 8 workers, a limit of at least one record, and fewer than 2^32 files named by arguments. Here of a plan with
 -- `--json`, and then of any plan.
@@ -25,6 +25,7 @@ IsWithinRanges (MeasureListed alg template workers limit print log files names e
     (1 ≤ workers) × (workers ≤ 8) × (1 ≤ limit) × (vec_len files < 2 ^ 32)
 IsWithinRanges (Verify log list expected) = Unit {0}
 IsWithinRanges (VerifyRequired log list expected required) = Unit {0}
+IsWithinRanges (VerifyGrowing log list expected required extent resume save) = Unit {0}
 IsWithinRanges (Locate log list expected) = Unit {0}
 IsWithinRanges (LocateRequired log list expected required) = Unit {0}
 IsWithinRanges (Expected printed registers) = Unit {0}
@@ -41,6 +42,7 @@ abbrev pub json_command : JsonPlan → List ℕ
 json_command (jsons.Measure alg template workers limit print log files) = codes "measure"
 json_command (jsons.MeasureListed alg template workers limit print log files names ends) = codes "measure"
 json_command (jsons.Verify log list expected required) = codes "verify"
+json_command (jsons.VerifyGrowing log list expected required extent resume save) = codes "verify"
 json_command (jsons.Locate log list expected required) = codes "locate"
 json_command (jsons.Expected printed registers) = codes "expected"
 json_command (jsons.RegistersAfter log) = codes "registers"
@@ -56,6 +58,7 @@ IsOfCommand command (Measure alg template workers limit print log files) = comma
 IsOfCommand command (MeasureListed alg template workers limit print log files names ends) = command ≡ codes "measure"
 IsOfCommand command (Verify log list expected) = command ≡ codes "verify"
 IsOfCommand command (VerifyRequired log list expected required) = command ≡ codes "verify"
+IsOfCommand command (VerifyGrowing log list expected required extent resume save) = command ≡ codes "verify"
 IsOfCommand command (Locate log list expected) = command ≡ codes "locate"
 IsOfCommand command (LocateRequired log list expected required) = command ≡ codes "locate"
 IsOfCommand command (Expected printed registers) = command ≡ codes "expected"

@@ -270,6 +270,21 @@ registers, one object on one line; not with --print binary",
                     value: REQUIRED_REGISTERS,
                 },
             },
+            ArgumentRow {
+                id: "prefix",
+                help: "Judge the shortest front of the list that matches; if none does, the whole list",
+                form: Form::Flag,
+            },
+            ArgumentRow {
+                id: "save",
+                help: "After a verdict, write the checkpoint of what was judged to FILE",
+                form: Form::Optional { value: "FILE" },
+            },
+            ArgumentRow {
+                id: "resume",
+                help: "Go on from the checkpoint in FILE, your own: LIST then has only the bytes after it",
+                form: Form::Optional { value: "FILE" },
+            },
             JSON,
             LOG,
             LIST,
@@ -396,7 +411,7 @@ pub(crate) fn help_end_of<'a>(end: HelpEnd) -> &'a str {
         HelpEnd::Measure =>
             help_end!("ima-agent measure --print registers firmware.log /bin/sh /bin/ls"; log book gather),
         HelpEnd::Verify =>
-            help_end!("ima-agent verify --require sha256:0-10 firmware.log ima.list expected.txt"; log list replay expected),
+            help_end!("ima-agent verify --require sha256:0-10 firmware.log ima.list expected.txt"; log list replay expected checkpoint),
         HelpEnd::Locate =>
             help_end!("ima-agent locate firmware.log ima.list expected.txt"; log list replay expected),
         HelpEnd::Expected =>

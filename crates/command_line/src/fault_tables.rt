@@ -47,6 +47,15 @@ Expected faults (refused: expected fault N at line K; the first line is 1; 4 to 
   6  no register is stated, or none of those that --registers names
 " "\n"; $($more)*; $end)
     };
+    // The faults of a checkpoint.
+    ($($begun:literal)*; checkpoint $($more:ident)*; $end:literal) => {
+        with_fault_tables!($($begun)* "\
+Checkpoint faults (refused: checkpoint fault N):
+  1  the file is not a whole checkpoint, as it was saved
+  2  the checkpoint is of another version
+  3  the checkpoint is of another boot: the log's registers are not those it began from
+" "\n"; $($more)*; $end)
+    };
     // The faults of a book.
     ($($begun:literal)*; book $($more:ident)*; $end:literal) => {
         with_fault_tables!($($begun)* "\

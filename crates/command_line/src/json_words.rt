@@ -9,7 +9,7 @@ use crate::fault::WordsFault;
 use crate::json_plan::{JsonPlan, JsonPrint};
 use crate::plan::Print;
 use crate::values::{
-    Evidence, evidence_of, further_names_of, measurement_of, name_of, text_if_given,
+    Evidence, evidence_of, further_names_of, growth_of, measurement_of, name_of, text_if_given,
 };
 use clap::ArgMatches;
 use std::alloc::Global;
@@ -76,7 +76,7 @@ fn json_print_of(print: Print) -> Result<JsonPrint, WordsFault>
     }
 }
 
-// The plan of `verify`.
+// The plan of `verify`; of a list that grows, if one of `--prefix`, `--resume` and `--save` is present.
 fn verify_of(alloc: Global, matches: &ArgMatches) -> Result<JsonPlan, WordsFault>
     ensures { IfOk result (IsJsonPlan (codes "verify") (rows_of (found_of matches.now))) }
 {
@@ -86,12 +86,23 @@ fn verify_of(alloc: Global, matches: &ArgMatches) -> Result<JsonPlan, WordsFault
         expected,
         required,
     } = evidence_of(alloc, matches)?;
-    Ok(JsonPlan::Verify {
-        log,
-        list,
-        expected,
-        required,
-    })
+    match growth_of(alloc, matches)? {
+        None => Ok(JsonPlan::Verify {
+            log,
+            list,
+            expected,
+            required,
+        }),
+        Some(growth) => Ok(JsonPlan::VerifyGrowing {
+            log,
+            list,
+            expected,
+            required,
+            extent: growth.extent,
+            resume: growth.resume,
+            save: growth.save,
+        }),
+    }
 }
 
 // The plan of `locate`.

@@ -33,6 +33,15 @@ pub enum DataShown {
     Bytes,
 }
 
+/// Which part of a list a verdict is on.
+#[derive(Clone, Copy, PartialEq, Eq)]
+pub enum Extent {
+    /// The whole list.
+    Whole,
+    /// The shortest front of the list that matches; if none does, the whole list.
+    Front,
+}
+
 /// What the program's arguments request.
 #[derive(Drop)]
 pub enum Plan {
@@ -95,6 +104,24 @@ pub enum Plan {
         expected: String,
         /// The text of the registers that have to be among them, as `sha256:0-10`. It is any text here.
         required: String,
+    },
+    /// As `Verify`, for a list that grows: of a front of it, or going on from a checkpoint. At least one of `extent`, `resume` and
+    /// `save` asks for more than `Verify` does.
+    VerifyGrowing {
+        /// The name of the firmware event log, binary.
+        log: String,
+        /// The name of the measurement list, binary; with `resume`, of what follows the checkpoint.
+        list: String,
+        /// The name of the text of expected registers.
+        expected: String,
+        /// The text of the registers that have to be among them, as `sha256:0-10`, if there is one. It is any text here.
+        required: Option<String>,
+        /// Which part of the list the verdict is on.
+        extent: Extent,
+        /// The name of the checkpoint to go on from, if there is one.
+        resume: Option<String>,
+        /// The name under which the checkpoint is saved, if it is.
+        save: Option<String>,
     },
     /// Find where the expected registers first have their values, in a log and a list.
     Locate {

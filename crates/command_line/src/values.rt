@@ -2,14 +2,14 @@
 
 ghost use Rattle.std.specs.Prelude.{◌≡◌, ◌<◌, ◌≤◌, ◌^◌, [], Some, codes, map, string_bytes, unwrap_or, vec_len, IfOk};
 ghost use Rattle.clap.specs.Words.{all_of, first_of, found_of, rows_of};
-ghost use Rattle.command_line.specs.Commands.{HasEvidence, HasMeasure, HasNumber, IsGivenAs, data_value, flag_value, null_value, print_name};
-ghost use Rattle.command_line.specs.parts.Plans.{AreFurtherNames};
+ghost use Rattle.command_line.specs.Commands.{HasEvidence, HasMeasure, HasNumber, IsGivenAs, data_value, extent_value, flag_value, null_value, print_name};
+ghost use Rattle.command_line.specs.parts.Plans.{AreFurtherNames, IsGrowth};
 ghost use Rattle.pcr_banks.specs.Hashing.{name_of};
 ghost use Rattle.ima_list.specs.Templates.{template_name};
 
 use crate::command_table::MOST_WORKERS;
 use crate::fault::WordsFault;
-use crate::plan::{DataShown, NameEnd, Print};
+use crate::plan::{DataShown, Extent, NameEnd, Print};
 use clap::ArgMatches;
 use ima_list::Template;
 use pcr_banks::Alg;
@@ -87,6 +87,42 @@ pub(crate) fn evidence_of(alloc: Global, matches: &ArgMatches) -> Result<Evidenc
         expected: name_of(alloc, matches, "EXPECTED")?,
         required: text_if_given(alloc, matches, "require")?,
     })
+}
+
+/// What `verify` takes of a list that grows.
+#[derive(Drop)]
+pub(crate) struct Growth {
+    pub(crate) extent: Extent,
+    pub(crate) resume: Option<String>,
+    pub(crate) save: Option<String>,
+}
+
+/// The options `--prefix`, `--resume` and `--save`, if one of them is present.
+pub(crate) fn growth_of(alloc: Global, matches: &ArgMatches) -> Result<Option<Growth>, WordsFault>
+    ensures { IfOk result (IsGrowth (rows_of (found_of matches.now))) }
+{
+    let extent = extent_of(matches)?;
+    let resume = text_if_given(alloc, matches, "resume")?;
+    let save = text_if_given(alloc, matches, "save")?;
+    match (extent, resume, save) {
+        (Extent::Whole, None, None) => Ok(None),
+        (extent, resume, save) => Ok(Some(Growth {
+            extent,
+            resume,
+            save,
+        })),
+    }
+}
+
+// Which part of the list the verdict is on. `clap` gives `--prefix` the value `true` if it is present, else `false`.
+fn extent_of(matches: &ArgMatches) -> Result<Extent, WordsFault>
+    ensures { IfOk result (λ extent. first_of (codes "prefix") (rows_of (found_of matches.now)) ≡ Some (extent_value extent)) }
+{
+    match text_of(matches, "prefix")? {
+        "true" => Ok(Extent::Front),
+        "false" => Ok(Extent::Whole),
+        _ => Err(WordsFault::Usage),
+    }
 }
 
 // What `--print` with this value prints.

@@ -15,7 +15,7 @@ use crate::fault::WordsFault;
 use crate::json_words::json_plan_of;
 use crate::plan::Plan;
 use crate::values::{
-    Evidence, data_of, evidence_of, flag_of, further_names_of, measurement_of, name_of,
+    Evidence, data_of, evidence_of, flag_of, further_names_of, growth_of, measurement_of, name_of,
     text_if_given,
 };
 use clap::error::ErrorKind;
@@ -189,7 +189,7 @@ fn measure_of(alloc: Global, matches: &ArgMatches) -> Result<Plan, WordsFault>
     }
 }
 
-// The plan of `verify`.
+// The plan of `verify`; of a list that grows, if one of `--prefix`, `--resume` and `--save` is present.
 fn verify_of(alloc: Global, matches: &ArgMatches) -> Result<Plan, WordsFault>
     ensures { IfOk result (IsTextPlan (codes "verify") (rows_of (found_of matches.now))) }
 {
@@ -199,17 +199,26 @@ fn verify_of(alloc: Global, matches: &ArgMatches) -> Result<Plan, WordsFault>
         expected,
         required,
     } = evidence_of(alloc, matches)?;
-    match required {
-        None => Ok(Plan::Verify {
+    match (growth_of(alloc, matches)?, required) {
+        (None, None) => Ok(Plan::Verify {
             log,
             list,
             expected,
         }),
-        Some(required) => Ok(Plan::VerifyRequired {
+        (None, Some(required)) => Ok(Plan::VerifyRequired {
             log,
             list,
             expected,
             required,
+        }),
+        (Some(growth), required) => Ok(Plan::VerifyGrowing {
+            log,
+            list,
+            expected,
+            required,
+            extent: growth.extent,
+            resume: growth.resume,
+            save: growth.save,
         }),
     }
 }

@@ -10,6 +10,7 @@ pub mod Fields
 pub mod Lines
 pub mod Aggregates
 pub mod Pieces
+pub mod EntriesIn
 pub mod Binding
 pub mod Equality
 pub mod parts

@@ -5,6 +5,7 @@
 #![tactic(auto)]
 
 mod aggregate;
+mod entries_in;
 mod entry;
 mod entry_hashing;
 mod entry_ref;
@@ -23,6 +24,7 @@ mod writing;
 
 pub use aggregate::{BOOT_AGGREGATE_PATH, boot_aggregate};
 pub use byte_streams::{Failed, Sink, SliceSource, Source, VecSink, send, send_pieces};
+pub use entries_in::Entries;
 pub use entry::Entry;
 pub use entry_ref::EntryRef;
 pub use fault::ListFault;
