@@ -39,9 +39,10 @@ def answer_of(program, command, folder, output, settings=None):
 def fault_of(command, answer, folder):
     """What an answer shows, if it is not what the command shall answer, or None. Output that makes a file is then there."""
     left = output_left(answer.output, command.output, folder) if command.output else answer.output.read_bytes()
-    lines = lines_of(left + answer.errors)
-    if answer.status == command.status and agrees(command.wanted, lines):
+    lines, unsaved = lines_of(left + answer.errors), unsaved_of(command, folder)
+    if answer.status == command.status and agrees(command.wanted, lines) and not unsaved:
         return None
+    lines += unsaved
     more = [f"({len(lines) - MOST_LINES} lines more)"] if len(lines) > MOST_LINES else []
     status = [f"[{answer.status}]"] if answer.status else []
     return "\n    ".join([*lines[:MOST_LINES], *more, *status]) or "(nothing)"
@@ -56,6 +57,20 @@ def output_left(output, name, folder):
     if file.is_file() and filecmp.cmp(output, file, shallow=False):
         return b""
     return output.read_bytes() + f"(not the bytes of {name})\n".encode()
+
+
+def saved_by(command, folder):
+    """The bytes of the file that a command saves, or None where there is no such file."""
+    file = folder / command.saved if command.saved else None
+    return file.read_bytes() if file and file.is_file() else None
+
+
+def unsaved_of(command, folder):
+    """A line that says so, if a file of the case has the bytes that a command shall save, and they are not there."""
+    wanted = folder / form.wanted_of(command.saved) if command.saved else None
+    if wanted is None or not wanted.is_file() or saved_by(command, folder) == wanted.read_bytes():
+        return []
+    return [f"({command.saved} has not the bytes of {wanted.name})"]
 
 
 def lines_of(text):

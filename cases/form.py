@@ -13,6 +13,7 @@ TABLES = "faults/"
 REFERENCE = "By the reference."
 HEADER = re.compile(r"-- (.+?)( hex)? --")
 STATUS = re.compile(r"\[([1-9]\d*)\]")
+SAVING = "--save"
 FAULTS = re.compile(r"^```text faults\n(.*?)^```$", re.MULTILINE | re.DOTALL)
 PART = re.compile(
     r"#.*"
@@ -42,6 +43,20 @@ class Command:
     output: Optional[str]
     wanted: list
     status: int
+
+    @property
+    def saved(self):
+        """The name of the file that the command is to save, or None."""
+        for word, value in zip(self.words, [*self.words[1:], None]):
+            name, has_value, text = word.partition("=")
+            if name == SAVING:
+                return text if has_value else value
+        return None
+
+
+def wanted_of(name):
+    """The file that has the bytes which are to be saved under this name."""
+    return f"{name}.wanted"
 
 
 @dataclass(frozen=True)
@@ -211,6 +226,7 @@ def files_named(case):
     """The files that the commands name, that other files are made of, or that a text names."""
     words = {word for command in case.commands for word in (*command.words, command.input, command.output) if word}
     words |= {word.split("=", 1)[1] for word in words if "=" in word}
+    words |= {wanted_of(command.saved) for command in case.commands if command.saved}
     return words.union(*(section.names() for section in case.sections))
 
 

@@ -108,6 +108,8 @@ def commands(folder):
     (folder / "cut").write_bytes((folder / "many").read_bytes()[:-1])
     for name, log in damaged_logs((folder / "firmware.log").read_bytes()):
         (folder / name).write_bytes(log)
+    (folder / "forged").write_bytes((folder / "ima.list").read_bytes()[:-2] + b"v\0")
+    (folder / "none").write_bytes(b"")
     (folder / "few").write_text("sha256 10 " + "00" * 32 + "\nsha384 1 " + "11" * 48 + "\n")
     (folder / "banks.log").write_bytes(log_of_all_banks().spelling())
     evidence = ["firmware.log", "ima.list"]
@@ -118,6 +120,8 @@ def commands(folder):
     yield from (["replay", "--require", "sha1:0-23", "ima.list", "few"], ["expected", "--registers", "4-4", "tpm2_pcrread.txt"])
     for command in ("verify", "locate"):
         yield from ([command, *evidence, "expected.txt"], [command, *evidence, "few"], [command, "--require", "sha1:0-23", *evidence, "few"])
+    yield from (["verify", "--prefix", *evidence, "expected.txt"], ["verify", "--prefix", *evidence, "few"])
+    yield from (["verify", "--prefix", "firmware.log", name, "none"] for name in ("many", "forged", "cut"))
     yield ["measure", "--workers", "1", "firmware.log", "many", "few", "ima.list"]
     yield ["measure", "--workers", "1", "--print", "registers", "firmware.log", "many"]
     yield from (["registers", "banks.log"], ["events", "banks.log"], ["verify", "--require", "sha512:0-23", "banks.log", "many", "few"])

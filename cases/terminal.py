@@ -74,6 +74,11 @@ LIST = {
     3: "it is of the template ima, and its path is longer than 255 bytes",
 }
 REPLAY = {1: "its template digest is not the SHA-1 of what it covers, and it is no violation"}
+CHECKPOINT = {
+    1: "the file is not a whole checkpoint, as it was saved",
+    2: "the checkpoint is of another version",
+    3: "the checkpoint is of another boot: the log's registers are not those it began from",
+}
 EXPECTED = {1: "is not a register line", 2: "names a register a second time"}
 PRINTED = {
     4: "this is what tpm2_quote printed: its quote is not checked yet",
@@ -184,6 +189,8 @@ def fault_in_words(line, words, folder):
     """The name of the input that a fault is of, or None, and what is wrong with it."""
     if found := re.fullmatch(r"failed: read (.*)", line, re.DOTALL):
         return None, unread(found[1], folder)
+    if found := re.fullmatch(r"failed: write (.*)", line, re.DOTALL):
+        return None, f"cannot write {found[1]}"
     if found := re.fullmatch(r"refused: too long (.*)", line, re.DOTALL):
         return None, f"{found[1]} is longer than 64 MiB"
     if found := re.fullmatch(r"refused: not UTF-8 (.*)", line, re.DOTALL):
@@ -201,6 +208,8 @@ def fault_in_words(line, words, folder):
         return inputs["expected"], PRINTED[int(found[1])]
     if found := re.fullmatch(r"refused: expected fault (\d+) at line (\d+)", line):
         return inputs["expected"], f"line {found[2]} {EXPECTED[int(found[1])]}"
+    if found := re.fullmatch(r"refused: checkpoint fault (\d+)", line):
+        return inputs["checkpoint"], CHECKPOINT[int(found[1])]
     if found := re.fullmatch(r"refused: book fault (\d+)", line):
         return inputs["log"] if found[1] == "2" else None, BOOK[int(found[1])]
     if found := re.fullmatch(r"refused: job (\d+) book fault (\d+)", line):
@@ -215,7 +224,7 @@ def names_of(words):
         return {"log": "standard input"}, []
     asked = read_words(words)
     kinds = INPUTS[asked.command]
-    return dict(zip(kinds, asked.names)), asked.names[len(kinds):]
+    return {**dict(zip(kinds, asked.names)), "checkpoint": asked.values.get("--resume")}, asked.names[len(kinds):]
 
 
 def unread(name, folder):

@@ -1,12 +1,14 @@
-/* Stands before the C library's open, read and write, by LD_PRELOAD. A read gives at most MOST_BYTES, and a write takes as many at most. Of
-   the calls of the kind FAILING_CALL (`open`, `read` or `write`) number FAILING_NUMBER (counted from 1) fails with FAILING_ERROR, or takes
-   no byte if that is 0; then the file FAILURE_MET gets the name by which its file was opened, or `-` for standard input. */
+/* Stands before the C library's open, read, write, fsync and rename, by LD_PRELOAD. A read gives at most MOST_BYTES, and a write takes as many
+   at most. Of the calls of the kind FAILING_CALL (`open`; `read`; `write`, to standard output; or `save`: writes to named files, fsync,
+   fdatasync and rename) number FAILING_NUMBER (counted from 1) fails with FAILING_ERROR, or takes no byte if that is 0; then the file
+   FAILURE_MET gets the name by which its file was opened, or `-` for standard input. */
 #define _GNU_SOURCE
 #include <dlfcn.h>
 #include <errno.h>
 #include <fcntl.h>
 #include <stdarg.h>
 #include <stdatomic.h>
+#include <stdio.h>
 #include <stdlib.h>
 #include <string.h>
 #include <unistd.h>
@@ -18,11 +20,17 @@ static _Atomic(char *) names[FILES];
 static int (*real_open)(const char *, int, ...);
 static ssize_t (*real_read)(int, void *, size_t);
 static ssize_t (*real_write)(int, const void *, size_t);
+static int (*real_fsync)(int);
+static int (*real_fdatasync)(int);
+static int (*real_rename)(const char *, const char *);
 
 __attribute__((constructor)) static void begin(void) {
     real_open = dlsym(RTLD_NEXT, "open");
     real_read = dlsym(RTLD_NEXT, "read");
     real_write = dlsym(RTLD_NEXT, "write");
+    real_fsync = dlsym(RTLD_NEXT, "fsync");
+    real_fdatasync = dlsym(RTLD_NEXT, "fdatasync");
+    real_rename = dlsym(RTLD_NEXT, "rename");
 }
 
 static long setting(const char *name) {
@@ -40,6 +48,11 @@ static int fails(const char *kind, const char *file) {
     close(met);
     errno = setting("FAILING_ERROR");
     return 1;
+}
+
+/* The name by which a file was opened, or none. */
+static const char *name_of(int file) {
+    return file > 2 && file < FILES ? atomic_load(&names[file]) : 0;
 }
 
 static size_t at_most(size_t size) {
@@ -68,7 +81,20 @@ ssize_t read(int file, void *bytes, size_t size) {
 }
 
 ssize_t write(int file, const void *bytes, size_t size) {
-    if (file == 1 && fails("write", "-"))
+    const char *name = name_of(file);
+    if ((file == 1 && fails("write", "-")) || (name && fails("save", name)))
         return errno ? -1 : 0;
-    return real_write(file, bytes, file == 1 ? at_most(size) : size);
+    return real_write(file, bytes, file == 1 || name ? at_most(size) : size);
+}
+
+int fsync(int file) {
+    return name_of(file) && fails("save", name_of(file)) ? -1 : real_fsync(file);
+}
+
+int fdatasync(int file) {
+    return name_of(file) && fails("save", name_of(file)) ? -1 : real_fdatasync(file);
+}
+
+int rename(const char *from, const char *to) {
+    return fails("save", from) ? -1 : real_rename(from, to);
 }

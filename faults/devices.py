@@ -7,7 +7,8 @@ Of the cases a command of each kind (those of `faults/sweep.py`) runs again and 
 read gives one byte at most and a write takes one, its answer is to be the same. Then each opening of a file fails in turn, and each read,
 the one at the end of a file too: the answer is to be `failed: read` with the name of that file, which `--json` has as JSON, and status 3;
 before it stand the lines of entries that `show --json` wrote while it read, if any. A command that is refused without that may be refused as
-it is then. And each write fails in turn, or takes no byte: what was written is to be a front of the output, with nothing after it, and the
+it is then. Where a checkpoint is saved, the opening, each write, the syncing and the renaming of its file fail in turn: the answer is to be
+`failed: write` with its name, and what had that name stays as it was. And each write fails in turn, or takes no byte: what was written is to be a front of the output, with nothing after it, and the
 status 3. A command without such a call is told. The last line, 'N passed, M failed', counts commands."""
 
 import errno
@@ -23,7 +24,7 @@ from pathlib import Path
 HERE = Path(__file__).resolve().parent
 sys.path[:0] = [str(HERE.parent), str(HERE.parent / "cases"), str(HERE)]
 
-from answers import answer_of  # noqa: E402
+from answers import answer_of, saved_by  # noqa: E402
 from sweep import command_runs  # noqa: E402
 
 MOST_CALLS = 10_000
@@ -33,6 +34,7 @@ FAILING = (
     ("open", (errno.EACCES, errno.EMFILE), 0),
     ("read", (errno.EIO, errno.EINTR), 0),
     ("write", (errno.ENOSPC, errno.EINTR, 0), 40),
+    ("save", (errno.ENOSPC, errno.EIO), 400),
 )
 
 
@@ -59,23 +61,29 @@ class Devices:
         for kind, errors, most in FAILING:
             for error in errors:
                 for number in range(1, MOST_CALLS):
+                    before = saved_by(self.run.command, self.run.folder)
                     failing = {"FAILING_CALL": kind, "FAILING_NUMBER": str(number), "FAILING_ERROR": str(error), "MOST_BYTES": str(most)}
                     found, name = self.answer(failing)
                     if name is None:
                         break
                     count += 1
-                    if not (is_cut if kind == "write" else is_told)(found, wanted, name, self.run.command.words):
+                    if not (is_cut if kind == "write" else is_told)(found, wanted, name, self.run.command):
                         faults.append(f"{kind} {number} of {name!r} fails with error {error}: {found}")
+                    if kind != "write" and saved_by(self.run.command, self.run.folder) != before:
+                        faults.append(f"{kind} {number} of {name!r} fails with error {error}, and {self.run.command.saved} is another")
         return faults, count
 
 
-def is_told(found, wanted, name, words):
+def is_told(found, wanted, name, command):
     """Whether an answer tells that this file failed, or is the refusal that is wanted in any case."""
     if wanted[0] > 1 and found == wanted:
         return True
-    line = b"failed: read %s\n" % name
+    words, kind = command.words, "read"
+    if command.saved and name == f"{command.saved}.new".encode():
+        kind, name = "write", command.saved.encode()
+    line = b"failed: %s %s\n" % (kind.encode(), name)
     if "--json" in words:
-        line = json.dumps({"fault": {"kind": "read", "message": line[:-1].decode()}}, separators=(",", ":"), ensure_ascii=False).encode() + b"\n"
+        line = json.dumps({"fault": {"kind": kind, "message": line[:-1].decode()}}, separators=(",", ":"), ensure_ascii=False).encode() + b"\n"
     status, text, errors = found
     before = text.removesuffix(line)
     return (status, errors) == (FAILED, b"") and text != before and (not before or is_read_before(before, wanted[1], words))
@@ -88,7 +96,7 @@ def is_read_before(text, wanted, words):
     return shows_entries and wanted.splitlines(keepends=True)[: len(lines)] == lines and all(line.startswith(b'{"entry":') for line in lines)
 
 
-def is_cut(found, wanted, _name, _words):
+def is_cut(found, wanted, _name, _command):
     """Whether an answer is a front of the one wanted, and no more."""
     status, text, errors = found
     return status == FAILED and errors == b"" and text != wanted[1] and wanted[1].startswith(text)

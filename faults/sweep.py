@@ -53,7 +53,7 @@ TEST = re.compile(r"^ *#\[test\]\n(?: *#\[.*\]\n)* *(?:pub )?fn (\w+)", re.MULTI
 CRATE = re.compile(r"^(\w+)[^:#\n]*:", re.MULTILINE)
 OUT_OF_MEMORY = (3, b"failed: memory\n", b"")
 OUT_OF_MEMORY_AS_JSON = (3, b'{"fault":{"kind":"memory","message":"failed: memory"}}\n', b"")
-FAULT = re.compile(r"(?:refused|failed): (?:job \d+ )?(?:(.* fault \d+)|(read|too long|not UTF-8|[a-z ]+))")
+FAULT = re.compile(r"(?:refused|failed): (?:job \d+ )?(?:(.* fault \d+)|(read|write|too long|not UTF-8|[a-z ]+))")
 MEBIBYTE = 1 << 20
 LARGE_FILES = 50
 LARGE_FILE_BYTES = 40 * MEBIBYTE
@@ -127,6 +127,7 @@ def request_of(command, folder):
     names, given = read_arguments(COMMANDS[command.words[0]], command.words[1:])
     listed = folder / given.pop("--files-from", "")
     has_listed = listed.is_file() and listed.stat().st_size > 0
+    given |= {name: True for name in ("--save", "--resume") if name in given}
     options = frozenset((name, value if isinstance(value, str) else value == 1) for name, value in given.items())
     return options, min(len(names), 3), has_listed
 
@@ -155,7 +156,7 @@ def command_runs(program, folder):
                 case.lay(home, shared)
                 for command in case.commands:
                     run = CommandRun(program, case, command, home)
-                    if command.output and not (home / command.output).exists():
+                    if any(name and not (home / name).exists() for name in (command.output, command.saved)):
                         run.fault({}, home / "none")  # (it makes a file for those after it)
                     if not any(word.startswith("/") for word in command.words):
                         runs.setdefault(kind_of(command, home), run)

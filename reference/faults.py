@@ -12,8 +12,16 @@ class Fault(Exception):
 
     def as_json(self):
         """The fault as JSON."""
+        return {"fault": self.members(self.line)}
+
+    def members(self, line):
+        """What is told of the fault as JSON, where this line tells it."""
         numbered = {} if self.number is None else {"number": self.number}
-        return {"fault": {"kind": self.kind, **numbered, **self.place, "message": self.line}}
+        return {"kind": self.kind, **numbered, **self.place, "message": line}
+
+    def unconfirmed(self):
+        """The same, where it is told of what comes after the confirmed front."""
+        return self.members(f"unconfirmed: {self.line.removeprefix('refused: ')}")
 
 
 class LogFault(IntEnum):
@@ -64,6 +72,15 @@ class ExpectedFault(IntEnum):
         return Fault(f"refused: expected fault {self.value}", "expected", number=self.value)
 
 
+class CheckpointFault(IntEnum):
+    DAMAGED = 1
+    VERSION = 2
+    OTHER_BOOT = 3
+
+    def fault(self):
+        return Fault(f"refused: checkpoint fault {self.value}", "checkpoint", number=self.value)
+
+
 class BookFault(IntEnum):
     """Those that a measurement of files can have."""
 
@@ -94,3 +111,7 @@ def not_utf8(name):
 
 def not_read(name):
     return Fault(f"failed: read {name}", "read", status=3)
+
+
+def not_written(name):
+    return Fault(f"failed: write {name}", "write", status=3)

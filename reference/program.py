@@ -4,8 +4,21 @@ import json
 import os
 from typing import Callable, NamedTuple
 
+from .checkpoint import before_a_list, read_checkpoint
 from .command_line import HelpAsked, read_words
-from .faults import NO_ARGUMENTS, USAGE, BookFault, ExpectedFault, Fault, ListFault, not_read, not_utf8, too_long
+from .faults import (
+    NO_ARGUMENTS,
+    USAGE,
+    BookFault,
+    CheckpointFault,
+    ExpectedFault,
+    Fault,
+    ListFault,
+    not_read,
+    not_utf8,
+    not_written,
+    too_long,
+)
 from .log import read_log, read_log_front
 from .measurement_list import (
     BOOT_AGGREGATE,
@@ -16,12 +29,11 @@ from .measurement_list import (
     list_spelling,
     list_text,
     read_front,
-    read_list,
     replay,
 )
 from .registers import ALGORITHMS, BY_NAME, SHA1, Registers, registers_value
 from .texts import read_expected, read_hexadecimal, read_names, read_printed, read_range, read_requirement
-from .verdict import list_report, places, verdict_report
+from .verdict import confirmed_front, front_report, list_report, places, report_at
 
 MOST_BYTES = 64 << 20
 LONGEST_PATH = 4095
@@ -32,7 +44,7 @@ class Unanswered(Exception):
 
 
 class Inputs:
-    """Files by name, below a folder, and standard input, of which so many bytes are taken."""
+    """Files by name, below a folder, which can also be written, and standard input, of which so many bytes are taken."""
 
     def __init__(self, folder, standard_input, most_bytes):
         self.folder = os.open(folder, os.O_RDONLY | os.O_DIRECTORY)
@@ -69,6 +81,17 @@ class Inputs:
             except OSError:
                 return b"", not_read(name)
 
+    def save(self, name, data):
+        """Makes a file of these bytes, or leaves what has the name as it is ('Going on from a checkpoint'). It is not synced, which nothing here
+        can tell."""
+        beside = f"{name}.new"
+        try:
+            with open(beside, "wb", opener=lambda path, flags: os.open(path, flags, 0o666, dir_fd=self.folder)) as file:
+                file.write(data)
+            os.rename(beside, name, src_dir_fd=self.folder, dst_dir_fd=self.folder)
+        except (OSError, ValueError):
+            raise not_written(name) from None
+
     def limited(self, name, data):
         return data[: self.most_bytes], too_long(name) if len(data) > self.most_bytes else None
 
@@ -80,12 +103,17 @@ def whole(data, fault):
 
 
 def list_of(data, fault):
-    """The entries of a list that is read as its bytes come. Only a cut entry is told after the fault that ended them."""
-    try:
-        entries = read_list(data)
-    except Fault as found:
-        raise fault if fault and found.number == ListFault.TRUNCATED else found
-    return whole(entries, fault)
+    """The entries of a list that is read as its bytes come."""
+    return whole(*front_of(data, fault))
+
+
+def front_of(data, fault, first=0):
+    """The entries before the first fault of such a list, and that, or None, where the first entry has this number; or the fault that ended
+    its bytes, if that is the first. Only a cut entry is told after it."""
+    entries, found = read_front(data, first)
+    if fault and (found is None or found.number == ListFault.TRUNCATED):
+        raise fault
+    return entries, found
 
 
 class Told(NamedTuple):
@@ -163,19 +191,37 @@ def expected_command(inputs, values, text):
     return Told(lambda: "".join(row.line() for row in rows), lambda: [registers_value(rows)])
 
 
-def judge(decide, is_well):
-    """The command that decides on a log, a list and expected registers."""
+def verify_command(inputs, values, log, listed, expected):
+    required = required_by(values)
+    log = inputs.load(log)
+    expected = read_expected(inputs.load(expected))
+    start = read_checkpoint(inputs.load(values["--resume"])) if values["--resume"] is not None else None
+    read = inputs.opened(listed)
+    log = read_log(log)
+    before = log.registers()
+    start = start or before_a_list(before)
+    if start.before.banks != before.banks:
+        raise CheckpointFault.OTHER_BOOT.fault()
+    entries, fault = front_of(*read(), start.entries)
+    end = confirmed_front(log, start, entries, expected, required) if values["--prefix"] else None
+    if end:
+        report = front_report(log, end, start, entries, fault, expected, required)
+    else:
+        end = start.following(whole(entries, fault))
+        report = report_at(log, end, expected, required)
+    if values["--save"] is not None:
+        inputs.save(values["--save"], end.text())
+    return told_of(report, report.matches)
 
-    def command(inputs, values, log, listed, expected):
-        required = required_by(values)
-        log = inputs.load(log)
-        expected = read_expected(inputs.load(expected))
-        read = inputs.opened(listed)
-        log = read_log(log)
-        told = decide(log, list_of(*read()), expected, required)
-        return told_of(told, is_well(told))
 
-    return command
+def locate_command(inputs, values, log, listed, expected):
+    required = required_by(values)
+    log = inputs.load(log)
+    expected = read_expected(inputs.load(expected))
+    read = inputs.opened(listed)
+    log = read_log(log)
+    told = places(log, list_of(*read()), expected, required)
+    return told_of(told, told.are_located)
 
 
 def measure_command(inputs, values, log, *names):
@@ -225,8 +271,8 @@ def measured(log, algorithm, template, limit, files, workers):
 
 COMMANDS = {
     "measure": measure_command,
-    "verify": judge(verdict_report, lambda report: report.matches),
-    "locate": judge(places, lambda places: places.are_located),
+    "verify": verify_command,
+    "locate": locate_command,
     "expected": expected_command,
     "registers": registers_command,
     "events": events_command,

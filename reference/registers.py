@@ -46,6 +46,12 @@ class Registers:
             if algorithm in algorithms
         }
 
+    def copy(self):
+        """The same registers, apart from these."""
+        copied = Registers((), self.locality)
+        copied.banks = {algorithm: list(values) for algorithm, values in self.banks.items()}
+        return copied
+
     def extend(self, register, digest_of):
         """Extends a register in each bank by the digest that `digest_of` gives for its algorithm."""
         for algorithm, values in self.banks.items():

@@ -4,7 +4,9 @@ from __future__ import annotations
 
 from typing import NamedTuple
 
-from .measurement_list import BOOT_AGGREGATE, replay, require_genuine
+from .checkpoint import before_a_list
+from .faults import Fault
+from .measurement_list import replay, require_genuine
 from .registers import ALGORITHMS, REGISTERS, Registers
 
 
@@ -24,7 +26,10 @@ class Report(NamedTuple):
     def text(self):
         counts = dict(self.counts)
         lines = [f"events {counts.pop('events')} locality {counts.pop('locality')}"] if "events" in counts else []
-        lines.append(f"entries {counts.pop('entries')}")
+        entries, confirmed, unconfirmed = (counts.pop(name, None) for name in ("entries", "confirmed", "unconfirmed"))
+        lines.append(f"entries {entries}")
+        lines += [] if confirmed is None else [f"confirmed {confirmed} of {entries} entries"]
+        lines += [] if unconfirmed is None else [unconfirmed["message"]]
         lines += [] if self.missing is None else [f"compared {len(self.rows)}"]
         lines += [f"{name} {value}" for name, value in counts.items()]
         lines += [f"{row.algorithm.name} {row.register} {' '.join(state)}" for row, state in self.rows]
@@ -44,11 +49,38 @@ def named(algorithm, register, **told):
 
 
 def verdict_report(log, entries, expected, required=None):
-    registers = log.registers()
-    aggregate = boot_aggregate_state(registers, entries)
-    replay(registers, entries)
-    counts = {"events": len(log.events), "locality": log.locality, "entries": len(entries), "boot_aggregate": aggregate}
-    return report(counts, registers, expected, required, aggregate == "good")
+    return report_at(log, before_a_list(log.registers()).following(entries), expected, required)
+
+
+def report_at(log, end, expected, required=None, entries=None, told=None):
+    """The report on the list of a checkpoint; of a confirmed front, how many entries the whole list has, and what else is told."""
+    aggregate = boot_aggregate_state(end.before, end.stated)
+    counts = {"events": len(log.events), "locality": log.locality, "entries": end.entries if entries is None else entries}
+    counts |= {**(told or {}), "boot_aggregate": aggregate}
+    return report(counts, end.after, expected, required, aggregate == "good")
+
+
+def confirmed_front(log, start, entries, expected, required=None):
+    """The checkpoint of the shortest front on which the verdict is `match`, of those that a checkpoint and entries after it have; or None
+    ('The confirmed front')."""
+    front = start
+    for entry in entries:
+        if report_at(log, front, expected, required).matches:
+            return front
+        if not entry.is_genuine:
+            return None
+        front = front.following([entry])
+    return front if report_at(log, front, expected, required).matches else None
+
+
+def front_report(log, front, start, entries, fault, expected, required=None):
+    """The report on a confirmed front of the list that a checkpoint and entries after it have, and that a fault may end."""
+    try:
+        start.following(entries)
+    except Fault as found:
+        fault = fault or found
+    told = {"confirmed": front.entries, **({"unconfirmed": fault.unconfirmed()} if fault else {})}
+    return report_at(log, front, expected, required, start.entries + len(entries), told)
 
 
 def list_report(entries, expected, required=None):
@@ -78,14 +110,14 @@ def missing_rows(expected, required):
     return [register for register in everywhere if register in lacking]
 
 
-def boot_aggregate_state(registers, entries):
-    """How the first entry compares with the registers after the log."""
-    fields = entries[0].fields() if entries and not entries[0].is_violation else None
-    if fields is None or fields.path != BOOT_AGGREGATE:
+def boot_aggregate_state(registers, stated):
+    """How what the first entry states compares with the registers after the log."""
+    if stated is None:
         return "missing"
-    if fields.algorithm not in registers.banks:
+    algorithm, digest = stated
+    if algorithm not in registers.banks:
         return "nobank"
-    return "good" if fields.digest == registers.boot_aggregate(fields.algorithm) else "wrong"
+    return "good" if digest == registers.boot_aggregate(algorithm) else "wrong"
 
 
 def row_state(value, expected):

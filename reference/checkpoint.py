@@ -1,0 +1,102 @@
+"""Where a verification stopped, and its text ('A checkpoint', 'Going on from a checkpoint')."""
+
+from __future__ import annotations
+
+import re
+from typing import NamedTuple
+
+from .faults import CheckpointFault
+from .measurement_list import replay, stated_boot_aggregate
+from .registers import ALGORITHMS, BY_NAME, REGISTERS, SHA256, Registers, register_line
+
+NAME = b"ima-agent checkpoint "
+VERSION = b"1\n"
+NUMBER = "(0|[1-9][0-9]*)"
+MOST_BYTES = 2**63
+
+
+class Checkpoint(NamedTuple):
+    """How many entries and bytes the list had, the boot aggregate that it states, as its algorithm and its digest, or None, and the registers
+    before and after it."""
+
+    entries: int
+    bytes: int
+    stated: tuple | None
+    before: Registers
+    after: Registers
+
+    def following(self, entries):
+        """The same after entries that follow the list, or the fault of the first that is not genuine."""
+        after = self.after.copy()
+        replay(after, entries, self.entries)
+        stated = stated_boot_aggregate(entries) if self.entries == 0 else self.stated
+        size = sum(len(entry.spelling()) for entry in entries)
+        return Checkpoint(self.entries + len(entries), self.bytes + size, stated, self.before, after)
+
+    def text(self):
+        stated = f"{self.stated[0].name}:{self.stated[1].hex()}" if self.stated else "none"
+        counts = f"entries {self.entries}\nbytes {self.bytes}\nboot_aggregate {stated}\n"
+        body = NAME + VERSION + f"{counts}before\n{banks_text(self.before)}after\n{banks_text(self.after)}".encode()
+        return body + f"sha256 {SHA256.hash(body).hex()}\n".encode()
+
+
+def before_a_list(registers):
+    """The checkpoint of no entries, from these registers."""
+    return Checkpoint(0, 0, None, registers, registers)
+
+
+def banks_text(registers):
+    return "".join(bank_text(algorithm, registers.banks.get(algorithm)) for algorithm in ALGORITHMS)
+
+
+def bank_text(algorithm, values):
+    if values is None:
+        return f"{algorithm.name} none\n"
+    return "".join(register_line(algorithm, register, value) for register, value in enumerate(values))
+
+
+def digits(algorithm):
+    return f"[0-9a-f]{{{2 * algorithm.size}}}"
+
+
+def bank_form(algorithm):
+    rows = "".join(f"{algorithm.name} {register} {digits(algorithm)}\n" for register in range(REGISTERS))
+    return f"(?:{algorithm.name} none\n|{rows})"
+
+
+BANKS = "(" + "".join(map(bank_form, ALGORITHMS)) + ")"
+STATED = "|".join(f"{algorithm.name}:{digits(algorithm)}" for algorithm in ALGORITHMS)
+FORM = re.compile(
+    f"{(NAME + VERSION).decode()}entries {NUMBER}\nbytes {NUMBER}\nboot_aggregate (none|{STATED})\n"
+    f"before\n{BANKS}after\n{BANKS}sha256 ({digits(SHA256)})\n".encode()
+)
+
+
+def read_checkpoint(text):
+    """The checkpoint whose text this is, or the fault."""
+    if not text.startswith(NAME):
+        raise CheckpointFault.DAMAGED.fault()
+    if not text.startswith(NAME + VERSION):
+        raise CheckpointFault.VERSION.fault()
+    match = FORM.fullmatch(text)
+    if not match or SHA256.hash(text[: match.start(6) - len("sha256 ")]).hex().encode() != match[6]:
+        raise CheckpointFault.DAMAGED.fault()
+    entries, size, stated, before, after = (part.decode() for part in match.groups()[:5])
+    if not int(entries) <= int(size) < MOST_BYTES:
+        raise CheckpointFault.DAMAGED.fault()
+    return Checkpoint(int(entries), int(size), stated_in(stated), registers_in(before), registers_in(after))
+
+
+def stated_in(words):
+    name, _, value = words.partition(":")
+    return (BY_NAME[name], bytes.fromhex(value)) if value else None
+
+
+def registers_in(lines):
+    """The registers that the lines of four banks have."""
+    registers = Registers(())
+    for line in lines.splitlines():
+        name, _, value = line.partition(" ")
+        if value != "none":
+            registers.banks.setdefault(BY_NAME[name], []).append(bytes.fromhex(value.partition(" ")[2]))
+    return registers
