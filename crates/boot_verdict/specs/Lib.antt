@@ -16,6 +16,7 @@ pub mod PrintedTexts
 pub mod RegisterRanges
 pub mod Requirements
 pub mod RequiredTexts
+pub mod FrontTexts
 pub mod ListVerdicts
 pub mod WrittenTexts
 pub mod Checkpoints
