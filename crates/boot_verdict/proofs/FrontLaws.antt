@@ -189,7 +189,9 @@ module _ (list : List ℕ) (known : Checkpoint) (expected : Bor (List Expected))
   known_bytes =
       let listed : length list ≡ length (list_spelling is.entries) =
       ap (λ (l : List ℕ). length l) (is.list_is.begins.parts ∙ append-nil (list_spelling is.entries)) in
-      is.size ∙ listed ∙ sym (sized is.entries 0 (omega (arith, few, is.size, listed)))
+      let counted : size_after 0 (entries_as_steps is.entries) ≡ length (list_spelling is.entries) =
+      sized is.entries 0 (omega (arith, few, is.size, listed)) ∙ omega arith in
+      is.size ∙ listed ∙ sym counted
       ∙ ap (λ (n : ℕ). size_after n (entries_as_steps is.entries)) after.bytes
       ∙ sym (fold-append size_more origin.bytes log (entries_as_steps is.entries))
 
