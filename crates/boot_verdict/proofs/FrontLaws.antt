@@ -424,7 +424,7 @@ module _ (known : Checkpoint) (expected : Bor (List Expected)) (bytes : List ℕ
       )
 
   -- The checkpoint of a front that is found.
-  front_checkpoint : (k : ℕ) (front : Front) (at : IsFrontAt (search_before known expected) 0 (entries_as_steps found.genuine) front (suc k))
+  abbrev front_checkpoint : (k : ℕ) (front : Front) (at : IsFrontAt (search_before known expected) 0 (entries_as_steps found.genuine) front (suc k))
       → IsCheckpoint (list_spelling (take (suc k) entries)) (checkpoint_at known replay front)
   front_checkpoint k front at =
       let within : suc k ≤ length found.genuine = let le = at.within in omega (arith, le, genuine_size) in
@@ -494,6 +494,7 @@ module _ (known : Checkpoint) (expected : Bor (List Expected)) (bytes : List ℕ
             shortest = shorter;
           };
           checkpoint = front_checkpoint k front at;
+          same = refl;
           before = refl;
         }
       where

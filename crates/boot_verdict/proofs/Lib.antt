@@ -18,3 +18,4 @@ pub mod RequirementLaws
 pub mod CheckpointLaws
 pub mod SessionLaws
 pub mod FrontLaws
+pub mod ConfirmLaws

@@ -7,11 +7,11 @@ ghost use Rattle.pcr_banks.specs.Digests.{alg_of, bytes_of};
 ghost use Rattle.boot_log.specs.Replaying.{IsFirmware};
 ghost use Rattle.boot_log.specs.Spelling.{LogEvent};
 ghost use Rattle.boot_verdict.specs.Checkpoints.{IsCheckpoint, IsMoreFault, most_after};
-ghost use Rattle.boot_verdict.specs.ListSources.{failures_after_list};
+ghost use Rattle.boot_verdict.specs.ListSources.{IsListFaultAfter, failures_after_list};
 ghost use Rattle.boot_verdict.specs.Verdicts.{aggregate_of, is_good};
 ghost use Rattle.boot_verdict.specs.parts.Confirming.{IsConfirmingAfter, search_before};
 ghost use Rattle.boot_verdict.specs.parts.ListReplays.{ReplaysAll};
-ghost use Rattle.boot_verdict.specs.parts.Searches.{IsNoListFault, Searches, front_after, unconfirmed_of, whole_after, whole_of};
+ghost use Rattle.boot_verdict.specs.parts.Searches.{IsNoListFault, Searches, front_after, unconfirmed_of, whole_after, whole_of, wrong_with};
 
 use crate::checkpoint::Checkpoint;
 use crate::expected::Expected;
@@ -73,7 +73,7 @@ impl Session<'_> {
         Ok(Some(FrontReport {
             report,
             entries: search.entries,
-            unconfirmed: search.whole.err(),
+            unconfirmed: wrong_with(search.whole),
         }))
     }
 }
@@ -101,7 +101,7 @@ impl Checkpoint {
         ensures found { IfOk result (λ search. (list : List ℕ) → IsCheckpoint list self.now
             → Searches self.now list (R.state source.old).remaining (R.state source.new).remaining (most_after self.now limit) expected.now search) }
         ensures fault { IfErr result (λ fault. (list : List ℕ) → IsCheckpoint list self.now
-            → IsMoreFault list (R.state source.old).remaining (R.state source.new).remaining (most_after self.now limit) fault) }
+            → IsListFaultAfter list (R.state source.old).remaining (R.state source.new).remaining (most_after self.now limit) fault) }
         ensures other { IfErr result IsNoListFault }
         ensures source { LosesFront (R.state source.old).remaining (R.state source.new).remaining }
         ensures telling { is_some (R.state source.new).remaining ≡ is_some (R.state source.old).remaining }
@@ -187,6 +187,13 @@ fn unconfirmed_of(fault: VerifyFault) -> Result<Unconfirmed, VerifyFault>
         VerifyFault::List(fault) => Ok(Unconfirmed::List(fault)),
         other => Err(other),
     }
+}
+
+// What is wrong with the list, if anything.
+fn wrong_with(whole: Result<Checkpoint, Unconfirmed>) -> Option<Unconfirmed>
+    ensures { result ≡ wrong_with whole }
+{
+    whole.err()
 }
 
 // The checkpoint of the whole list, or the fault with which it is refused.

@@ -27,6 +27,7 @@ pub record IsConfirmedAt (algs : AlgSet) (events : List LogEvent) (expected : Li
   pub begins : BeginsWith bytes front rest
   pub confirmed : IsConfirmed algs events expected known.entries front
   pub checkpoint : IsCheckpoint (list_spelling front) at
+  pub same : checkpoint.entries ≡ front
   pub before : at.before ≡ known.before
 
 -- The confirmed front of these entries, with which the bytes begin, or none.

@@ -2,7 +2,6 @@ use Rattle.std.proofs.Common.{arith, sym, ap, Err, ◌∙◌, refl}
 use Rattle.std.proofs.lemmas.Result.{err_from_is_err_and}
 use Rattle.boot_verdict.specs.parts.Confirming.{search_before}
 use Rattle.boot_verdict.proofs.FrontLaws.{is_unconfirmed, not_unconfirmed, searches_part, searches_whole}
-use Rattle.boot_verdict.proofs.SessionLaws.{not_read}
 use Rattle.boot_verdict.proofs.checkpoint.Checkpoint.search.Goals as goal
 use Rattle.boot_verdict.proofs.checkpoint.Checkpoint.search.Goals.{in-Ok, in-Err+in_ok-unconfirmed_of-in-Err}
 
@@ -11,9 +10,9 @@ returns-in_err-unconfirmed_of-in-Err-clause-fault g c =
     let p = err_from_is_err_and c.from_residual.result c.from_residual.ensures.1 in
     let known = c.args.self.now in
     let same = not_unconfirmed c.in-Err.fault c.in_err-unconfirmed_of-in-Err.field-0.0 (sym c.unconfirmed_of.ensures ∙ c.in_err-unconfirmed_of-in-Err.was) in
-    rw (p.1, p.2, ← c.room.ensures.room, ← same.0) (λ list is. not_read list _ _ _ _
-    ((rw c.in-Err.is at c.follow.ensures.fault) (search_before known c.args.expected) list
-    (c.searching-replay.ensures.replays list is (omega (arith, c.room.ensures.bytes)))))
+    rw (p.1, p.2, ← c.room.ensures.room, ← same.0) (λ list is.
+    (rw c.in-Err.is at c.follow.ensures.fault) (search_before known c.args.expected) list
+    (c.searching-replay.ensures.replays list is (omega (arith, c.room.ensures.bytes))))
 
 pub returns-clause-found : goal.returns-clause-found
 returns-clause-found g c =
