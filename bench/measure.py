@@ -24,6 +24,7 @@ MOST_BYTES = 64 * 1024 * 1024
 MOST_SECONDS = 300
 START_CALLS = 41
 START_LIMIT = 0.050
+POLL_LIMIT = 0.1  # of the time of `verify` of the whole list
 STREAMED_LIMIT = 8  # MiB that a long list may take above an empty one
 
 ROOT, FOLDER = (Path(word).resolve() for word in sys.argv[1:3])
@@ -74,12 +75,12 @@ def complain(words, status, text):
     complaints.append(f"{called}: status {status}, {len(text)} bytes, of which the last line is '{last}'")
 
 
-def median_time(words, wanted, stdin=NO_INPUT, compared=in_order):
+def median_time(words, wanted, stdin=NO_INPUT, compared=in_order, program=AGENT):
     """The median time of RUNS calls, after one that is not counted; None if an answer is wrong."""
     wanted = compared(wanted)
     times = []
     for _ in range(1 + RUNS):
-        seconds, status, text = timed([AGENT, *words], stdin)
+        seconds, status, text = timed([program, *words], stdin)
         if status != 0 or compared(text) != wanted:
             complain(words, status, text)
             return None
@@ -198,6 +199,28 @@ def lists():
     ]
 
 
+def polls():
+    """`verify --resume` with 100 entries after 100,000, and `verify` of all of them, by the program itself."""
+    known, more = 100_000, 100
+    log = small_log()
+    entries = inputs.made_entries(log, inputs.made_measurements(known + more - 1))
+    expected = inputs.expected_after(log, entries)
+    report = verdict(log, entries, expected)[0].encode()
+    store("made.log", log.spelling())
+    store("expected.txt", inputs.expected_text(expected))
+    for name, part in (("whole.list", entries), ("known.list", entries[:known]), ("more.list", entries[known:])):
+        store(name, list_spelling(part))
+    timed([PROGRAM, "verify", "--save", "state", "made.log", "known.list", "expected.txt"])
+    words = ["verify", "--resume", "state", "made.log", "more.list", "expected.txt"]
+    whole = median_time(["verify", "made.log", "whole.list", "expected.txt"], report, program=PROGRAM)
+    poll = median_time(words, report, program=PROGRAM)
+    if None not in (whole, poll) and poll > POLL_LIMIT * whole:
+        complaints.append(f"a poll of {more} entries takes {poll / whole:.2f} of verify of all {known + more:,}")
+    if (peak := peak_memory(words, report)) is not None:
+        print(f"{f'peak memory of verify --resume, {more} entries after {known:,}, in MiB':<90}{peak:8.1f}")
+    return [(f"verify --resume with {more} entries after {known:,}, to verify of all of them", poll, whole)]
+
+
 def logs():
     """The events of made logs, and their registers in hexadecimal on standard input."""
     sizes = (32_000, 320_000)
@@ -304,7 +327,7 @@ def starts():
 def main():
     print(f"runs      {RUNS} for each time, which is their median\n")
     print(f"{'':<48}{'small':>11}{'large':>11}{'times':>8}{'sizes':>8}{'growth':>8}", flush=True)
-    ratios = [*lists(), *logs(), *files(), *uneven_files()]
+    ratios = [*lists(), *polls(), *logs(), *files(), *uneven_files()]
     print(f"\n{'peak memory of':<52}{'empty':>13}{'small':>13}{'large':>13}")
     for peak in PEAKS:
         print_memory(*peak)
