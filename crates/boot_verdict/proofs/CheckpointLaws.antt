@@ -1,6 +1,6 @@
 -- Checkpoints: where the lines of their texts are cut, what they state, and that the same data have the same text.
 use Rattle.std.proofs.Common.{rules, ◌≡◌, ℕ, ◌+◌, ◌*◌, ◌^◌, ◌<◌, eqb, ltb, cond, Bool, true, false, List, [], ◌∷◌, ◌++◌, length, drop, slice_index, get_or, decimal, codes, Result, Ok, Err, Option, None, Some, refl, sym, ap, subst, ◌∙◌, inl, inr, arith, append_assoc, append-nil}
-use Rattle.std.specs.Prelude.{◌&&◌, ◌==◌, IfOk, IfSome, IsSome, IsTrue, flat_map, if◌then◌else◌, is_some, nat_lt, option_map}
+use Rattle.std.specs.Prelude.{◌&&◌, IfOk, IfSome, IsSome, IsTrue, flat_map, if◌then◌else◌, is_some, option_map}
 use Rattle.std.specs.List.{AllPass}
 use Rattle.std.specs.Option.{IsSomeAnd}
 use Rattle.std.specs.Str.Iter.{LacksByte}
@@ -34,7 +34,7 @@ use Rattle.boot_verdict.specs.parts.CheckpointParts.{HasBank, Sets, TakesBank, T
 use Rattle.boot_verdict.specs.parts.StatedLines.{IsSplitOnce}
 use Rattle.boot_verdict.proofs.ExpectedLaws.{Lacks, lacks_from, not_lacked, one_cut, one_line}
 use Rattle.boot_verdict.proofs.RegisterLaws as registers
-use Rattle.boot_verdict.proofs.WrittenLaws.{AllShown, IsProper, body, body_shown, body_spells, decimal_above, encoded_above, lacks_feed, line_is, shown, shown_join}
+use Rattle.boot_verdict.proofs.WrittenLaws.{IsProper, body, body_shown, body_spells, decimal_above, encoded_above, lacks_feed, line_is, shown, shown_join}
 use Rattle.pcr_banks.proofs.AlgLaws as algs
 use Rattle.boot_verdict.proofs.ExpectedLaws as names
 use Rattle.boot_verdict.proofs.RequirementLaws as colons

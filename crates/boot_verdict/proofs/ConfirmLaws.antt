@@ -1,8 +1,6 @@
 -- What a session makes of a search for the confirmed front.
-use Rattle.std.proofs.Common.{◌≡◌, ℕ, List, ◌++◌, Option, Some, None, Result, Ok, Err, refl, sym, ap, subst, ◌∙◌}
-use Rattle.std.specs.Prelude.{IfErr}
+use Rattle.std.proofs.Common.{◌≡◌, ℕ, List, ◌++◌, Option, Some, None, Result, Ok, Err, sym, ap, subst, ◌∙◌}
 use Rattle.pcr_banks.specs.declared.banks.Banks.{Banks}
-use Rattle.pcr_banks.specs.declared.sets.AlgSet.{AlgSet}
 use Rattle.boot_log.specs.declared.header.Row.{Row as TableRow}
 use Rattle.boot_log.specs.LogViews.{log_bytes}
 use Rattle.boot_log.specs.Replaying.{IsFirmware}
@@ -27,7 +25,7 @@ use Rattle.boot_verdict.specs.ListSources.{IsListFaultAfter}
 use Rattle.boot_verdict.specs.Sessions.{HasTaken}
 use Rattle.boot_verdict.specs.Verdicts.{verdict_of, verdict_on}
 use Rattle.boot_verdict.specs.parts.Following.{BanksAfter}
-use Rattle.boot_verdict.specs.parts.ListReplays.{IsFaultOfEntries, Replays, ReplaysAll}
+use Rattle.boot_verdict.specs.parts.ListReplays.{IsFaultOfEntries, Replays}
 use Rattle.boot_verdict.specs.parts.Searches.{FindsFront, IsConfirmedAt, IsNoListFault, IsWhole, Searches, whole_of, wrong_with}
 use Rattle.boot_verdict.proofs.ReplayLaws.{only_memory}
 

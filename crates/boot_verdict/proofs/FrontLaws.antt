@@ -1,6 +1,6 @@
 -- The search for the confirmed front: one more step, and what is found at the end.
-use Rattle.std.proofs.Common.{◌≡◌, ℕ, zero, suc, ◌+◌, ◌-◌, ◌^◌, ◌<◌, ◌≤◌, min, Bool, true, false, cond, eqb, leb, List, [], ◌∷◌, ◌++◌, length, map, take, drop, Option, Some, None, option_map, Result, Ok, Err, refl, sym, ap, subst, ◌∙◌, append_assoc, append-nil, arith, inl, inr}
-use Rattle.std.specs.Prelude.{◌&&◌, fold}
+use Rattle.std.proofs.Common.{◌≡◌, ℕ, zero, suc, ◌+◌, ◌-◌, ◌^◌, ◌<◌, ◌≤◌, min, Bool, true, false, cond, eqb, List, [], ◌∷◌, ◌++◌, length, map, take, drop, Option, Some, None, option_map, Ok, Err, refl, sym, ap, subst, ◌∙◌, append_assoc, append-nil, arith, inl, inr}
+use Rattle.std.specs.Prelude.{◌&&◌}
 use Rattle.std.specs.Borrow.{Bor}
 use Rattle.std.specs.List.{AllByRecursion, list_all}
 use Rattle.std.proofs.lemmas.Bool.{cases_Bool, ne_eqb}
@@ -35,12 +35,12 @@ use Rattle.boot_verdict.specs.declared.front_report.Unconfirmed.{Unconfirmed}
 use Rattle.boot_verdict.specs.declared.front_report.Unconfirmed.TheVariants as unconfirmed
 use Rattle.boot_verdict.specs.declared.verifier.VerifyFault.{VerifyFault}
 use Rattle.boot_verdict.specs.declared.verifier.VerifyFault.TheVariants as faults
-use Rattle.boot_verdict.specs.Fronts.{AreUnconfirmed, IsConfirmed, IsWrongWith}
+use Rattle.boot_verdict.specs.Fronts.{AreUnconfirmed, IsWrongWith}
 use Rattle.boot_verdict.specs.ListSources.{CameFrom, IsListFaultAfter}
 use Rattle.boot_verdict.specs.Places.{is_reached, place_after}
-use Rattle.boot_verdict.specs.Steps.{Step, OfEntry, entries_as_steps, stepped, value_after}
-use Rattle.boot_verdict.specs.Verdicts.{aggregate_of, is_good, is_match, is_value, matches, pcr_after_log, pcr_after_log_and_list, row_on, row_state, stated_aggregate, state_matches, verdict_on}
-use Rattle.boot_verdict.specs.parts.Confirming.{FrontIs, IsConfirmingAfter, IsFrontAt, are_reached, front_with, reached_after_steps, search_after, search_before, size_after, size_more, size_of_step}
+use Rattle.boot_verdict.specs.Steps.{Step, OfEntry, entries_as_steps, value_after}
+use Rattle.boot_verdict.specs.Verdicts.{aggregate_of, is_good, is_match, is_value, matches, pcr_after_log_and_list, row_on, row_state, stated_aggregate, state_matches, verdict_on}
+use Rattle.boot_verdict.specs.parts.Confirming.{FrontIs, IsConfirmingAfter, IsFrontAt, are_reached, front_with, reached_after_steps, search_after, search_before, size_after, size_more}
 use Rattle.boot_verdict.specs.parts.Following.{AreAfter}
 use Rattle.boot_verdict.specs.parts.ListReplays.{IsReplayedOrForged, Replays, ReplaysAll, ReplaysMore, StopsAt}
 use Rattle.boot_verdict.specs.parts.Searches.{FindsFront, IsConfirmedAt, IsNoListFault, IsWhole, Searches, checkpoint_at, front_after, unconfirmed_of, whole_after, whole_with, wrong_with}
@@ -241,7 +241,7 @@ module _ (list : List ℕ) (known : Checkpoint) (expected : Bor (List Expected))
             },
           )
           | inr no_is ↦ rw (le.0, no_is) (λ m gt within.
-          ap (reached_after_steps origin.banks origin.expected.now) (take_all m steps (omega (arith, gt, first, known_count, at_least))) ∙ sym here ∙ no_is)
+              ap (reached_after_steps origin.banks origin.expected.now) (take_all m steps (omega (arith, gt, first, known_count, at_least))) ∙ sym here ∙ no_is)
         ]
       ]
 

@@ -1,5 +1,5 @@
 -- A list that goes on where a checkpoint is.
-use Rattle.std.proofs.Common.{◌≡◌, ℕ, ◌+◌, ◌<◌, Bool, true, false, ltb, List, [], ◌++◌, length, Option, None, option_map, Result, Ok, Err, refl, sym, ap, subst, ◌∙◌, inl, inr, rules}
+use Rattle.std.proofs.Common.{◌≡◌, ℕ, ◌+◌, ◌<◌, ltb, List, [], length, Option, None, option_map, Result, Ok, Err, refl, sym, ap, subst, ◌∙◌, inl, inr, rules}
 use Rattle.std.specs.Prelude.{IfOk, IfErr}
 use Rattle.std.specs.List.{AllByRecursion}
 use Rattle.std.proofs.lemmas.List.{length-append}
@@ -14,13 +14,12 @@ use Rattle.pcr_banks.proofs.SetLaws.{same_bytes}
 use Rattle.ima_list.specs.declared.replaying.ReplayFault.{ReplayFault}
 use Rattle.ima_list.specs.Replaying.{AreGenuine, IsReplayFault}
 use Rattle.ima_list.specs.ListEntry.{ListEntry}
-use Rattle.ima_list.specs.Spelling.{BeginsWith, IsReading}
+use Rattle.ima_list.specs.Spelling.{IsReading}
 use Rattle.boot_verdict.specs.declared.checkpoint.Checkpoint.{Checkpoint}
 use Rattle.boot_verdict.specs.declared.list_replay.ListReplay.{ListReplay}
 use Rattle.boot_verdict.specs.declared.verifier.VerifyFault.{VerifyFault}
 use Rattle.boot_verdict.specs.declared.verifier.VerifyFault.TheVariants as faults
 use Rattle.boot_log.specs.declared.header.Row.{Row as TableRow}
-use Rattle.boot_log.specs.declared.log_view.LogView.{LogView}
 use Rattle.boot_log.specs.LogViews.{log_bytes}
 use Rattle.boot_log.specs.Replaying.{IsFirmware}
 use Rattle.boot_log.specs.Spelling.{LogEvent, IsLog, algs_in}

@@ -20,11 +20,11 @@ ghost use Rattle.boot_verdict.specs.CheckpointTexts.{IsOfOtherVersion, bank_line
 ghost use Rattle.boot_verdict.specs.parts.CheckpointParts.{HasBank, Sets, TakesBank};
 
 use crate::expected::register_on;
-use crate::list_replay::ListReplay;
-use crate::verifier::VerifyFault;
 use crate::lines::{after_prefix, split_once};
+use crate::list_replay::ListReplay;
 use crate::replaying::list_start;
 use crate::texts::write_checkpoint;
+use crate::verifier::VerifyFault;
 use byte_streams::Source;
 use ima_list::laws::entries_to_the_end_are_the_reading;
 use pcr_banks::laws::{digest_is_a_hash, registers_have_hashes};

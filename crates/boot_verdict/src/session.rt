@@ -115,6 +115,12 @@ impl<'a> Session<'a> {
         ensures report { IfOk result (λ report. (log list : List ℕ) → HasTaken log list self.now → IsVerdict log list expected.now (verdict_of report)) }
         ensures fault { (log list : List ℕ) → HasTaken log list self.now → IfErr result (λ fault. fault ≡ VerifyFault.Memory) }
     {
-        report_on(alloc, &self.log, &self.known.before, self.known.replay(), expected)
+        report_on(
+            alloc,
+            &self.log,
+            &self.known.before,
+            self.known.replay(),
+            expected,
+        )
     }
 }

@@ -1,8 +1,6 @@
-use Rattle.std.proofs.Common.{refl, ◌∙◌, ◌++◌, ◌≡◌, List, ℕ}
+use Rattle.std.proofs.Common.{refl, ◌∙◌, ◌++◌}
 use Rattle.pcr_banks.specs.declared.alg.Alg.TheVariants.{Sha1, Sha256, Sha384, Sha512}
-use Rattle.pcr_banks.specs.declared.banks.Banks.{Banks}
 use Rattle.boot_verdict.specs.CheckpointTexts.{bank_lines}
-use Rattle.boot_verdict.specs.parts.CheckpointParts.{HasBank, TakesBank}
 use Rattle.boot_verdict.proofs.CheckpointLaws.{all_banks, lines_apart, some_then, start_has, still_has}
 use Rattle.boot_verdict.proofs.checkpoint.banks_at.Goals as goal
 

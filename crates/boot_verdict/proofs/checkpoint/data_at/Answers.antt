@@ -1,4 +1,4 @@
-use Rattle.std.proofs.Common.{arith, ◌≡◌, ◌<◌, ◌^◌, ◌∙◌, ℕ}
+use Rattle.std.proofs.Common.{arith, ◌∙◌}
 use Rattle.boot_verdict.proofs.CheckpointLaws.{after_before, after_bytes, after_entries, after_stated, data_apart}
 use Rattle.boot_verdict.proofs.checkpoint.data_at.Goals as goal
 

@@ -1,4 +1,4 @@
-use Rattle.std.proofs.Common.{◌++◌, ◌∙◌, codes, sym, ap, subst, ◌≡◌}
+use Rattle.std.proofs.Common.{◌++◌, ◌∙◌, codes, sym, subst, ◌≡◌}
 use Rattle.boot_verdict.specs.declared.checkpoint.Checkpoint.{Checkpoint}
 use Rattle.boot_verdict.specs.Checkpoints.{SameData}
 use Rattle.boot_verdict.specs.CheckpointTexts.{checkpoint_body, checkpoint_text, data_lines, seal_line}

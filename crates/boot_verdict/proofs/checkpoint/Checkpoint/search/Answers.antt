@@ -1,4 +1,4 @@
-use Rattle.std.proofs.Common.{arith, sym, ap, Err, ◌∙◌, refl}
+use Rattle.std.proofs.Common.{arith, sym, ap, Err, ◌∙◌}
 use Rattle.std.proofs.lemmas.Result.{err_from_is_err_and}
 use Rattle.boot_verdict.specs.parts.Confirming.{search_before}
 use Rattle.boot_verdict.proofs.FrontLaws.{is_unconfirmed, not_unconfirmed, searches_part, searches_whole}

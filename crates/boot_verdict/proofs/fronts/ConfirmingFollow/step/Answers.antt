@@ -1,8 +1,7 @@
-use Rattle.std.proofs.Common.{◌≡◌, ap, sym, ◌∙◌, refl, arith}
+use Rattle.std.proofs.Common.{sym, ◌∙◌, refl}
 use Rattle.boot_verdict.specs.parts.Following.{step_of}
 use Rattle.boot_verdict.specs.declared.fronts.Confirming.{Confirming}
-use Rattle.boot_verdict.specs.parts.Confirming.{front_with, size_more}
-use Rattle.boot_verdict.proofs.FrontLaws.{front_kept, front_next, not_entry, search_more}
+use Rattle.boot_verdict.proofs.FrontLaws.{front_next, search_more}
 use Rattle.boot_verdict.proofs.fronts.ConfirmingFollow.step.Goals as goal
 
 pub returns-in-None-Entry : goal.returns-in-None-Entry

@@ -1,4 +1,4 @@
-use Rattle.std.proofs.Common.{sym, subst, ◌∙◌, refl}
+use Rattle.std.proofs.Common.{sym, ◌∙◌}
 use Rattle.std.proofs.lemmas.Result.{err_from_is_err_and}
 use Rattle.boot_verdict.proofs.ConfirmLaws.{front_memory, front_reported, not_of_list, takes_unconfirmed, unconfirmed_fault, whole_fault}
 use Rattle.boot_verdict.proofs.SessionLaws.{not_read}
