@@ -20,7 +20,7 @@ use Rattle.boot_verdict.specs.declared.session.Session.{Session}
 use Rattle.boot_verdict.specs.declared.verifier.VerifyFault.{VerifyFault}
 use Rattle.boot_verdict.specs.declared.verifier.VerifyFault.TheVariants as faults
 use Rattle.boot_verdict.specs.Checkpoints.{IsCheckpoint, IsMoreFault}
-use Rattle.boot_verdict.specs.Fronts.{AreUnconfirmed, CameUnconfirmed, IsFrontReport, IsUnconfirmedFault, IsWrongWith, TakesUnconfirmed}
+use Rattle.boot_verdict.specs.Fronts.{AreUnconfirmed, CameUnconfirmed, IsFrontReport, IsUnconfirmedList, IsUnconfirmedFault, IsWrongWith, TakesUnconfirmed}
 use Rattle.boot_verdict.specs.ListSources.{IsListFaultAfter}
 use Rattle.boot_verdict.specs.Sessions.{HasTaken}
 use Rattle.boot_verdict.specs.Verdicts.{verdict_of, verdict_on}
@@ -68,7 +68,7 @@ module _ (session : Session) (log list : List ℕ) (has : HasTaken log list sess
       (subst (FindsFront (algs_in has.table) has.events expected session.known (list ++ searches.came) searches.entries) none
       (searches.front (algs_in has.table) has.events has.start))
 
-  came_unconfirmed : search.front ≡ None → CameUnconfirmed log list old new limit expected session.known.entries
+  came_unconfirmed : search.front ≡ None → CameUnconfirmed log list old new limit expected session.known.entries search.entries
   came_unconfirmed none = record {
     came = searches.came;
     over = searches.over;
@@ -76,16 +76,26 @@ module _ (session : Session) (log list : List ℕ) (has : HasTaken log list sess
     rest = searches.rest;
     came_is = searches.came_is;
     begins = searches.begins;
+    count_is = searches.count;
     none = none_confirmed none;
   }
 
-  pub unconfirmed_fault : search.front ≡ None → (fault : VerifyFault) → IsUnconfirmedFault log list old new limit expected session.known.entries fault
-  unconfirmed_fault none (faults.List fault) = came_unconfirmed none
-  unconfirmed_fault none (faults.Replay fault) = came_unconfirmed none
-  unconfirmed_fault none (faults.Log fault) = tt
-  unconfirmed_fault none faults.Source = tt
-  unconfirmed_fault none faults.TooLong = tt
-  unconfirmed_fault none faults.Memory = tt
+  -- The list is refused.
+  pub unconfirmed_fault : search.front ≡ None → (fault : VerifyFault) → whole_of search.whole ≡ Err fault
+      → IsUnconfirmedFault log list old new limit expected session.known.entries fault
+  unconfirmed_fault none fault is = by search.whole is searches.whole searches.wrong
+    where
+      by : (whole : Result Checkpoint Unconfirmed) → whole_of whole ≡ Err fault → IsWhole session.known list old new limit searches.entries whole
+          → IsWrongWith list old new limit search.entries (wrong_with whole)
+          → IsUnconfirmedFault log list old new limit expected session.known.entries fault
+      by (Ok whole) same holds wrong = absurd cc
+      by (Err (unconfirmed.List listed)) same holds wrong =
+          let equal : faults.List listed ≡ fault = cc in
+          subst (IsUnconfirmedFault log list old new limit expected session.known.entries) equal (search.entries, wrong.1, came_unconfirmed none)
+      by (Err (unconfirmed.Replay replayed)) same (more, came, reading) wrong =
+          let equal : faults.Replay replayed ≡ fault = cc in
+          subst (IsUnconfirmedFault log list old new limit expected session.known.entries) equal
+          (record { more = more; entries = searches.entries; came = came; list_is = reading; none = none_confirmed none })
 
   -- ---- no front
 

@@ -548,7 +548,7 @@ module _ (known : Checkpoint) (expected : Bor (List Expected)) (list : List ℕ)
 
     whole_by : (forged : Option ℕ) → IsReplayedOrForged IsConfirmingAfter (search_before known expected) more.all.entries replay.follower forged
         → IsWhole known list old new limit more.all.entries (whole_with known replay forged)
-    whole_by (Some place) holds = tt
+    whole_by (Some place) holds = (more.more, more.came, more.all.reading)
     whole_by None holds =
         let entries = more.all.entries in
         let after = holds.1 (search_before known expected) 0 [] refl (search_none known expected) in
@@ -580,6 +580,7 @@ module _ (known : Checkpoint) (expected : Bor (List Expected)) (list : List ℕ)
       came_is = more.came.came;
       begins = more.all.reading.begins;
       front = finds (list ++ more.more) more.all.entries [] more.all.reading.begins more.all.replays (few_bytes more.more [] more.came.came);
+      count = sym more.all.replays.count;
       wrong = wrong_by replay.forged more.all.replays.replayed;
       whole = whole_by replay.forged more.all.replays.replayed;
     }
@@ -596,6 +597,7 @@ module _ (known : Checkpoint) (expected : Bor (List Expected)) (list : List ℕ)
     came_is = from;
     begins = stops.begins;
     front = finds (list ++ came) stops.entries stops.rest stops.begins stops.replays (few_bytes came over from);
+    count = sym stops.replays.count;
     wrong = (holds, number);
     whole = tt;
   }

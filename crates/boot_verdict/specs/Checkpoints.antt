@@ -63,7 +63,7 @@ abbrev pub IsMoreFault : List ℕ → Option (List ℕ) → Option (List ℕ) �
 IsMoreFault list old new limit (faults.Replay fault) = (more : List ℕ) × CameWhole old new limit more × IsForged (list ++ more) fault
 IsMoreFault list old new limit fault = IsListFaultAfter list old new limit fault
 
--- All registers have the same values, and so the same banks are active.
+-- All registers have the same values.
 abbrev pub SameValues : Banks → Banks → Type 0
 SameValues first second = (a : Alg) (r : ℕ) → value_at first a r ≡ value_at second a r
 

@@ -68,18 +68,28 @@ pub record TakesUnconfirmed (log list : List ℕ) (old new : Option (List ℕ)) 
   pub list_is : IsReading (list ++ takes.more) (Ok entries)
   pub none : (table : List TableRow) (events : List LogEvent) → IsLog log table events → AreUnconfirmed (algs_in table) events expected least entries
 
--- The entries that came before this fault, of which no front is confirmed.
-pub record CameUnconfirmed (log list : List ℕ) (old new : Option (List ℕ)) (limit : ℕ) (expected : List Expected) (least : ℕ) : Type 0 where
+-- So many entries are at the front of what came, and no front of them is confirmed.
+pub record CameUnconfirmed (log list : List ℕ) (old new : Option (List ℕ)) (limit : ℕ) (expected : List Expected) (least count : ℕ) : Type 0 where
   pub came : List ℕ
   pub over : List ℕ
   pub entries : List ListEntry
   pub rest : List ℕ
   pub came_is : CameFrom old new limit came over
   pub begins : BeginsWith (list ++ came) entries rest
+  pub count_is : length entries ≡ count
   pub none : (table : List TableRow) (events : List LogEvent) → IsLog log table events → AreUnconfirmed (algs_in table) events expected least entries
 
--- The list is refused only if no front of it is confirmed.
+-- All that came is a list, and no front of it is confirmed.
+pub record IsUnconfirmedList (log list : List ℕ) (old new : Option (List ℕ)) (limit : ℕ) (expected : List Expected) (least : ℕ) : Type 0 where
+  pub more : List ℕ
+  pub entries : List ListEntry
+  pub came : CameWhole old new limit more
+  pub list_is : IsReading (list ++ more) (Ok entries)
+  pub none : (table : List TableRow) (events : List LogEvent) → IsLog log table events → AreUnconfirmed (algs_in table) events expected least entries
+
+-- The list is refused only if no front of it is confirmed: of the entries before the one that the fault names, or of all.
 abbrev pub IsUnconfirmedFault : List ℕ → List ℕ → Option (List ℕ) → Option (List ℕ) → ℕ → List Expected → ℕ → VerifyFault → Type 0
-IsUnconfirmedFault log list old new limit expected least (faults.List fault) = CameUnconfirmed log list old new limit expected least
-IsUnconfirmedFault log list old new limit expected least (faults.Replay fault) = CameUnconfirmed log list old new limit expected least
+IsUnconfirmedFault log list old new limit expected least (faults.List fault) =
+    (count : ℕ) × (list_fault_entry fault ≡ Some count) × CameUnconfirmed log list old new limit expected least count
+IsUnconfirmedFault log list old new limit expected least (faults.Replay fault) = IsUnconfirmedList log list old new limit expected least
 IsUnconfirmedFault log list old new limit expected least fault = Unit {0}

@@ -4,10 +4,11 @@ ghost use Rattle.std.specs.Prelude.{◌≡◌, List, [], Some, is_some, IsOk, If
 ghost use Rattle.byte_streams.specs.Streams.{LosesFront};
 ghost use Rattle.boot_log.specs.Reading.{log_fault};
 ghost use Rattle.boot_log.specs.declared.header.Row.{Row as TableRow};
+ghost use Rattle.boot_log.specs.LogViews.{log_bytes};
 ghost use Rattle.boot_log.specs.Spelling.{LogEvent, IsLog};
 ghost use Rattle.boot_verdict.specs.Checkpoints.{IsCheckpoint, IsMoreFault, most_after};
 ghost use Rattle.boot_verdict.specs.ListSources.{failures_after_list};
-ghost use Rattle.boot_verdict.specs.Verdicts.{IsVerdict, verdict_of};
+ghost use Rattle.boot_verdict.specs.Verdicts.{IsSomeLog, IsVerdict, verdict_of};
 
 use crate::checkpoint::Checkpoint;
 use crate::expected::Expected;
@@ -60,11 +61,14 @@ impl<'a> Session<'a> {
     pub fn resumed(log: &'a [u8], known: Checkpoint) -> Result<Self, ResumeFault>
         // If it is the checkpoint of a list, the session has taken that list.
         ensures taken { IfOk result (λ session. (list : List ℕ) → IsCheckpoint list known → HasTaken log.now list session) }
+        ensures log { IfOk result (λ session. log_bytes session.log ≡ log.now) }
         ensures known { IfOk result (λ session. session.known ≡ known) }
         ensures boot { IfOk result (λ _. IsOfBoot log.now known) }
         // Wherever the log leaves the registers before the checkpoint, the session goes on.
         ensures only { IsOfBoot log.now known → IsOk result }
+        // The log's fault comes first.
         ensures fault { (fault : LogFault) → IsErrOf result (ResumeFault.Log fault) → log_fault log.now ≡ Some fault }
+        ensures other { IsErrOf result ResumeFault.OtherBoot → IsSomeLog log.now }
     {
         let log = match LogView::new(log) {
             Ok(log) => log,

@@ -1,5 +1,5 @@
 -- What a search for the confirmed front found.
-use Rattle.std.specs.Prelude.{◌≡◌, ℕ, ◌+◌, ◌-◌, ◌^◌, min, Bool, if◌then◌else◌, List, ◌++◌, Option, Some, None, option_map, Result, Ok, Err}
+use Rattle.std.specs.Prelude.{◌≡◌, ℕ, ◌+◌, ◌-◌, ◌^◌, min, Bool, if◌then◌else◌, List, ◌++◌, length, Option, Some, None, option_map, Result, Ok, Err}
 use Rattle.pcr_banks.specs.declared.sets.AlgSet.{AlgSet}
 use Rattle.boot_log.specs.Replaying.{IsFirmware}
 use Rattle.boot_log.specs.Spelling.{LogEvent}
@@ -39,12 +39,13 @@ abbrev pub wrong_with : Result Checkpoint Unconfirmed → Option Unconfirmed
 wrong_with (Ok whole) = None
 wrong_with (Err fault) = Some fault
 
--- The checkpoint after all that the source had left, if nothing is wrong with it.
+-- The checkpoint after all that the source had left, if nothing is wrong with it. If an entry is not genuine, all of it is a list.
 abbrev pub IsWhole : Checkpoint → List ℕ → Option (List ℕ) → Option (List ℕ) → ℕ → List ListEntry → Result Checkpoint Unconfirmed → Type 0
 IsWhole known list old new limit entries (Ok whole) =
     (more : List ℕ) × CameWhole old new limit more × IsReading (list ++ more) (Ok entries) × IsCheckpoint (list ++ more) whole
     × (whole.before ≡ known.before)
-IsWhole known list old new limit entries (Err fault) = Unit {0}
+IsWhole known list old new limit entries (Err (unconfirmed.Replay fault)) = (more : List ℕ) × CameWhole old new limit more × IsReading (list ++ more) (Ok entries)
+IsWhole known list old new limit entries (Err (unconfirmed.List fault)) = Unit {0}
 
 -- What came of a list that goes on after these bytes was searched.
 pub record Searches (known : Checkpoint) (list : List ℕ) (old new : Option (List ℕ)) (limit : ℕ) (expected : List Expected) (search : Search) : Type 0 where
@@ -56,6 +57,7 @@ pub record Searches (known : Checkpoint) (list : List ℕ) (old new : Option (Li
   pub begins : BeginsWith (list ++ came) entries rest
   pub front : (algs : AlgSet) (events : List LogEvent) → IsFirmware algs events known.before
       → FindsFront algs events expected known (list ++ came) entries search.front
+  pub count : length entries ≡ search.entries
   pub wrong : IsWrongWith list old new limit search.entries (wrong_with search.whole)
   pub whole : IsWhole known list old new limit entries search.whole
 

@@ -27,7 +27,7 @@ returns-in_err-self-clause-unconfirmed g c =
     let p = err_from_is_err_and c.from_residual-in_err-self.result c.from_residual-in_err-self.ensures.1 in
     rw (p.1, p.2) (λ log list has.
     unconfirmed_fault c.args.self.now log list has _ _ _ c.args.expected.now c.in_ok-search.search (c.in_ok-search.ensures.found list has.checkpoint)
-    c.in_default.is _)
+    c.in_default.is _ (sym c.whole_of.ensures ∙ c.in_err-self.was))
 
 pub returns-in_default-clause-none : goal.returns-in_default-clause-none
 returns-in_default-clause-none g c =
