@@ -16,3 +16,4 @@ pub mod WrittenLaws
 pub mod LineLaws
 pub mod RequirementLaws
 pub mod CheckpointLaws
+pub mod SessionLaws

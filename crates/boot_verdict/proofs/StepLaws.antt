@@ -96,7 +96,7 @@ fun_same f g same = λ i x. same x i
 
 -- ---- banks
 
-none_changes : (alg : Alg) (value : Option (List ℕ)) → value ≡ option_map (λ bytes. extended_by_all alg bytes []) value
+pub none_changes : (alg : Alg) (value : Option (List ℕ)) → value ≡ option_map (λ bytes. extended_by_all alg bytes []) value
 none_changes alg None = refl
 none_changes alg (Some bytes) = refl
 
@@ -142,6 +142,16 @@ replayed_by start now entries followed =
       values = λ a r. after.values a r ∙ ap (λ (f : List ℕ → List ℕ). option_map f (value_at start a r))
           (fun_same _ _ (λ v. entries_value a r v entries));
     }
+
+-- The replay of a list follows it.
+pub followed_by : (start now : Banks) (entries : List ListEntry) → IsReplayed start entries now → AreFollowed BanksAfter start entries now
+followed_by start now entries replayed = λ origin events log size after. record {
+  active = λ a. replayed.active a ∙ after.active a;
+  values = λ a r. replayed.values a r
+      ∙ ap (λ (f : List ℕ → List ℕ). option_map f (value_at start a r)) (fun_same _ _ (λ v. sym (entries_value a r v entries)))
+      ∙ ap (λ (v : Option (List ℕ)). value_after a r v (entries_as_steps entries)) (after.values a r)
+      ∙ value_joined a r (value_at origin a r) log (entries_as_steps entries);
+}
 
 -- ---- fronts
 

@@ -16,7 +16,10 @@ pub mod PrintedTexts
 pub mod RegisterRanges
 pub mod Requirements
 pub mod RequiredTexts
+pub mod FrontTexts
 pub mod ListVerdicts
 pub mod WrittenTexts
 pub mod Checkpoints
 pub mod CheckpointTexts
+pub mod Sessions
+pub mod Fronts

@@ -24,20 +24,24 @@ pub record CameWhole (old new : Option (List ℕ)) (limit : ℕ) (list : List �
 abbrev pub IsSound : List ℕ → Type 0
 IsSound list = ((entries : List ListEntry) × IsReading list (Ok entries)) ⊎ ((entry : ℕ) × IsReading list (Err (lists.Truncated entry)))
 
--- Why a list is not read from a source. `Truncated`: the source gave it all. Any other fault of the list: the bytes that came
--- have it whatever follows. `Source`: the source failed after sound bytes. `TooLong`: more bytes followed the first `limit`,
--- which are sound. Or memory ran out.
+-- Why the list that goes on after these bytes, with what a source has left, is not read. `Truncated`: the source gave it all. Any
+-- other fault of the list: the bytes that came have it whatever follows. `Source`: the source failed after sound bytes. `TooLong`:
+-- more bytes followed the first `limit`, which are sound. Or memory ran out.
+abbrev pub IsListFaultAfter : List ℕ → Option (List ℕ) → Option (List ℕ) → ℕ → VerifyFault → Type 0
+IsListFaultAfter known old new limit (faults.Log fault) = ⊥
+IsListFaultAfter known old new limit (faults.List (lists.Truncated entry)) =
+    (list : List ℕ) × CameWhole old new limit list × IsReading (known ++ list) (Err (lists.Truncated entry))
+IsListFaultAfter known old new limit (faults.List fault) =
+    (list : List ℕ) × (over : List ℕ) × CameFrom old new limit list over × FailsFor (known ++ list) fault
+IsListFaultAfter known old new limit (faults.Replay fault) = ⊥
+IsListFaultAfter known old new limit faults.Source = (list : List ℕ) × CameFrom old new limit list [] × IsSound (known ++ list)
+IsListFaultAfter known old new limit faults.TooLong =
+    (list : List ℕ) × (over : List ℕ) × CameFrom old new limit list over × (length list ≡ limit) × (0 < length over) × IsSound (known ++ list)
+IsListFaultAfter known old new limit faults.Memory = Unit {0}
+
+-- Why a list is not read from a source, whose bytes are the list's first.
 abbrev pub IsListFault : Option (List ℕ) → Option (List ℕ) → ℕ → VerifyFault → Type 0
-IsListFault old new limit (faults.Log fault) = ⊥
-IsListFault old new limit (faults.List (lists.Truncated entry)) =
-    (list : List ℕ) × CameWhole old new limit list × IsReading list (Err (lists.Truncated entry))
-IsListFault old new limit (faults.List fault) =
-    (list : List ℕ) × (over : List ℕ) × CameFrom old new limit list over × FailsFor list fault
-IsListFault old new limit (faults.Replay fault) = ⊥
-IsListFault old new limit faults.Source = (list : List ℕ) × CameFrom old new limit list [] × IsSound list
-IsListFault old new limit faults.TooLong =
-    (list : List ℕ) × (over : List ℕ) × CameFrom old new limit list over × (length list ≡ limit) × (0 < length over) × IsSound list
-IsListFault old new limit faults.Memory = Unit {0}
+IsListFault old new limit fault = IsListFaultAfter [] old new limit fault
 
 -- All that the source has left is a list of these entries, all genuine, of at most `limit` bytes.
 pub record HoldsGenuineList (remaining : Option (List ℕ)) (limit : ℕ) (entries : List ListEntry) : Type 0 where

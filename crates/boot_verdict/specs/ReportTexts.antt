@@ -17,19 +17,15 @@ aggregate_word Wrong = codes "wrong"
 aggregate_word NoBank = codes "nobank"
 aggregate_word Missing = codes "missing"
 
--- Two lines, events and locality, and entries; after the number of entries comes `rest`.
-abbrev pub counts_then : ℕ → ℕ → ℕ → List ℕ → List ℕ
-counts_then events locality entries rest =
+-- Two lines: events and locality, and entries.
+abbrev pub counts_text : ℕ → ℕ → ℕ → List ℕ
+counts_text events locality entries =
     codes "events " ++ (decimal events ++ (codes " locality " ++ (decimal locality
-    ++ (codes "\nentries " ++ (decimal entries ++ rest)))))
+    ++ (codes "\nentries " ++ (decimal entries ++ codes "\n")))))
 
--- The end of the line before, and the line of the boot aggregate.
+-- The line of the boot aggregate.
 abbrev pub aggregate_text : Aggregate → List ℕ
-aggregate_text aggregate = codes "\nboot_aggregate " ++ (aggregate_word aggregate ++ codes "\n")
-
--- Three lines: events and locality, entries, boot aggregate.
-abbrev pub heading_text : ℕ → ℕ → ℕ → Aggregate → List ℕ
-heading_text events locality entries aggregate = counts_then events locality entries (aggregate_text aggregate)
+aggregate_text aggregate = codes "boot_aggregate " ++ (aggregate_word aggregate ++ codes "\n")
 
 -- The word for a state; after `differ` comes the value.
 abbrev pub state_word : State → List ℕ
@@ -58,8 +54,10 @@ abbrev pub verdict_text : Bool → List ℕ
 verdict_text true = codes "verdict match\n"
 verdict_text false = codes "verdict differ\n"
 
--- The report: its heading, a line for each expected register, and the verdict.
+-- What comes after the counts: the line of the boot aggregate, one for each expected register, and the verdict.
+abbrev pub outcome_text : Verdict → List ℕ
+outcome_text verdict = aggregate_text verdict.aggregate ++ (flat_map row_text verdict.rows ++ verdict_text (matches verdict))
+
+-- The report: its counts, and what comes after them.
 abbrev pub report_text : Verdict → List ℕ
-report_text verdict =
-    heading_text verdict.events verdict.locality verdict.entries verdict.aggregate
-    ++ (flat_map row_text verdict.rows ++ verdict_text (matches verdict))
+report_text verdict = counts_text verdict.events verdict.locality verdict.entries ++ outcome_text verdict

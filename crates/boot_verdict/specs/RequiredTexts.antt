@@ -4,11 +4,10 @@ use Rattle.pcr_banks.specs.declared.alg.Alg.{Alg}
 use Rattle.pcr_banks.specs.Hashing.{all_algs, name_of}
 use Rattle.boot_verdict.specs.declared.expected.Expected.{Expected}
 use Rattle.boot_verdict.specs.declared.places.Located.{Located}
-use Rattle.boot_verdict.specs.declared.report.Aggregate.{Aggregate}
 use Rattle.boot_verdict.specs.declared.requirement.BankRange.{BankRange}
 use Rattle.boot_verdict.specs.PlaceTexts.{found_text, located_text}
 use Rattle.boot_verdict.specs.RegisterTexts.{all_registers}
-use Rattle.boot_verdict.specs.ReportTexts.{aggregate_text, counts_then, row_text, verdict_text}
+use Rattle.boot_verdict.specs.ReportTexts.{aggregate_text, counts_text, row_text, verdict_text}
 use Rattle.boot_verdict.specs.Requirements.{expected_of_located, expected_of_rows, is_missing, required_found, required_matches}
 use Rattle.boot_verdict.specs.Verdicts.{Verdict}
 
@@ -28,17 +27,21 @@ missing_in ranges expected alg = flat_map (line_if_missing ranges expected alg) 
 abbrev pub missing_text : List BankRange → List Expected → List ℕ
 missing_text ranges expected = flat_map (missing_in ranges expected) all_algs
 
--- Four lines: events and locality, entries, how many registers were compared, boot aggregate.
-abbrev pub required_heading_text : ℕ → ℕ → ℕ → ℕ → Aggregate → List ℕ
-required_heading_text events locality entries compared aggregate =
-    counts_then events locality entries (codes "\ncompared " ++ (decimal compared ++ aggregate_text aggregate))
+-- The line of how many registers were compared.
+abbrev pub compared_text : ℕ → List ℕ
+compared_text compared = codes "compared " ++ (decimal compared ++ codes "\n")
 
--- The report: its heading, a line for each expected register, one for each that is missing, and the verdict.
+-- What comes after the counts: how many registers were compared, the boot aggregate, a line for each expected register, one for each
+-- that is missing, and the verdict.
+abbrev pub required_outcome_text : List BankRange → Verdict → List ℕ
+required_outcome_text ranges verdict =
+    compared_text (length verdict.rows) ++ (aggregate_text verdict.aggregate ++ (flat_map row_text verdict.rows
+    ++ (missing_text ranges (expected_of_rows verdict.rows) ++ verdict_text (required_matches ranges verdict))))
+
+-- The report: its counts, and what comes after them.
 abbrev pub required_report_text : List BankRange → Verdict → List ℕ
 required_report_text ranges verdict =
-    required_heading_text verdict.events verdict.locality verdict.entries (length verdict.rows) verdict.aggregate
-    ++ (flat_map row_text verdict.rows
-    ++ (missing_text ranges (expected_of_rows verdict.rows) ++ verdict_text (required_matches ranges verdict)))
+    counts_text verdict.events verdict.locality verdict.entries ++ required_outcome_text ranges verdict
 
 -- A line for each expected register, one for each that is missing, and whether all were found.
 abbrev pub required_places_text : List BankRange → List Located → List ℕ

@@ -9,3 +9,5 @@ pub mod Watches
 pub mod Following
 pub mod CheckpointParts
 pub mod Gathering
+pub mod Confirming
+pub mod Searches

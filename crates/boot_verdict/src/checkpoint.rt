@@ -1,6 +1,6 @@
 //! Where a verification stopped, and its text read back.
 
-ghost use Rattle.std.specs.Prelude.{◌≡◌, ◌↔◌, ◌^◌, ◌<◌, ◌≤◌, ℕ, true, List, ◌++◌, [], codes, decimal, flat_map, IfOk, IfErr, IfSome, IfNone, IsErrOf, IsTrue, Option};
+ghost use Rattle.std.specs.Prelude.{◌≡◌, ◌↔◌, ◌+◌, ◌^◌, ◌<◌, ◌≤◌, ℕ, true, is_some, List, ◌++◌, [], codes, decimal, flat_map, IfOk, IfErr, IfSome, IfNone, IsErrOf, IsTrue, Option, None};
 ghost use Rattle.std.specs.Option.{IsSomeAnd};
 ghost use Rattle.pcr_banks.specs.declared.alg.Alg.{Alg};
 ghost use Rattle.pcr_banks.specs.declared.banks.Banks.{Banks};
@@ -11,18 +11,29 @@ ghost use Rattle.pcr_banks.specs.Registers.{is_active, register_count};
 ghost use Rattle.boot_verdict.specs.declared.checkpoint.Checkpoint.{Checkpoint};
 ghost use Rattle.boot_verdict.specs.declared.checkpoint.CheckpointFault.TheVariants.{Memory};
 ghost use Rattle.boot_verdict.specs.RegisterTexts.{all_registers, register_line};
-ghost use Rattle.boot_verdict.specs.Checkpoints.{HaveValues, IsCounted, IsHash, IsPossible, SameData, SameValues};
+ghost use Rattle.byte_streams.specs.Streams.{LosesFront};
+ghost use Rattle.boot_verdict.specs.ListSources.{failures_after_list};
+ghost use Rattle.boot_verdict.specs.parts.Following.{BanksAfter};
+ghost use Rattle.boot_verdict.specs.parts.ListReplays.{ReplaysAll};
+ghost use Rattle.boot_verdict.specs.Checkpoints.{GoesOn, HaveValues, IsCheckpoint, IsCounted, IsHash, IsMoreFault, IsPossible, SameData, SameValues, most_after};
 ghost use Rattle.boot_verdict.specs.CheckpointTexts.{IsOfOtherVersion, bank_lines, banks_lines, checkpoint_text, data_lines, number_line, stated_line, stated_words, value_line};
 ghost use Rattle.boot_verdict.specs.parts.CheckpointParts.{HasBank, Sets, TakesBank};
 
 use crate::expected::register_on;
+use crate::list_replay::ListReplay;
+use crate::verifier::VerifyFault;
 use crate::lines::{after_prefix, split_once};
 use crate::replaying::list_start;
 use crate::texts::write_checkpoint;
+use byte_streams::Source;
+use ima_list::laws::entries_to_the_end_are_the_reading;
 use pcr_banks::laws::{digest_is_a_hash, registers_have_hashes};
 use pcr_banks::{Alg, Banks, Digest, REGISTERS};
 use std::alloc::{AllocError, Global};
 use thiserror::Error;
+
+/// The most bytes that a list may have.
+const MOST_BYTES: u64 = (1 << 63) - 1;
 
 /// Where a verification stopped: what is needed to go on with the bytes that follow.
 #[derive(Clone, Copy)]
@@ -40,6 +51,75 @@ pub struct Checkpoint {
 }
 
 impl Checkpoint {
+    /// Before a list that begins with these registers.
+    pub(crate) fn before_list(registers: Banks) -> Self
+        ensures checkpoint { IsCheckpoint [] result }
+        ensures before { result.before ≡ registers }
+    {
+        entries_to_the_end_are_the_reading();
+        Checkpoint {
+            before: registers,
+            after: registers,
+            entries: 0,
+            bytes: 0,
+            stated: None,
+        }
+    }
+
+    /// The checkpoint after all that the source has left, at most `limit` bytes, and no more than make a list of 2^63 - 1.
+    pub(crate) fn go_on<R: Source>(
+        &self,
+        alloc: Global,
+        source: &mut R,
+        limit: u64,
+    ) -> Result<Checkpoint, VerifyFault>
+        ensures known { IfOk result (λ next. (list : List ℕ) → IsCheckpoint list self.now
+            → GoesOn list (R.state source.old).remaining (R.state source.new).remaining (most_after self.now limit) next) }
+        ensures before { IfOk result (λ next. next.before ≡ self.now.before) }
+        ensures fault { IfErr result (λ fault. (list : List ℕ) → IsCheckpoint list self.now
+            → IsMoreFault list (R.state source.old).remaining (R.state source.new).remaining (most_after self.now limit) fault) }
+        ensures front { LosesFront (R.state source.old).remaining (R.state source.new).remaining }
+        ensures telling { is_some (R.state source.new).remaining ≡ is_some (R.state source.old).remaining }
+        ensures counts { (R.state source.new).failures ≡ failures_after_list result (R.state source.old).failures }
+    {
+        let mut replay = self.replay();
+        let count = replay.follow(alloc, source, self.room(limit))?;
+        let entries = replay.entries;
+        let stated = replay.stated;
+        Ok(Checkpoint {
+            before: self.before,
+            after: replay.genuine()?,
+            entries,
+            bytes: self.bytes + count,
+            stated,
+        })
+    }
+
+    /// The replay of the list.
+    pub(crate) fn replay(&self) -> ListReplay<Banks>
+        ensures replays { (list : List ℕ) → IsCheckpoint list self.now → ReplaysAll BanksAfter self.now.before list result }
+        ensures entries { result.entries ≡ self.now.entries }
+        ensures forged { result.forged ≡ None }
+    {
+        ListReplay {
+            follower: self.after,
+            entries: self.entries,
+            stated: self.stated,
+            forged: None,
+        }
+    }
+
+    /// How many bytes may follow, where `limit` are allowed.
+    pub(crate) fn room(&self, limit: u64) -> u64
+        ensures room { result ≡ most_after self.now limit }
+        ensures entries { self.now.entries + result < 2 ^ 64 }
+        ensures bytes { self.now.bytes + result < 2 ^ 64 }
+    {
+        let known = self.bytes.max(self.entries as u64);
+        let _entries = self.entries;
+        limit.min(MOST_BYTES.saturating_sub(known))
+    }
+
     // Whether there are no more entries than bytes, and fewer than 2^63 bytes.
     fn is_counted(&self) -> bool
         ensures { IsTrue result ↔ IsCounted self.now }

@@ -166,17 +166,16 @@ pub fn verify_from<R: Source>(
     report_on(alloc, &firmware, &start, replay, expected)
 }
 
-// The report on a log that leaves the registers `start`, a list replayed from them, and expected registers.
-fn report_on(
+/// The report on a log that leaves the registers `start`, a list replayed from them, and expected registers.
+pub(crate) fn report_on(
     alloc: Global,
     log: &LogView<'_>,
     start: &Banks,
     replay: ListReplay<Banks>,
     expected: &[Expected],
 ) -> Result<Report, VerifyFault>
-    requires { (table : List TableRow) (events : List LogEvent) → IsLog (log_bytes log.now) table events → IsFirmware (algs_in table) events start.now }
     ensures report { (table : List TableRow) (events : List LogEvent) → IsLog (log_bytes log.now) table events
-        → IfOk result (λ report. (entries : List ListEntry) → Replays BanksAfter start.now entries replay
+        → IsFirmware (algs_in table) events start.now → IfOk result (λ report. (entries : List ListEntry) → Replays BanksAfter start.now entries replay
         → AreGenuine entries × (verdict_of report ≡ verdict_on (algs_in table) events entries expected.now)) }
     ensures fault { IfErr result (λ fault. (entries : List ListEntry) → Replays BanksAfter start.now entries replay → IsFaultOfEntries entries fault) }
 {
@@ -227,8 +226,8 @@ fn state_of(expected: &Expected, value: Option<Digest>) -> State
     }
 }
 
-// The state of the boot aggregate that the list states, if any. `start` has the log's registers.
-fn aggregate_of(start: &Banks, stated: Option<Digest>) -> Aggregate
+/// The state of the boot aggregate that the list states, if any. `start` has the log's registers.
+pub(crate) fn aggregate_of(start: &Banks, stated: Option<Digest>) -> Aggregate
     ensures { (algs : AlgSet) (events : List LogEvent) → IsFirmware algs events start.now
         → result ≡ aggregate_of algs events (option_map (λ digest. (alg_of digest, bytes_of digest)) stated) }
 {

@@ -3,7 +3,7 @@
 ghost use Rattle.std.specs.Prelude.{◌≡◌, flat_map};
 ghost use Rattle.byte_streams.specs.Streams.{Sends};
 ghost use Rattle.boot_verdict.specs.Verdicts.{verdict_of};
-ghost use Rattle.boot_verdict.specs.ReportTexts.{aggregate_word, heading_text, register_words, report_text, row_line, row_text, verdict_text};
+ghost use Rattle.boot_verdict.specs.ReportTexts.{aggregate_text, aggregate_word, counts_text, outcome_text, register_words, report_text, row_line, row_text, verdict_text};
 
 use super::digits::digits_of;
 use crate::expected::Expected;
@@ -21,33 +21,51 @@ use pcr_banks::MOST_DIGITS;
 pub fn write_report<S: Sink>(report: &Report, sink: &mut S) -> Result<(), Failed>
     ensures { Sends (S.state sink.old) (S.state sink.new) result (report_text (verdict_of report.now)) }
 {
-    write_heading(report, sink)?;
-    write_rows(&report.rows, sink)?;
-    send(verdict_line(report.matches()), sink)
+    write_counts(report.events, report.locality, report.entries, sink)?;
+    write_outcome(report, sink)
 }
 
-fn write_heading<S: Sink>(report: &Report, sink: &mut S) -> Result<(), Failed>
-    ensures { Sends (S.state sink.old) (S.state sink.new) result
-        (heading_text report.now.events report.now.locality report.now.entries report.now.aggregate) }
+/// Writes the lines of events and locality, and of entries.
+pub(super) fn write_counts<S: Sink>(
+    events: usize,
+    locality: u8,
+    entries: usize,
+    sink: &mut S,
+) -> Result<(), Failed>
+    ensures { Sends (S.state sink.old) (S.state sink.new) result (counts_text events locality entries) }
 {
-    let mut events = Buffer::new();
-    let mut locality = Buffer::new();
-    let mut entries = Buffer::new();
-    let pieces: [&[u8]; 9] = [
+    let mut first = Buffer::new();
+    let mut second = Buffer::new();
+    let mut third = Buffer::new();
+    let pieces: [&[u8]; 7] = [
         b"events ",
-        events.format(report.events).as_bytes(),
+        first.format(events).as_bytes(),
         b" locality ",
-        locality.format(report.locality).as_bytes(),
+        second.format(locality).as_bytes(),
         b"\nentries ",
-        entries.format(report.entries).as_bytes(),
-        b"\nboot_aggregate ",
-        aggregate_word(report.aggregate).as_bytes(),
+        third.format(entries).as_bytes(),
         b"\n",
     ];
     send_pieces(&pieces, sink)
 }
 
-pub(super) fn aggregate_word(aggregate: Aggregate) -> &'static str
+/// Writes what comes after the counts: the boot aggregate, the expected registers and the verdict.
+pub(super) fn write_outcome<S: Sink>(report: &Report, sink: &mut S) -> Result<(), Failed>
+    ensures { Sends (S.state sink.old) (S.state sink.new) result (outcome_text (verdict_of report.now)) }
+{
+    write_aggregate(report.aggregate, sink)?;
+    write_rows(&report.rows, sink)?;
+    send(verdict_line(report.matches()), sink)
+}
+
+pub(super) fn write_aggregate<S: Sink>(aggregate: Aggregate, sink: &mut S) -> Result<(), Failed>
+    ensures { Sends (S.state sink.old) (S.state sink.new) result (aggregate_text aggregate) }
+{
+    let word = aggregate_word(aggregate).as_bytes();
+    send_pieces(&[b"boot_aggregate ", word, b"\n"], sink)
+}
+
+fn aggregate_word(aggregate: Aggregate) -> &'static str
     ensures { result.now ≡ aggregate_word aggregate }
 {
     match aggregate {

@@ -1,12 +1,12 @@
 //! The lines of reports and places where registers are required.
 
-ghost use Rattle.std.specs.Prelude.{length, map};
+ghost use Rattle.std.specs.Prelude.{map};
 ghost use Rattle.byte_streams.specs.Streams.{Sends};
-ghost use Rattle.boot_verdict.specs.RequiredTexts.{line_if_missing, missing_in, missing_line, missing_text, required_heading_text, required_places_text, required_report_text};
+ghost use Rattle.boot_verdict.specs.RequiredTexts.{compared_text, line_if_missing, missing_in, missing_line, missing_text, required_outcome_text, required_places_text, required_report_text};
 ghost use Rattle.boot_verdict.specs.Verdicts.{verdict_of};
 
 use super::places::{found_line, write_all};
-use super::report::{aggregate_word, verdict_line, write_rows};
+use super::report::{verdict_line, write_aggregate, write_counts, write_rows};
 use crate::places::{Located, required_found};
 use crate::report::Report;
 use crate::requirement::{HasExpected, Requirement};
@@ -25,10 +25,35 @@ pub fn write_required_report<S: Sink>(
     ensures { Sends (S.state sink.old) (S.state sink.new) result
         (required_report_text requirement.now (verdict_of report.now)) }
 {
-    write_heading(report, sink)?;
+    write_counts(report.events, report.locality, report.entries, sink)?;
+    write_required_outcome(report, requirement, sink)
+}
+
+/// Writes what comes after the counts: how many registers were compared, the boot aggregate, the expected registers, those that are
+/// missing, and the verdict.
+pub(super) fn write_required_outcome<S: Sink>(
+    report: &Report,
+    requirement: &Requirement,
+    sink: &mut S,
+) -> Result<(), Failed>
+    ensures { Sends (S.state sink.old) (S.state sink.new) result
+        (required_outcome_text requirement.now (verdict_of report.now)) }
+{
+    write_compared(report.rows.len(), sink)?;
+    write_aggregate(report.aggregate, sink)?;
     write_rows(&report.rows, sink)?;
     write_missing(requirement, &report.rows, sink)?;
     send(verdict_line(report.meets(requirement)), sink)
+}
+
+fn write_compared<S: Sink>(compared: usize, sink: &mut S) -> Result<(), Failed>
+    ensures { Sends (S.state sink.old) (S.state sink.new) result (compared_text compared) }
+{
+    let mut number = Buffer::new();
+    send_pieces(
+        &[b"compared ", number.format(compared).as_bytes(), b"\n"],
+        sink,
+    )
 }
 
 /// Writes places as [`crate::write_places`] does, and after the lines of expected registers one for each required register that
@@ -43,31 +68,6 @@ pub fn write_required_places<S: Sink>(
     write_all(located, sink)?;
     write_missing(requirement, located, sink)?;
     send(found_line(required_found(located, requirement)), sink)
-}
-
-fn write_heading<S: Sink>(report: &Report, sink: &mut S) -> Result<(), Failed>
-    ensures { Sends (S.state sink.old) (S.state sink.new) result
-        (required_heading_text report.now.events report.now.locality report.now.entries (length report.now.rows.items)
-        report.now.aggregate) }
-{
-    let mut events = Buffer::new();
-    let mut locality = Buffer::new();
-    let mut entries = Buffer::new();
-    let mut compared = Buffer::new();
-    let pieces: [&[u8]; 11] = [
-        b"events ",
-        events.format(report.events).as_bytes(),
-        b" locality ",
-        locality.format(report.locality).as_bytes(),
-        b"\nentries ",
-        entries.format(report.entries).as_bytes(),
-        b"\ncompared ",
-        compared.format(report.rows.len()).as_bytes(),
-        b"\nboot_aggregate ",
-        aggregate_word(report.aggregate).as_bytes(),
-        b"\n",
-    ];
-    send_pieces(&pieces, sink)
 }
 
 pub(super) fn write_missing<T: HasExpected, S: Sink>(

@@ -18,10 +18,9 @@ returns-in_err-rows_on-clause-fault c =
 
 pub returns-clause-report : goal.returns-clause-report
 returns-clause-report c =
-    λ table events is entries replays.
+    λ table events is firmware entries replays.
     let both = c.in_ok-now.ensures.followed c.args.start.now entries replays in
     let algs = algs_in table in
-    let firmware = c.requires table events is in
     let replayed = replayed_by c.args.start.now c.in_ok-now.now entries both.1 in (
       both.0,
       verdict_same algs events entries c.args.start.now c.in_ok-now.now c.args.expected.now _ _ _ _ _ firmware replayed

@@ -45,7 +45,7 @@ returns-clause-only c =
     let viewed = subst (λ (bytes : List ℕ). IsLog bytes table events) (sym c.in_ok-log.ensures.found) is in
     report_read c.registers-start.result all.entries c.in_ok-replay.replay
     (λ those. verdict_on (algs_in table) events those c.args.expected.now) _ c.report_on.result all.replays (rw same at genuine)
-    (c.report_on.ensures.report table events viewed) c.report_on.ensures.fault
+    (c.report_on.ensures.report table events viewed (c.registers-start.ensures table events viewed)) c.report_on.ensures.fault
     (ap (λ (those : List ListEntry). verdict_on (algs_in table) events those c.args.expected.now) (sym same))
 
 pub returns-clause-report : goal.returns-clause-report
@@ -53,7 +53,7 @@ returns-clause-report c =
     let sound = c.in_ok-log.ensures.sound in
     let viewed = subst (λ (bytes : List ℕ). IsLog bytes sound.0 sound.1) (sym c.in_ok-log.ensures.found) sound.2 in
     report_of _ c.args.list.now c.args.expected.now c.registers-start.result c.in_ok-replay.replay sound.0 sound.1 c.report_on.result sound.2
-    c.in_ok-replay.ensures.replays (c.report_on.ensures.report sound.0 sound.1 viewed)
+    c.in_ok-replay.ensures.replays (c.report_on.ensures.report sound.0 sound.1 viewed (c.registers-start.ensures sound.0 sound.1 viewed))
 
 pub returns-clause-fault : goal.returns-clause-fault
 returns-clause-fault c =

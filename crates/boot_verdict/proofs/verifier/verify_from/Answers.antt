@@ -21,7 +21,7 @@ returns-clause-report g c =
     let sound = c.in_ok-firmware.ensures.sound in
     let viewed = subst (λ (bytes : List ℕ). IsLog bytes sound.0 sound.1) (sym c.in_ok-firmware.ensures.found) sound.2 in
     report_from c.args.log.now _ _ c.args.limit c.args.expected.now c.registers-start.result c.in_ok-replay.replay sound.0 sound.1
-    c.report_on.result sound.2 c.in_ok-replay.ensures.replays (c.report_on.ensures.report sound.0 sound.1 viewed)
+    c.report_on.result sound.2 c.in_ok-replay.ensures.replays (c.report_on.ensures.report sound.0 sound.1 viewed (c.registers-start.ensures sound.0 sound.1 viewed))
 
 pub returns-in_err-firmware-clause-only : goal.returns-in_err-firmware-clause-only
 returns-in_err-firmware-clause-only g c =
@@ -56,7 +56,7 @@ returns-clause-only g c =
     let viewed = subst (λ (bytes : List ℕ). IsLog bytes table events) (sym c.in_ok-firmware.ensures.found) is in
     inr (report_read c.registers-start.result source.all.entries c.in_ok-replay.replay
     (λ those. verdict_on (algs_in table) events those c.args.expected.now) _ c.report_on.result source.all.replays
-    (rw same at holds.genuine) (c.report_on.ensures.report table events viewed) c.report_on.ensures.fault
+    (rw same at holds.genuine) (c.report_on.ensures.report table events viewed (c.registers-start.ensures table events viewed)) c.report_on.ensures.fault
     (ap (λ (those : List ListEntry). verdict_on (algs_in table) events those c.args.expected.now) (sym same)))
 
 pub returns-clause-fault : goal.returns-clause-fault

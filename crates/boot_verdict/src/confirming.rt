@@ -1,0 +1,190 @@
+//! The confirmed front of a list that grows: the shortest with which the verdict is `match`.
+
+ghost use Rattle.std.specs.Prelude.{◌≡◌, List, ℕ, is_some, option_map, IfOk, IfErr, IfSome, IfNone, OnErr};
+ghost use Rattle.byte_streams.specs.Streams.{LosesFront};
+ghost use Rattle.pcr_banks.specs.declared.sets.AlgSet.{AlgSet};
+ghost use Rattle.pcr_banks.specs.Digests.{alg_of, bytes_of};
+ghost use Rattle.boot_log.specs.Replaying.{IsFirmware};
+ghost use Rattle.boot_log.specs.Spelling.{LogEvent};
+ghost use Rattle.boot_verdict.specs.Checkpoints.{IsCheckpoint, IsMoreFault, most_after};
+ghost use Rattle.boot_verdict.specs.ListSources.{failures_after_list};
+ghost use Rattle.boot_verdict.specs.Verdicts.{aggregate_of, is_good};
+ghost use Rattle.boot_verdict.specs.parts.Confirming.{IsConfirmingAfter, search_before};
+ghost use Rattle.boot_verdict.specs.parts.ListReplays.{ReplaysAll};
+ghost use Rattle.boot_verdict.specs.parts.Searches.{IsOfSource, Searches, front_after, whole_after, whole_of};
+
+use crate::checkpoint::Checkpoint;
+use crate::expected::Expected;
+use crate::front_report::{FrontReport, Unconfirmed};
+use crate::fronts::Confirming;
+use crate::list_replay::ListReplay;
+use crate::report::Aggregate;
+use crate::session::Session;
+use crate::verifier::{VerifyFault, aggregate_of, report_on};
+use byte_streams::Source;
+use ima_list::ReplayFault;
+use ima_list::laws::entries_to_the_end_are_the_reading;
+use std::alloc::Global;
+
+impl Session<'_> {
+    ghost use Rattle.boot_verdict.specs.Fronts.{IsFrontReport, IsUnconfirmedFault, TakesUnconfirmed};
+    ghost use Rattle.boot_verdict.specs.Sessions.{HasTaken};
+
+    /// Takes what the source has left, as [`Session::more`] does, up to the confirmed front: the shortest front of the list, no shorter
+    /// than what was taken so far, whose entries are genuine and on which the verdict is `match`. Returns the report on it. The source is
+    /// read to its end all the same, or to a fault of the list, of which the report tells.
+    ///
+    /// Without such a front all is taken, as by [`Session::more`], with its faults; the result is `None`, and the verdict is `differ`.
+    /// A source that fails, or has too many bytes, is a fault in any case. After `Err` the session is as before.
+    pub fn confirm<R: Source>(
+        &mut self,
+        alloc: Global,
+        source: &mut R,
+        limit: u64,
+        expected: &[Expected],
+    ) -> Result<Option<FrontReport>, VerifyFault>
+        // The report is on the confirmed front, and that is what the session has taken.
+        ensures front { IfOk result (λ found. IfSome found (λ report. (log list : List ℕ) → HasTaken log list self.old
+            → IsFrontReport log list (R.state source.old).remaining (R.state source.new).remaining (most_after self.old.known limit) expected.now
+            self.old.known.entries self.new report)) }
+        // Without a report no front is confirmed.
+        ensures none { IfOk result (λ found. IfNone found ((log list : List ℕ) → HasTaken log list self.old
+            → TakesUnconfirmed log list (R.state source.old).remaining (R.state source.new).remaining (most_after self.old.known limit) expected.now
+            self.old.known.entries self.new)) }
+        ensures kept { OnErr result (self.new ≡ self.old) }
+        // Any fault is the first cause, and the list is refused only if no front is confirmed.
+        ensures fault { IfErr result (λ fault. (log list : List ℕ) → HasTaken log list self.old
+            → IsMoreFault list (R.state source.old).remaining (R.state source.new).remaining (most_after self.old.known limit) fault) }
+        ensures unconfirmed { IfErr result (λ fault. (log list : List ℕ) → HasTaken log list self.old
+            → IsUnconfirmedFault log list (R.state source.old).remaining (R.state source.new).remaining (most_after self.old.known limit)
+            expected.now self.old.known.entries fault) }
+        // In any case the source loses bytes from its front, and nothing else.
+        ensures source { LosesFront (R.state source.old).remaining (R.state source.new).remaining }
+        ensures telling { is_some (R.state source.new).remaining ≡ is_some (R.state source.old).remaining }
+        ensures counts { (R.state source.new).failures ≡ failures_after_list result (R.state source.old).failures }
+    {
+        let search = self.known.search(alloc, source, limit, expected)?;
+        let Some(front) = search.front else {
+            self.known = whole_of(search.whole)?;
+            return Ok(None);
+        };
+        let report = report_on(alloc, &self.log, &front.before, front.replay(), expected)?;
+        self.known = front;
+        Ok(Some(FrontReport {
+            report,
+            entries: search.entries,
+            unconfirmed: search.whole.err(),
+        }))
+    }
+}
+
+// What a search found.
+#[derive(Drop)]
+struct Search {
+    // The checkpoint of the confirmed front, if there is one.
+    front: Option<Checkpoint>,
+    // How many entries the list has, up to its fault.
+    entries: usize,
+    // The checkpoint of the whole list, or what is wrong with it.
+    whole: Result<Checkpoint, Unconfirmed>,
+}
+
+impl Checkpoint {
+    // Searches the list that goes on with all that the source has left.
+    fn search<R: Source>(
+        &self,
+        alloc: Global,
+        source: &mut R,
+        limit: u64,
+        expected: &[Expected],
+    ) -> Result<Search, VerifyFault>
+        ensures found { IfOk result (λ search. (list : List ℕ) → IsCheckpoint list self.now
+            → Searches self.now list (R.state source.old).remaining (R.state source.new).remaining (most_after self.now limit) expected.now search) }
+        ensures fault { IfErr result (λ fault. (list : List ℕ) → IsCheckpoint list self.now
+            → IsMoreFault list (R.state source.old).remaining (R.state source.new).remaining (most_after self.now limit) fault) }
+        ensures other { IfErr result IsOfSource }
+        ensures source { LosesFront (R.state source.old).remaining (R.state source.new).remaining }
+        ensures telling { is_some (R.state source.new).remaining ≡ is_some (R.state source.old).remaining }
+        ensures counts { (R.state source.new).failures ≡ failures_after_list result (R.state source.old).failures }
+    {
+        entries_to_the_end_are_the_reading();
+        let mut replay = self.searching(expected);
+        let whole = match replay.follow(alloc, source, self.room(limit)) {
+            Ok(_count) => self.whole(&replay),
+            Err(VerifyFault::List(fault)) => Err(Unconfirmed::List(fault)),
+            Err(fault) => return Err(fault),
+        };
+        Ok(Search {
+            front: self.front_in(&replay),
+            entries: replay.entries,
+            whole,
+        })
+    }
+
+    // The replay of the list, searched for a front: its end may be one.
+    fn searching<'a>(&self, expected: &'a [Expected]) -> ListReplay<Confirming<'a>>
+        ensures replays { (list : List ℕ) → IsCheckpoint list self.now
+            → ReplaysAll IsConfirmingAfter (search_before self.now expected.entry) list result }
+        ensures entries { result.entries ≡ self.now.entries }
+    {
+        ListReplay {
+            follower: Confirming::after(self, expected),
+            entries: self.entries,
+            stated: self.stated,
+            forged: None,
+        }
+    }
+
+    // The checkpoint of the whole list, if its entries are genuine.
+    fn whole(&self, replay: &ListReplay<Confirming<'_>>) -> Result<Checkpoint, Unconfirmed>
+        ensures { result ≡ whole_after self.now replay.now }
+    {
+        match replay.forged {
+            Some(entry) => Err(Unconfirmed::Replay(ReplayFault::BadTemplateDigest { entry })),
+            None => Ok(Checkpoint {
+                before: self.before,
+                after: replay.follower.banks,
+                entries: replay.entries,
+                bytes: replay.follower.bytes,
+                stated: replay.stated,
+            }),
+        }
+    }
+
+    // The checkpoint of the front at which the registers are as expected, if the boot aggregate is good.
+    fn front_in(&self, replay: &ListReplay<Confirming<'_>>) -> Option<Checkpoint>
+        ensures { (algs : AlgSet) (events : List LogEvent) → IsFirmware algs events self.now.before
+            → result ≡ front_after (is_good (aggregate_of algs events (option_map (λ digest. (alg_of digest, bytes_of digest)) replay.now.stated)))
+            self.now replay.now }
+    {
+        let front = replay.follower.front?;
+        if !is_good(aggregate_of(&self.before, replay.stated)) {
+            return None;
+        }
+        Some(Checkpoint {
+            before: self.before,
+            after: front.registers,
+            entries: front.last.saturating_add(1),
+            bytes: front.bytes,
+            stated: replay.stated,
+        })
+    }
+}
+
+// Whether the boot aggregate is good.
+fn is_good(aggregate: Aggregate) -> bool
+    ensures { result ≡ is_good aggregate }
+{
+    matches!(aggregate, Aggregate::Good)
+}
+
+// The checkpoint of the whole list, or the fault with which it is refused.
+fn whole_of(whole: Result<Checkpoint, Unconfirmed>) -> Result<Checkpoint, VerifyFault>
+    ensures { result ≡ whole_of whole }
+{
+    match whole {
+        Ok(whole) => Ok(whole),
+        Err(Unconfirmed::List(fault)) => Err(VerifyFault::List(fault)),
+        Err(Unconfirmed::Replay(fault)) => Err(VerifyFault::Replay(fault)),
+    }
+}

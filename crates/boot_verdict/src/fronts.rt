@@ -1,0 +1,93 @@
+//! The search for the shortest front of a list after which each expected register has its value.
+
+ghost use Rattle.std.specs.Prelude.{◌≡◌};
+ghost use Rattle.boot_verdict.specs.parts.Confirming.{IsConfirmingAfter, are_reached, front_with, search_after};
+
+use crate::checkpoint::Checkpoint;
+use crate::expected::Expected;
+use crate::places::{Place, is_reached};
+use crate::steps::{Follow, Step};
+use pcr_banks::Banks;
+
+/// A point after an entry of the list.
+#[derive(Clone, Copy)]
+pub(crate) struct Front {
+    /// The registers there.
+    pub registers: Banks,
+    /// The number of the last entry before it.
+    pub last: usize,
+    /// How many bytes the list has up to it.
+    pub bytes: u64,
+}
+
+/// Registers, and the first front at which each expected one had its value.
+#[derive(Drop)]
+pub(crate) struct Confirming<'a> {
+    /// The registers.
+    pub banks: Banks,
+    /// How many bytes the entries so far have.
+    pub bytes: u64,
+    /// The number of the first entry that may be the last of a front.
+    pub first: usize,
+    /// The expected registers.
+    pub expected: &'a [Expected],
+    /// The front, if there is one so far.
+    pub front: Option<Front>,
+}
+
+impl<'a> Confirming<'a> {
+    /// After the list of this checkpoint: its end may be the front.
+    pub fn after(known: &Checkpoint, expected: &'a [Expected]) -> Self
+        ensures { result ≡ search_after known.now expected.entry }
+    {
+        let search = Confirming {
+            banks: known.after,
+            bytes: known.bytes,
+            first: known.entries.saturating_sub(1),
+            expected,
+            front: None,
+        };
+        if known.entries == 0 {
+            return search;
+        }
+        Confirming {
+            front: search.front_with(search.first),
+            ..search
+        }
+    }
+
+    // The front, if the entry with this number is the last so far, and each expected register has its value now.
+    fn front_with(&self, last: usize) -> Option<Front>
+        ensures { result ≡ front_with self.now last }
+    {
+        if last >= self.first && are_reached(self.expected, &self.banks) {
+            Some(Front {
+                registers: self.banks,
+                last,
+                bytes: self.bytes,
+            })
+        } else {
+            None
+        }
+    }
+}
+
+impl Follow for Confirming<'_> {
+    ghost is_after = { IsConfirmingAfter };
+
+    // Replays the step, and looks at the registers, if it is an entry and there is no front yet.
+    fn step(&mut self, step: &Step<'_>, place: Place) {
+        step.replay_into(&mut self.banks);
+        self.bytes = self.bytes.saturating_add(step.size());
+        if let (None, Place::Entry(last)) = (self.front, place) {
+            self.front = self.front_with(last);
+        }
+    }
+}
+
+/// Whether each expected register has its value in these banks.
+pub(crate) fn are_reached(expected: &[Expected], banks: &Banks) -> bool
+    ensures { result ≡ are_reached banks.now expected.now }
+{
+    expected.iter().all(|expected| is_reached(expected, banks))
+}
