@@ -11,9 +11,13 @@ use Rattle.ima_list.specs.ListEntry.{ListEntry}
 use Rattle.ima_list.specs.FieldKinds.{FileFields}
 use Rattle.ima_list.specs.Fields.{fields_of}
 use Rattle.ima_list.specs.Templates.{template_named}
+use Rattle.boot_verdict.specs.declared.front_report.Unconfirmed.{Unconfirmed}
+use Rattle.boot_verdict.specs.declared.requirement.BankRange.{BankRange}
+use Rattle.boot_verdict.specs.Verdicts.{Verdict}
 use Rattle.json_texts.specs.JsonValues.{Member, hex_json, members_of, number_json}
 use Rattle.json_texts.specs.EntryJson.{content_members, entry_json, head_members, signature_members}
 use Rattle.json_texts.specs.EventJson.{digests_json, event_json, type_members}
+use Rattle.json_texts.specs.ReportJson.{front_report_json}
 
 abbrev the_name : List ℕ
 the_name = codes "fault"
@@ -80,3 +84,10 @@ pub event_lacks : (number : ℕ) (event : LogEvent) → get the_name (event_json
 event_lacks number event =
     (one_more (codes "event") (number_json number) _ refl (one_more (codes "register") (number_json event.register) _ refl
     (type_lacks (event_type_name event.kind) (last_members event) (last_lacks event)))).lacks
+
+-- ---- a report on a confirmed front
+
+pub front_report_lacks : (required : Option (List BankRange)) (front : Verdict) (entries : ℕ) (unconfirmed : Option Unconfirmed)
+    → get the_name (front_report_json required front entries unconfirmed) ≡ None
+front_report_lacks required front entries None = refl
+front_report_lacks required front entries (Some fault) = refl

@@ -1,6 +1,6 @@
 -- Each value is one line.
-use Rattle.std.proofs.Common.{ℕ, zero, suc, ◌+◌, ◌<◌, ◌≤◌, Bool, true, false, cond, List, [], ◌∷◌, map, Option, Some, None, codes, arith}
-use Rattle.std.specs.Prelude.{⊤, flat_map, IfSome}
+use Rattle.std.proofs.Common.{ℕ, zero, suc, ◌+◌, ◌<◌, ◌≤◌, Bool, true, false, cond, List, [], ◌∷◌, ◌++◌, map, Option, Some, None, codes, arith}
+use Rattle.std.specs.Prelude.{⊤, flat_map, option_map, IfSome}
 use Rattle.std.specs.List.{AllByRecursion, range_with_len}
 use Rattle.json.specs.Json.{Json, string}
 use Rattle.pcr_banks.specs.declared.alg.Alg.{Alg}
@@ -13,7 +13,11 @@ use Rattle.boot_log.specs.declared.header.Row.{Row as TableRow}
 use Rattle.boot_log.specs.EventTypes.{event_type_name}
 use Rattle.boot_log.specs.Spelling.{IsRow, LogEvent}
 use Rattle.pcr_banks.specs.Digests.{bytes_of}
+use Rattle.ima_list.specs.declared.fault.ListFault.TheVariants as lists
+use Rattle.ima_list.specs.declared.replaying.ReplayFault.TheVariants as replays
 use Rattle.boot_verdict.specs.declared.expected.Expected.{Expected}
+use Rattle.boot_verdict.specs.declared.front_report.Unconfirmed.{Unconfirmed}
+use Rattle.boot_verdict.specs.declared.front_report.Unconfirmed.TheVariants as faults
 use Rattle.boot_verdict.specs.declared.places.Located.{Located}
 use Rattle.boot_verdict.specs.declared.places.Place.{Place}
 use Rattle.boot_verdict.specs.declared.places.Place.TheVariants as places
@@ -22,6 +26,7 @@ use Rattle.boot_verdict.specs.declared.report.State.{State}
 use Rattle.boot_verdict.specs.declared.report.State.TheVariants.{Match, Differ, Absent}
 use Rattle.boot_verdict.specs.declared.requirement.BankRange.{BankRange}
 use Rattle.boot_verdict.specs.EventTexts.{algorithm_with}
+use Rattle.boot_verdict.specs.FrontTexts.{unconfirmed_entry, unconfirmed_kind, unconfirmed_message, unconfirmed_number}
 use Rattle.boot_verdict.specs.ListVerdicts.{ListVerdict}
 use Rattle.boot_verdict.specs.declared.register_range.RegisterRange.{RegisterRange}
 use Rattle.boot_verdict.specs.RegisterRanges.{is_within}
@@ -30,14 +35,14 @@ use Rattle.boot_verdict.specs.Requirements.{expected_of_located, expected_of_row
 use Rattle.boot_verdict.specs.Verdicts.{Verdict}
 use Rattle.json_texts.specs.declared.faults.FaultPlace.{FaultPlace}
 use Rattle.json_texts.specs.declared.faults.FaultPlace.TheVariants.{Event, Entry}
-use Rattle.json_texts.specs.JsonValues.{IsCount, IsOneLine, Member, array_of}
+use Rattle.json_texts.specs.JsonValues.{IsCount, IsOneLine, Member, array_of, object_of}
 use Rattle.json_texts.specs.EventJson.{algorithm_json, algorithms_json, digest_members, digests_json, event_json, name_members, type_members}
 use Rattle.json_texts.specs.FaultJson.{fault_json, fault_members, number_at, number_members, place_members}
 use Rattle.json_texts.specs.MissingJson.{missing_among, missing_in, missing_json, value_if_missing}
 use Rattle.json_texts.specs.PlaceJson as place
 use Rattle.json_texts.specs.PlaceJson.{IsCountedPlace, located_json, places_json, places_values}
 use Rattle.json_texts.specs.RegisterJson.{change_values, changed_in, changed_register, changed_registers, expected_json, register_json, register_members, registers_json, value_within, values_within}
-use Rattle.json_texts.specs.ReportJson.{list_report_json, report_json, row_json, rows_values, state_members}
+use Rattle.json_texts.specs.ReportJson.{count_members, front_report_json, list_report_json, outcome_members, report_json, row_json, rows_values, state_members, unconfirmed_members}
 use Rattle.json_texts.proofs.LineLaws.{ArePlain, IsPlain, all_joined, array_plain, flag_plain, member_plain, members_joined, no_members_plain, number_plain, object_plain, one_line, string_plain}
 
 -- ---- lists of values
@@ -75,24 +80,30 @@ one_text name text = member_plain 0 name _ [] (string_plain 0 text) (no_members_
 
 -- ---- faults
 
-number_of_fault : (number : Option ℕ) → IfSome number IsCount → ArePlain 0 (number_members number)
-number_of_fault None fits = no_members_plain 0
-number_of_fault (Some number) fits = member_plain 0 _ _ [] (number_plain 0 number fits) (no_members_plain 0)
+number_of_fault : (most : ℕ) (number : Option ℕ) → IfSome number IsCount → ArePlain most (number_members number)
+number_of_fault most None fits = no_members_plain most
+number_of_fault most (Some number) fits = member_plain most _ _ [] (number_plain most number fits) (no_members_plain most)
 
-place_of_fault : (place : Option FaultPlace) → IfSome place (λ at. IsCount (number_at at)) → ArePlain 0 (place_members place)
-place_of_fault None fits = no_members_plain 0
-place_of_fault (Some (Event number)) fits = member_plain 0 _ _ [] (number_plain 0 number fits) (no_members_plain 0)
-place_of_fault (Some (Entry number)) fits = member_plain 0 _ _ [] (number_plain 0 number fits) (no_members_plain 0)
+place_of_fault : (most : ℕ) (place : Option FaultPlace) → IfSome place (λ at. IsCount (number_at at)) → ArePlain most (place_members place)
+place_of_fault most None fits = no_members_plain most
+place_of_fault most (Some (Event number)) fits = member_plain most _ _ [] (number_plain most number fits) (no_members_plain most)
+place_of_fault most (Some (Entry number)) fits = member_plain most _ _ [] (number_plain most number fits) (no_members_plain most)
+
+-- What is told of a fault.
+told_plain : (most : ℕ) (kind : List ℕ) (number : Option ℕ) (place : Option FaultPlace) (message : List ℕ)
+    → IfSome number IsCount → IfSome place (λ at. IsCount (number_at at))
+    → IsPlain (suc most) (object_of (fault_members kind number place message))
+told_plain most kind number place message fits placed =
+    let last = member_plain most _ _ [] (string_plain most message) (no_members_plain most) in
+    object_plain most (fault_members kind number place message) (member_plain most _ _ _ (string_plain most kind)
+    (members_joined most (number_members number) _ (number_of_fault most number fits)
+    (members_joined most (place_members place) _ (place_of_fault most place placed) last)))
 
 pub fault_line : (kind : List ℕ) (number : Option ℕ) (place : Option FaultPlace) (message : List ℕ)
     → IfSome number IsCount → IfSome place (λ at. IsCount (number_at at)) → IsOneLine (fault_json kind number place message)
 fault_line kind number place message fits placed =
-    let members = member_plain 0 _ _ _ (string_plain 0 kind)
-    (members_joined 0 (number_members number) _ (number_of_fault number fits)
-    (members_joined 0 (place_members place) _ (place_of_fault place placed) (one_text _ message))) in
     one_line 2 (fault_json kind number place message)
-    (object_plain 1 _ (member_plain 1 _ _ [] (object_plain 0 (fault_members kind number place message) members) (no_members_plain 1)))
-    (omega arith)
+    (object_plain 1 _ (member_plain 1 _ _ [] (told_plain 0 kind number place message fits placed) (no_members_plain 1))) (omega arith)
 
 -- ---- registers
 
@@ -164,15 +175,56 @@ rows_plain required rows fit =
     (mapped_plain (IsPlain 1) (λ row. IsCount row.expected.register) row_json row_plain rows fit)
     (among_plain (codes "state") required (expected_of_rows rows)))
 
+counts_plain : (events locality entries : ℕ) (members : List Member) → IsCount events → IsCount locality → IsCount entries
+    → ArePlain 2 members → ArePlain 2 (count_members events locality entries ++ members)
+counts_plain events locality entries members some from all plain =
+    member_plain 2 _ _ _ (number_plain 2 events some)
+    (member_plain 2 _ _ _ (number_plain 2 locality from) (member_plain 2 _ _ members (number_plain 2 entries all) plain))
+
+outcome_plain : (required : Option (List BankRange)) (verdict : Verdict) → AllByRecursion (λ row. IsCount row.expected.register) verdict.rows
+    → ArePlain 2 (outcome_members required verdict)
+outcome_plain required verdict rows =
+    member_plain 2 _ _ _ (string_plain 2 _)
+    (member_plain 2 _ _ _ (rows_plain required verdict.rows rows) (member_plain 2 _ _ [] (string_plain 2 _) (no_members_plain 2)))
+
 pub report_line : (required : Option (List BankRange)) (verdict : Verdict)
     → IsCount verdict.events → IsCount verdict.locality → IsCount verdict.entries
     → AllByRecursion (λ row. IsCount row.expected.register) verdict.rows → IsOneLine (report_json required verdict)
 report_line required verdict events locality entries rows =
+    let outcome = outcome_plain required verdict rows in
     one_line 3 (report_json required verdict)
-    (object_plain 2 _ (member_plain 2 _ _ _ (number_plain 2 verdict.events events)
-    (member_plain 2 _ _ _ (number_plain 2 verdict.locality locality) (member_plain 2 _ _ _ (number_plain 2 verdict.entries entries)
-    (member_plain 2 _ _ _ (string_plain 2 _) (member_plain 2 _ _ _ (rows_plain required verdict.rows rows)
-    (member_plain 2 _ _ [] (string_plain 2 _) (no_members_plain 2)))))))) (omega arith)
+    (object_plain 2 _ (counts_plain verdict.events verdict.locality verdict.entries _ events locality entries outcome)) (omega arith)
+
+number_after : (fault : Unconfirmed) → IsCount (unconfirmed_number fault)
+number_after (faults.List (lists.Truncated entry)) = omega arith
+number_after (faults.List (lists.BadRegister entry)) = omega arith
+number_after (faults.List (lists.NameTooLong entry)) = omega arith
+number_after (faults.List lists.Memory) = omega arith
+number_after (faults.Replay (replays.BadTemplateDigest entry)) = omega arith
+
+place_after : (entry : Option ℕ) → IfSome entry IsCount → IfSome (option_map Entry entry) (λ at. IsCount (number_at at))
+place_after None fits = tt
+place_after (Some entry) fits = fits
+
+unconfirmed_plain : (unconfirmed : Option Unconfirmed) → IfSome unconfirmed (λ fault. IfSome (unconfirmed_entry fault) IsCount)
+    → ArePlain 2 (unconfirmed_members unconfirmed)
+unconfirmed_plain None fits = no_members_plain 2
+unconfirmed_plain (Some fault) fits =
+    let placed = place_after (unconfirmed_entry fault) fits in
+    let told = told_plain 1 (unconfirmed_kind fault) (Some (unconfirmed_number fault)) (option_map Entry (unconfirmed_entry fault))
+    (unconfirmed_message fault) (number_after fault) placed in
+    member_plain 2 _ _ [] told (no_members_plain 2)
+
+pub front_report_line : (required : Option (List BankRange)) (front : Verdict) (entries : ℕ) (unconfirmed : Option Unconfirmed)
+    → IsCount front.events → IsCount front.locality → IsCount front.entries → IsCount entries
+    → IfSome unconfirmed (λ fault. IfSome (unconfirmed_entry fault) IsCount)
+    → AllByRecursion (λ row. IsCount row.expected.register) front.rows → IsOneLine (front_report_json required front entries unconfirmed)
+front_report_line required front entries unconfirmed events locality confirmed all after rows =
+    let outcome = outcome_plain required front rows in
+    let members = member_plain 2 _ _ _ (number_plain 2 front.entries confirmed)
+    (members_joined 2 (unconfirmed_members unconfirmed) _ (unconfirmed_plain unconfirmed after) outcome) in
+    one_line 3 (front_report_json required front entries unconfirmed)
+    (object_plain 2 _ (counts_plain front.events front.locality entries _ events locality all members)) (omega arith)
 
 pub list_report_line : (required : Option (List BankRange)) (verdict : ListVerdict) → IsCount verdict.entries
     → AllByRecursion (λ row. IsCount row.expected.register) verdict.rows → IsOneLine (list_report_json required verdict)

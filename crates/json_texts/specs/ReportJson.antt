@@ -1,16 +1,20 @@
 -- Reports as JSON, with the words of their texts. The members and their order are this project's choice.
-use Rattle.std.specs.Prelude.{ℕ, Bool, true, false, List, [], ◌∷◌, ◌++◌, codes, map, Option, Some, None}
+use Rattle.std.specs.Prelude.{ℕ, Bool, true, false, List, [], ◌∷◌, ◌++◌, codes, map, Option, Some, None, option_map}
 use Rattle.json.specs.Json.{Json}
 use Rattle.json.specs.Json as json
 use Rattle.pcr_banks.specs.Digests.{bytes_of}
+use Rattle.boot_verdict.specs.declared.front_report.Unconfirmed.{Unconfirmed}
 use Rattle.boot_verdict.specs.declared.report.Row.{Row}
 use Rattle.boot_verdict.specs.declared.report.State.{State}
 use Rattle.boot_verdict.specs.declared.report.State.TheVariants.{Match, Differ, Absent}
 use Rattle.boot_verdict.specs.declared.requirement.BankRange.{BankRange}
+use Rattle.boot_verdict.specs.FrontTexts.{unconfirmed_entry, unconfirmed_kind, unconfirmed_message, unconfirmed_number}
 use Rattle.boot_verdict.specs.ListVerdicts.{ListVerdict, list_matches, required_list_matches}
 use Rattle.boot_verdict.specs.ReportTexts.{aggregate_word}
 use Rattle.boot_verdict.specs.Requirements.{expected_of_rows, required_matches}
 use Rattle.boot_verdict.specs.Verdicts.{Verdict, matches}
+use Rattle.json_texts.specs.declared.faults.FaultPlace.TheVariants.{Entry}
+use Rattle.json_texts.specs.FaultJson.{fault_members}
 use Rattle.json_texts.specs.JsonValues.{Member, array_of, hex_json, number_json, object_of}
 use Rattle.json_texts.specs.MissingJson.{missing_among}
 use Rattle.json_texts.specs.RegisterJson.{register_members}
@@ -39,15 +43,43 @@ abbrev pub meets : Option (List BankRange) → Verdict → Bool
 meets None verdict = matches verdict
 meets (Some ranges) verdict = required_matches ranges verdict
 
-abbrev pub report_json : Option (List BankRange) → Verdict → Json
-report_json required verdict = object_of (
-    (codes "events", number_json verdict.events)
-    ∷ (codes "locality", number_json verdict.locality)
-    ∷ (codes "entries", number_json verdict.entries)
-    ∷ (codes "boot_aggregate", json.string (aggregate_word verdict.aggregate))
+abbrev pub count_members : ℕ → ℕ → ℕ → List Member
+count_members events locality entries =
+    (codes "events", number_json events)
+    ∷ (codes "locality", number_json locality)
+    ∷ (codes "entries", number_json entries)
+    ∷ []
+
+-- What comes after the counts.
+abbrev pub outcome_members : Option (List BankRange) → Verdict → List Member
+outcome_members required verdict =
+    (codes "boot_aggregate", json.string (aggregate_word verdict.aggregate))
     ∷ (codes "registers", array_of (rows_values required verdict.rows))
     ∷ (codes "verdict", json.string (verdict_word (meets required verdict)))
-    ∷ [])
+    ∷ []
+
+abbrev pub report_json : Option (List BankRange) → Verdict → Json
+report_json required verdict =
+    object_of (count_members verdict.events verdict.locality verdict.entries ++ outcome_members required verdict)
+
+-- ---- a report on a confirmed front
+
+-- What is wrong after the front, told as a fault is.
+abbrev pub unconfirmed_members : Option Unconfirmed → List Member
+unconfirmed_members None = []
+unconfirmed_members (Some fault) = (
+  codes "unconfirmed",
+  object_of (fault_members (unconfirmed_kind fault) (Some (unconfirmed_number fault))
+      (option_map Entry (unconfirmed_entry fault)) (unconfirmed_message fault)),
+)
+    ∷ []
+
+-- The counts of the whole list, of which the front has the verdict; how much of it is confirmed, and what is wrong after that; then what
+-- comes after the counts of a report on the front.
+abbrev pub front_report_json : Option (List BankRange) → Verdict → ℕ → Option Unconfirmed → Json
+front_report_json required front entries unconfirmed =
+    object_of (count_members front.events front.locality entries ++ (codes "confirmed", number_json front.entries)
+    ∷ (unconfirmed_members unconfirmed ++ outcome_members required front))
 
 -- ---- a report on a list alone
 

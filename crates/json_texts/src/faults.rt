@@ -3,7 +3,7 @@
 ghost use Rattle.std.specs.Prelude.{◌≡◌, [], ◌∷◌, ◌++◌, OnOk, OnErr};
 ghost use Rattle.std.specs.Str.{IsUtf8};
 ghost use Rattle.json.specs.Tree.{json_tokens};
-ghost use Rattle.json_texts.specs.JsonValues.{line_of};
+ghost use Rattle.json_texts.specs.JsonValues.{line_of, object_of};
 ghost use Rattle.json_texts.specs.FaultJson.{fault_json, fault_members, number_members, place_members};
 ghost use Rattle.json_texts.specs.parts.WrittenParts.{members_written};
 
@@ -61,10 +61,27 @@ fn write_fault(fault: &FaultText<'_>, writer: &mut Writer) -> Result<(), AllocEr
         (fault_json fault.now.kind.now fault.now.number fault.now.place fault.now.message.now)) }
 {
     writer.begin_object()?;
-    writer.key("fault")?;
+    write_fault_member("fault", fault, writer)?;
+    writer.end_object()?;
+    Ok(())
+}
+
+/// Writes a member that tells a fault.
+pub(crate) fn write_fault_member(
+    name: &str,
+    fault: &FaultText<'_>,
+    writer: &mut Writer,
+) -> Result<(), AllocError>
+    ensures before { writer.new.before ≡ writer.old.before }
+    ensures tokens { OnOk result (writer.new.tokens ≡ writer.old.tokens ++ members_written ((
+      name.now,
+      object_of
+          (fault_members fault.now.kind.now fault.now.number fault.now.place fault.now.message.now),
+    ) ∷ [])) }
+{
+    writer.key(name)?;
     writer.begin_object()?;
     write_members(fault, writer)?;
-    writer.end_object()?;
     writer.end_object()?;
     Ok(())
 }

@@ -9,9 +9,11 @@ ghost use Rattle.boot_log.specs.Spelling.{IsRow, LogEvent};
 ghost use Rattle.ima_list.specs.ListEntry.{IsEntry, ListEntry};
 ghost use Rattle.ima_list.specs.Digesting.{IsGenuine};
 ghost use Rattle.boot_verdict.specs.declared.expected.Expected.{Expected};
+ghost use Rattle.boot_verdict.specs.declared.front_report.Unconfirmed.{Unconfirmed};
 ghost use Rattle.boot_verdict.specs.declared.register_range.RegisterRange.{RegisterRange};
 ghost use Rattle.boot_verdict.specs.declared.places.Located.{Located};
 ghost use Rattle.boot_verdict.specs.declared.requirement.BankRange.{BankRange};
+ghost use Rattle.boot_verdict.specs.FrontTexts.{unconfirmed_entry};
 ghost use Rattle.boot_verdict.specs.ListVerdicts.{ListVerdict};
 ghost use Rattle.boot_verdict.specs.Verdicts.{Verdict};
 ghost use Rattle.json.specs.Find.{get};
@@ -22,7 +24,7 @@ ghost use Rattle.json_texts.specs.EventJson.{algorithms_json, event_json};
 ghost use Rattle.json_texts.specs.FaultJson.{fault_json, fault_members, number_at};
 ghost use Rattle.json_texts.specs.PlaceJson.{IsCountedPlace, places_json};
 ghost use Rattle.json_texts.specs.RegisterJson.{expected_json, registers_json};
-ghost use Rattle.json_texts.specs.ReportJson.{list_report_json, report_json};
+ghost use Rattle.json_texts.specs.ReportJson.{front_report_json, list_report_json, report_json};
 ghost use Rattle.json_texts.specs.parts.KnownEntries.{IsKnown};
 
 use ima_list::EntryRef;
@@ -39,6 +41,11 @@ pub fn each_value_is_one_line()
     ensures report { (required : Option (List BankRange)) (verdict : Verdict)
         → IsCount verdict.events → IsCount verdict.locality → IsCount verdict.entries
         → AllByRecursion (λ row. IsCount row.expected.register) verdict.rows → IsOneLine (report_json required verdict) }
+    ensures front_report { (required : Option (List BankRange)) (front : Verdict) (entries : ℕ) (unconfirmed : Option Unconfirmed)
+        → IsCount front.events → IsCount front.locality → IsCount front.entries → IsCount entries
+        → IfSome unconfirmed (λ fault. IfSome (unconfirmed_entry fault) IsCount)
+        → AllByRecursion (λ row. IsCount row.expected.register) front.rows
+        → IsOneLine (front_report_json required front entries unconfirmed) }
     ensures list_report { (required : Option (List BankRange)) (verdict : ListVerdict) → IsCount verdict.entries
         → AllByRecursion (λ row. IsCount row.expected.register) verdict.rows → IsOneLine (list_report_json required verdict) }
     ensures places { (required : Option (List BankRange)) (located : List Located)
@@ -58,6 +65,8 @@ pub fn only_faults_have_a_fault()
     ensures registers { (now start : Banks) → get (codes "fault") (registers_json now start) ≡ None }
     ensures expected { (range : RegisterRange) (expected : List Expected) → get (codes "fault") (expected_json range expected) ≡ None }
     ensures report { (required : Option (List BankRange)) (verdict : Verdict) → get (codes "fault") (report_json required verdict) ≡ None }
+    ensures front_report { (required : Option (List BankRange)) (front : Verdict) (entries : ℕ) (unconfirmed : Option Unconfirmed)
+        → get (codes "fault") (front_report_json required front entries unconfirmed) ≡ None }
     ensures list_report { (required : Option (List BankRange)) (verdict : ListVerdict)
         → get (codes "fault") (list_report_json required verdict) ≡ None }
     ensures places { (required : Option (List BankRange)) (located : List Located)

@@ -8,7 +8,7 @@ ghost use Rattle.boot_verdict.specs.ReportTexts.{aggregate_word};
 ghost use Rattle.boot_verdict.specs.Verdicts.{verdict_of};
 ghost use Rattle.json.specs.Tree.{json_tokens};
 ghost use Rattle.json_texts.specs.JsonValues.{array_of, line_of};
-ghost use Rattle.json_texts.specs.ReportJson.{list_meets, list_report_json, meets, report_json, row_json, rows_values, state_members, verdict_word};
+ghost use Rattle.json_texts.specs.ReportJson.{count_members, list_meets, list_report_json, meets, outcome_members, report_json, row_json, rows_values, state_members, verdict_word};
 ghost use Rattle.json_texts.specs.parts.WrittenParts.{items_written, members_written};
 
 use crate::lines::{begin_line, end_line};
@@ -78,15 +78,45 @@ fn write_report(
     ensures tokens { OnOk result (writer.new.tokens ≡ writer.old.tokens
         ++ json_tokens (report_json (option_map (λ ranges. ranges.now) requirement.entry) (verdict_of report.now))) }
 {
-    let is_match = meets(report, requirement);
     writer.begin_object()?;
-    write_number("events", report.events as u64, writer)?;
-    write_number("locality", report.locality as u64, writer)?;
-    write_number("entries", report.entries as u64, writer)?;
+    write_counts(report.events, report.locality, report.entries, writer)?;
+    write_outcome(alloc, report, requirement, writer)?;
+    writer.end_object()?;
+    Ok(())
+}
+
+/// Writes the members of events, locality and entries.
+pub(crate) fn write_counts(
+    events: usize,
+    locality: u8,
+    entries: usize,
+    writer: &mut Writer,
+) -> Result<(), AllocError>
+    ensures before { writer.new.before ≡ writer.old.before }
+    ensures tokens { OnOk result (writer.new.tokens
+        ≡ writer.old.tokens ++ members_written (count_members events locality entries)) }
+{
+    write_number("events", events as u64, writer)?;
+    write_number("locality", locality as u64, writer)?;
+    write_number("entries", entries as u64, writer)?;
+    Ok(())
+}
+
+/// Writes the members that come after the counts.
+pub(crate) fn write_outcome(
+    alloc: Global,
+    report: &Report,
+    requirement: Option<&Requirement>,
+    writer: &mut Writer,
+) -> Result<(), AllocError>
+    ensures before { writer.new.before ≡ writer.old.before }
+    ensures tokens { OnOk result (writer.new.tokens ≡ writer.old.tokens ++ members_written
+        (outcome_members (option_map (λ ranges. ranges.now) requirement.entry) (verdict_of report.now))) }
+{
+    let is_match = meets(report, requirement);
     write_text("boot_aggregate", aggregate_word(report.aggregate), writer)?;
     write_rows(alloc, &report.rows, requirement, writer)?;
     write_text("verdict", verdict_word(is_match), writer)?;
-    writer.end_object()?;
     Ok(())
 }
 

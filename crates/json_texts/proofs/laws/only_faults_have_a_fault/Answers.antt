@@ -1,5 +1,5 @@
 use Rattle.std.proofs.Common.{refl}
-use Rattle.json_texts.proofs.FaultMemberLaws.{entry_lacks, event_lacks}
+use Rattle.json_texts.proofs.FaultMemberLaws.{entry_lacks, event_lacks, front_report_lacks}
 use Rattle.json_texts.proofs.laws.only_faults_have_a_fault.Goals as goal
 
 pub returns : goal.returns
@@ -11,6 +11,7 @@ returns c = record {
   registers = λ now start. refl;
   expected = λ range expected. refl;
   report = λ required verdict. refl;
+  front_report = front_report_lacks;
   list_report = λ required verdict. refl;
   places = λ required located. refl;
 }
