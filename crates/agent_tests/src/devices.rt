@@ -93,6 +93,11 @@ impl<'a> Files for PieceFiles<'a> {
         self.open(name.unwrap_or("-")).ok_or(Failed)
     }
 
+    /// Nothing can be written.
+    fn replace(&mut self, _name: &str, _beside: &str, _bytes: &[u8]) -> Result<(), Failed> {
+        Err(Failed)
+    }
+
     fn shared(&self) -> &Self {
         self
     }

@@ -81,6 +81,12 @@ pub record IsNotRead (name : List ℕ) (fault : RunFault) : Type 0 where
   pub names : string_bytes input ≡ name
   pub says : fault ≡ runs.Read input
 
+-- The fault says that the file of this name could not be written.
+pub record IsNotWritten (name : List ℕ) (fault : RunFault) : Type 0 where
+  pub file : String Global
+  pub names : string_bytes file ≡ name
+  pub says : fault ≡ runs.Write file
+
 -- The fault says that the text of names in the input of this name is not UTF-8.
 pub record IsNotUtf8 (name : List ℕ) (fault : RunFault) : Type 0 where
   pub input : String Global

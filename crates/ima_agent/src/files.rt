@@ -31,6 +31,11 @@ pub trait Files {
             → IsTrue ((told self.old).may_fail (option_map (λ name. name.now) name.entry))) }
         ensures told { told self.new ≡ told self.old };
 
+    /// Has the file of this name be exactly these bytes, whatever it was. They are written to the file of the name `beside`, and synced,
+    /// and then that is renamed: so whoever opens the file gets all it held before, or all of these bytes. Fails if the system refuses
+    /// any of this; the file beside it may then be left.
+    fn replace(&mut self, name: &str, beside: &str, bytes: &[u8]) -> Result<(), Failed>;
+
     /// The same files, for several threads at once.
     fn shared(&self) -> &Self::Shared
         ensures held { (name : List ℕ) → Self.Shared.held result.now name ≡ (told self.now).held (Some name) }
