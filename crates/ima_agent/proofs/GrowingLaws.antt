@@ -1,6 +1,6 @@
 -- A list that grows: what its source says of its input, whatever list was taken before.
 use Rattle.std.proofs.Common.{◌≡◌, ℕ, ◌<◌, List, [], ◌++◌, length, Option, None, Some, Ok, Err, Bool, true, refl, sym, ap, subst, ◌∙◌, append_assoc, inl, inr}
-use Rattle.std.specs.Prelude.{IfSome, IsTrue}
+use Rattle.std.specs.Prelude.{◌⊎◌, IfSome, IfOk, IfErr, IsTrue, Result}
 use Rattle.byte_streams.specs.Streams.{SourceState}
 use Rattle.ima_list.specs.declared.fault.ListFault.{ListFault}
 use Rattle.ima_list.specs.declared.fault.ListFault.TheVariants as lists
@@ -14,18 +14,24 @@ use Rattle.boot_verdict.specs.declared.requirement.BankRange.{BankRange}
 use Rattle.boot_verdict.specs.declared.session.Session.{Session}
 use Rattle.boot_verdict.specs.declared.verifier.VerifyFault.{VerifyFault}
 use Rattle.boot_verdict.specs.declared.verifier.VerifyFault.TheVariants as verdicts
+use Rattle.boot_verdict.specs.CheckpointTexts.{checkpoint_text}
 use Rattle.boot_verdict.specs.Checkpoints.{IsMoreFault, most_after}
 use Rattle.boot_verdict.specs.Fronts.{CameUnconfirmed, IsFrontReport, IsUnconfirmedFault, IsWrongWith, TakesUnconfirmed}
 use Rattle.boot_verdict.specs.ListSources.{CameFrom, CameWhole, FailsFor, IsListFaultAfter}
 use Rattle.boot_verdict.specs.Sessions.{HasTaken}
 use Rattle.boot_verdict.specs.Verdicts.{IsSomeLog, Verdict}
+use Rattle.ima_agent.specs.declared.fault.NotResumed.TheVariants.{OtherBoot}
 use Rattle.ima_agent.specs.declared.fault.RunFault.{RunFault}
+use Rattle.ima_agent.specs.declared.fault.RunFault.TheVariants as runs
 use Rattle.ima_agent.specs.declared.growing.Judged.{Judged}
 use Rattle.ima_agent.specs.declared.growing.Judged.TheVariants as judged
 use Rattle.ima_agent.specs.declared.output.Form.{Form}
-use Rattle.ima_agent.specs.Growing.{AreGrounds, Growth, IsFaultAfter, IsFrontAfter, IsNotTaken, IsRefusedUnconfirmed, IsTaken, IsUnconfirmed, IsUnconfirmedBefore, IsVerdictAfter, IsWrongAfter, ShowsGrownWith, entries_taken, most_more, seeks_front}
-use Rattle.ima_agent.specs.Loading.{HasFailed, Inputs, Holds, OfInput, input_limit}
-use Rattle.ima_agent.specs.parts.Growing.{IsNotTakenFrom, Judges, TakesVerdict, judged_text, judged_well}
+use Rattle.ima_agent.specs.declared.output.Output.{Output}
+use Rattle.ima_agent.specs.Growing.{AreGrounds, Growth, HasSaved, IsFaultAfter, IsFrontAfter, IsGrownFault, IsGrownFaultWith, IsNotTaken, IsOfOtherBoot, IsRefusedUnconfirmed, IsTaken, IsUnconfirmed, IsUnconfirmedBefore, IsVerdictAfter, IsWrongAfter, ShowsAndSaves, ShowsGrownWith, ShowsGrowth, entries_taken, most_more, seeks_front}
+use Rattle.ima_agent.specs.JsonJudging.{IsRequired}
+use Rattle.ima_agent.specs.Loading.{HasFailed, Inputs, Holds, OfInput, Saved, input_limit}
+use Rattle.ima_agent.specs.Measuring.{HasLogFault}
+use Rattle.ima_agent.specs.parts.Growing.{IsNotJudged, IsNotTakenFrom, Judges, TakesVerdict, judged_text, judged_well}
 use Rattle.ima_agent.proofs.VerifyingLaws.{HasAll, held_more, held_whole, longer}
 
 module _ (inputs : Inputs) (name : List ℕ) (old new : Option (List ℕ)) (limit : ℕ) (has : HasAll (inputs.held (Some name)) old) where
@@ -86,8 +92,8 @@ module _ (inputs : Inputs) (name : List ℕ) (old new : Option (List ℕ)) (limi
 
   wrong_after : (taken : List ℕ) (count : ℕ) (fault : Option Unconfirmed) → IsWrongWith taken old new limit count fault
       → IsWrongAfter inputs name taken count fault
-  wrong_after taken count None is = (is.0, whole is.0 is.2, is.1, is.3, is.4, is.5)
-  wrong_after taken count (Some (unconfirmed.Replay fault)) is = (is.0, whole is.0 is.2, is.1, is.3, is.4, is.5)
+  wrong_after taken count None is = (is.0, whole is.0 is.2, (is.1, is.3, is.4, is.5))
+  wrong_after taken count (Some (unconfirmed.Replay fault)) is = (is.0, whole is.0 is.2, (is.1, is.3, is.4, is.5))
   wrong_after taken count (Some (unconfirmed.List fault)) is = (list_fault taken fault is.0, is.1)
 
   pub front_after : (log taken : List ℕ) (expected : List Expected) (least : ℕ) (after : Session) (report : FrontReport)
@@ -210,3 +216,55 @@ module _ (inputs : Inputs) (asked : Growth) (required : Option (List BankRange))
         before.known.entries is.first (is.unconfirmed sought log taken (started taken take)));
     says = is.says;
   }
+
+  pub list_fails : (fault : RunFault) (most : most_after before.known input_limit ≡ most_more known)
+      → (HasFailed old new → IsTrue (inputs.may_fail (Some asked.list)))
+      → IsNotJudged asked.list (seeks_front asked.extent required expected) old new expected before fault
+      → IsGrownFaultWith inputs asked required fault
+  list_fails fault most failing (inl is) = inr (inl (record {
+    log = log;
+    expected = expected;
+    known = known;
+    grounds = grounds;
+    cause = inr (inr (not_taken fault most failing is));
+  }))
+  list_fails fault most failing (inr memory) = inl (inr (inr (inr (inr (inr memory)))))
+
+-- The log is refused, or of another boot.
+pub session_fails : (inputs : Inputs) (asked : Growth) (required : Option (List BankRange)) (log : List ℕ) (expected : List Expected)
+    (known : Option Checkpoint) (fault : RunFault) → AreGrounds inputs asked log expected known
+    → HasLogFault log fault ⊎ ((fault ≡ runs.Checkpoint OtherBoot) × IsOfOtherBoot log known) → IsGrownFaultWith inputs asked required fault
+session_fails inputs asked required log expected known fault grounds (inl first) =
+    inr (inl (record { log = log; expected = expected; known = known; grounds = grounds; cause = inl first }))
+session_fails inputs asked required log expected known fault grounds (inr other) =
+    inr (inl (record { log = log; expected = expected; known = known; grounds = grounds; cause = inr (inl other) }))
+
+-- What is saved is the text of what is known.
+pub saved_known : (old mid new : Saved) (name : Option (List ℕ)) (known next : Checkpoint) → mid ≡ old → known ≡ next
+    → HasSaved mid new name (checkpoint_text known) → HasSaved old new name (checkpoint_text next)
+saved_known old mid new name known next same is saved =
+    subst (λ (before : Saved). HasSaved before new name (checkpoint_text next)) same
+    (subst (λ (k : Checkpoint). HasSaved mid new name (checkpoint_text k)) is saved)
+
+-- ---- where a text requires registers, or none does
+
+pub saves_where : (result : Result Output RunFault) (inputs : Inputs) (asked : Growth) (required : Option (List BankRange)) (form : Form)
+    (old new : Saved) → IsRequired asked.required required
+    → IfOk result (λ output. (next : Checkpoint) × ShowsGrownWith inputs asked required form next output.text.items output.status
+    × HasSaved old new asked.save (checkpoint_text next))
+    → IfOk result (λ output. ShowsAndSaves inputs asked form old new output.text.items output.status)
+saves_where (Ok output) inputs asked required form old new requires is = (is.0, (required, requires, is.1), is.2)
+saves_where (Err fault) inputs asked required form old new requires is = tt
+
+pub shows_where : (result : Result Output RunFault) (inputs : Inputs) (asked : Growth) (required : Option (List BankRange)) (form : Form)
+    (old new : Saved) → IsRequired asked.required required
+    → IfOk result (λ output. (next : Checkpoint) × ShowsGrownWith inputs asked required form next output.text.items output.status
+    × HasSaved old new asked.save (checkpoint_text next))
+    → IfOk result (λ output. ShowsGrowth inputs asked form output.text.items output.status)
+shows_where (Ok output) inputs asked required form old new requires is = (is.0, (required, requires, is.1))
+shows_where (Err fault) inputs asked required form old new requires is = tt
+
+pub fault_where : {A : Type 0} (result : Result A RunFault) (inputs : Inputs) (asked : Growth) (required : Option (List BankRange))
+    → IsRequired asked.required required → IfErr result (IsGrownFaultWith inputs asked required) → IfErr result (IsGrownFault inputs asked)
+fault_where (Ok value) inputs asked required requires is = tt
+fault_where (Err fault) inputs asked required requires is = inr (required, requires, is)
