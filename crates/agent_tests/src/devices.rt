@@ -93,6 +93,11 @@ impl<'a> Files for PieceFiles<'a> {
         self.open(name.unwrap_or("-")).ok_or(Failed)
     }
 
+    /// Takes the bytes, and keeps none.
+    fn replace(&mut self, _name: &str, _beside: &str, _bytes: &[u8]) -> Result<(), Failed> {
+        Ok(())
+    }
+
     fn shared(&self) -> &Self {
         self
     }

@@ -14,8 +14,16 @@ use Rattle.measure_book.specs.Faults.{fault_number, gather_fault_number}
 use Rattle.boot_verdict.specs.declared.expected.ExpectFault.{ExpectFault}
 use Rattle.boot_verdict.specs.declared.expected.ExpectFault.TheVariants as expects
 use Rattle.boot_verdict.specs.ExpectFaults.{expect_fault_number, expect_fault_line}
+use Rattle.ima_agent.specs.declared.fault.NotResumed.{NotResumed}
+use Rattle.ima_agent.specs.declared.fault.NotResumed.TheVariants as resumes
 use Rattle.ima_agent.specs.declared.fault.RunFault.{RunFault}
 use Rattle.ima_agent.specs.declared.fault.RunFault.TheVariants as runs
+
+-- The numbers of why there is no going on from a checkpoint.
+abbrev pub not_resumed_number : NotResumed → ℕ
+not_resumed_number resumes.Damaged = 1
+not_resumed_number resumes.Version = 2
+not_resumed_number resumes.OtherBoot = 3
 
 -- ---- lines
 
@@ -66,10 +74,12 @@ fault_line (runs.List fault) = list_line fault
 fault_line (runs.Replay fault) =
     numbered_line (codes "refused: replay fault ") (replay_fault_number fault) (codes " at entry ") (Some (replay_fault_entry fault))
 fault_line (runs.Expect fault) = expected_line fault
+fault_line (runs.Checkpoint fault) = numbered_line (codes "refused: checkpoint fault ") (not_resumed_number fault) [] None
 fault_line (runs.Book fault) = book_line fault
 fault_line (runs.Outcome job fault) = job_line job fault
 fault_line (runs.TooLong name) = named_line (codes "refused: too long ") (string_bytes name)
 fault_line (runs.Read name) = named_line (codes "failed: read ") (string_bytes name)
+fault_line (runs.Write name) = named_line (codes "failed: write ") (string_bytes name)
 fault_line (runs.NotUtf8 name) = named_line (codes "refused: not UTF-8 ") (string_bytes name)
 fault_line (runs.Gather fault) = gather_line fault
 fault_line runs.Memory = memory_line
@@ -86,6 +96,7 @@ fault_status (runs.List fault) = 2
 fault_status (runs.Replay fault) = 2
 fault_status (runs.Expect expects.Memory) = 3
 fault_status (runs.Expect fault) = 2
+fault_status (runs.Checkpoint fault) = 2
 fault_status (runs.Book books.Memory) = 3
 fault_status (runs.Book fault) = 2
 fault_status (runs.Outcome job books.Memory) = 3
@@ -93,5 +104,6 @@ fault_status (runs.Outcome job fault) = 2
 fault_status (runs.NotUtf8 name) = 2
 fault_status (runs.TooLong name) = 2
 fault_status (runs.Read name) = 3
+fault_status (runs.Write name) = 3
 fault_status (runs.Gather fault) = 3
 fault_status runs.Memory = 3

@@ -20,7 +20,7 @@ use Rattle.json_texts.specs.FaultJson.{fault_json}
 use Rattle.json_texts.specs.JsonValues.{line_of}
 use Rattle.ima_agent.specs.declared.fault.RunFault.{RunFault}
 use Rattle.ima_agent.specs.declared.fault.RunFault.TheVariants as runs
-use Rattle.ima_agent.specs.FaultTexts.{fault_line, fault_status}
+use Rattle.ima_agent.specs.FaultTexts.{fault_line, fault_status, not_resumed_number}
 
 -- ---- what the line tells beside its message
 
@@ -74,10 +74,12 @@ fault_head (runs.List fault) = list_head fault
 fault_head (runs.Replay fault) =
     with_number (codes "replay") (replay_fault_number fault) (Some (Entry (replay_fault_entry fault)))
 fault_head (runs.Expect fault) = expected_head fault
+fault_head (runs.Checkpoint fault) = with_number (codes "checkpoint") (not_resumed_number fault) None
 fault_head (runs.Book fault) = book_head fault
 fault_head (runs.Outcome job fault) = job_head fault
 fault_head (runs.TooLong name) = without_number (codes "too_long")
 fault_head (runs.Read name) = without_number (codes "read")
+fault_head (runs.Write name) = without_number (codes "write")
 fault_head (runs.NotUtf8 name) = without_number (codes "not_utf8")
 fault_head (runs.Gather fault) = gather_head fault
 fault_head runs.Memory = memory_head

@@ -43,6 +43,10 @@ pub record Inputs : Type 0 where
 abbrev pub untold : Inputs
 untold = record { held = λ name. None; may_fail = λ name. true }
 
+-- The files that were replaced, one after another, each by its name and all bytes that it was given; `None` if this is not told.
+abbrev pub Saved : Type 0
+Saved = Option (List (List ℕ × List ℕ))
+
 -- These are all bytes of the input of this name, if they are told.
 abbrev pub Holds : Inputs → Option (List ℕ) → List ℕ → Type 0
 Holds inputs name bytes = IfSome (inputs.held name) (λ all. bytes ≡ all)
@@ -80,6 +84,12 @@ pub record IsNotRead (name : List ℕ) (fault : RunFault) : Type 0 where
   pub input : String Global
   pub names : string_bytes input ≡ name
   pub says : fault ≡ runs.Read input
+
+-- The fault says that the file of this name could not be written.
+pub record IsNotWritten (name : List ℕ) (fault : RunFault) : Type 0 where
+  pub file : String Global
+  pub names : string_bytes file ≡ name
+  pub says : fault ≡ runs.Write file
 
 -- The fault says that the text of names in the input of this name is not UTF-8.
 pub record IsNotUtf8 (name : List ℕ) (fault : RunFault) : Type 0 where

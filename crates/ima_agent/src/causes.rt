@@ -1,5 +1,6 @@
 //! What is wrong with an input, in words: the tables of faults of docs/formats.md, said of the event, the entry or the file.
 
+use crate::fault::NotResumed;
 use boot_log::LogFault;
 use ima_list::{ListFault, ReplayFault};
 use measure_book::BookFault;
@@ -38,6 +39,16 @@ pub(crate) fn replay_cause(fault: ReplayFault) -> &'static str {
     match fault {
         ReplayFault::BadTemplateDigest { .. } =>
             "its template digest is not the SHA-1 of what it covers, and it is no violation",
+    }
+}
+
+/// Why there is no going on from a checkpoint.
+pub(crate) fn checkpoint_cause(fault: NotResumed) -> &'static str {
+    match fault {
+        NotResumed::Damaged => "the file is not a whole checkpoint, as it was saved",
+        NotResumed::Version => "the checkpoint is of another version",
+        NotResumed::OtherBoot =>
+            "the checkpoint is of another boot: the log's registers are not those it began from",
     }
 }
 

@@ -103,6 +103,10 @@ fn of_argument(alloc: Global, words: &[String]) -> Result<String, AllocError>
     match &plan {
         Plan::VerifyRequired { required, .. }
         | Plan::LocateRequired { required, .. }
+        | Plan::VerifyGrowing {
+            required: Some(required),
+            ..
+        }
         | Plan::ReplayExpected {
             required: Some(required),
             ..
@@ -208,6 +212,7 @@ fn input_of<'a>(plan: &'a Plan, fault: &RunFault) -> Option<&'a str> {
         RunFault::Log(_) | RunFault::Book(BookFault::NoBank) => log_of(plan),
         RunFault::List(_) | RunFault::Replay(_) => list_of(plan),
         RunFault::Expect(_) => expected_of(plan),
+        RunFault::Checkpoint(_) => checkpoint_of(plan),
         RunFault::Outcome { job, .. } => file_of(plan, *job),
         _ => None,
     }
@@ -221,6 +226,7 @@ fn log_of(plan: &Plan) -> Option<&str> {
         | Plan::MeasureListed { log, .. }
         | Plan::Verify { log, .. }
         | Plan::VerifyRequired { log, .. }
+        | Plan::VerifyGrowing { log, .. }
         | Plan::Locate { log, .. }
         | Plan::LocateRequired { log, .. }
         | Plan::RegistersAfter { log }
@@ -234,6 +240,7 @@ fn list_of(plan: &Plan) -> Option<&str> {
     match plan {
         Plan::Verify { list, .. }
         | Plan::VerifyRequired { list, .. }
+        | Plan::VerifyGrowing { list, .. }
         | Plan::Locate { list, .. }
         | Plan::LocateRequired { list, .. }
         | Plan::Show { list }
@@ -248,10 +255,19 @@ fn expected_of(plan: &Plan) -> Option<&str> {
     match plan {
         Plan::Verify { expected, .. }
         | Plan::VerifyRequired { expected, .. }
+        | Plan::VerifyGrowing { expected, .. }
         | Plan::Locate { expected, .. }
         | Plan::LocateRequired { expected, .. }
         | Plan::ReplayExpected { expected, .. } => Some(expected.as_str()),
         Plan::Expected { printed, .. } => Some(printed.as_str()),
+        _ => None,
+    }
+}
+
+// The checkpoint that a plan goes on from.
+fn checkpoint_of(plan: &Plan) -> Option<&str> {
+    match plan {
+        Plan::VerifyGrowing { resume, .. } => resume.as_deref(),
         _ => None,
     }
 }

@@ -2,9 +2,10 @@
 
 ghost use Rattle.std.specs.Prelude.{◌≡◌};
 ghost use Rattle.ima_agent.specs.Faults.{fault_of_agent, fault_of_expected, fault_of_list, fault_of_log, fault_of_words};
+ghost use Rattle.ima_agent.specs.FaultTexts.{not_resumed_number};
 ghost use Rattle.ima_agent.specs.declared.fault.RunFault.TheVariants.{Memory};
 
-use crate::causes::{book_cause, list_cause, log_cause, replay_cause};
+use crate::causes::{book_cause, checkpoint_cause, list_cause, log_cause, replay_cause};
 use boot_log::LogFault;
 use boot_verdict::ExpectFault;
 use command_line::WordsFault;
@@ -14,6 +15,30 @@ use measure_book::{BookFault, GatherFault};
 use std::alloc::{AllocError, AllocFailed};
 use std::fmt;
 use thiserror::Error;
+
+/// Why there is no going on from a checkpoint.
+#[derive(Clone, Copy, Debug, PartialEq, Eq)]
+pub enum NotResumed {
+    /// The file is not a whole checkpoint, as it was saved.
+    Damaged,
+    /// The checkpoint is of another version.
+    Version,
+    /// The checkpoint is of another boot: the log leaves other registers than those that it began from.
+    OtherBoot,
+}
+
+impl NotResumed {
+    /// The fault's number, from 1 to 3.
+    pub fn number(self) -> u32
+        ensures { result ≡ not_resumed_number self }
+    {
+        match self {
+            NotResumed::Damaged => 1,
+            NotResumed::Version => 2,
+            NotResumed::OtherBoot => 3,
+        }
+    }
+}
 
 /// Why the program failed.
 #[derive(Debug, Drop, Error)]
@@ -30,6 +55,8 @@ pub enum RunFault {
     Replay(ReplayFault),
     /// An input does not state expected registers, or was not printed by tpm2-tools as one that states some.
     Expect(ExpectFault),
+    /// There is no going on from a checkpoint.
+    Checkpoint(NotResumed),
     /// The book could not be opened.
     Book(BookFault),
     /// The book refused the file of this number; files count from 0.
@@ -43,6 +70,8 @@ pub enum RunFault {
     TooLong(String),
     /// The input of this name could not be opened, or failed while it was read.
     Read(String),
+    /// The file of this name could not be written.
+    Write(String),
     /// The text of file names in this input is not UTF-8.
     NotUtf8(String),
     /// The workers' outcomes do not account for the book's records.
@@ -51,7 +80,8 @@ pub enum RunFault {
     Memory,
 }
 
-/// What is wrong, in words: of a fault of a part by the tables of docs/formats.md. `TooLong`, `Read` and `NotUtf8` name their input.
+/// What is wrong, in words: of a fault of a part by the tables of docs/formats.md. `TooLong`, `Read`, `Write` and `NotUtf8`
+/// name their file.
 impl fmt::Display for RunFault {
     fn fmt<W: fmt::Write>(&self, f: &mut fmt::Formatter<W>) -> fmt::Result {
         match self {
@@ -63,10 +93,12 @@ impl fmt::Display for RunFault {
                 say_cause("entry", Some(fault.entry()), replay_cause(*fault), f)
             }
             RunFault::Expect(fault) => say_fault("", fault, f),
+            RunFault::Checkpoint(fault) => f.write_str(checkpoint_cause(*fault)),
             RunFault::Book(fault) => f.write_str(book_cause(*fault)),
             RunFault::Outcome { job, fault } => say_outcome(*job, *fault, f),
             RunFault::TooLong(name) => say_name("", name, " is longer than 64 MiB", f),
             RunFault::Read(name) => say_name("cannot read ", name, "", f),
+            RunFault::Write(name) => say_name("cannot write ", name, "", f),
             RunFault::NotUtf8(name) => say_name("", name, " is not UTF-8", f),
             RunFault::Gather(fault) => {
                 say_fault("the outcomes do not account for the book: ", fault, f)

@@ -1,7 +1,7 @@
 //! The program's inputs: loads them whole, and makes the faults that name one.
 
 ghost use Rattle.std.specs.Prelude.{◌≡◌, ◌≤◌, ◌⊎◌, option_map, vec_len, IfOk, IfErr, IfSome};
-ghost use Rattle.ima_agent.specs.Loading.{input_limit, Holds, IsInputFault, IsNotRead, IsNotUtf8, IsTooLong};
+ghost use Rattle.ima_agent.specs.Loading.{input_limit, Holds, IsInputFault, IsNotRead, IsNotUtf8, IsNotWritten, IsTooLong};
 ghost use Rattle.ima_agent.specs.parts.Loading.{IsLoadFaultOf};
 ghost use Rattle.ima_agent.specs.declared.fault.RunFault.{RunFault};
 
@@ -28,6 +28,7 @@ pub(crate) fn loaded<F: Files>(
     ensures within { IfOk result (λ bytes. vec_len bytes ≤ input_limit) }
     ensures fault { IfErr result (IsInputFault (F.told files.old) (option_map (λ name. name.now) name.entry)) }
     ensures told { F.told files.new ≡ F.told files.old }
+    ensures saved { F.saved files.new ≡ F.saved files.old }
 {
     let input = name.unwrap_or(STANDARD_INPUT);
     match files.source(name) {
@@ -56,6 +57,16 @@ pub(crate) fn not_read(alloc: Global, input: &str) -> RunFault
 {
     match String::from_str(alloc, input) {
         Ok(input) => RunFault::Read(input),
+        Err(_) => RunFault::Memory,
+    }
+}
+
+/// The fault that the file of this name could not be written; `Memory` if its name cannot be copied.
+pub(crate) fn not_written(alloc: Global, name: &str) -> RunFault
+    ensures { IsNotWritten name.now result ⊎ (result ≡ RunFault.Memory) }
+{
+    match String::from_str(alloc, name) {
+        Ok(name) => RunFault::Write(name),
         Err(_) => RunFault::Memory,
     }
 }

@@ -66,6 +66,23 @@ pub(crate) fn plain_of(plan: JsonPlan) -> Plan
                 required,
             },
         },
+        JsonPlan::VerifyGrowing {
+            log,
+            list,
+            expected,
+            required,
+            extent,
+            resume,
+            save,
+        } => Plan::VerifyGrowing {
+            log,
+            list,
+            expected,
+            required,
+            extent,
+            resume,
+            save,
+        },
         JsonPlan::Locate {
             log,
             list,

@@ -9,6 +9,7 @@ mod expecting;
 mod explaining;
 mod fault;
 mod files;
+mod growing;
 mod hashing;
 mod hexadecimal;
 mod inputs;
@@ -40,11 +41,11 @@ pub use boot_verdict::{
     write_events, write_expected, write_places, write_registers, write_report,
     write_required_places, write_required_report,
 };
-pub use command_line::{DataShown, JsonPlan, JsonPrint, NameEnd, Plan, Print, words_after_name};
+pub use command_line::{DataShown, Extent, JsonPlan, JsonPrint, NameEnd, Plan, Print, words_after_name};
 pub use escaping::escaped;
 pub use expecting::expected_on;
 pub use explaining::{Failure, explanation};
-pub use fault::RunFault;
+pub use fault::{NotResumed, RunFault};
 pub use files::{Files, SharedFiles};
 pub use hashing::hash_from;
 pub use json_outputs::{

@@ -14,6 +14,7 @@ use crate::expecting::expected_from;
 use crate::explaining::Failure;
 use crate::fault::RunFault;
 use crate::files::Files;
+use crate::growing::{grown, growing_of};
 use crate::json_outputs::json_for;
 use crate::list_verifying::list_verified;
 use crate::locating::{located, located_with};
@@ -309,6 +310,18 @@ fn shown_for<R: Threads + Wait + Sync, F: Files, P: Progress>(
             expected,
             required,
         } => verified_with(alloc, files, log, list, expected, required),
+        Plan::VerifyGrowing {
+            log,
+            list,
+            expected,
+            required,
+            extent,
+            resume,
+            save,
+        } => {
+            let asked = growing_of(log, list, expected, required, *extent, resume, save);
+            grown(alloc, files, asked, Form::Text)
+        }
         Plan::Locate {
             log,
             list,

@@ -12,7 +12,8 @@ use crate::loading::LoadFault;
 use byte_streams::{Failed, Sink, Source};
 use pcr_banks::{Alg, Digest};
 use std::alloc::Global;
-use std::fs::File;
+use std::fs;
+use std::fs::{File, OpenFile};
 use std::io;
 use std::io::{Read, Write};
 use std::rt::Files as FileSystem;
@@ -166,12 +167,28 @@ impl<R: FileSystem + io::Input + Sync> Files for SystemFiles<'_, R> {
         Ok(ReadSource::new(input))
     }
 
+    /// Writes and syncs the file beside it, and renames that.
+    fn replace(&mut self, name: &str, beside: &str, bytes: &[u8]) -> Result<(), Failed> {
+        match replaced(self.runtime, name, beside, bytes) {
+            Ok(()) => Ok(()),
+            Err(_) => Err(Failed),
+        }
+    }
+
     /// These files.
     fn shared(&self) -> &Self
         ensures { result.now ≡ self.now }
     {
         self
     }
+}
+
+// Has the file of this name be these bytes, by way of the file beside it.
+fn replaced<R: FileSystem>(rt: &R, name: &str, beside: &str, bytes: &[u8]) -> io::Result<()> {
+    let mut file = File::create(rt, beside)?;
+    file.write_all(bytes)?;
+    file.sync_all()?;
+    fs::rename(rt, beside, name)
 }
 
 impl<R: FileSystem> SharedFiles for SystemFiles<'_, R> {

@@ -109,10 +109,12 @@ fn head_of(fault: &RunFault) -> Head
             Head::with_number("replay", fault.number(), Some(place))
         }
         RunFault::Expect(fault) => expected_head(*fault),
+        RunFault::Checkpoint(fault) => Head::with_number("checkpoint", fault.number(), None),
         RunFault::Book(fault) => book_head(*fault),
         RunFault::Outcome { fault, .. } => job_head(*fault),
         RunFault::TooLong(_) => Head::without_number("too_long"),
         RunFault::Read(_) => Head::without_number("read"),
+        RunFault::Write(_) => Head::without_number("write"),
         RunFault::NotUtf8(_) => Head::without_number("not_utf8"),
         RunFault::Gather(fault) => gather_head(*fault),
         RunFault::Memory => Head::without_number(OUT_OF_MEMORY),
