@@ -14,3 +14,4 @@ pub mod EventShowingLaws
 pub mod EventStreamingLaws
 pub mod JsonLaws
 pub mod StreamingLaws
+pub mod GrowingOnLaws

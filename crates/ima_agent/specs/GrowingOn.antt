@@ -24,6 +24,7 @@ use Rattle.json_texts.specs.ReportJson.{meets}
 use Rattle.ima_agent.specs.declared.fault.NotResumed.TheVariants.{OtherBoot}
 use Rattle.ima_agent.specs.declared.fault.RunFault.{RunFault}
 use Rattle.ima_agent.specs.declared.fault.RunFault.TheVariants as runs
+use Rattle.ima_agent.specs.declared.growing_on.GrowingOn.{GrowingOn}
 use Rattle.ima_agent.specs.declared.output.Form.{Form}
 use Rattle.ima_agent.specs.Growing.{IsCheckpointText, IsNoCheckpoint, IsNotRequired, IsOfOtherBoot, IsTaken, entries_taken, front_report_in, report_in, seeks_front}
 use Rattle.ima_agent.specs.JsonJudging.{IsRequired, judged_status}
@@ -39,6 +40,17 @@ pub record GrowthOn : Type 0 where
   pub expected : List ℕ
   pub required : Option (List ℕ)
   pub extent : Extent
+
+-- The same of the bytes that a caller gives.
+abbrev pub growth_on : GrowingOn → GrowthOn
+growth_on asked = record {
+  log = asked.log.now;
+  state = asked.state.now;
+  more = asked.more.now;
+  expected = asked.expected.now;
+  required = option_map (λ text. text.now) asked.required;
+  extent = asked.extent;
+}
 
 -- What is gone on from: nothing, if there are no bytes; else the checkpoint whose text they are.
 abbrev pub IsKnownIn : List ℕ → Option Checkpoint → Type 0

@@ -4,8 +4,8 @@ ghost use Rattle.std.specs.Prelude.{◌≡◌, ◌⊎◌, false, true, option_ma
 ghost use Rattle.boot_verdict.specs.declared.checkpoint.Checkpoint.{Checkpoint as CheckpointOf};
 ghost use Rattle.boot_verdict.specs.CheckpointTexts.{checkpoint_text};
 ghost use Rattle.ima_agent.specs.Growing.{IsNoCheckpoint};
-ghost use Rattle.ima_agent.specs.GrowingOn.{IsKnownIn, IsNotGrownOn, IsNotGrownOnWith, ShowsGrownOn, ShowsGrownOnWith};
-ghost use Rattle.ima_agent.specs.parts.GrowingOn.{IsNotJudgedOn, JudgesOn, JudgesWholeOn, growth_on};
+ghost use Rattle.ima_agent.specs.GrowingOn.{IsKnownIn, IsNotGrownOn, IsNotGrownOnWith, ShowsGrownOn, ShowsGrownOnWith, growth_on};
+ghost use Rattle.ima_agent.specs.parts.GrowingOn.{IsNotJudgedOn, JudgesOn, JudgesWholeOn};
 
 use crate::fault::RunFault;
 use crate::growing::{Judged, checkpoint_in, judged_output, report_of, seeks_front, session_of};

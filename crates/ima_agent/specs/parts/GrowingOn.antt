@@ -1,5 +1,5 @@
--- What is asked of a list that grows, of bytes in memory, and a report before it is written.
-use Rattle.std.specs.Prelude.{◌≡◌, ℕ, ◌⊎◌, Bool, true, List, ◌++◌, Option, option_map}
+-- A report on a list that grows, of bytes in memory, before it is written.
+use Rattle.std.specs.Prelude.{◌≡◌, ℕ, ◌⊎◌, Bool, true, List, ◌++◌}
 use Rattle.boot_verdict.specs.declared.expected.Expected.{Expected}
 use Rattle.boot_verdict.specs.declared.front_report.FrontReport.{FrontReport}
 use Rattle.boot_verdict.specs.declared.report.Report.{Report}
@@ -11,20 +11,8 @@ use Rattle.ima_agent.specs.declared.fault.RunFault.{RunFault}
 use Rattle.ima_agent.specs.declared.fault.RunFault.TheVariants as runs
 use Rattle.ima_agent.specs.declared.growing.Judged.{Judged}
 use Rattle.ima_agent.specs.declared.growing.Judged.TheVariants as judged
-use Rattle.ima_agent.specs.declared.growing_on.GrowingOn.{GrowingOn}
-use Rattle.ima_agent.specs.GrowingOn.{GrowthOn, HasNoFront, IsFaultIn, IsFrontOf, IsUnconfirmedIn, IsWholeOf}
+use Rattle.ima_agent.specs.GrowingOn.{HasNoFront, IsFaultIn, IsFrontOf, IsUnconfirmedIn, IsWholeOf}
 use Rattle.ima_agent.specs.Verifying.{fault_of_verdict}
-
--- What is asked.
-abbrev pub growth_on : GrowingOn → GrowthOn
-growth_on asked = record {
-  log = asked.log.now;
-  state = asked.state.now;
-  more = asked.more.now;
-  expected = asked.expected.now;
-  required = option_map (λ text. text.now) asked.required;
-  extent = asked.extent;
-}
 
 -- The report is on all that the session has taken then, whatever list it had taken before.
 abbrev pub JudgesWholeOn : List ℕ → List Expected → Session → Session → Report → Type 0
