@@ -136,7 +136,7 @@ int32_t ima_show(const uint8_t *list, size_t list_size, uint8_t *out, size_t out
  * `match`. What comes after it is not refused, and the report says how many entries it has.
  *
  * `next` gets the checkpoint of what the report is on: the whole list, or the confirmed front. After IMA_DONE and
- * IMA_DIFFERS `*next_needed` is its size, at most 16 KiB; if an input is refused, or memory runs out, there is none,
+ * IMA_DIFFERS `*next_needed` is its size, less than 20000 bytes; if an input is refused, or memory runs out, there is none,
  * and `*next_needed` is 0. If `next` or `out` has too little room for its text, the function returns IMA_TOO_SHORT,
  * tells both sizes, and writes to neither. So a checkpoint that the caller has is never lost: keep it until a call has
  * given the next one. `next` and `next_needed` are as `out` and `needed`: they may overlap nothing else that
