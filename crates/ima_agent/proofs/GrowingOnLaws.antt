@@ -1,15 +1,18 @@
 -- What a session that takes bytes in memory says of the list that they make.
-use Rattle.std.proofs.Common.{◌≡◌, ℕ, List, ◌++◌, length, Option, None, Some, Ok, Err, refl, sym, ap, subst, ◌∙◌, append_assoc}
+use Rattle.std.proofs.Common.{◌≡◌, ◌⊎◌, ℕ, Bool, false, true, List, ◌++◌, length, Option, None, Some, Ok, Err, refl, sym, ap, subst, ◌∙◌, append_assoc, inl, inr}
+use Rattle.std.proofs.lemmas.Bool.{false≢true}
 use Rattle.ima_list.specs.declared.fault.ListFault.{ListFault}
 use Rattle.ima_list.specs.declared.fault.ListFault.TheVariants as lists
 use Rattle.ima_list.specs.ListEntry.{ListEntry}
 use Rattle.ima_list.specs.ListFaults.{list_fault_entry}
 use Rattle.ima_list.specs.Replaying.{AreGenuine, IsReplayFault}
 use Rattle.ima_list.specs.Spelling.{BeginsWith, IsReading, list_spelling}
+use Rattle.boot_verdict.specs.declared.checkpoint.Checkpoint.{Checkpoint}
 use Rattle.boot_verdict.specs.declared.expected.Expected.{Expected}
 use Rattle.boot_verdict.specs.declared.front_report.FrontReport.{FrontReport}
 use Rattle.boot_verdict.specs.declared.front_report.Unconfirmed.{Unconfirmed}
 use Rattle.boot_verdict.specs.declared.front_report.Unconfirmed.TheVariants as unconfirmed
+use Rattle.boot_verdict.specs.declared.requirement.BankRange.{BankRange}
 use Rattle.boot_verdict.specs.declared.session.Session.{Session}
 use Rattle.boot_verdict.specs.declared.verifier.VerifyFault.{VerifyFault}
 use Rattle.boot_verdict.specs.declared.verifier.VerifyFault.TheVariants as verdicts
@@ -17,8 +20,20 @@ use Rattle.boot_verdict.specs.Checkpoints.{IsMoreFault}
 use Rattle.boot_verdict.specs.Fronts.{CameUnconfirmed, IsFrontReport, IsUnconfirmedFault, IsWrongWith, TakesUnconfirmed}
 use Rattle.boot_verdict.specs.ListSources.{CameFrom, CameWhole, FailsFor, IsListFaultAfter}
 use Rattle.boot_verdict.specs.Sessions.{HasTaken, TakesMore}
-use Rattle.boot_verdict.specs.Verdicts.{IsForged}
-use Rattle.ima_agent.specs.GrowingOn.{BeginsUnconfirmed, HasNoFront, IsFaultIn, IsFrontOf, IsUnconfirmedIn, IsWrongIn}
+use Rattle.boot_verdict.specs.ExpectedTexts.{IsExpectedText}
+use Rattle.boot_verdict.specs.Verdicts.{IsForged, verdict_of}
+use Rattle.ima_agent.specs.declared.fault.NotResumed.TheVariants.{OtherBoot}
+use Rattle.ima_agent.specs.declared.fault.RunFault.{RunFault}
+use Rattle.ima_agent.specs.declared.fault.RunFault.TheVariants as runs
+use Rattle.ima_agent.specs.declared.growing.Judged.{Judged}
+use Rattle.ima_agent.specs.declared.growing.Judged.TheVariants as judged
+use Rattle.ima_agent.specs.declared.output.Form.{Form}
+use Rattle.ima_agent.specs.Growing.{IsOfOtherBoot, IsTaken, entries_taken, seeks_front}
+use Rattle.ima_agent.specs.GrowingOn.{BeginsUnconfirmed, GrowthOn, HasNoFront, IsFaultIn, IsFrontOf, IsKnownIn, IsNotGrownOnWith, IsNotTakenOn, IsUnconfirmedIn, IsWrongIn, ShowsFrontOn, ShowsGrownOnWith, ShowsWholeOn}
+use Rattle.ima_agent.specs.Measuring.{HasLogFault}
+use Rattle.ima_agent.specs.Verifying.{fault_of_verdict}
+use Rattle.ima_agent.specs.parts.Growing.{judged_text, judged_well}
+use Rattle.ima_agent.specs.parts.GrowingOn.{IsNotJudgedOn, IsNotTakenIn, JudgesOn}
 use Rattle.ima_agent.proofs.ReplayingLaws.{of_whole}
 use Rattle.ima_agent.proofs.VerifyingLaws.{held_more}
 
@@ -123,3 +138,100 @@ module _ (taken more : List ℕ) (new : Option (List ℕ)) (limit : ℕ) where
           wrong = wrong_in report.entries report.unconfirmed is.wrong;
           next_is = is.taken.checkpoint;
         }
+
+-- Why all of the bytes are not taken.
+pub none_taken : (more : List ℕ) (expected : List Expected) (before : Session) (new : Option (List ℕ)) (limit : ℕ) (first : VerifyFault)
+    → ((log taken : List ℕ) → HasTaken log taken before → IsMoreFault taken (Some more) new limit first)
+    → IsNotTakenIn false more expected before (fault_of_verdict first)
+none_taken more expected before new limit first is = record {
+  first = first;
+  first_is = λ log taken has. fault_in taken more new limit first (is log taken has);
+  unconfirmed = λ sought. absurd (false≢true sought);
+  says = refl;
+}
+
+-- ---- the report that is asked for
+
+module _ (asked : GrowthOn) (required : Option (List BankRange)) (expected : List Expected) (known : Option Checkpoint)
+    (states : IsExpectedText asked.expected expected) (is_known : IsKnownIn asked.state known) where
+  -- There is no session.
+  pub no_session : (fault : RunFault) → HasLogFault asked.log fault ⊎ ((fault ≡ runs.Checkpoint OtherBoot) × IsOfOtherBoot asked.log known)
+      → IsNotGrownOnWith asked required fault
+  no_session fault (inl log) =
+      inr (inr (inl (record {
+        expected = expected;
+        known = known;
+        grounds = record { expected_is = states; known_is = is_known };
+        cause = inl log;
+      })))
+  no_session fault (inr other) =
+      inr (inr (inl (record {
+        expected = expected;
+        known = known;
+        grounds = record { expected_is = states; known_is = is_known };
+        cause = inr (inl other);
+      })))
+
+  module _ (before : Session) (has : (taken : List ℕ) → IsTaken known taken → HasTaken asked.log taken before)
+      (count : before.known.entries ≡ entries_taken known) (seeks : Bool) (sought : seeks ≡ seeks_front asked.extent required expected) where
+    not_taken : (fault : RunFault) → IsNotTakenIn seeks asked.more expected before fault
+        → IsNotTakenOn asked.log asked.more expected known seeks fault
+    not_taken fault none = record {
+      first = none.first;
+      first_is = λ taken is.
+          let it = has taken is in
+          (record { table = it.table; events = it.events; log_is = it.log_is }, none.first_is asked.log taken it);
+      unconfirmed = λ seeking taken is.
+          subst (λ (n : ℕ). IsUnconfirmedIn asked.log (taken ++ asked.more) expected n none.first) count
+          (none.unconfirmed seeking asked.log taken (has taken is));
+      says = none.says;
+    }
+
+    -- The list is not taken.
+    pub no_report : (fault : RunFault) → IsNotJudgedOn seeks asked.more expected before fault → IsNotGrownOnWith asked required fault
+    no_report fault (inr memory) = inr (inr (inr memory))
+    no_report fault (inl none) =
+        inr (inr (inl (record {
+          expected = expected;
+          known = known;
+          grounds = record { expected_is = states; known_is = is_known };
+          cause = inr (inr (subst (λ (b : Bool). IsNotTakenOn asked.log asked.more expected known b fault) sought (not_taken fault none)));
+        })))
+
+    module _ (after : Session) (form : Form) (shown : List ℕ) (status : ℕ) where
+      shows : (report : Judged) → JudgesOn seeks asked.more expected before after report → shown ≡ judged_text form required report
+          → status ≡ judged_well required report
+          → ShowsWholeOn asked.log asked.more expected known seeks form required after.known shown status
+          ⊎ ShowsFrontOn asked.log asked.more expected known seeks form required after.known shown status
+      shows (judged.Whole report) is text-is status-is =
+          inl (record {
+            verdict = verdict_of report;
+            verdict_is = λ taken of. is.0 asked.log taken (has taken of);
+            unconfirmed = λ seeking taken of.
+                subst (λ (n : ℕ). HasNoFront asked.log (taken ++ asked.more) expected n) count (is.1 seeking asked.log taken (has taken of));
+            text_is = text-is;
+            status_is = status-is;
+          })
+      shows (judged.Front report) is text-is status-is =
+          inr (record {
+            report = report;
+            sought = is.0;
+            front_is = λ taken of.
+                subst (λ (n : ℕ). IsFrontOf asked.log (taken ++ asked.more) expected n report after.known) count
+                (is.1 asked.log taken (has taken of));
+            text_is = text-is;
+            status_is = status-is;
+          })
+
+      -- The report is shown.
+      pub shows_grown : (report : Judged) → JudgesOn seeks asked.more expected before after report → shown ≡ judged_text form required report
+          → status ≡ judged_well required report → ShowsGrownOnWith asked required form after.known shown status
+      shows_grown report is text-is status-is = record {
+        expected = expected;
+        known = known;
+        grounds = record { expected_is = states; known_is = is_known };
+        report =
+            subst (λ (b : Bool). ShowsWholeOn asked.log asked.more expected known b form required after.known shown status
+            ⊎ ShowsFrontOn asked.log asked.more expected known b form required after.known shown status) sought
+            (shows report is text-is status-is);
+      }
