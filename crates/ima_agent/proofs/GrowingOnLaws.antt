@@ -116,9 +116,9 @@ module _ (taken more : List ℕ) (new : Option (List ℕ)) (limit : ℕ) where
     }
 
     wrong_in : (count : ℕ) (fault : Option Unconfirmed) → IsWrongWith taken (Some more) new limit count fault → IsWrongIn (taken ++ more) count fault
-    wrong_in count None is = (is.1, (of_all (λ (bytes : List ℕ). IsReading bytes (Ok is.1)) is.0 is.2 is.3, is.4))
+    wrong_in count None is = (is.1, of_all (λ (bytes : List ℕ). IsReading bytes (Ok is.1)) is.0 is.2 is.3, is.4, is.5)
     wrong_in count (Some (unconfirmed.Replay fault)) is =
-        (is.1, (of_all (λ (bytes : List ℕ). IsReading bytes (Ok is.1)) is.0 is.2 is.3, is.4))
+        (is.1, of_all (λ (bytes : List ℕ). IsReading bytes (Ok is.1)) is.0 is.2 is.3, is.4, is.5)
     wrong_in count (Some (unconfirmed.List fault)) is = (list_fault fault is.0, is.1)
 
     -- The report is on the confirmed front.

@@ -199,13 +199,12 @@ fn put_grown(
     let text = &grown.output.text;
     let state = &grown.checkpoint;
     *next_needed = state.len();
-    *needed = text.len();
-    if out.len() < text.len() || next.len() < state.len() {
-        return TOO_SHORT;
+    if state.len() <= next.len() && text.len() <= out.len() {
+        next[..state.len()].copy_from_slice(state);
+        return put(text, grown.output.status, out, needed);
     }
-    next[..state.len()].copy_from_slice(state);
-    out[..text.len()].copy_from_slice(text);
-    i32::from(grown.output.status)
+    *needed = grown.output.text.len();
+    TOO_SHORT
 }
 
 // Puts a text for which the caller's buffer is the room, or tells its size.
