@@ -9,8 +9,9 @@
 
 mod giving;
 
-ghost use Rattle.std.specs.Prelude.{◌≡◌, None, Some};
-ghost use Rattle.ima_verify_c.specs.Answers.{Answers, AnswersMore, IsPlacesAnswer, IsEntriesAnswer, IsExpectedAnswer, IsJsonEntriesAnswer, IsJsonEventsAnswer, IsJsonListReportAnswer, IsJsonMoreAnswer, IsJsonPlacesAnswer, IsJsonRegistersAnswer, IsJsonReplayAnswer, IsJsonReportAnswer, IsMoreAnswer, IsRegistersAnswer, IsReportAnswer, IsRequiredListReportAnswer, IsRequiredPlacesAnswer, IsRequiredReportAnswer, growth_by, interface_version};
+ghost use Rattle.std.specs.Prelude.{◌≡◌, if◌then◌else◌, None, Some, option_map};
+ghost use Rattle.command_line.specs.declared.plan.Extent.TheVariants.{Front, Whole};
+ghost use Rattle.ima_verify_c.specs.Answers.{Answers, AnswersMore, IsPlacesAnswer, IsEntriesAnswer, IsExpectedAnswer, IsJsonEntriesAnswer, IsJsonEventsAnswer, IsJsonListReportAnswer, IsJsonMoreAnswer, IsJsonPlacesAnswer, IsJsonRegistersAnswer, IsJsonReplayAnswer, IsJsonReportAnswer, IsMoreAnswer, IsRegistersAnswer, IsReportAnswer, IsRequiredListReportAnswer, IsRequiredPlacesAnswer, IsRequiredReportAnswer, growth_by, interface_version, required_by};
 ghost use Rattle.ima_agent.specs.GrowingOn.{growth_on};
 
 use crate::giving::{
@@ -312,16 +313,30 @@ fn asked_by<'a>(
         state,
         more,
         expected,
-        required: if require.is_empty() {
-            None
-        } else {
-            Some(require)
-        },
-        extent: if prefix {
-            Extent::Front
-        } else {
-            Extent::Whole
-        },
+        required: required_by(require),
+        extent: extent_by(prefix),
+    }
+}
+
+// The text of what is required, if it has bytes.
+fn required_by(require: &[u8]) -> Option<&[u8]>
+    ensures { option_map (λ text. text.now) result ≡ required_by require.now }
+{
+    if require.is_empty() {
+        None
+    } else {
+        Some(require)
+    }
+}
+
+// The confirmed front, or the whole list.
+fn extent_by(prefix: bool) -> Extent
+    ensures { result ≡ (if prefix then Front else Whole) }
+{
+    if prefix {
+        Extent::Front
+    } else {
+        Extent::Whole
     }
 }
 
