@@ -1,6 +1,6 @@
 //! The report on a list that grows: on a front of it, or going on from a checkpoint.
 
-ghost use Rattle.std.specs.Prelude.{◌≡◌, ◌⊎◌, ℕ, List, [], None, Some, true, false, option_map, IfOk, IfErr, IfSome, IsTrue, OnErr, OnOk};
+ghost use Rattle.std.specs.Prelude.{◌≡◌, ◌⊎◌, ℕ, List, [], None, Some, true, false, option_map, string_bytes, IfOk, IfErr, IfSome, IsTrue, OnErr, OnOk};
 ghost use Rattle.boot_verdict.specs.declared.checkpoint.Checkpoint.{Checkpoint as CheckpointOf};
 ghost use Rattle.boot_verdict.specs.CheckpointTexts.{checkpoint_text};
 ghost use Rattle.boot_verdict.specs.Checkpoints.{IsCheckpoint, most_after};
@@ -11,7 +11,7 @@ ghost use Rattle.json_texts.specs.ReportJson.{front_report_json, meets, report_j
 ghost use Rattle.ima_agent.specs.declared.fault.NotResumed.TheVariants.{OtherBoot};
 ghost use Rattle.ima_agent.specs.declared.fault.RunFault.TheVariants as runs;
 ghost use Rattle.ima_agent.specs.declared.output.Form.TheVariants.{Text};
-ghost use Rattle.ima_agent.specs.Growing.{AreGrounds, HasNoGrounds, HasSaved, IsCheckpointText, IsGrownFault, IsGrownFaultWith, IsKnown, IsNoCheckpoint, IsNotKnown, IsNotSaved, IsOfOtherBoot, IsTaken, ShowsAndSaves, ShowsGrownWith, entries_taken, front_report_in, most_more, report_in, seeks_front};
+ghost use Rattle.ima_agent.specs.Growing.{AreGrounds, HasNoGrounds, HasSaved, IsCheckpointText, IsGrownFault, IsGrownFaultWith, IsKnown, IsNoCheckpoint, IsNotKnown, IsNotSaved, IsOfOtherBoot, IsTaken, ShowsAndSaves, ShowsGrownWith, ShowsGrowth, entries_taken, front_report_in, most_more, report_in, seeks_front};
 ghost use Rattle.ima_agent.specs.Loading.{GivesAll, HasFailed, IsNotWritten, input_limit};
 ghost use Rattle.ima_agent.specs.parts.Growing.{IsNotJudged, Judges, JudgesWhole, growth_of, judged_text, judged_well};
 ghost use Rattle.ima_agent.specs.Measuring.{HasLogFault};
@@ -52,6 +52,31 @@ pub(crate) struct Growing<'a> {
     pub save: Option<&'a str>,
 }
 
+/// What a plan asks of a list that grows.
+pub(crate) fn growing_of<'a>(
+    log: &'a str,
+    list: &'a str,
+    expected: &'a str,
+    required: &'a Option<String>,
+    extent: Extent,
+    resume: &'a Option<String>,
+    save: &'a Option<String>,
+) -> Growing<'a>
+    ensures { growth_of result ≡ record {
+      log = log.now; list = list.now; expected = expected.now; required = option_map string_bytes required.now; extent = extent;
+      resume = option_map string_bytes resume.now; save = option_map string_bytes save.now } }
+{
+    Growing {
+        log,
+        list,
+        expected,
+        required: required.as_deref(),
+        extent,
+        resume: resume.as_deref(),
+        save: save.as_deref(),
+    }
+}
+
 /// The report that is asked for, in this form. What is required is read first; then the log, the expected registers and the checkpoint
 /// are loaded, and the list is replayed as it is read, without loading it. The checkpoint of what the report is on is saved last.
 pub(crate) fn grown<F: Files>(
@@ -60,8 +85,9 @@ pub(crate) fn grown<F: Files>(
     asked: Growing<'_>,
     form: Form,
 ) -> Result<Output, RunFault>
+    ensures shown { IfOk result (λ output. ShowsGrowth (F.told files.old) (growth_of asked.entry) form output.text.items output.status) }
     // The checkpoint of what the report is on is what is saved, and nothing else.
-    ensures shown { IfOk result (λ output. ShowsAndSaves (F.told files.old) (growth_of asked.entry) form (F.saved files.old) (F.saved files.new)
+    ensures saved { IfOk result (λ output. ShowsAndSaves (F.told files.old) (growth_of asked.entry) form (F.saved files.old) (F.saved files.new)
         output.text.items output.status) }
     ensures kept { OnErr result (F.saved files.new ≡ F.saved files.old) }
     ensures fault { IfErr result (IsGrownFault (F.told files.old) (growth_of asked.entry)) }

@@ -17,7 +17,7 @@ mod registers;
 use crate::expecting::expected_from;
 use crate::fault::RunFault;
 use crate::files::Files;
-use crate::growing::{Growing, grown};
+use crate::growing::{grown, growing_of};
 use crate::measuring::measured_as_json;
 use crate::output::{Form, Output};
 use crate::progress::Progress;
@@ -64,15 +64,7 @@ pub(crate) fn json_for<R: Threads + Wait + Sync, F: Files, P: Progress>(
             resume,
             save,
         } => {
-            let asked = Growing {
-                log,
-                list,
-                expected,
-                required: required.as_deref(),
-                extent: *extent,
-                resume: resume.as_deref(),
-                save: save.as_deref(),
-            };
+            let asked = growing_of(log, list, expected, required, *extent, resume, save);
             grown(alloc, files, asked, Form::Json)
         }
         JsonPlan::Locate {

@@ -14,7 +14,7 @@ use crate::expecting::expected_from;
 use crate::explaining::Failure;
 use crate::fault::RunFault;
 use crate::files::Files;
-use crate::growing::{Growing, grown};
+use crate::growing::{grown, growing_of};
 use crate::json_outputs::json_for;
 use crate::list_verifying::list_verified;
 use crate::locating::{located, located_with};
@@ -319,15 +319,7 @@ fn shown_for<R: Threads + Wait + Sync, F: Files, P: Progress>(
             resume,
             save,
         } => {
-            let asked = Growing {
-                log,
-                list,
-                expected,
-                required: required.as_deref(),
-                extent: *extent,
-                resume: resume.as_deref(),
-                save: save.as_deref(),
-            };
+            let asked = growing_of(log, list, expected, required, *extent, resume, save);
             grown(alloc, files, asked, Form::Text)
         }
         Plan::Locate {
