@@ -1,9 +1,11 @@
 """Asks the library for C what a command of the program does, through the package for Python."""
 
+import ctypes
 import importlib
 import os
 import sys
 from dataclasses import dataclass
+from typing import Optional
 
 from form import ROOT
 
@@ -37,7 +39,12 @@ JSON_FUNCTIONS = {
     ("events", 1, False): "events_json",
     ("show", 1, False): "entries_json",
 }
+# The function for `verify` of a list that grows, which takes this option and has a checkpoint too.
+MORE_FUNCTION = "verify_more"
+MORE_OPTIONS = ("--require", "--resume", "--save")
 ROOM = 16 * 1024
+# No checkpoint is longer.
+CHECKPOINT_ROOM = 20000
 
 
 class Library:
@@ -50,17 +57,57 @@ class Library:
         for (name, files, has_option), function in [*FUNCTIONS.items(), *JSON_FUNCTIONS.items()]:
             self.package.INPUTS.setdefault(f"ima_{function}", files + (has_option or name == "expected"))
         self.functions = self.package.load()
+        for name in (MORE_FUNCTION, f"{MORE_FUNCTION}_json"):
+            function = getattr(self.functions, f"ima_{name}")
+            size, sizes = ctypes.c_size_t, ctypes.POINTER(ctypes.c_size_t)
+            given = [ctypes.c_void_p, size] * 5 + [ctypes.c_bool]
+            function.argtypes, function.restype = given + [ctypes.c_void_p, size, sizes] * 2, ctypes.c_int32
 
     def takes(self, words, folder, most_bytes=MOST_BYTES):
-        """Whether there is a function for a command, and it is given files of at most so many bytes, an option's text and nothing else."""
-        call = call_of(words)
-        return call is not None and all(is_input(file, folder, most_bytes) for file in call.files)
+        """Whether there is a function for a command, and it is given files of at most so many bytes, texts of options and nothing else; and
+        a file that it saves can be written."""
+        call = more_of(words) or call_of(words)
+        if call is None or not all(is_input(file, folder, most_bytes) for file in call.inputs()):
+            return False
+        return not isinstance(call, More) or call.save is None or is_writable(call.save, folder)
 
     def answer(self, words, folder):
+        """What the function for a command answers. The checkpoint that the command saves is written as there."""
+        more = more_of(words)
+        if more is not None:
+            return self.answer_more(more, folder)
         call = call_of(words)
         data = [(folder / file).read_bytes() for file in call.files]
         texts = [text.encode("utf-8", "surrogateescape") for text in call.texts]
         return self.package.ask(getattr(self.functions, f"ima_{call.function}"), [*data, *texts], ROOM + 2 * len(data[-1]))
+
+    def answer_more(self, more, folder):
+        log, listed, expected = ((folder / file).read_bytes() for file in more.files)
+        state = (folder / more.resume).read_bytes() if more.resume is not None else b""
+        if more.resume is not None and not state:
+            # (no bytes are no checkpoint for the command, and for the function the list's beginning)
+            state = b"\n"
+        function = getattr(self.functions, f"ima_{more.function}")
+        status, text, checkpoint = self.call_more(function, [log, state, listed, expected, more.require], more.prefix)
+        if (status in (0, 1)) != bool(checkpoint):
+            return None, f"status {status} and a checkpoint of {len(checkpoint)} bytes".encode()
+        if more.save is not None and checkpoint:
+            (folder / more.save).write_bytes(checkpoint)
+        return status, text
+
+    def call_more(self, function, given, prefix):
+        """The status, the text and the checkpoint; asked once more if there was too little room, which must leave the buffers as they were."""
+        room, next_room = ROOM, CHECKPOINT_ROOM // 4
+        while True:
+            out, following = ctypes.create_string_buffer(b"\xa7" * room, room), ctypes.create_string_buffer(b"\xa7" * next_room, next_room)
+            needed, next_needed = ctypes.c_size_t(), ctypes.c_size_t()
+            words = [word for data in given for word in (data or b"\0", len(data))]
+            status = function(*words, prefix, following, next_room, ctypes.byref(next_needed), out, room, ctypes.byref(needed))
+            if status != self.package.TOO_SHORT:
+                return status, out.raw[: needed.value], following.raw[: next_needed.value]
+            if (out.raw + following.raw).strip(b"\xa7") or (needed.value <= room and next_needed.value <= next_room):
+                return None, b"not answered: too short", b""
+            room, next_room = max(room, needed.value), max(next_room, next_needed.value)
 
 
 @dataclass(frozen=True)
@@ -70,6 +117,45 @@ class Call:
     function: str
     files: list
     texts: list
+
+    def inputs(self):
+        return self.files
+
+
+@dataclass(frozen=True)
+class More:
+    """A call of the function for a list that grows, or of its form as JSON: the files of log, list and expected registers, what is required,
+    whether a front is asked for, the file to go on from and the one to save."""
+
+    function: str
+    files: list
+    require: bytes
+    prefix: bool
+    resume: Optional[str]
+    save: Optional[str]
+
+    def inputs(self):
+        return self.files + ([] if self.resume is None else [self.resume])
+
+
+def more_of(words):
+    """The call that answers `verify` of a list that grows, or None."""
+    name, *rest = words or [""]
+    files, values, flags, rest = [], {}, [], iter(rest)
+    for word in rest:
+        option, has_value, value = word.partition("=")
+        if option in MORE_OPTIONS and option not in values:
+            values[option] = value if has_value else next(rest, "")
+        elif word in ("--json", "--prefix"):
+            flags.append(word)
+        else:
+            files.append(word)
+    is_growing = "--prefix" in flags or "--resume" in values or "--save" in values
+    if name != "verify" or not is_growing or len(files) != 3 or "" in values.values() or len(set(flags)) < len(flags):
+        return None
+    function = f"{MORE_FUNCTION}_json" if "--json" in flags else MORE_FUNCTION
+    require = values.get("--require", "").encode("utf-8", "surrogateescape")
+    return More(function, files, require, "--prefix" in flags, values.get("--resume"), values.get("--save"))
 
 
 def call_of(words):
@@ -94,3 +180,10 @@ def is_input(name, folder, most_bytes):
     is_name = name == "-" or not name.startswith(("-", "/"))
     file = os.path.join(folder, name)
     return is_name and os.path.isfile(file) and os.path.getsize(file) <= most_bytes
+
+
+def is_writable(name, folder):
+    """Whether a file below the folder can have this name."""
+    file = os.path.join(folder, name)
+    is_name = not name.startswith(("-", "/")) and not name.endswith("/")
+    return is_name and os.path.isdir(os.path.dirname(file)) and not os.path.isdir(file)

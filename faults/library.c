@@ -1,11 +1,12 @@
 /* Calls one function of the verifier's library again and again, with another of its allocations refused each time.
  *
- *     library FUNCTION STATUS TEXT ROOM INPUT..
+ *     library FUNCTION STATUS TEXT ROOM NEXT NEXT_ROOM INPUT..
  *
- * FUNCTION is the name of a function without ima_; INPUT are its files, and ROOM is the size of its buffer. STATUS and the file
- * TEXT are the answer that it has with ample memory. In the Nth turn the Nth allocation is refused, until a turn ends with none
- * refused. Each turn calls twice: the call whose allocation is refused has the answer, or says that memory ran out; the next one
- * has the answer.
+ * FUNCTION is the name of a function without ima_, and ends in :prefix if it is to be asked for the confirmed front. INPUT are its
+ * files, and ROOM is the size of its buffer. STATUS and the file TEXT are the answer that it has with ample memory, and the file NEXT is
+ * the checkpoint that it gives in a buffer of NEXT_ROOM bytes; a function that gives none has no such buffer. In the Nth turn the
+ * Nth allocation is refused, until a turn ends with none refused. Each turn calls twice: the call whose allocation is refused has the
+ * answer, or says that memory ran out, and then leaves the checkpoint's buffer as it was; the next one has the answer.
  *
  * Prints how many allocations were refused; or what is wrong, with status 1. faults/library.py builds and runs it. */
 #define _POSIX_C_SOURCE 200809L
@@ -13,6 +14,7 @@
 
 #include <fcntl.h>
 #include <stdarg.h>
+#include <stdbool.h>
 #include <stdio.h>
 #include <stdlib.h>
 #include <string.h>
@@ -20,7 +22,7 @@
 #include <sys/stat.h>
 #include <unistd.h>
 
-enum { MOST_BLOCKS = 1 << 16, MOST_TURNS = 100000, MOST_INPUTS = 4, MARGIN = 64, FREED = 0xdd, UNUSED = 0xa7 };
+enum { MOST_BLOCKS = 1 << 16, MOST_TURNS = 100000, MOST_INPUTS = 5, MARGIN = 64, FREED = 0xdd, UNUSED = 0xa7 };
 
 struct bytes {
     const uint8_t *at;
@@ -29,7 +31,13 @@ struct bytes {
 
 struct answer {
     int32_t status;
-    struct bytes text;
+    struct bytes text, next;
+};
+
+/* A buffer of a call, with a margin at both ends, and the size that the call tells. */
+struct room {
+    uint8_t *buffer;
+    size_t size, needed;
 };
 
 /* A block that the library was given. Given back, it is filled with FREED, and stays here until the call has ended. */
@@ -171,6 +179,10 @@ static int inputs_of(const char *function) {
         {"verify", 3},
         {"locate", 3},
         {"verify_required", 4},
+        {"verify_more", 5},
+        {"verify_more:prefix", 5},
+        {"verify_more_json", 5},
+        {"verify_more_json:prefix", 5},
         {"locate_required", 4},
         {"replay_required", 3},
         {"entries_json", 1},
@@ -190,8 +202,23 @@ static int inputs_of(const char *function) {
 }
 
 static int is_json(const char *function) {
-    size_t size = strlen(function);
-    return size > 5 && strcmp(function + size - 5, "_json") == 0;
+    return strstr(function, "_json") != NULL;
+}
+
+/* Whether a function gives a checkpoint too. */
+static int has_next(const char *function) {
+    return strncmp(function, "verify_more", 11) == 0;
+}
+
+static int32_t call_more(const char *function, const struct bytes *in, struct room *next, struct room *out) {
+    struct bytes a = in[0], b = in[1], c = in[2], d = in[3], e = in[4];
+    bool prefix = strstr(function, ":prefix") != NULL;
+    uint8_t *state = next->buffer + MARGIN, *text = out->buffer + MARGIN;
+    if (is_json(function))
+        return ima_verify_more_json(a.at, a.size, b.at, b.size, c.at, c.size, d.at, d.size, e.at, e.size, prefix, state, next->size,
+                                    &next->needed, text, out->size, &out->needed);
+    return ima_verify_more(a.at, a.size, b.at, b.size, c.at, c.size, d.at, d.size, e.at, e.size, prefix, state, next->size, &next->needed,
+                           text, out->size, &out->needed);
 }
 
 static int32_t call_json(const char *function, const struct bytes *in, uint8_t *out, size_t room, size_t *needed) {
@@ -241,57 +268,70 @@ static uint8_t before(size_t place) {
     return (uint8_t)(place * 37 + 129);
 }
 
-/* Whether an answer is given as the header says: its text at the front of the buffer and all other bytes as before; or, if the
- * buffer is too short for the text, all bytes as before. */
-static int is_given(struct answer answer, int32_t status, size_t needed, const uint8_t *buffer, size_t room) {
-    int fits = answer.text.size <= room;
-    size_t written = fits ? answer.text.size : 0;
-    if (status != (fits ? answer.status : IMA_TOO_SHORT) || needed != answer.text.size)
+/* A buffer of this size. */
+static struct room room_of(size_t size) {
+    struct room room = {malloc(size + 2 * MARGIN), size, SIZE_MAX};
+    if (room.buffer == NULL)
+        fail("there is no memory for this test");
+    for (size_t i = 0; i < size + 2 * MARGIN; i++)
+        room.buffer[i] = before(i);
+    return room;
+}
+
+/* Whether a text is at the front of a buffer, if it is `written`, and all other bytes are as before. */
+static int has_text(struct bytes text, const struct room *room, int written) {
+    size_t size = written ? text.size : 0;
+    if (room->needed != text.size || memcmp(room->buffer + MARGIN, text.at, size) != 0)
         return 0;
-    if (memcmp(buffer + MARGIN, answer.text.at, written) != 0)
-        return 0;
-    for (size_t i = 0; i < room + 2 * MARGIN; i++)
-        if ((i < MARGIN || i >= MARGIN + written) && buffer[i] != before(i))
+    for (size_t i = 0; i < room->size + 2 * MARGIN; i++)
+        if ((i < MARGIN || i >= MARGIN + size) && room->buffer[i] != before(i))
             return 0;
     return 1;
 }
 
+/* Whether an answer is given as the header says: each text at the front of its buffer and all other bytes as before; or, if a
+ * buffer is too short for its text, all bytes as before. */
+static int is_given(const char *function, struct answer answer, int32_t status, const struct room *next, const struct room *out) {
+    int fits = answer.text.size <= out->size && (!has_next(function) || answer.next.size <= next->size);
+    if (status != (fits ? answer.status : IMA_TOO_SHORT) || !has_text(answer.text, out, fits))
+        return 0;
+    return !has_next(function) || has_text(answer.next, next, fits);
+}
+
 /* Calls once. The answer is the right one or, if an allocation was refused, that memory ran out. Returns whether one was. */
-static int turn(const char *function, const struct bytes *in, size_t room, struct answer right) {
+static int turn(const char *function, const struct bytes *in, size_t size, size_t next_size, struct answer right) {
     static const char plain[] = "failed: memory\n", json[] = "{\"fault\":{\"kind\":\"memory\",\"message\":\"failed: memory\"}}\n";
     const char *line = is_json(function) ? json : plain;
-    struct answer memory = {IMA_OUT_OF_MEMORY, {(const uint8_t *)line, strlen(line)}};
-    uint8_t *buffer = malloc(room + 2 * MARGIN);
-    size_t needed = SIZE_MAX;
-    if (buffer == NULL)
-        fail("there is no memory for this test");
-    for (size_t i = 0; i < room + 2 * MARGIN; i++)
-        buffer[i] = before(i);
+    struct answer memory = {IMA_OUT_OF_MEMORY, {(const uint8_t *)line, strlen(line)}, {&nothing, 0}};
+    struct room out = room_of(size), next = room_of(next_size);
     allocations = 0;
-    int32_t status = call(function, in, buffer + MARGIN, room, &needed);
+    int32_t status = has_next(function) ? call_more(function, in, &next, &out)
+                                        : call(function, in, out.buffer + MARGIN, size, &out.needed);
     int is_refused = refused > 0 && allocations >= refused;
-    if (!is_given(right, status, needed, buffer, room) && !(is_refused && is_given(memory, status, needed, buffer, room)))
-        fail("status %d, %zu bytes are needed, and the buffer has '%.40s'", status, needed, (char *)buffer + MARGIN);
+    if (!is_given(function, right, status, &next, &out) && !(is_refused && is_given(function, memory, status, &next, &out)))
+        fail("status %d, %zu and %zu bytes are needed, and the buffer has '%.40s'", status, out.needed, next.needed,
+             (char *)out.buffer + MARGIN);
     settle();
-    free(buffer);
+    free(out.buffer);
+    free(next.buffer);
     return is_refused;
 }
 
 int main(int count, char **words) {
     struct bytes in[MOST_INPUTS] = {{&nothing, 0}};
-    if (count < 6 || count != 5 + inputs_of(words[1]))
-        fail("library FUNCTION STATUS TEXT ROOM INPUT..");
-    struct answer right = {(int32_t)strtol(words[2], NULL, 10), load(words[3])};
-    size_t room = strtoul(words[4], NULL, 10);
-    for (int i = 5; i < count; i++)
-        in[i - 5] = load(words[i]);
+    if (count < 8 || count != 7 + inputs_of(words[1]))
+        fail("library FUNCTION STATUS TEXT ROOM NEXT NEXT_ROOM INPUT..");
+    struct answer right = {(int32_t)strtol(words[2], NULL, 10), load(words[3]), load(words[5])};
+    size_t room = strtoul(words[4], NULL, 10), next_room = strtoul(words[6], NULL, 10);
+    for (int i = 7; i < count; i++)
+        in[i - 7] = load(words[i]);
     if (ima_verify_version() != IMA_VERIFY_VERSION || allocations != 0)
         fail("the library's version is %u, and it took memory %ld times to say so", ima_verify_version(), allocations);
     for (long number = 1; number < MOST_TURNS; number++) {
         refused = number;
-        int is_refused = turn(words[1], in, room, right);
+        int is_refused = turn(words[1], in, room, next_room, right);
         refused = 0;
-        turn(words[1], in, room, right);
+        turn(words[1], in, room, next_room, right);
         if (!is_refused) {
             printf("%ld\n", number - 1);
             return 0;

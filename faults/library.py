@@ -4,10 +4,10 @@
 faults/library.py [PROGRAM ARCHIVE]: the program and the static library that the toolchain made; without them, those of this tree,
 which `dist/library` builds first if they are not there or are older than a source.
 
-The answers that are wanted are those of the program to the same files. Each function is called with each input, and with buffers
+The answers that are wanted, and the checkpoints, are those of the program to the same files. Each function is called with each input, and with buffers
 that have room to spare, just enough, and too little. In the Nth turn the Nth allocation is refused (faults/library.c, which gives
 the library its memory), until a turn ends with none refused. A call must have the answer, or say that memory ran out; write
-nothing but its text; give back, once, all memory that it took; and have the answer when it is made again. A function that takes
+nothing but its text, and nothing to a checkpoint's buffer if memory ran out; give back, once, all memory that it took; and have the answer when it is made again. A function that takes
 no memory at all fails, and so does one that takes it elsewhere, a crash, and a run of more than a minute.
 
 Needs cc and nm. The last line is 'N passed, M failed'."""
@@ -27,6 +27,8 @@ MEMORY = b"failed: memory\n"
 JSON_MEMORY = b'{"fault":{"kind":"memory","message":"failed: memory"}}\n'
 # The command of each function whose name does not begin with it.
 COMMANDS = {"entries": "show"}
+# The first 97 entries of the sample's list.
+FRONT_BYTES = 11731
 REPLACED = {"rattle_alloc", "rattle_realloc", "rattle_dealloc"}
 ELSEWHERE = {"malloc", "calloc", "realloc", "reallocarray", "free", "posix_memalign", "aligned_alloc", "memalign", "valloc"}
 ELSEWHERE |= {"mmap", "munmap", "mremap", "brk", "sbrk", "strdup", "strndup"}
@@ -42,10 +44,20 @@ class Case:
     option: str = ""
 
     def is_json(self):
-        return self.function.endswith("_json")
+        return "_json" in self.function
 
-    def words(self):
-        """What asks the program for the same."""
+    def is_more(self):
+        """Whether the function gives a checkpoint too."""
+        return self.function.startswith("verify_more")
+
+    def words(self, save):
+        """What asks the program for the same, and to save a checkpoint, if there is one, in that file."""
+        if self.is_more():
+            log, state, listed, expected, require = self.inputs
+            flags = (["--json"] if self.is_json() else []) + (["--prefix"] if ":prefix" in self.function else [])
+            flags += [f"--resume={state}"] if state.read_bytes() else []
+            flags += [f"--require={require.read_text()}"] if require.read_bytes() else []
+            return ["verify", *flags, f"--save={save}", log, listed, expected]
         name = self.function.partition("_")[0]
         command = [COMMANDS.get(name, name), *(["--json"] if self.is_json() else [])]
         if not self.option:
@@ -62,19 +74,24 @@ class Case:
 
 @dataclass
 class Run:
-    """A case, the size of the buffer, and the answer with ample memory: its status, and the file of its text."""
+    """A case, the sizes of the buffers, and the answer with ample memory: its status, the file of its text and that of the checkpoint."""
 
     case: Case
     room: int
     status: int
     text: Path
+    next: Path
+    next_room: int
 
     def title(self):
-        return f"ima_{self.case.function} of {self.case.title}, {self.room} bytes of room for {self.text.stat().st_size}"
+        room = f"{self.room} bytes of room for {self.text.stat().st_size}"
+        if self.case.is_more():
+            room += f", {self.next_room} for {self.next.stat().st_size}"
+        return f"ima_{self.case.function} of {self.case.title}, {room}"
 
 
-def made_files(folder):
-    """The sample's files, and files made of them, by name."""
+def made_files(folder, program):
+    """The sample's files, and files made of them, by name. The program makes the checkpoint."""
     boot = ROOT / "samples/real-boot"
     log, listed, expected = ((boot / name).read_bytes() for name in ("firmware.log", "ima.list", "expected.txt"))
     made = {
@@ -85,6 +102,10 @@ def made_files(folder):
         "longer list": listed + listed[-95:],
         "changed list": listed.replace(b"/bin/helper", b"/bin/helpex"),
         "cut list": listed[:-1],
+        "front": listed[:FRONT_BYTES],
+        "rest": listed[FRONT_BYTES:],
+        "rest and more": listed[FRONT_BYTES:] + listed[-95:],
+        "cut rest": listed[FRONT_BYTES:-1],
         "expected": expected,
         "tenth": expected.splitlines(True)[10],
         "other bank": b"sha1 10 " + 40 * b"0",
@@ -101,6 +122,13 @@ def made_files(folder):
     for number, (name, content) in enumerate(made.items()):
         files[name] = folder / f"input-{number}"
         files[name].write_bytes(content)
+    files["checkpoint"] = folder / "checkpoint"
+    words = [program, "verify", f"--save={files['checkpoint']}", files["log"], files["front"], files["expected"]]
+    subprocess.run(words, stdout=subprocess.DEVNULL, timeout=SECONDS)
+    files["damaged"], files["other version"] = folder / "damaged", folder / "other-version"
+    text = files["checkpoint"].read_bytes()
+    files["damaged"].write_bytes(text[:-2])
+    files["other version"].write_bytes(text.replace(b"checkpoint 1", b"checkpoint 2"))
     return files
 
 
@@ -130,6 +158,23 @@ def cases(files):
             ("a list that is cut short", "log", "cut list", "expected", "more"),
         ):
             yield Case(function, title, [files[name] for name in names], "--require")
+    for function, (title, *names) in product(
+        ("verify_more", "verify_more:prefix", "verify_more_json", "verify_more_json:prefix"),
+        (
+            ("the real boot", "log", "empty", "list", "expected", "empty"),
+            ("a longer list", "log", "empty", "longer list", "expected", "all"),
+            ("what follows a checkpoint", "log", "checkpoint", "rest", "expected", "all"),
+            ("more than that", "log", "checkpoint", "rest and more", "expected", "empty"),
+            ("a changed list", "log", "empty", "changed list", "tenth", "ten"),
+            ("what follows and is cut short", "log", "checkpoint", "cut rest", "expected", "empty"),
+            ("registers that are missing", "log", "checkpoint", "rest", "expected", "more"),
+            ("a damaged checkpoint", "log", "damaged", "rest", "expected", "empty"),
+            ("a checkpoint of another version", "log", "other version", "rest", "expected", "empty"),
+            ("a checkpoint of another boot", "one event", "checkpoint", "rest", "expected", "empty"),
+            ("a requirement that names none", "log", "checkpoint", "rest", "expected", "no registers"),
+        ),
+    ):
+        yield Case(function, title, [files[name] for name in names])
     for function, (title, *names) in product(
         ("replay_required", "replay_required_json"),
         (
@@ -166,19 +211,26 @@ def cases(files):
 
 
 def runs_of(case, program, file):
-    """The runs of a case, one for each size of the buffer. The answer is the program's; its text goes to a file."""
-    answer = subprocess.run([program, *case.words()], capture_output=True, timeout=SECONDS)
+    """The runs of a case, one for each size of the buffers. The answer is the program's; its text goes to a file, and the checkpoint to one
+    beside it, which is empty if there is none."""
+    following = file.with_suffix(".next")
+    answer = subprocess.run([program, *case.words(following)], capture_output=True, timeout=SECONDS)
     if answer.returncode not in (0, 1, 2):
         sys.exit(f"{program} {case.function} of {case.title}: status {answer.returncode}, {answer.stderr[-500:]!r}")
     file.write_bytes(answer.stdout)
     size = len(answer.stdout)
+    following.touch()
+    next_size = following.stat().st_size
     for room in case.rooms(size):
-        yield Run(case, room, answer.returncode, file)
+        yield Run(case, room, answer.returncode, file, following, next_size + (64 if room > size else 0))
+    if next_size:
+        for next_room in (next_size - 1, 0):
+            yield Run(case, size, answer.returncode, file, following, next_room)
 
 
 def swept(run, caller):
     """How many allocations were refused, and what was wrong, or None."""
-    words = [caller, run.case.function, str(run.status), run.text, str(run.room), *run.case.inputs]
+    words = [caller, run.case.function, str(run.status), run.text, str(run.room), run.next, str(run.next_room), *run.case.inputs]
     try:
         ended = subprocess.run(words, capture_output=True, timeout=SECONDS)
     except subprocess.TimeoutExpired:
@@ -223,7 +275,7 @@ def main():
         fault = memory_fault(archive)
         print(f"{fault or 'ok'}: where the library takes its memory", flush=True)
         runs = []
-        for number, case in enumerate(cases(made_files(folder))):
+        for number, case in enumerate(cases(made_files(folder, program))):
             runs += runs_of(case, program, folder / f"answer-{number}")
         total, failed = 0, int(fault is not None)
         for run, (refusals, fault) in zip(runs, pool.map(lambda run: swept(run, caller), runs)):

@@ -41,6 +41,7 @@
 #ifndef IMA_VERIFY_H
 #define IMA_VERIFY_H
 
+#include <stdbool.h>
 #include <stddef.h>
 #include <stdint.h>
 
@@ -125,6 +126,31 @@ int32_t ima_registers(const uint8_t *log, size_t log_size, uint8_t *out, size_t 
  * feeds and control bytes. */
 int32_t ima_show(const uint8_t *list, size_t list_size, uint8_t *out, size_t out_size, size_t *needed);
 
+/* The verdict on a list that grows: the report that `verify` prints, and where to go on from the next time.
+ *
+ * With a `state_size` of 0, `more` is the list from its beginning. Else `state` is a checkpoint that an earlier call
+ * gave, and `more` are the list's bytes from there on: those after what that checkpoint is of. The verdict is on the
+ * whole list, and faults number its entries from the first. A `require_size` of 0 requires nothing; else `require` is as in
+ * ima_verify_required. With `prefix` the report is on the confirmed front, if there is one: the list's shortest
+ * front, no shorter than what the checkpoint is of, whose entries are genuine and on which the verdict is
+ * `match`. What comes after it is not refused, and the report says how many entries it has.
+ *
+ * `next` gets the checkpoint of what the report is on: the whole list, or the confirmed front. After IMA_DONE and
+ * IMA_DIFFERS `*next_needed` is its size, less than 20000 bytes; if an input is refused, or memory runs out, there is none,
+ * and `*next_needed` is 0. If `next` or `out` has too little room for its text, the function returns IMA_TOO_SHORT,
+ * tells both sizes, and writes to neither. So a checkpoint that the caller has is never lost: keep it until a call has
+ * given the next one. `next` and `next_needed` are as `out` and `needed`: they may overlap nothing else that
+ * the call is given, so `state` neither.
+ *
+ * The first fault is reported, in this order: `require`, the text of expected registers, the text of the
+ * checkpoint (`refused: checkpoint fault 1` or `2`), the log, whether the checkpoint is of this boot
+ * (`refused: checkpoint fault 3`), the list, whether each entry is genuine. A checkpoint is trusted: who can write it
+ * can choose the verdict. Give only what this function gave. (Version 2.) */
+int32_t ima_verify_more(const uint8_t *log, size_t log_size, const uint8_t *state, size_t state_size,
+                        const uint8_t *more, size_t more_size, const uint8_t *expected, size_t expected_size,
+                        const uint8_t *require, size_t require_size, bool prefix, uint8_t *next, size_t next_size,
+                        size_t *next_needed, uint8_t *out, size_t out_size, size_t *needed);
+
 /* The verdict of ima_verify as a line of JSON, with its statuses and refusals. (Version 2.) */
 int32_t ima_verify_json(const uint8_t *log, size_t log_size, const uint8_t *list, size_t list_size,
                         const uint8_t *expected, size_t expected_size, uint8_t *out, size_t out_size,
@@ -149,6 +175,12 @@ int32_t ima_locate_required_json(const uint8_t *log, size_t log_size, const uint
 int32_t ima_replay_required_json(const uint8_t *list, size_t list_size, const uint8_t *expected,
                                  size_t expected_size, const uint8_t *require, size_t require_size,
                                  uint8_t *out, size_t out_size, size_t *needed);
+
+/* The verdict of ima_verify_more as a line of JSON, with its statuses, checkpoints and refusals. (Version 2.) */
+int32_t ima_verify_more_json(const uint8_t *log, size_t log_size, const uint8_t *state, size_t state_size,
+                             const uint8_t *more, size_t more_size, const uint8_t *expected, size_t expected_size,
+                             const uint8_t *require, size_t require_size, bool prefix, uint8_t *next,
+                             size_t next_size, size_t *next_needed, uint8_t *out, size_t out_size, size_t *needed);
 
 /* The registers that differ from their reset values after a measurement list without a log, as a line of JSON:
  * what `replay --json` prints of a list alone. It is no verdict. The list is replayed as by ima_replay_required,

@@ -15,3 +15,4 @@ pub mod EventShowingLaws
 pub mod EventStreamingLaws
 pub mod JsonLaws
 pub mod StreamingLaws
+pub mod GrowingOnLaws

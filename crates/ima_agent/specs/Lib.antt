@@ -18,6 +18,7 @@ pub mod JsonFaults
 pub mod JsonShowing
 pub mod JsonJudging
 pub mod Growing
+pub mod GrowingOn
 pub mod JsonOutputs
 pub mod Streaming
 pub mod Program

@@ -5,6 +5,7 @@ pub mod Loading
 pub mod Measuring
 pub mod NamedFiles
 pub mod Growing
+pub mod GrowingOn
 pub mod Verifying
 pub mod Replaying
 pub mod Showing

@@ -195,7 +195,7 @@ fn known_from<F: Files>(
 }
 
 // The checkpoint whose text this is.
-fn checkpoint_in(alloc: Global, text: &[u8]) -> Result<Checkpoint, RunFault>
+pub(crate) fn checkpoint_in(alloc: Global, text: &[u8]) -> Result<Checkpoint, RunFault>
     ensures found { IfOk result (IsCheckpointText text.now) }
     ensures fault { IfErr result (IsNoCheckpoint text.now) }
 {
@@ -208,7 +208,7 @@ fn checkpoint_in(alloc: Global, text: &[u8]) -> Result<Checkpoint, RunFault>
 }
 
 // A session of this log that goes on from this checkpoint, if there is one.
-fn session_of(log: &[u8], known: Option<Checkpoint>) -> Result<Session<'_>, RunFault>
+pub(crate) fn session_of(log: &[u8], known: Option<Checkpoint>) -> Result<Session<'_>, RunFault>
     ensures taken { IfOk result (λ session. (taken : List ℕ) → IsTaken known taken → HasTaken log.now taken session) }
     ensures entries { IfOk result (λ session. session.known.entries ≡ entries_taken known) }
     ensures most { IfOk result (λ session. most_after session.known input_limit ≡ most_more known) }
@@ -250,7 +250,7 @@ fn session_after(log: &[u8], known: Checkpoint) -> Result<Session<'_>, RunFault>
 
 // A report on all of a list, or on its confirmed front.
 #[derive(Drop)]
-enum Judged {
+pub(crate) enum Judged {
     Whole(Report),
     Front(FrontReport),
 }
@@ -276,7 +276,7 @@ fn judged_from<R: Source>(
 }
 
 // Whether a front is asked for that can be confirmed: the expected registers have all that is required.
-fn seeks_front(extent: Extent, requirement: Option<&Requirement>, expected: &[Expected]) -> bool
+pub(crate) fn seeks_front(extent: Extent, requirement: Option<&Requirement>, expected: &[Expected]) -> bool
     ensures { result ≡ seeks_front extent (option_map (λ ranges. ranges.now) requirement.entry) expected.now }
 {
     match (extent, requirement) {
@@ -322,7 +322,7 @@ fn front_from<R: Source>(
 }
 
 // The report on all that the session has taken. It fails only if memory runs out.
-fn report_of(
+pub(crate) fn report_of(
     alloc: Global,
     session: &Session<'_>,
     expected: &[Expected],
@@ -336,7 +336,7 @@ fn report_of(
 }
 
 // A report in this form, and the status of its verdict.
-fn judged_output(
+pub(crate) fn judged_output(
     alloc: Global,
     judged: &Judged,
     requirement: Option<&Requirement>,

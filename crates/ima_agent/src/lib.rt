@@ -10,6 +10,7 @@ mod explaining;
 mod fault;
 mod files;
 mod growing;
+mod growing_on;
 mod hashing;
 mod hexadecimal;
 mod inputs;
@@ -47,6 +48,7 @@ pub use expecting::expected_on;
 pub use explaining::{Failure, explanation};
 pub use fault::{NotResumed, RunFault};
 pub use files::{Files, SharedFiles};
+pub use growing_on::{GrowingOn, Grown, grown_on};
 pub use hashing::hash_from;
 pub use json_outputs::{
     FittedOutput, json_entries_within, json_events_on, json_list_report_on, json_places_on,
@@ -55,7 +57,7 @@ pub use json_outputs::{
 pub use list_verifying::{list_report_on, required_list_report_on};
 pub use loading::{LoadFault, load};
 pub use locating::{places_on, required_places_on};
-pub use output::Output;
+pub use output::{Form, Output};
 pub use program::{exit_code, run, run_with_progress};
 pub use progress::{NoProgress, Progress, SystemProgress};
 pub use replaying::json_replay_on;

@@ -1,17 +1,23 @@
 -- What was made, once it is given, is an answer.
-use Rattle.std.proofs.Common.{◌≡◌, ℕ, List, length, true, Ok, Err, refl, sym, subst, inl, inr, Result}
+use Rattle.std.proofs.Common.{◌≡◌, ℕ, List, [], length, true, Option, None, Some, Ok, Err, refl, sym, subst, inl, inr, Result}
 use Rattle.std.specs.Prelude.{ℤ, ◌⊎◌, IfOk, IfErr}
 use Rattle.std.specs.Global.{Vec}
 use Rattle.ima_agent.specs.declared.fault.RunFault.{RunFault}
 use Rattle.ima_agent.specs.declared.fault.RunFault.TheVariants.{Memory}
+use Rattle.ima_agent.specs.declared.growing_on.Grown.{Grown}
 use Rattle.ima_agent.specs.declared.output.Output.{Output}
 use Rattle.ima_agent.specs.declared.json_outputs.entries_within.FittedOutput.{FittedOutput}
 use Rattle.ima_agent.specs.declared.showing.Fitted.{Fitted}
+use Rattle.boot_verdict.specs.declared.requirement.BankRange.{BankRange}
+use Rattle.ima_agent.specs.declared.output.Form.TheVariants.{Json, Text}
+use Rattle.ima_agent.specs.Growing.{IsNotRequired}
+use Rattle.ima_agent.specs.GrowingOn.{GrowthOn, IsNotGrownOn, IsNotGrownOnWith, ShowsGrownOn}
+use Rattle.ima_agent.specs.JsonJudging.{IsRequired}
 use Rattle.ima_agent.specs.JsonFaults.{IsFailure, ToldAsJson}
 use Rattle.ima_agent.specs.JsonShowing.{ShowsEntries}
 use Rattle.ima_agent.specs.Showing.{IsFitted, IsNoListFor, ShowsList}
-use Rattle.ima_verify_c.specs.Answers.{Answers, IsEntriesAnswer, IsGiven, IsJsonEntriesAnswer, IsJsonRefusal, IsRefusal}
-use Rattle.ima_verify_c.specs.parts.Givings.{IsFaultText, IsJsonOf, IsOf, IsTextOf}
+use Rattle.ima_verify_c.specs.Answers.{Answers, AnswersMore, IsEntriesAnswer, IsGiven, IsJsonEntriesAnswer, IsJsonMoreAnswer, IsJsonRefusal, IsMoreAnswer, IsRefusal}
+use Rattle.ima_verify_c.specs.parts.Givings.{IsFaultText, IsGrownOf, IsJsonGrownOf, IsJsonOf, IsOf, IsTextOf}
 
 -- What holds of a text and a status holds of equal ones.
 same_answer : (P : List ℕ → ℕ → Type 0) (text shown : List ℕ) (status exit : ℕ) → text ≡ shown → status ≡ exit → P shown exit
@@ -142,3 +148,92 @@ gives_json_fitted list (Err fault) answer needed old new shows memory given refu
   is_answer = inr (memory_told fault refused.text refused.status memory refused.is_answer);
   given = refused.given;
 }
+
+-- ---- of a list that grows
+
+-- What holds of two texts and a status holds of equal ones.
+same_texts : (P : List ℕ → ℕ → List ℕ → Type 0) (text shown : List ℕ) (status exit : ℕ) (state saved : List ℕ) → text ≡ shown → status ≡ exit
+    → state ≡ saved → P shown exit saved → P text status state
+same_texts P text shown status exit state saved same_text same_status same_state holds =
+    subst (λ (t : List ℕ). P t status state) (sym same_text)
+    (subst (λ (s : ℕ). P shown s state) (sym same_status) (subst (λ (n : List ℕ). P shown exit n) (sym same_state) holds))
+
+-- A report with a checkpoint, or the line of a fault, was given.
+gives_grown : (Shows : List ℕ → ℕ → List ℕ → Type 0) (Cause : RunFault → Type 0) (made : Result Grown RunFault) (answer : ℤ) (needed : ℕ)
+    (old new : List ℕ) (next_needed : ℕ) (next_old next_new : List ℕ) → Cause Memory
+    → IfOk made (λ grown. Shows grown.output.text.items grown.output.status grown.checkpoint.items) → IfErr made Cause
+    → AnswersMore (IsGrownOf made) answer needed old new next_needed next_old next_new
+    → AnswersMore (λ text status state. Shows text status state ⊎ (IsRefusal Cause text status × (state ≡ []))) answer needed old new next_needed
+      next_old next_new
+gives_grown Shows Cause (Ok grown) answer needed old new next_needed next_old next_new memory shows none given = record {
+  text = given.text;
+  status = given.status;
+  state = given.state;
+  is_answer =
+      inl (same_texts Shows given.text grown.output.text.items given.status grown.output.status given.state grown.checkpoint.items
+      given.is_answer.0 given.is_answer.1 given.is_answer.2 shows);
+  given = given.given;
+}
+gives_grown Shows Cause (Err fault) answer needed old new next_needed next_old next_new memory shows cause given = record {
+  text = given.text;
+  status = given.status;
+  state = given.state;
+  is_answer = inr (refusal Cause fault given.text given.status memory cause given.is_answer.0, given.is_answer.1);
+  given = given.given;
+}
+
+-- The same with a fault as JSON.
+gives_json_grown : (Shows : List ℕ → ℕ → List ℕ → Type 0) (Cause : RunFault → Type 0) (made : Result Grown RunFault) (answer : ℤ) (needed : ℕ)
+    (old new : List ℕ) (next_needed : ℕ) (next_old next_new : List ℕ) → Cause Memory
+    → IfOk made (λ grown. Shows grown.output.text.items grown.output.status grown.checkpoint.items) → IfErr made Cause
+    → AnswersMore (IsJsonGrownOf made) answer needed old new next_needed next_old next_new
+    → AnswersMore (λ text status state. Shows text status state ⊎ (IsJsonRefusal Cause text status × (state ≡ []))) answer needed old new
+      next_needed next_old next_new
+gives_json_grown Shows Cause (Ok grown) answer needed old new next_needed next_old next_new memory shows none given = record {
+  text = given.text;
+  status = given.status;
+  state = given.state;
+  is_answer =
+      inl (same_texts Shows given.text grown.output.text.items given.status grown.output.status given.state grown.checkpoint.items
+      given.is_answer.0 given.is_answer.1 given.is_answer.2 shows);
+  given = given.given;
+}
+gives_json_grown Shows Cause (Err fault) answer needed old new next_needed next_old next_new memory shows cause given = record {
+  text = given.text;
+  status = given.status;
+  state = given.state;
+  is_answer = inr (json_refusal Cause fault given.text given.status memory cause given.is_answer.0, given.is_answer.1);
+  given = given.given;
+}
+
+-- A list that grows may lack memory.
+memory_where : (asked : GrowthOn) (required : Option (List ℕ))
+    → IsNotRequired required Memory
+    ⊎ ((ranges : Option (List BankRange)) × IsRequired required ranges × IsNotGrownOnWith asked ranges Memory)
+memory_where asked None = inr (None, tt, inr (inr (inr refl)))
+memory_where asked (Some text) = inl (inr refl)
+
+no_memory : (asked : GrowthOn) → IsNotGrownOn asked Memory
+no_memory asked = memory_where asked asked.required
+
+-- What is asked was given as text.
+pub gives_more : (asked wanted : GrowthOn) (made : Result Grown RunFault) (answer : ℤ) (needed : ℕ) (old new : List ℕ) (next_needed : ℕ)
+    (next_old next_new : List ℕ) → asked ≡ wanted
+    → IfOk made (λ grown. ShowsGrownOn asked Text grown.output.text.items grown.output.status grown.checkpoint.items)
+    → IfErr made (IsNotGrownOn asked) → AnswersMore (IsGrownOf made) answer needed old new next_needed next_old next_new
+    → AnswersMore (IsMoreAnswer wanted) answer needed old new next_needed next_old next_new
+gives_more asked wanted made answer needed old new next_needed next_old next_new same shows cause given =
+    subst (λ (a : GrowthOn). AnswersMore (IsMoreAnswer a) answer needed old new next_needed next_old next_new) same
+    (gives_grown (ShowsGrownOn asked Text) (IsNotGrownOn asked) made answer needed old new next_needed next_old next_new (no_memory asked) shows
+    cause given)
+
+-- The same as a line of JSON.
+pub gives_json_more : (asked wanted : GrowthOn) (made : Result Grown RunFault) (answer : ℤ) (needed : ℕ) (old new : List ℕ) (next_needed : ℕ)
+    (next_old next_new : List ℕ) → asked ≡ wanted
+    → IfOk made (λ grown. ShowsGrownOn asked Json grown.output.text.items grown.output.status grown.checkpoint.items)
+    → IfErr made (IsNotGrownOn asked) → AnswersMore (IsJsonGrownOf made) answer needed old new next_needed next_old next_new
+    → AnswersMore (IsJsonMoreAnswer wanted) answer needed old new next_needed next_old next_new
+gives_json_more asked wanted made answer needed old new next_needed next_old next_new same shows cause given =
+    subst (λ (a : GrowthOn). AnswersMore (IsJsonMoreAnswer a) answer needed old new next_needed next_old next_new) same
+    (gives_json_grown (ShowsGrownOn asked Json) (IsNotGrownOn asked) made answer needed old new next_needed next_old next_new (no_memory asked)
+    shows cause given)

@@ -1,10 +1,12 @@
 -- What a caller in C finds after a call. All of this is this project's choice.
-use Rattle.std.specs.Prelude.{◌≡◌, ℕ, ℤ, pos, ◌<◌, ◌≤◌, ◌⊎◌, List, ◌++◌, length, drop, Option, Some}
+use Rattle.std.specs.Prelude.{◌≡◌, ℕ, ℤ, pos, ◌<◌, ◌≤◌, ◌⊎◌, if◌then◌else◌, Bool, List, [], ◌∷◌, ◌++◌, length, drop, Option, None, Some}
+use Rattle.command_line.specs.declared.plan.Extent.TheVariants.{Front, Whole}
 use Rattle.ima_agent.specs.declared.fault.RunFault.{RunFault}
 use Rattle.ima_agent.specs.declared.fault.RunFault.TheVariants.{Memory}
-use Rattle.ima_agent.specs.declared.output.Form.TheVariants.{Json}
+use Rattle.ima_agent.specs.declared.output.Form.TheVariants.{Json, Text}
 use Rattle.ima_agent.specs.Expecting.{IsNotExpectedOn, ShowsExpected, range_text}
 use Rattle.ima_agent.specs.FaultTexts.{fault_line, fault_status}
+use Rattle.ima_agent.specs.GrowingOn.{GrowthOn, IsNotGrownOn, ShowsGrownOn}
 use Rattle.ima_agent.specs.JsonFaults.{ToldAsJson}
 use Rattle.ima_agent.specs.JsonJudging.{IsFaultWhere, ShowsJsonListReportOn, ShowsJsonPlacesOn, ShowsJsonReportOn}
 use Rattle.ima_agent.specs.JsonShowing.{ShowsEntries, ShowsJsonEvents, ShowsJsonRegisters}
@@ -39,6 +41,28 @@ pub record Answers (IsAnswer : List ℕ → ℕ → Type 0) (answer : ℤ) (need
   pub status : ℕ
   pub is_answer : IsAnswer text status
   pub given : IsGiven text status answer needed old new
+
+-- A text and the text of a checkpoint were given, each for a buffer of its own: if both fit, each is at the front of its buffer, the rest of
+-- which is as it was, and the call returns the status; else both buffers are as they were. In any case the caller is told both sizes.
+pub record AreGiven (text : List ℕ) (status : ℕ) (state : List ℕ) (answer : ℤ) (needed : ℕ) (old new : List ℕ) (next_needed : ℕ) (next_old next_new : List ℕ)
+    : Type 0 where
+  pub size : needed ≡ length text
+  pub next_size : next_needed ≡ length state
+  pub answer_if : length text ≤ length old → length state ≤ length next_old → answer ≡ pos status
+  pub buffer_if : length text ≤ length old → length state ≤ length next_old → new ≡ text ++ drop (length text) old
+  pub next_if : length text ≤ length old → length state ≤ length next_old → next_new ≡ state ++ drop (length state) next_old
+  pub answer_else : (length old < length text) ⊎ (length next_old < length state) → answer ≡ too_short
+  pub buffer_else : (length old < length text) ⊎ (length next_old < length state) → new ≡ old
+  pub next_else : (length old < length text) ⊎ (length next_old < length state) → next_new ≡ next_old
+
+-- A text with a status and the text of a checkpoint that are an answer to what was asked were given.
+pub record AnswersMore (IsAnswer : List ℕ → ℕ → List ℕ → Type 0) (answer : ℤ) (needed : ℕ) (old new : List ℕ) (next_needed : ℕ)
+    (next_old next_new : List ℕ) : Type 0 where
+  pub text : List ℕ
+  pub status : ℕ
+  pub state : List ℕ
+  pub is_answer : IsAnswer text status state
+  pub given : AreGiven text status state answer needed old new next_needed next_old next_new
 
 -- ---- answers
 
@@ -136,3 +160,32 @@ IsJsonEventsAnswer log text status = ShowsJsonEvents log text status ⊎ ToldAsJ
 -- What can be read of these bytes as a list, with its status; or that memory ran out.
 abbrev pub IsJsonEntriesAnswer : List ℕ → List ℕ → ℕ → Type 0
 IsJsonEntriesAnswer list text status = ShowsEntries list text status ⊎ ToldAsJson Memory text status
+
+-- ---- of a list that grows
+
+-- Which registers are required: none, if there are no bytes; else those that the text spells.
+abbrev pub required_by : List ℕ → Option (List ℕ)
+required_by [] = None
+required_by (byte ∷ rest) = Some (byte ∷ rest)
+
+-- What is asked of a list that grows.
+abbrev pub growth_by : List ℕ → List ℕ → List ℕ → List ℕ → List ℕ → Bool → GrowthOn
+growth_by log state more expected require prefix = record {
+  log = log;
+  state = state;
+  more = more;
+  expected = expected;
+  required = required_by require;
+  extent = if prefix then Front else Whole;
+}
+
+-- The report that is asked for, with its status, and the text of the checkpoint of what it is on; or why there is none, and no text of a
+-- checkpoint.
+abbrev pub IsMoreAnswer : GrowthOn → List ℕ → ℕ → List ℕ → Type 0
+IsMoreAnswer asked text status state =
+    ShowsGrownOn asked Text text status state ⊎ (IsRefusal (IsNotGrownOn asked) text status × (state ≡ []))
+
+-- The same as a line of JSON.
+abbrev pub IsJsonMoreAnswer : GrowthOn → List ℕ → ℕ → List ℕ → Type 0
+IsJsonMoreAnswer asked text status state =
+    ShowsGrownOn asked Json text status state ⊎ (IsJsonRefusal (IsNotGrownOn asked) text status × (state ≡ []))

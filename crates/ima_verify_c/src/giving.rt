@@ -4,12 +4,12 @@ ghost use Rattle.std.specs.Prelude.{◌≡◌, ℕ, List, length, true, IfOk, If
 ghost use Rattle.ima_agent.specs.FaultTexts.{fault_line};
 ghost use Rattle.ima_agent.specs.JsonFaults.{IsFailure};
 ghost use Rattle.ima_agent.specs.Showing.{IsFitted};
-ghost use Rattle.ima_verify_c.specs.Answers.{Answers, IsGiven};
-ghost use Rattle.ima_verify_c.specs.parts.Givings.{IsFaultText, IsJsonOf, IsOf, IsTextOf};
+ghost use Rattle.ima_verify_c.specs.Answers.{Answers, AnswersMore, AreGiven, IsGiven};
+ghost use Rattle.ima_verify_c.specs.parts.Givings.{IsFaultText, IsGrownOf, IsJsonGrownOf, IsJsonOf, IsOf, IsTextOf};
 
 use byte_streams::{Failed, VecSink};
 use ima_agent::{
-    Fitted, FittedOutput, Output, RunFault, json_fault_line, json_memory_line, status_of,
+    Fitted, FittedOutput, Grown, Output, RunFault, json_fault_line, json_memory_line, status_of,
     write_fault,
 };
 use std::alloc::{AllocError, Global};
@@ -102,6 +102,46 @@ pub(crate) fn give_json_fitted(
     }
 }
 
+/// Gives a report and the text of a checkpoint; or the line of a fault, and no checkpoint.
+pub(crate) fn give_grown(
+    alloc: Global,
+    asked: Result<Grown, RunFault>,
+    next: &mut [u8],
+    next_needed: &mut usize,
+    out: &mut [u8],
+    needed: &mut usize,
+) -> i32
+    ensures { AnswersMore (IsGrownOf asked) result needed.new out.old out.new next_needed.new next.old next.new }
+{
+    match asked {
+        Ok(grown) => put_grown(&grown, next, next_needed, out, needed),
+        Err(fault) => {
+            *next_needed = 0;
+            give_fault(alloc, &fault, out, needed)
+        }
+    }
+}
+
+/// The same, with the line of a fault as JSON.
+pub(crate) fn give_json_grown(
+    alloc: Global,
+    asked: Result<Grown, RunFault>,
+    next: &mut [u8],
+    next_needed: &mut usize,
+    out: &mut [u8],
+    needed: &mut usize,
+) -> i32
+    ensures { AnswersMore (IsJsonGrownOf asked) result needed.new out.old out.new next_needed.new next.old next.new }
+{
+    match asked {
+        Ok(grown) => put_grown(&grown, next, next_needed, out, needed),
+        Err(fault) => {
+            *next_needed = 0;
+            give_json_fault(alloc, &fault, out, needed)
+        }
+    }
+}
+
 // Gives the line of a fault; that of `Memory`, if there is no memory for it.
 fn give_fault(alloc: Global, fault: &RunFault, out: &mut [u8], needed: &mut usize) -> i32
     ensures { Answers (IsFaultText fault.now) result needed.new out.old out.new }
@@ -143,6 +183,28 @@ fn put(text: &[u8], status: u8, out: &mut [u8], needed: &mut usize) -> i32
     }
     out[..text.len()].copy_from_slice(text);
     i32::from(status)
+}
+
+// Puts a report and the text of a checkpoint each at the front of its buffer, if both fit.
+fn put_grown(
+    grown: &Grown,
+    next: &mut [u8],
+    next_needed: &mut usize,
+    out: &mut [u8],
+    needed: &mut usize,
+) -> i32
+    ensures { AreGiven grown.now.output.text.items grown.now.output.status grown.now.checkpoint.items result needed.new out.old out.new
+        next_needed.new next.old next.new }
+{
+    let text = &grown.output.text;
+    let state = &grown.checkpoint;
+    *next_needed = state.len();
+    if state.len() <= next.len() && text.len() <= out.len() {
+        next[..state.len()].copy_from_slice(state);
+        return put(text, grown.output.status, out, needed);
+    }
+    *needed = grown.output.text.len();
+    TOO_SHORT
 }
 
 // Puts a text for which the caller's buffer is the room, or tells its size.

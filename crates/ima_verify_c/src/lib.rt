@@ -9,12 +9,16 @@
 
 mod giving;
 
-ghost use Rattle.std.specs.Prelude.{◌≡◌, None, Some};
-ghost use Rattle.ima_verify_c.specs.Answers.{Answers, IsPlacesAnswer, IsEntriesAnswer, IsExpectedAnswer, IsJsonEntriesAnswer, IsJsonEventsAnswer, IsJsonListReportAnswer, IsJsonPlacesAnswer, IsJsonRegistersAnswer, IsJsonReplayAnswer, IsJsonReportAnswer, IsRegistersAnswer, IsReportAnswer, IsRequiredListReportAnswer, IsRequiredPlacesAnswer, IsRequiredReportAnswer, interface_version};
+ghost use Rattle.std.specs.Prelude.{◌≡◌, if◌then◌else◌, None, Some, option_map};
+ghost use Rattle.command_line.specs.declared.plan.Extent.TheVariants.{Front, Whole};
+ghost use Rattle.ima_verify_c.specs.Answers.{Answers, AnswersMore, IsPlacesAnswer, IsEntriesAnswer, IsExpectedAnswer, IsJsonEntriesAnswer, IsJsonEventsAnswer, IsJsonListReportAnswer, IsJsonMoreAnswer, IsJsonPlacesAnswer, IsJsonRegistersAnswer, IsJsonReplayAnswer, IsJsonReportAnswer, IsMoreAnswer, IsRegistersAnswer, IsReportAnswer, IsRequiredListReportAnswer, IsRequiredPlacesAnswer, IsRequiredReportAnswer, growth_by, interface_version, required_by};
+ghost use Rattle.ima_agent.specs.GrowingOn.{growth_on};
 
-use crate::giving::{give, give_fitted, give_json, give_json_fitted, give_text};
+use crate::giving::{
+    give, give_fitted, give_grown, give_json, give_json_fitted, give_json_grown, give_text,
+};
 use ima_agent::{
-    entries_within, expected_on, json_entries_within, json_events_on, json_list_report_on,
+    Extent, Form, GrowingOn, entries_within, expected_on, grown_on, json_entries_within, json_events_on, json_list_report_on,
     json_places_on, json_registers_on, json_replay_on, json_report_on, places_on, registers_on,
     report_on, required_list_report_on, required_places_on, required_report_on,
 };
@@ -242,6 +246,98 @@ pub extern "C" fn ima_replay_json(
     ensures { Answers (IsJsonReplayAnswer list.now) result needed.new out.old out.new }
 {
     give_json(alloc, json_replay_on(alloc, list), out, needed)
+}
+
+/// The verdict on a list that grows, as `verify` writes it with `--prefix` and `--resume`, and in `next` the checkpoint that it saves with
+/// `--save`. `state` is the text of the checkpoint to go on from, and `more` are the list's bytes from there on; without `state`, all of
+/// them. `require` is as in [`ima_verify_required`]; if it is empty, nothing is required. With `prefix` the report is on the confirmed
+/// front, if there is one. If an input is refused there is no checkpoint: `next_needed` is 0.
+#[unsafe(no_mangle)]
+pub extern "C" fn ima_verify_more(
+    alloc: Global,
+    log: &[u8],
+    state: &[u8],
+    more: &[u8],
+    expected: &[u8],
+    require: &[u8],
+    prefix: bool,
+    next: &mut [u8],
+    next_needed: &mut usize,
+    out: &mut [u8],
+    needed: &mut usize,
+) -> i32
+    ensures { AnswersMore (IsMoreAnswer (growth_by log.now state.now more.now expected.now require.now prefix)) result needed.new out.old out.new
+        next_needed.new next.old next.new }
+{
+    let asked = asked_by(log, state, more, expected, require, prefix);
+    let grown = grown_on(alloc, asked, Form::Text);
+    give_grown(alloc, grown, next, next_needed, out, needed)
+}
+
+/// The verdict of [`ima_verify_more`] as `verify --json` writes it.
+#[unsafe(no_mangle)]
+pub extern "C" fn ima_verify_more_json(
+    alloc: Global,
+    log: &[u8],
+    state: &[u8],
+    more: &[u8],
+    expected: &[u8],
+    require: &[u8],
+    prefix: bool,
+    next: &mut [u8],
+    next_needed: &mut usize,
+    out: &mut [u8],
+    needed: &mut usize,
+) -> i32
+    ensures { AnswersMore (IsJsonMoreAnswer (growth_by log.now state.now more.now expected.now require.now prefix)) result needed.new out.old
+        out.new next_needed.new next.old next.new }
+{
+    let asked = asked_by(log, state, more, expected, require, prefix);
+    let grown = grown_on(alloc, asked, Form::Json);
+    give_json_grown(alloc, grown, next, next_needed, out, needed)
+}
+
+// What these bytes ask of a list that grows.
+fn asked_by<'a>(
+    log: &'a [u8],
+    state: &'a [u8],
+    more: &'a [u8],
+    expected: &'a [u8],
+    require: &'a [u8],
+    prefix: bool,
+) -> GrowingOn<'a>
+    ensures { growth_on result ≡ growth_by log.now state.now more.now expected.now require.now prefix }
+{
+    GrowingOn {
+        log,
+        state,
+        more,
+        expected,
+        required: required_by(require),
+        extent: extent_by(prefix),
+    }
+}
+
+// The text of what is required, if it has bytes.
+fn required_by(require: &[u8]) -> Option<&[u8]>
+    ensures { option_map (λ text. text.now) result ≡ required_by require.now }
+{
+    if require.is_empty() {
+        None
+    } else {
+        Some(require)
+    }
+}
+
+// The confirmed front, or the whole list.
+fn extent_by(prefix: bool) -> Extent
+    ensures { result ≡ (if prefix then Front else Whole) }
+{
+    if prefix {
+        Extent::Front
+    } else {
+        Extent::Whole
+    }
 }
 
 /// The registers that differ from their reset values after a firmware event log, as `registers --json` writes them.

@@ -1,8 +1,9 @@
 -- The text and the status of what was computed.
-use Rattle.std.specs.Prelude.{◌≡◌, ℕ, ◌⊎◌, true, List, Result, Ok, Err}
+use Rattle.std.specs.Prelude.{◌≡◌, ℕ, ◌⊎◌, true, List, [], Result, Ok, Err}
 use Rattle.std.specs.Global.{Vec}
 use Rattle.ima_agent.specs.declared.fault.RunFault.{RunFault}
 use Rattle.ima_agent.specs.declared.fault.RunFault.TheVariants.{Memory}
+use Rattle.ima_agent.specs.declared.growing_on.Grown.{Grown}
 use Rattle.ima_agent.specs.declared.output.Output.{Output}
 use Rattle.ima_agent.specs.FaultTexts.{fault_line, fault_status}
 use Rattle.ima_agent.specs.JsonFaults.{IsFailure}
@@ -26,3 +27,15 @@ IsTextOf (Err fault) text status = IsFaultText fault text status
 abbrev pub IsJsonOf : Result Output RunFault → List ℕ → ℕ → Type 0
 IsJsonOf (Ok output) text status = (text ≡ output.text.items) × (status ≡ output.status)
 IsJsonOf (Err fault) text status = IsFailure true fault text status
+
+-- The texts and the status of this report, or of this fault, which has no checkpoint.
+abbrev pub IsGrownOf : Result Grown RunFault → List ℕ → ℕ → List ℕ → Type 0
+IsGrownOf (Ok grown) text status state =
+    (text ≡ grown.output.text.items) × (status ≡ grown.output.status) × (state ≡ grown.checkpoint.items)
+IsGrownOf (Err fault) text status state = IsFaultText fault text status × (state ≡ [])
+
+-- The same, of this fault as JSON.
+abbrev pub IsJsonGrownOf : Result Grown RunFault → List ℕ → ℕ → List ℕ → Type 0
+IsJsonGrownOf (Ok grown) text status state =
+    (text ≡ grown.output.text.items) × (status ≡ grown.output.status) × (state ≡ grown.checkpoint.items)
+IsJsonGrownOf (Err fault) text status state = IsFailure true fault text status × (state ≡ [])
