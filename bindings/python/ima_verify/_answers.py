@@ -30,6 +30,7 @@ _REFUSED, _UNCONFIRMED = "refused: ", "unconfirmed: "
 # How a checkpoint begins.
 _CHECKPOINT, _CHECKPOINT_VERSION = b"ima-agent checkpoint ", b"1\n"
 _COUNTS = re.compile(_CHECKPOINT + _CHECKPOINT_VERSION + f"entries {_NUMBER}\nbytes {_NUMBER}\n".encode())
+MOST_BYTES = 2**63 - 1
 DAMAGED, OTHER_VERSION = 1, 2
 
 Object = Dict[str, Any]
@@ -221,7 +222,8 @@ def _refused_of(line: str, kind: str, number: Optional[int], place: Optional[int
 
 def _checkpoint_in(text: bytes) -> Optional[Checkpoint]:
     match = _COUNTS.match(text)
-    return Checkpoint(text, int(match[1]), int(match[2])) if match else None
+    found = Checkpoint(text, int(match[1]), int(match[2])) if match else None
+    return found if found and found.entries <= found.bytes <= MOST_BYTES else None
 
 
 def _verdict_of(status: int, text: bytes, has_front: bool) -> Tuple[Verdict, Optional[int]]:
