@@ -7,6 +7,7 @@ import (
 	"encoding/hex"
 	"fmt"
 	"strings"
+	"sync"
 	"testing"
 )
 
@@ -178,6 +179,31 @@ func TestInputsOfASessionAreCopied(t *testing.T) {
 		}
 	}
 	equal(t, more(t, s, bootList[ends[50]:]).Matches, true)
+}
+
+func TestSessionsAtOnceGiveWhatTheyGiveAlone(t *testing.T) {
+	var wanted []Verdict
+	for _, cut := range cuts {
+		wanted = append(wanted, verify(t, bootLog, bootList[:ends[cut]], bootTPM))
+	}
+	var group sync.WaitGroup
+	for thread := 0; thread < 8; thread++ {
+		group.Add(1)
+		go func() {
+			defer group.Done()
+			for round := 0; round < 10; round++ {
+				s, err := NewSession(bootLog, bootTPM)
+				for k, cut := range cuts {
+					var verdict Verdict
+					if err == nil {
+						verdict, err = s.More(bootList[s.Offset():ends[cut]])
+					}
+					equal(t, []interface{}{verdict, err}, []interface{}{wanted[k], nil})
+				}
+			}
+		}()
+	}
+	group.Wait()
 }
 
 func TestRequiredRegistersOfASession(t *testing.T) {
@@ -438,7 +464,7 @@ func TestFaultAfterTheFrontThatCannotBeIsNone(t *testing.T) {
 	checkChanges(t, read, done, frontAndReplay, [][2]string{
 		{`"entry":4`, `"entry":3`}, {`y 4"`, `y 3"`}, {`"entry":4,`, ``}, {`"number":1`, `"number":2`}, {`"number":1`, `"number":"1"`},
 		{`"number":1,`, ``}, {`"kind":"replay"`, `"kind":"list"`}, {`"kind":"replay",`, ``}, {`unconfirmed: `, `refused: `},
-		{`unconfirmed: `, ``}, {`unconfirmed: `, `unconfirmed: refused: `}, {` 1 at`, ` 01 at`}, {`"message"`, `"line"`},
+		{`unconfirmed: `, ``}, {`unconfirmed: `, `Unconfirmed: `}, {`unconfirmed: `, `unconfirmed: refused: `}, {` 1 at`, ` 01 at`}, {`"message"`, `"line"`},
 		{`"entries":5`, `"entries":4`}, {`"entry":4`, `"event":4`},
 		{`"entry":4,"message":"unconfirmed: replay fault 1 at entry 4"`, `"entry":2,"message":"unconfirmed: replay fault 1 at entry 2"`},
 		{replayMember, `"unconfirmed":null,`}, {replayMember, `"unconfirmed":[],`}, {replayMember, `"unconfirmed":{},`},
@@ -460,6 +486,16 @@ func TestStateThatIsNotThatOfTheReportIsNone(t *testing.T) {
 		checkUnexpected(t, sessionError(t, done, state, report, false), report)
 		checkUnexpected(t, sessionError(t, differs, state, differing, false), differing)
 		checkUnexpected(t, sessionError(t, done, state, front, true), front)
+	}
+	none := strings.Replace(front, `"confirmed":3`, `"confirmed":0`, 1)
+	for _, wrong := range []struct {
+		text, old, new string
+		size           int
+	}{{report, "300", "2", 2}, {front, "300", "2", 2}, {none, "entries 3", "entries 0", 300}} { // (fewer bytes than entries; no entry)
+		s := session(t, nil, nil)
+		s.prefix = wrong.text != report
+		_, err := s.given(wrong.size, done, strings.Replace(stateText, wrong.old, wrong.new, 1), wrong.text)
+		checkUnexpected(t, err, wrong.text)
 	}
 	less := strings.Replace(stateText, "300", "299", 1)
 	checkUnexpected(t, sessionError(t, done, less, report, false), report)

@@ -9,6 +9,7 @@ import hashlib
 import io
 import pickle
 import sys
+import threading
 import unittest
 import unittest.mock
 from pathlib import Path
@@ -192,6 +193,22 @@ class Growing(Refusing):
             self.assertEqual((again.state, again.offset), (session.state, ENDS[50]))
             self.assertEqual(again.more(LIST[ENDS[50]:]).confirmed, 99)
         self.assertEqual(session.offset, ENDS[50])
+
+
+    def test_sessions_at_once_give_what_they_give_alone(self):
+        wanted, right = [ima_verify.verify(LOG, LIST[:ENDS[cut]], EXPECTED) for cut in CUTS], []
+
+        def run():
+            for _ in range(10):
+                session = Session(LOG, EXPECTED)
+                right.append([session.more(LIST[ENDS[start]:ENDS[end]]) for start, end in zip((0, *CUTS), CUTS)] == wanted)
+
+        threads = [threading.Thread(target=run) for _ in range(8)]
+        for thread in threads:
+            thread.start()
+        for thread in threads:
+            thread.join()
+        self.assertEqual(right, 80 * [True])
 
 
 class Required(Refusing):
@@ -466,7 +483,7 @@ class Answers(unittest.TestCase):
             (FRONT_WITH_FAULT, b'"number":1', b'"number":2'), (FRONT_WITH_FAULT, b'"number":1', b'"number":"1"'),
             (FRONT_WITH_FAULT, b'"number":1,', b""), (FRONT_WITH_FAULT, b'"kind":"replay"', b'"kind":"list"'),
             (FRONT_WITH_FAULT, b'"kind":"replay",', b""), (FRONT_WITH_FAULT, b"unconfirmed: ", b"refused: "),
-            (FRONT_WITH_FAULT, b"unconfirmed: ", b""), (FRONT_WITH_FAULT, b" 1 at", b" 01 at"), (FRONT_WITH_FAULT, b'"message"', b'"line"'),
+            (FRONT_WITH_FAULT, b"unconfirmed: ", b""), (FRONT_WITH_FAULT, b"unconfirmed: ", b"Unconfirmed: "), (FRONT_WITH_FAULT, b" 1 at", b" 01 at"), (FRONT_WITH_FAULT, b'"message"', b'"line"'),
             (FRONT_WITH_FAULT, b'"entries":5', b'"entries":4'), (FRONT_WITH_FAULT, b'"entry":4', b'"event":4'),
             (FRONT_OF_CUT_LIST, b'"entries":5', b'"entries":6'), (FRONT_OF_CUT_LIST, b'"entries":5', b'"entries":4'),
         ):
@@ -493,6 +510,14 @@ class Answers(unittest.TestCase):
             self.check_wrong(0, REPORT, state=state)
             self.check_wrong(1, DIFFERING, state=state)
             self.check_wrong(0, FRONT, True, state=state)
+        for text, state, size in (
+            (REPORT, STATE.replace(b"300", b"2"), 2), (FRONT, STATE.replace(b"300", b"2"), 2),  # (fewer bytes than entries)
+            (FRONT.replace(b'"confirmed":3', b'"confirmed":0'), STATE.replace(b"entries 3", b"entries 0"), 300),
+        ):
+            with answering(0, state, text):
+                session = Session(b"", b"", prefix=text is not REPORT)
+                self.assertRaises(ima_verify.LibraryError, session.more, size * b"x")
+            self.assertIsNone(session.state)
         less = STATE.replace(b"bytes 300", b"bytes 299")
         self.check_wrong(0, REPORT, state=less)
         with answering(0, less, FRONT):  # (the front's end may be anywhere)

@@ -175,6 +175,23 @@ fn refusals_leave_the_session_as_it_was() {
 }
 
 #[test]
+fn sessions_at_once_give_what_they_give_alone() {
+    let boot = Sample::new();
+    let wanted = CUTS.map(|cut| verify(&boot.log, boot.until(cut), &boot.expected));
+    std::thread::scope(|scope| {
+        for _ in 0..8 {
+            scope.spawn(|| {
+                for _ in 0..10 {
+                    let mut session = boot.session();
+                    let found = CUTS.map(|cut| session.more(&boot.list[session.offset() as usize..boot.ends[cut]]));
+                    assert_eq!(found, wanted);
+                }
+            });
+        }
+    });
+}
+
+#[test]
 fn required_registers_of_a_session() {
     let boot = Sample::new();
     let text = String::from_utf8(boot.expected.clone()).unwrap();

@@ -152,6 +152,7 @@ fn fault_after_the_front_that_cannot_be_is_none() {
             (r#""kind":"replay","#, ""),
             ("unconfirmed: ", "refused: "),
             ("unconfirmed: ", ""),
+            ("unconfirmed: ", "Unconfirmed: "),
             ("unconfirmed: ", "unconfirmed: refused: "),
             (" 1 at", " 01 at"),
             (r#""message""#, r#""line""#),
@@ -191,6 +192,16 @@ fn state_that_is_not_that_of_the_report_is_none() {
         check_unexpected(DONE, &state, REPORT, false);
         check_unexpected(DIFFERS, &state, &differing(), false);
         check_unexpected(DONE, &state, &front(), true);
+    }
+    let none = front().replace(r#""confirmed":3"#, r#""confirmed":0"#);
+    for (text, old, new, size) in [
+        (REPORT, "300", "2", 2), // (fewer bytes than entries)
+        (&front(), "300", "2", 2),
+        (&none, "entries 3", "entries 0", 300),
+    ] {
+        let mut session = session(None, text != REPORT);
+        assert!(session.answered(size, (DONE, texts(&STATE.replace(old, new), text))).is_err());
+        assert_eq!(session.state(), None);
     }
     let less = STATE.replace("300", "299");
     check_unexpected(DONE, &less, REPORT, false);
