@@ -23,34 +23,67 @@ type answer struct {
 
 // Calls the library with room for a text of this size, and once more if that is too short. The answer is a result or a refusal.
 func ask(room int, call func(out []byte, needed *length) int32) (answer, error) {
+	given, _, err := askForTexts([]int{room}, func(outs [][]byte, needed []length) int32 { return call(outs[0], &needed[0]) })
+	return given, err
+}
+
+// Calls the library with room for texts of these sizes, and once more if one is too short. The last text is the answer's, which is a result
+// or a refusal.
+func askForTexts(rooms []int, call func(outs [][]byte, needed []length) int32) (answer, [][]byte, error) {
 	if found := libraryVersion(); found < headerVersion {
-		return answer{}, fmt.Errorf("libima_verify has version %d of the interface, and %d or later is needed", found, headerVersion)
+		err := fmt.Errorf("libima_verify has version %d of the interface, and %d or later is needed", found, headerVersion)
+		return answer{}, nil, err
 	}
-	out, needed := make([]byte, room), length(unset)
-	status := call(out, &needed)
-	if status == tooShort && length(room) < needed && needed <= mostRoom {
-		out, needed = make([]byte, needed), unset
-		status = call(out, &needed)
+	outs, needed := buffers(rooms)
+	status := call(outs, needed)
+	if enough, canBe := enoughFor(needed, rooms); status == tooShort && canBe {
+		outs, needed = buffers(enough)
+		status = call(outs, needed)
 	}
-	if needed > length(len(out)) {
-		return answer{}, &UnexpectedError{status, uint64(needed), nil}
+	for k, size := range needed {
+		if size > length(len(outs[k])) {
+			return answer{}, nil, &UnexpectedError{status, uint64(size), nil}
+		}
+		outs[k] = outs[k][:size]
 	}
-	given := answer{status, out[:needed]}
+	given := answer{status, outs[len(outs)-1]}
 	switch status {
 	case done, differs, refused:
-		return given, nil
+		return given, outs, nil
 	case outOfMemory:
 		if len(given.text) == 0 || faultIn(given.text[given.lastLine():]) == ErrOutOfMemory {
-			return answer{}, ErrOutOfMemory
+			return answer{}, nil, ErrOutOfMemory
 		}
 	}
-	return answer{}, given.unexpected()
+	return answer{}, nil, given.unexpected()
+}
+
+func buffers(rooms []int) ([][]byte, []length) {
+	outs, needed := make([][]byte, len(rooms)), make([]length, len(rooms))
+	for k, room := range rooms {
+		outs[k], needed[k] = make([]byte, room), unset
+	}
+	return outs, needed
+}
+
+// Rooms that are enough for texts of these sizes, and whether some are needed that can be had.
+func enoughFor(needed []length, rooms []int) ([]int, bool) {
+	enough, isMore := append([]int(nil), rooms...), false
+	for k, size := range needed {
+		if size > mostRoom {
+			return nil, false
+		}
+		if size > length(rooms[k]) {
+			enough[k], isMore = int(size), true
+		}
+	}
+	return enough, isMore
 }
 
 // What is read from the answer to a call, if it is no refusal. Of a call that requests registers, that may be malformed.
 func askFor[T any](read func(a answer) (T, error), room int, requests bool, call func(out []byte, needed *length) int32) (T, error) {
 	given, err := ask(room, call)
-	if err == nil && given.status == refused {
+	if err == nil {
 		err = given.refusal(requests)
 	}
 	if err != nil {
@@ -90,14 +123,44 @@ func (a answer) line() string {
 	return string(bytes.TrimSuffix(a.text, []byte("\n")))
 }
 
+// The verdict on a whole list.
 func (a answer) verdict() (Verdict, error) {
 	return read(a, func(r *reader, o object) Verdict {
-		v := Verdict{Events: r.number(o, "events", math.MaxUint64), Locality: uint8(r.number(o, "locality", math.MaxUint8)),
-			Entries: r.number(o, "entries", math.MaxUint64), Rows: r.rows(o), JSON: a.line()}
-		v.BootAggregate = oneOf(r, o, "boot_aggregate", AggregateGood, AggregateWrong, AggregateNoBank, AggregateMissing)
-		v.Matches = r.matches(a.status, o, v.Rows, v.BootAggregate == AggregateGood)
+		v := a.verdictIn(r, o)
+		r.require(v.Confirmed == 0)
 		return v
 	})
+}
+
+func (a answer) verdictIn(r *reader, o object) Verdict {
+	v := Verdict{Events: r.number(o, "events", math.MaxUint64), Locality: uint8(r.number(o, "locality", math.MaxUint8)),
+		Entries: r.number(o, "entries", math.MaxUint64), Rows: r.rows(o), JSON: a.line()}
+	v.BootAggregate = oneOf(r, o, "boot_aggregate", AggregateGood, AggregateWrong, AggregateNoBank, AggregateMissing)
+	v.Matches = r.matches(a.status, o, v.Rows, v.BootAggregate == AggregateGood)
+	v.Confirmed, v.Unconfirmed = r.front(o, v.Entries)
+	r.require(v.Confirmed == 0 || a.status == done)
+	return v
+}
+
+// The verdict on a list that has so many bytes after a checkpoint, and the next checkpoint, which is of the list that the report is on: of
+// the confirmed front, which only a report of a call that asks for it has, and then exactly if its verdict is a match, else of the whole
+// list.
+func (a answer) more(state []byte, from checkpoint, size uint64, hasFront bool) (Verdict, checkpoint, error) {
+	reached, isState := checkpointIn(state)
+	v, err := read(a, func(r *reader, o object) Verdict {
+		v := a.verdictIn(r, o)
+		r.require(isState && (v.Confirmed != 0) == (hasFront && a.status == done))
+		entries, least, end := v.Entries, from.bytes+size, from.bytes+size
+		if v.Confirmed != 0 {
+			entries, least = v.Confirmed, from.bytes
+		}
+		r.require(from.entries <= entries && reached.entries == entries && least <= reached.bytes && reached.bytes <= end)
+		if !v.Matches { // (no register confirms anything if there is none)
+			v.Confirmed, v.Unconfirmed = 0, nil
+		}
+		return v
+	})
+	return v, reached, err
 }
 
 // The verdict on a list alone.
@@ -227,10 +290,13 @@ func (l *Listing[T]) Fault() error {
 const digits = `(0|[1-9][0-9]*)`
 
 var faultLine = regexp.MustCompile(`^refused: (?:(log) fault ` + digits + `(?: at event ` + digits + `)?|(list|replay) fault ` + digits +
-	` at entry ` + digits + `|(expected) fault ` + digits + `(?: at line ` + digits + `)?)$`)
+	` at entry ` + digits + `|(expected) fault ` + digits + `(?: at line ` + digits + `)?|(checkpoint) fault ` + digits + `)$`)
 
-// The error of a refusal.
+// The error of an answer that is a refusal.
 func (a answer) refusal(requests bool) error {
+	if a.status != refused {
+		return nil
+	}
 	fault := faultIn(a.text)
 	if _, isInput := fault.(*RefusedError); isInput || requests && fault == ErrMalformed {
 		return fault

@@ -418,7 +418,8 @@ func TestRefusalsAreRead(t *testing.T) {
 			"refused: replay fault 1 at entry 2", KindReplay, 1, 2, true},
 		`{"fault":{"kind":"expected","number":1,"message":"refused: expected fault 1 at line 2"}}`: {"refused: expected fault 1 at line 2",
 			KindExpected, 1, 2, true},
-		`{"fault":{"kind":"expected","number":6,"message":"refused: expected fault 6"}}`: {"refused: expected fault 6", KindExpected, 6, 0, false},
+		`{"fault":{"kind":"expected","number":6,"message":"refused: expected fault 6"}}`:     {"refused: expected fault 6", KindExpected, 6, 0, false},
+		`{"fault":{"kind":"checkpoint","number":3,"message":"refused: checkpoint fault 3"}}`: {"refused: checkpoint fault 3", KindCheckpoint, 3, 0, false},
 	} {
 		checkRefused(t, answered(refused, text+"\n", uint64(len(text))+1), wanted)
 	}
@@ -457,6 +458,7 @@ func TestFaultWhoseMembersContradictIsNone(t *testing.T) {
 		checkChanges(t, readEvents, refused, algorithms+line, changes)
 	}
 	for _, line := range []string{`{"fault":{"kind":"log","number":2,"message":"refused: log fault 2"}}` + "\n",
+		`{"fault":{"kind":"checkpoint","number":1,"message":"refused: checkpoint fault 1"}}` + "\n",
 		`{"fault":{"kind":"expected","number":1,"message":"refused: expected fault 1 at line 2"}}` + "\n"} {
 		checkChanges(t, refusal, refused, line, [][2]string{{`"message"`, `"event":0,"message"`}, {`"message"`, `"entry":2,"message"`}})
 	}

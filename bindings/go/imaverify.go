@@ -5,7 +5,8 @@
 // /sys/kernel/security/ima/binary_runtime_measurements, and lines as `sha256 10 <64 hexadecimal digits>` hold.
 //
 // Say which registers a verdict must cover: VerifyRequired(log, list, expected, "sha256:0-10"). That of Verify covers only those that
-// expected names; one on none is no match. Entries and Events go through the inputs themselves.
+// expected names; one on none is no match. Entries and Events go through the inputs themselves. A Session is for a list that grows, and for
+// one that went on after the expected registers were read.
 //
 // A refused input gives an error of the type *RefusedError, and a requirement or a range that is not of its form ErrMalformed; if memory
 // runs out, it is ErrOutOfMemory; what the library's header does not describe gives an *UnexpectedError. With any error the result is
@@ -62,6 +63,9 @@ type Row struct {
 //
 // Matches says that the boot aggregate is good, that each expected register has its value, that there is one, and that no required one is
 // missing. It says nothing of registers that have no row. JSON is the report as `ima-agent verify --json` prints it, without the line feed.
+//
+// Only a Session with Prefix gives a Confirmed other than 0: then the verdict is a match on the list's first entries, so many of all Entries,
+// and says nothing of those after them. Unconfirmed is the first fault of these, or nil if they have none.
 type Verdict struct {
 	Events        uint64
 	Locality      uint8
@@ -70,6 +74,18 @@ type Verdict struct {
 	Rows          []Row
 	Matches       bool
 	JSON          string
+	Confirmed     uint64
+	Unconfirmed   *Unconfirmed
+}
+
+// Unconfirmed is a fault of a list after its confirmed front, for which the list is not refused. Line tells it, as
+// "unconfirmed: replay fault 1 at entry 98"; Kind, which is KindList or KindReplay, and Number are those of the fault, and Entry is the
+// entry's number.
+type Unconfirmed struct {
+	Line   string
+	Kind   Kind
+	Number uint64
+	Entry  uint64
 }
 
 // Compared is how many expected registers were compared.
@@ -155,6 +171,9 @@ const (
 	KindList     Kind = "list"
 	KindReplay   Kind = "replay" // an entry of the list is not genuine
 	KindExpected Kind = "expected"
+
+	// The state of a session: it is damaged (1), of another version (2), or of another boot (3).
+	KindCheckpoint Kind = "checkpoint"
 )
 
 // RefusedError is the error of an input that is refused. Line says why, as "refused: replay fault 1 at entry 5"; Kind and Number are
@@ -246,7 +265,7 @@ type EventListing struct {
 	Algorithms []LogAlgorithm
 }
 
-// Four banks have 96 registers, and no row of these has more than 256 bytes.
+// Four banks have 96 registers, and no row of these has more than 256 bytes. (A checkpoint has each register twice, in at most 140 bytes.)
 const room = 32 * 1024
 
 // Version is that of the library's interface.

@@ -377,8 +377,8 @@ func TestInputsWithoutBytes(t *testing.T) {
 		verdict := verify(t, bootLog, empty, bootTPM)
 		equal(t, []interface{}{verdict.Matches, verdict.Entries, verdict.BootAggregate}, []interface{}{false, uint64(0), AggregateMissing})
 		// (on nothing, there is no match)
-		equal(t, verify(t, bootLog, bootList, empty), Verdict{24, 0, 99, AggregateGood, nil, false,
-			`{"events":24,"locality":0,"entries":99,"boot_aggregate":"good","registers":[],"verdict":"match"}`})
+		equal(t, verify(t, bootLog, bootList, empty), Verdict{Events: 24, Entries: 99, BootAggregate: AggregateGood,
+			JSON: `{"events":24,"locality":0,"entries":99,"boot_aggregate":"good","registers":[],"verdict":"match"}`})
 		equal(t, locate(t, bootLog, bootList, empty), Places{nil, false, `{"registers":[],"located":true}`})
 	}
 }

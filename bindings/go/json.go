@@ -149,10 +149,41 @@ func (r *reader) entry(o object, number uint64) Entry {
 	return e
 }
 
-// The error of a fault. Its members say the same as its message, which alone has the line of a text.
+// How many of all entries the confirmed front of a report has, at least the first, or 0, and what is told of those after them.
+func (r *reader) front(o object, entries uint64) (uint64, *Unconfirmed) {
+	if !has(o, "confirmed") {
+		r.require(!has(o, "unconfirmed"))
+		return 0, nil
+	}
+	confirmed := r.number(o, "confirmed", entries)
+	r.require(confirmed > 0)
+	if !has(o, "unconfirmed") {
+		return confirmed, nil
+	}
+	fault := r.unconfirmed(member[object](r, o, "unconfirmed"))
+	isList, isReplay := fault.Kind == KindList && fault.Entry == entries, fault.Kind == KindReplay && fault.Entry < entries
+	r.require(isList || isReplay && confirmed <= fault.Entry)
+	return confirmed, &fault
+}
+
+func (r *reader) unconfirmed(fault object) Unconfirmed {
+	line := member[string](r, fault, "message")
+	said, isInput := r.faultWith(fault, strings.Replace(line, "unconfirmed: ", "refused: ", 1)).(*RefusedError)
+	r.require(strings.HasPrefix(line, "unconfirmed: ") && isInput)
+	if r.wrong {
+		return Unconfirmed{}
+	}
+	return Unconfirmed{line, said.Kind, said.Number, said.Place}
+}
+
 func (r *reader) fault(o object) error {
 	fault := member[object](r, o, "fault")
-	said := faultSaidBy(member[string](r, fault, "message"))
+	return r.faultWith(fault, member[string](r, fault, "message"))
+}
+
+// The error of a fault that a line states. Its members say the same, but that the line alone has the line of a text.
+func (r *reader) faultWith(fault object, line string) error {
+	said := faultSaidBy(line)
 	kind, numbers := map[error]string{ErrMalformed: "command_line", ErrOutOfMemory: "memory"}[said], map[string]uint64{}
 	if refusal, isInput := said.(*RefusedError); isInput {
 		kind, numbers["number"] = string(refusal.Kind), refusal.Number

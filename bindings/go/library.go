@@ -58,6 +58,12 @@ func callVerifyRequired(log, list, expected, require, out []byte, needed *length
 		start(require), size(require), start(out), size(out), needed))
 }
 
+func callMore(log, state, more, expected, require []byte, prefix bool, next []byte, nextNeeded *length, out []byte, needed *length) int32 {
+	return int32(C.ima_verify_more_json(start(log), size(log), start(state), size(state), start(more), size(more),
+		start(expected), size(expected), start(require), size(require), C.bool(prefix), start(next), size(next), nextNeeded,
+		start(out), size(out), needed))
+}
+
 func callLocate(log, list, expected, out []byte, needed *length) int32 {
 	return int32(C.ima_locate_json(start(log), size(log), start(list), size(list), start(expected), size(expected),
 		start(out), size(out), needed))

@@ -7,6 +7,7 @@ bytes-like type; a bytearray, or other memory that can be written, may not chang
 
 Say which registers a verdict must cover: `verify(log, list, expected, require="sha256:0-10")`. Without `require` only those count that
 `expected` names; a verdict on none is no match, whatever its `json` says. `entries(list)` and `events(log)` go through the inputs themselves.
+A `Session` is for a list that grows, and for one that went on after the expected registers were read.
 
 An input that is refused raises `Refused`, and a `require` or `registers` that is not of its form ValueError; if memory runs out, that
 is MemoryError; an answer that the library's header does not describe raises `LibraryError`. Nothing else that the library answers is
@@ -25,13 +26,13 @@ from . import _answers, _library
 from ._library import BytesLike
 from ._results import (
     Algorithm, BootAggregate, Entries, Entry, Event, Events, Kind, LibraryError, ListVerdict, LogAlgorithm, Place, PlaceRow, Places,
-    Refused, Register, Row, State, Verdict,
+    Refused, Register, Row, State, Unconfirmed, Verdict,
 )
 
 __all__ = [
     "Algorithm", "BootAggregate", "BytesLike", "Entries", "Entry", "Event", "Events", "Kind", "LibraryError", "ListVerdict",
-    "LogAlgorithm", "Place", "PlaceRow", "Places", "Refused", "Register", "Row", "State", "Verdict", "entries", "events", "expected",
-    "list_registers", "locate", "registers", "replay", "show", "verify", "version",
+    "LogAlgorithm", "Place", "PlaceRow", "Places", "Refused", "Register", "Row", "Session", "State", "Unconfirmed", "Verdict", "entries",
+    "events", "expected", "list_registers", "locate", "registers", "replay", "show", "verify", "version",
 ]
 
 Text = Union[BytesLike, str]
@@ -44,7 +45,7 @@ class _Default(Enum):
     NOTHING = "nothing"
 
 
-# 4 banks have 96 registers, and no row of these has more than 256 bytes.
+# 4 banks have 96 registers, and no row of these has more than 256 bytes. (A checkpoint has each register twice, in at most 140 bytes.)
 _ROOM = 32 * 1024
 
 _LIBRARY = _library.load()
@@ -63,6 +64,56 @@ def verify(log: BytesLike, list: BytesLike, expected: Text, *, require: Union[Te
     registers is no match."""
     functions = _LIBRARY.ima_verify_json, _LIBRARY.ima_verify_required_json
     return _answers.read_verdict(*_answer_on(expected, require, functions, (log, list)))
+
+
+class Session:
+    """Verdicts on a measurement list that grows: each is on all of the list so far, but only what is new of it is given.
+
+    `log` and `expected` are as of `verify`, and so is `require`, but that an empty one is a ValueError here. With `prefix` the verdict is that
+    on the confirmed front, if there is one: the list's first entries, as few as give a match. What comes after them may be new since the
+    registers were read, or damaged; `confirmed` of the verdict says how many entries they are, and `unconfirmed` what is wrong after them.
+
+    `state` is that of an earlier session, to go on from with a log of the same boot; `expected` may be another. Without it, or if it is None,
+    the list starts at its first entry. One that is not whole, and so an empty one, is refused with the kind CHECKPOINT, here or by `more`.
+    A state is trusted: who can write it can choose the verdict. Never take it from the machine that is judged.
+
+    Use a session in one thread at a time."""
+
+    def __init__(
+        self, log: BytesLike, expected: Text, *, require: Union[Text, _Default] = _Default.NOTHING, prefix: bool = False,
+        state: Optional[BytesLike] = None
+    ) -> None:
+        if not isinstance(prefix, bool):
+            raise TypeError(f"prefix is True or False, and not {prefix!r}")
+        self._log, self._expected = _copy_of(log), _copy_of(_bytes_of(expected))
+        self._request = None if isinstance(require, _Default) else require
+        self._require = b"" if isinstance(require, _Default) else _copy_of(_bytes_of(require))
+        if self._request is not None and not self._require:
+            raise ValueError(f"not of its form: {require!r}")
+        self._prefix = prefix
+        self._reached = _answers.START if state is None else _answers.read_state(_copy_of(state))
+
+    def more(self, data: BytesLike) -> Verdict:
+        """The verdict on the list that the state covers, followed by these bytes, which may be none. Then the state covers the list that
+        this verdict is on: the confirmed front, if there is one, else the whole list, whether it is a match or not.
+
+        Numbers of entries, also of a refusal, are those of the whole list. If there is no verdict, the session stays as it was."""
+        start, function = self._reached, _LIBRARY.ima_verify_more_json
+        inputs = self._log, start.text, data, self._expected, self._require
+        status, (state, text) = _library.ask_for_texts(function, inputs, (self._prefix,), (_ROOM, _ROOM))
+        _answers.raise_failure(status, text, self._request)
+        verdict, self._reached = _answers.read_more(status, text, state, start, memoryview(data).nbytes, self._prefix)
+        return verdict
+
+    @property
+    def state(self) -> Optional[bytes]:
+        """Where the session is: what to keep, and to give another as its `state`. None before the first verdict on a list from its start."""
+        return self._reached.text or None
+
+    @property
+    def offset(self) -> int:
+        """How many bytes of the list the state covers: `more` takes those that follow. Those after a confirmed front come again."""
+        return self._reached.bytes
 
 
 def locate(log: BytesLike, list: BytesLike, expected: Text, *, require: Union[Text, _Default] = _Default.NOTHING) -> Places:
@@ -150,6 +201,10 @@ def _answer_of(function: _Function, inputs: Sequence[BytesLike], room: int, requ
     status, text = _library.ask(function, inputs, room)
     _answers.raise_failure(status, text, request)
     return status, text
+
+
+def _copy_of(data: BytesLike) -> bytes:
+    return memoryview(data).tobytes()
 
 
 def _bytes_of(text: Text) -> BytesLike:

@@ -3,11 +3,11 @@
 import json
 import re
 from contextlib import contextmanager
-from typing import Any, Dict, Iterator, List, NoReturn, Optional, Tuple, Type, TypeVar, Union
+from typing import Any, Dict, Iterator, List, NamedTuple, NoReturn, Optional, Tuple, Type, TypeVar, Union
 
 from ._results import (
     Algorithm, BootAggregate, Entries, Entry, Event, Events, Kind, LibraryError, ListVerdict, LogAlgorithm, Place, PlaceRow, Places,
-    Refused, Register, Row, State, Verdict,
+    Refused, Register, Row, State, Unconfirmed, Verdict,
 )
 
 DONE, DIFFERS, REFUSED, OUT_OF_MEMORY = range(4)
@@ -22,12 +22,32 @@ _NUMBER = "(0|[1-9][0-9]{0,19})"
 _FAULT = re.compile(
     f"refused: (?:(log) fault {_NUMBER}(?: at event {_NUMBER})?"
     f"|(list|replay) fault {_NUMBER} at entry {_NUMBER}"
-    f"|(expected) fault {_NUMBER}(?: at line {_NUMBER})?)"
+    f"|(expected) fault {_NUMBER}(?: at line {_NUMBER})?"
+    f"|(checkpoint) fault {_NUMBER})"
 )
+_REFUSED, _UNCONFIRMED = "refused: ", "unconfirmed: "
+
+# How a checkpoint begins.
+_CHECKPOINT, _CHECKPOINT_VERSION = b"ima-agent checkpoint ", b"1\n"
+_COUNTS = re.compile(_CHECKPOINT + _CHECKPOINT_VERSION + f"entries {_NUMBER}\nbytes {_NUMBER}\n".encode())
+MOST_BYTES = 2**63 - 1
+DAMAGED, OTHER_VERSION = 1, 2
 
 Object = Dict[str, Any]
 _Fault = Tuple[str, str, Optional[int], Optional[int]]  # the line, the kind, the number and the place
 _Member = TypeVar("_Member", str, int, bool, List[Any], Object)
+
+
+class Checkpoint(NamedTuple):
+    """The text of a checkpoint, and how many entries and bytes of the list it covers."""
+
+    text: bytes
+    entries: int
+    bytes: int
+
+
+# That of no entries has no text.
+START = Checkpoint(b"", 0, 0)
 
 
 def unexpected(status: int, text: bytes) -> NoReturn:
@@ -44,13 +64,36 @@ def _reading(status: int, text: bytes) -> Iterator[None]:
 
 
 def read_verdict(status: int, text: bytes) -> Verdict:
-    """The verdict that a report states."""
+    """The verdict on a whole list that a report states."""
     with _reading(status, text):
-        report = _result_of(text)
-        aggregate, rows = BootAggregate(report["boot_aggregate"]), _rows_of(report)
-        matches = _matches(status, report, rows, aggregate is BootAggregate.GOOD)
-        events, locality, entries = _number(report, "events"), _number(report, "locality", 255), _number(report, "entries")
-        return Verdict(events, locality, entries, aggregate, rows, matches, text[:-1].decode())
+        return _verdict_of(status, text, False)[0]
+
+
+def read_more(
+    status: int, text: bytes, state: bytes, start: Checkpoint, size: int, has_front: bool
+) -> Tuple[Verdict, Checkpoint]:
+    """The verdict that a report states on a list that has more bytes after a checkpoint, so many, and the next checkpoint.
+
+    That is of the list that the report is on: of the confirmed front, which only a report of a call that asks for it has, and then exactly
+    if its verdict is a match, else of the whole list."""
+    with _reading(status, text):
+        verdict, confirmed = _verdict_of(status, text, has_front)
+        reached, end = _checkpoint_in(state), start.bytes + size
+        if reached is None:
+            raise ValueError(state)
+        _require(start.entries <= reached.entries == (verdict.entries if confirmed is None else confirmed))
+        _require((end if confirmed is None else start.bytes) <= reached.bytes <= end)
+        return verdict, reached
+
+
+def read_state(state: bytes) -> Checkpoint:
+    """The checkpoint of a text, which is refused unless it begins as one. (The library judges the rest.)"""
+    found = _checkpoint_in(state)
+    if found is None:
+        is_other = state.startswith(_CHECKPOINT) and not state.startswith(_CHECKPOINT + _CHECKPOINT_VERSION)
+        number = OTHER_VERSION if is_other else DAMAGED
+        raise Refused(f"refused: checkpoint fault {number}", Kind.CHECKPOINT, number, None)
+    return found
 
 
 def read_list_verdict(status: int, text: bytes) -> ListVerdict:
@@ -149,7 +192,12 @@ def _fault_of(text: bytes) -> _Fault:
         _require(text.endswith(b"\n"))
         return _fault_said_by(text[:-1].decode())
     fault = _member(_object_of(text), "fault", dict)
-    line, kind, number, place = _fault_said_by(_member(fault, "message", str))
+    return _fault_with(fault, _member(fault, "message", str))
+
+
+def _fault_with(fault: Object, line: str) -> _Fault:
+    """The fault that a line states, where the members of an object say the same."""
+    line, kind, number, place = _fault_said_by(line)
     numbers = {name: _number(fault, name) for name in ("number", "event", "entry") if name in fault}
     said = {name: value for name, value in (("number", number), (_PLACES.get(kind), place)) if name and value is not None}
     _require(_member(fault, "kind", str) == kind and numbers == said)
@@ -170,6 +218,48 @@ def _refused_of(line: str, kind: str, number: Optional[int], place: Optional[int
     if number is None:
         raise ValueError(line)
     return Refused(line, Kind(kind), number, place)
+
+
+def _checkpoint_in(text: bytes) -> Optional[Checkpoint]:
+    match = _COUNTS.match(text)
+    found = Checkpoint(text, int(match[1]), int(match[2])) if match else None
+    return found if found and found.entries <= found.bytes <= MOST_BYTES else None
+
+
+def _verdict_of(status: int, text: bytes, has_front: bool) -> Tuple[Verdict, Optional[int]]:
+    """The verdict that a report states, and how many entries its confirmed front has: that it has one stands in no other report than one
+    that is asked for it, and of these in each that is a match."""
+    report = _result_of(text)
+    aggregate, rows = BootAggregate(report["boot_aggregate"]), _rows_of(report)
+    matches = _matches(status, report, rows, aggregate is BootAggregate.GOOD)
+    events, locality, entries = _number(report, "events"), _number(report, "locality", 255), _number(report, "entries")
+    confirmed, unconfirmed = _front_of(report, entries)
+    _require((confirmed is not None) == (has_front and status == DONE))
+    told = (confirmed, unconfirmed) if matches else (None, None)  # (no register confirms anything if there is none)
+    return Verdict(events, locality, entries, aggregate, rows, matches, text[:-1].decode(), *told), confirmed
+
+
+def _front_of(report: Object, entries: int) -> Tuple[Optional[int], Optional[Unconfirmed]]:
+    """How many of all entries are confirmed, at least the first, and what is told of those after them."""
+    if "confirmed" not in report:
+        _require("unconfirmed" not in report)
+        return None, None
+    confirmed = _number(report, "confirmed", entries)
+    _require(confirmed > 0)
+    if "unconfirmed" not in report:
+        return confirmed, None
+    fault = _unconfirmed_of(_member(report, "unconfirmed", dict))
+    _require(fault.entry == entries if fault.kind is Kind.LIST else confirmed <= fault.entry < entries)
+    return confirmed, fault
+
+
+def _unconfirmed_of(fault: Object) -> Unconfirmed:
+    line = _member(fault, "message", str)
+    _require(line.startswith(_UNCONFIRMED))
+    _, kind, number, entry = _fault_with(fault, _REFUSED + line[len(_UNCONFIRMED):])
+    if number is None or entry is None or kind not in (Kind.LIST, Kind.REPLAY):
+        raise ValueError(line)
+    return Unconfirmed(line, Kind(kind), number, entry)
 
 
 def _rows_of(report: Object) -> Tuple[Row, ...]:

@@ -2,9 +2,9 @@
 
 import ctypes
 import os
-from ctypes import c_char, c_int32, c_size_t, c_uint32, c_void_p
+from ctypes import c_bool, c_char, c_int32, c_size_t, c_uint32, c_void_p
 from pathlib import Path
-from typing import Any, Callable, Sequence, Tuple, Union
+from typing import Any, Callable, List, Sequence, Tuple, Union
 
 from ._results import LibraryError
 
@@ -21,6 +21,9 @@ VARIABLE = "IMA_VERIFY_LIBRARY"
 INPUTS = {"ima_verify_json": 3, "ima_verify_required_json": 4, "ima_locate_json": 3, "ima_locate_required_json": 4,
           "ima_replay_required_json": 3, "ima_replay_json": 1, "ima_registers_json": 1, "ima_events_json": 1, "ima_entries_json": 1,
           "ima_expected": 2, "ima_show": 1}
+
+# Of this one a switch comes after the inputs, and two texts come back.
+MORE, INPUTS_OF_MORE = "ima_verify_more_json", 5
 
 _INPUT = [c_void_p, c_size_t]
 _OUTPUT = [c_void_p, c_size_t, ctypes.POINTER(c_size_t)]
@@ -47,6 +50,8 @@ def load() -> ctypes.CDLL:
         for name, inputs in INPUTS.items():
             function = getattr(library, name)
             function.argtypes, function.restype = _INPUT * inputs + _OUTPUT, c_int32
+        function = getattr(library, MORE)
+        function.argtypes, function.restype = [*_INPUT * INPUTS_OF_MORE, c_bool, *_OUTPUT * 2], c_int32
     except (OSError, AttributeError) as error:
         raise ImportError(f"{file} is not there, or not the library (name it in {VARIABLE}): {error}") from error
     return library
@@ -54,20 +59,35 @@ def load() -> ctypes.CDLL:
 
 def ask(function: Callable[..., int], inputs: Sequence[BytesLike], room: int) -> Tuple[int, bytes]:
     """A function's status and text for these inputs. If the text has more than `room` bytes, the function is called once more."""
-    words = [word for data in inputs for word in _argument(data)]
-    status, needed, out = _call(function, words, room)
-    if status == TOO_SHORT and room < needed < UNSET:
-        status, needed, out = _call(function, words, needed)
-    if status == TOO_SHORT or needed > len(out):
-        raise LibraryError(f"libima_verify answered status {status} and size {needed} for a buffer of {len(out)} bytes")
+    status, (text,) = ask_for_texts(function, inputs, (), (room,))
+    return status, text
+
+
+def ask_for_texts(
+    function: Callable[..., int], inputs: Sequence[BytesLike], switches: Sequence[bool], rooms: Sequence[int]
+) -> Tuple[int, List[bytes]]:
+    """A function's status and texts for these inputs and switches, where each text has room of its own. If one has more bytes than that, the
+    function is called once more."""
+    words = [*(word for data in inputs for word in _argument(data)), *switches]
+    status, sizes, outs = _call(function, words, rooms)
+    if status == TOO_SHORT and UNSET not in sizes and any(size > room for size, room in zip(sizes, rooms)):
+        status, sizes, outs = _call(function, words, [max(pair) for pair in zip(sizes, rooms)])
+    if status == TOO_SHORT or any(size > len(out) for size, out in zip(sizes, outs)):
+        lengths = [len(out) for out in outs]
+        raise LibraryError(f"libima_verify answered status {status} and sizes {sizes} for buffers of {lengths} bytes")
+    return status, [_front(out, size) for out, size in zip(outs, sizes)]
+
+
+def _call(function: Callable[..., int], words: Sequence[Any], rooms: Sequence[int]) -> Tuple[int, List[int], List[bytearray]]:
+    outs, sizes = [bytearray(room) for room in rooms], [c_size_t(UNSET) for _ in rooms]
+    for out, size in zip(outs, sizes):
+        words = [*words, ctypes.byref(c_char.from_buffer(out)), len(out), ctypes.byref(size)]
+    return function(*words), [size.value for size in sizes], outs
+
+
+def _front(out: bytearray, size: int) -> bytes:
     with memoryview(out) as whole:
-        return status, bytes(whole[:needed])
-
-
-def _call(function: Callable[..., int], words: Sequence[Any], room: int) -> Tuple[int, int, bytearray]:
-    out, needed = bytearray(room), c_size_t(UNSET)
-    status = function(*words, ctypes.byref(c_char.from_buffer(out)), room, ctypes.byref(needed))
-    return status, needed.value, out
+        return bytes(whole[:size])
 
 
 def _argument(data: BytesLike) -> Tuple[Any, int]:

@@ -60,6 +60,7 @@ class Kind(str, enum.Enum):
     LIST = "list"
     REPLAY = "replay"  # an entry of the list is not genuine
     EXPECTED = "expected"
+    CHECKPOINT = "checkpoint"  # a session's state: it is damaged (1), of another version (2), or of another boot (3)
 
 
 @dataclass(frozen=True)
@@ -98,11 +99,27 @@ class _Judged:
 
 
 @dataclass(frozen=True)
+class Unconfirmed:
+    """A fault of a list after its confirmed front, for which the list is not refused.
+
+    `line` tells it, as `unconfirmed: replay fault 1 at entry 98`; `kind`, LIST or REPLAY, and `number` are those of the fault, and `entry`
+    is the entry's number."""
+
+    line: str
+    kind: Kind
+    number: int
+    entry: int
+
+
+@dataclass(frozen=True)
 class Verdict(_Judged):
     """The verdict on a log, a list and expected registers; as a condition, it is true exactly if it is a match.
 
     `matches` says that the boot aggregate is good, that each expected register has its value, that there is one, and that no required one is
-    missing. It says nothing of registers that have no row. `json` is the report as `ima-agent verify --json` prints it, without the line feed."""
+    missing. It says nothing of registers that have no row. `json` is the report as `ima-agent verify --json` prints it, without the line feed.
+
+    Only a `Session` with `prefix` gives a `confirmed`: then the verdict is a match on the list's first entries, so many of all `entries`,
+    and says nothing of those after them. `unconfirmed` is the first fault of these, if they have one. Both are None of every other verdict."""
 
     events: int
     locality: int
@@ -111,6 +128,8 @@ class Verdict(_Judged):
     rows: Tuple[Row, ...]
     matches: bool
     json: str
+    confirmed: Optional[int] = None
+    unconfirmed: Optional[Unconfirmed] = None
 
 
 @dataclass(frozen=True)

@@ -1,0 +1,495 @@
+package imaverify
+
+import (
+	"bytes"
+	"crypto/sha256"
+	"encoding/binary"
+	"encoding/hex"
+	"fmt"
+	"strings"
+	"testing"
+)
+
+// Where each entry of the sample's list starts, and where the last ends; and register 10 after as many entries.
+var ends, tenths = listed(bootList)
+
+var cuts = []int{0, 1, 2, 50, 97, 98, 99}
+
+func listed(list []byte) ([]int, [][]byte) {
+	ends, value := []int{0}, make([]byte, 32)
+	tenths := [][]byte{value}
+	for at := 0; at < len(list); {
+		digest := list[at+4 : at+24]
+		name := int(binary.LittleEndian.Uint32(list[at+24:]))
+		size := int(binary.LittleEndian.Uint32(list[at+28+name:]))
+		payload := list[at+32+name:][:size]
+		extension := sha256.Sum256(payload)
+		if bytes.Equal(digest, make([]byte, 20)) { // a violation
+			copy(extension[:], bytes.Repeat([]byte{0xff}, 32))
+		}
+		next := sha256.Sum256(append(value[:32:32], extension[:]...))
+		at += 32 + name + size
+		value, ends = next[:], append(ends, at)
+		tenths = append(tenths, value)
+	}
+	return ends, tenths
+}
+
+// The expected registers of the sample, with register 10 as it is after so many entries.
+func tenthAfter(count int) []byte {
+	lines := bytes.SplitAfter(bootTPM, []byte("\n"))
+	lines[10] = []byte(fmt.Sprintf("sha256 10 %x\n", tenths[count]))
+	return bytes.Join(lines, nil)
+}
+
+// The list with one bit of the template digest of an entry turned, so that it is not genuine.
+func forged(place int) []byte {
+	list := clone(bootList)
+	list[ends[place]+4] ^= 1
+	return list
+}
+
+func session(t *testing.T, log, expected []byte, options ...Option) *Session {
+	t.Helper()
+	s, err := NewSession(log, expected, options...)
+	if err != nil {
+		t.Fatal(err)
+	}
+	return s
+}
+
+func more(t *testing.T, s *Session, data []byte) Verdict {
+	t.Helper()
+	verdict, err := s.More(data)
+	if err != nil {
+		t.Fatal(err)
+	}
+	return verdict
+}
+
+func stateAfter(t *testing.T, count int) []byte {
+	t.Helper()
+	s := session(t, bootLog, nil)
+	more(t, s, bootList[:ends[count]])
+	return s.State()
+}
+
+func resumed(t *testing.T, count int) []Option {
+	if count == 0 {
+		return nil
+	}
+	return []Option{Resume(stateAfter(t, count))}
+}
+
+// The text of a checkpoint with a last line that has the hash of what stands before it.
+func sealed(text []byte) []byte {
+	body := text[:bytes.LastIndex(text, []byte("sha256 "))]
+	return []byte(fmt.Sprintf("%ssha256 %x\n", body, sha256.Sum256(body)))
+}
+
+// The data is refused, and the session stays as it was.
+func checkSessionRefuses(t *testing.T, s *Session, data []byte, wanted RefusedError) {
+	t.Helper()
+	state, offset := s.State(), s.Offset()
+	verdict, err := s.More(data)
+	checkRefused(t, err, wanted)
+	equal(t, []interface{}{verdict, s.State(), s.Offset()}, []interface{}{Verdict{}, state, offset})
+}
+
+// No session goes on from this state, whether that is known at once or only by the library.
+func checkNoState(t *testing.T, state []byte, number uint64) {
+	t.Helper()
+	s, err := NewSession(bootLog, bootTPM, Resume(state))
+	if err == nil {
+		_, err = s.More(bootList)
+	} else if s != nil {
+		t.Errorf("a session with an error")
+	}
+	checkRefused(t, err, RefusedError{Line: fmt.Sprintf("refused: checkpoint fault %d", number), Kind: KindCheckpoint, Number: number})
+}
+
+func TestListInTwoPartsIsAsTheWhole(t *testing.T) {
+	equal(t, tenthAfter(99), bootTPM)
+	for _, cut := range cuts {
+		s := session(t, bootLog, bootTPM)
+		equal(t, []interface{}{s.State() == nil, s.Offset()}, []interface{}{true, uint64(0)})
+		equal(t, more(t, s, bootList[:ends[cut]]), verify(t, bootLog, bootList[:ends[cut]], bootTPM))
+		equal(t, []interface{}{s.State(), s.Offset()}, []interface{}{stateAfter(t, cut), uint64(ends[cut])})
+		equal(t, more(t, s, bootList[ends[cut]:]), verify(t, bootLog, bootList, bootTPM))
+		equal(t, s.Offset(), uint64(len(bootList)))
+	}
+}
+
+func TestListInManyParts(t *testing.T) {
+	s := session(t, bootLog, bootTPM, Require("sha256:0-10"))
+	for count := 1; count < len(ends); count++ {
+		verdict := more(t, s, bootList[ends[count-1]:ends[count]])
+		equal(t, []interface{}{verdict.Entries, verdict.Matches, s.Offset()}, []interface{}{uint64(count), count == 99, uint64(ends[count])})
+	}
+	for _, nothing := range [][]byte{nil, {}} {
+		equal(t, more(t, s, nothing), verifyRequired(t, bootLog, bootList, bootTPM, "sha256:0-10"))
+	}
+	equal(t, more(t, s, bootList[ends[98]:]), verifyRequired(t, bootLog, longer, bootTPM, "sha256:0-10"))
+}
+
+func TestAnotherSessionGoesOnFromTheState(t *testing.T) {
+	for _, cut := range cuts {
+		state := stateAfter(t, cut)
+		s := session(t, bootLog, tenthAfter(98), Resume(state))
+		equal(t, []interface{}{s.State(), s.Offset()}, []interface{}{state, uint64(ends[cut])})
+		equal(t, more(t, s, bootList[ends[cut]:]).Rows[10].State, StateDiffer)
+		later := session(t, bootLog, bootTPM, Resume(s.State()), Require("sha256:0-23"))
+		equal(t, more(t, later, nil), verifyRequired(t, bootLog, bootList, bootTPM, "sha256:0-23"))
+	}
+}
+
+func TestPartOfAListNeverMatchesWithoutTheState(t *testing.T) {
+	for _, cut := range cuts[1:] {
+		for _, options := range [][]Option{nil, {Prefix()}} {
+			verdict := more(t, session(t, bootLog, bootTPM, options...), bootList[ends[cut]:])
+			equal(t, []interface{}{verdict.Matches, verdict.BootAggregate, verdict.Confirmed}, []interface{}{false, AggregateMissing, uint64(0)})
+		}
+		verdict := more(t, session(t, bootLog, bootTPM, resumed(t, cut)...), bootList)
+		equal(t, []interface{}{verdict.Matches, verdict.Entries}, []interface{}{false, uint64(cut + 99)})
+	}
+}
+
+func TestRefusalsLeaveTheSessionAsItWas(t *testing.T) {
+	for _, cut := range cuts[:len(cuts)-1] {
+		s := session(t, bootLog, bootTPM, resumed(t, cut)...)
+		checkSessionRefuses(t, s, bootList[ends[cut]:len(bootList)-1], RefusedError{"refused: list fault 1 at entry 98", KindList, 1, 98, true})
+		data := forged(98)[ends[cut]:]
+		checkSessionRefuses(t, s, data, RefusedError{"refused: replay fault 1 at entry 98", KindReplay, 1, 98, true})
+		checkSessionRefuses(t, s, append(data, 'x'), RefusedError{"refused: list fault 1 at entry 99", KindList, 1, 99, true})
+		equal(t, more(t, s, bootList[ends[cut]:]).Matches, true)
+	}
+	cutLog := session(t, bootLog[:len(bootLog)-1], bootTPM)
+	checkSessionRefuses(t, cutLog, bootList, RefusedError{"refused: log fault 1 at event 24", KindLog, 1, 24, true})
+	wrongText := session(t, bootLog, append(clone(bootTPM), 'x'))
+	checkSessionRefuses(t, wrongText, bootList, RefusedError{"refused: expected fault 1 at line 25", KindExpected, 1, 25, true})
+}
+
+func TestInputsOfASessionAreCopied(t *testing.T) {
+	log, expected, state := clone(bootLog), clone(bootTPM), stateAfter(t, 50)
+	s := session(t, log, expected, Resume(state))
+	for _, data := range [][]byte{log, expected, state, s.State()} {
+		for k := range data {
+			data[k] = 0
+		}
+	}
+	equal(t, more(t, s, bootList[ends[50]:]).Matches, true)
+}
+
+func TestRequiredRegistersOfASession(t *testing.T) {
+	text := bootTPM[:bytes.LastIndex(bootTPM, []byte("sha256 23 "))]
+	for _, options := range [][]Option{{Require("sha256:0-23,sha1:10")}, {Prefix(), Require("sha256:0-23,sha1:10")}} {
+		s := session(t, bootLog, text, options...)
+		verdict := more(t, s, bootList)
+		missing := []Row{{SHA1, 10, StateMissing, nil}, {SHA256, 23, StateMissing, nil}}
+		equal(t, []interface{}{verdict.Matches, verdict.Compared(), verdict.Rows[23:], verdict.Confirmed}, []interface{}{false, 23, missing, uint64(0)})
+	}
+	_, err := NewSession(bootLog, bootTPM, Require(""))
+	equal(t, err, ErrMalformed)
+	for _, wrong := range []string{"sha256", "sha256:24", "sha256:10-0", "sha256:0-10,", " ", "\xff"} {
+		s := session(t, nil, []byte("x"), Require(wrong))
+		_, err := s.More(nil)
+		equal(t, []interface{}{err, s.State() == nil}, []interface{}{ErrMalformed, true})
+	}
+	for _, options := range [][]Option{nil, {Prefix()}} {
+		verdict := more(t, session(t, bootLog, nil, options...), bootList)
+		equal(t, []interface{}{verdict.Matches, verdict.Confirmed, len(verdict.Rows)}, []interface{}{false, uint64(0), 0})
+	}
+}
+
+func checkFront(t *testing.T, verdict Verdict, entries, confirmed int, unconfirmed *Unconfirmed) {
+	t.Helper()
+	equal(t, []interface{}{verdict.Matches, verdict.Entries, verdict.Confirmed, verdict.Unconfirmed},
+		[]interface{}{true, uint64(entries), uint64(confirmed), unconfirmed})
+	for _, row := range verdict.Rows {
+		equal(t, row.State, StateMatch)
+	}
+}
+
+func TestFrontThatTheRegistersConfirm(t *testing.T) {
+	for _, count := range []int{1, 2, 50, 97, 98, 99} {
+		s := session(t, bootLog, tenthAfter(count), Require("sha256:0-10"), Prefix())
+		checkFront(t, more(t, s, bootList), 99, count, nil)
+		equal(t, []interface{}{s.State(), s.Offset()}, []interface{}{stateAfter(t, count), uint64(ends[count])})
+	}
+	// (without register 10 nothing speaks for more than the boot aggregate)
+	without := bootTPM[:bytes.Index(bootTPM, []byte("sha256 10 "))]
+	checkFront(t, more(t, session(t, bootLog, without, Prefix()), bootList), 99, 1, nil)
+}
+
+func TestSessionGoesOnFromTheFront(t *testing.T) {
+	s := session(t, bootLog, tenthAfter(97), Prefix())
+	checkFront(t, more(t, s, bootList), 99, 97, nil)
+	later := session(t, bootLog, bootTPM, Prefix(), Resume(s.State()))
+	for k := 0; k < 2; k++ {
+		checkFront(t, more(t, later, longer[later.Offset():]), 100, 99, nil)
+		equal(t, later.Offset(), uint64(len(bootList)))
+	}
+	early := session(t, bootLog, tenthAfter(50), Prefix(), Resume(stateAfter(t, 97)))
+	equal(t, []interface{}{more(t, early, bootList[ends[97]:]).Matches, early.Offset()}, []interface{}{false, uint64(len(bootList))})
+}
+
+func TestDamageAfterTheFrontIsTold(t *testing.T) {
+	for _, damage := range []struct {
+		list    []byte
+		entries int
+		fault   RefusedError
+	}{
+		{forged(98), 99, RefusedError{"replay fault 1 at entry 98", KindReplay, 1, 98, true}},
+		{forged(97), 99, RefusedError{"replay fault 1 at entry 97", KindReplay, 1, 97, true}},
+		{bootList[:len(bootList)-1], 98, RefusedError{"list fault 1 at entry 98", KindList, 1, 98, true}},
+		{append(forged(97), 'x'), 99, RefusedError{"list fault 1 at entry 99", KindList, 1, 99, true}},
+		{append(clone(bootList), 24, 0, 0, 0), 99, RefusedError{"list fault 2 at entry 99", KindList, 2, 99, true}},
+	} {
+		fault := damage.fault
+		for _, cut := range []int{0, 1, 50, 97} {
+			s := session(t, bootLog, tenthAfter(97), append(resumed(t, cut), Prefix(), Require("sha256:10"))...)
+			wanted := Unconfirmed{"unconfirmed: " + fault.Line, fault.Kind, fault.Number, fault.Place}
+			checkFront(t, more(t, s, damage.list[ends[cut]:]), damage.entries, 97, &wanted)
+			equal(t, s.State(), stateAfter(t, 97))
+		}
+		fault.Line = "refused: " + fault.Line
+		checkSessionRefuses(t, session(t, bootLog, tenthAfter(97)), damage.list, fault)
+	}
+	for _, place := range []int{0, 5, 96} {
+		fault := RefusedError{fmt.Sprintf("refused: replay fault 1 at entry %d", place), KindReplay, 1, uint64(place), true}
+		checkSessionRefuses(t, session(t, bootLog, tenthAfter(97), Prefix()), forged(place), fault)
+	}
+}
+
+func TestListWithoutAFrontIsAsWithoutPrefix(t *testing.T) {
+	nowhere := []byte("sha256 10 " + strings.Repeat("1", 64))
+	for _, options := range [][]Option{nil, {Prefix()}} {
+		s := session(t, bootLog, nowhere, options...)
+		checkSessionRefuses(t, s, forged(5), RefusedError{"refused: replay fault 1 at entry 5", KindReplay, 1, 5, true})
+		checkSessionRefuses(t, s, bootList[:len(bootList)-1], RefusedError{"refused: list fault 1 at entry 98", KindList, 1, 98, true})
+		equal(t, more(t, s, bootList), verify(t, bootLog, bootList, nowhere))
+		equal(t, s.State(), stateAfter(t, 99))
+	}
+}
+
+func TestStateThatIsNotWholeIsRefused(t *testing.T) {
+	state := stateAfter(t, 50)
+	for _, size := range []int{0, 1, 21, 22, 23, 40, 100, len(state) / 2, len(state) - 1} {
+		checkNoState(t, state[:size], map[bool]uint64{true: 2, false: 1}[size == 21 || size == 22])
+	}
+	checkNoState(t, nil, 1)
+	replaced := func(old, new string) []byte {
+		changed := strings.Replace(string(state), old, new, 1)
+		equal(t, changed != string(state), true)
+		return []byte(changed)
+	}
+	for _, text := range [][]byte{{0}, []byte("\n"), bootList, bootTPM, append(clone(state), '\n'), append([]byte(" "), state...),
+		append(clone(state), state...), bytes.ToUpper(state), replaced("50\n", "50\r\n"), replaced("entries 50", "entries 51"),
+		replaced("entries 50", "entries -1"), sealed(replaced("entries 50", "entries 050")), sealed(replaced("entries 50", "entries ")),
+		sealed(replaced("entries 50", "entries 18446744073709551616")), sealed(replaced(fmt.Sprintf("bytes %d", ends[50]), "bytes 49")),
+		sealed(replaced(fmt.Sprintf("bytes %d", ends[50]), "bytes 9223372036854775808"))} {
+		checkNoState(t, text, 1)
+	}
+	for _, version := range []string{"0", "2", "10", "", "1 ", "1\r"} {
+		checkNoState(t, sealed(replaced("checkpoint 1\n", "checkpoint "+version+"\n")), 2)
+	}
+	for place := range state {
+		if place > 60 && place%97 != 0 {
+			continue
+		}
+		turned := clone(state)
+		turned[place] ^= 1
+		checkNoState(t, turned, map[bool]uint64{true: 2, false: 1}[place == 21 || place == 22])
+	}
+}
+
+func TestStateOfAnotherBootIsRefused(t *testing.T) {
+	digest, _ := hex.DecodeString("96a296d224f285c67bee93c30f8a309157f0daa35dc5b87e410b78630a09cfc7") // of its first event
+	other := clone(bootLog)
+	other[bytes.Index(other, digest)] ^= 1
+	s := session(t, other, bootTPM)
+	more(t, s, bootList)
+	checkNoState(t, s.State(), 3)
+	fault := RefusedError{Line: "refused: checkpoint fault 3", Kind: KindCheckpoint, Number: 3}
+	checkSessionRefuses(t, session(t, other, bootTPM, Resume(stateAfter(t, 99))), nil, fault)
+}
+
+func TestStateOfAnotherListGivesNoMatch(t *testing.T) {
+	foreign := session(t, bootLog, nil)
+	more(t, foreign, append(clone(bootList[:ends[50]]), bootList[ends[51]:ends[60]]...))
+	for _, cut := range []int{50, 51, 59, 60} {
+		for _, options := range [][]Option{{Resume(foreign.State())}, {Prefix(), Resume(foreign.State())}} {
+			equal(t, more(t, session(t, bootLog, bootTPM, options...), bootList[ends[cut]:]).Matches, false)
+		}
+	}
+	none := stateAfter(t, 0)
+	equal(t, bytes.Contains(none, []byte("\nentries 0\nbytes 0\nboot_aggregate none\n")), true)
+	equal(t, more(t, session(t, bootLog, bootTPM, Resume(none)), bootList).Matches, true)
+}
+
+func TestSecondCallHasRoomForBothTexts(t *testing.T) {
+	state, line := stateAfter(t, 99), verify(t, bootLog, bootList, bootTPM).JSON+"\n"
+	for _, rooms := range [][]int{{1, 1}, {1, 40000}, {40000, 1}, {len(state) - 1, len(line)}, {len(state), len(line) - 1},
+		{len(state), len(line)}, {40000, 40000}} {
+		calls := 0
+		given, texts, err := askForTexts(rooms, func(outs [][]byte, needed []length) int32 {
+			calls++
+			return callMore(bootLog, nil, bootList, bootTPM, nil, false, outs[0], &needed[0], outs[1], &needed[1])
+		})
+		equal(t, []interface{}{err, texts[0], string(given.text)}, []interface{}{nil, state, line})
+		equal(t, calls, map[bool]int{true: 2, false: 1}[rooms[0] < len(state) || rooms[1] < len(line)])
+	}
+}
+
+// Lines of the forms that docs/formats.md shows, of a state of 3 entries and 300 bytes.
+const (
+	stateText    = "ima-agent checkpoint 1\nentries 3\nbytes 300\nboot_aggregate none\n"
+	replayMember = `"unconfirmed":{"kind":"replay","number":1,"entry":4,"message":"unconfirmed: replay fault 1 at entry 4"},`
+	listMember   = `"unconfirmed":{"kind":"list","number":1,"entry":5,"message":"unconfirmed: list fault 1 at entry 5"},`
+)
+
+var (
+	front          = strings.Replace(report, `"entries":3,`, `"entries":5,"confirmed":3,`, 1)
+	frontAndReplay = strings.Replace(front, `"confirmed":3,`, `"confirmed":3,`+replayMember, 1)
+	frontAndList   = strings.Replace(front, `"confirmed":3,`, `"confirmed":3,`+listMember, 1)
+)
+
+// What a session makes of an answer to a call with so many bytes, whose texts have the sizes that are said, or their own.
+func (s *Session) given(size int, status int32, state, text string, sizes ...uint64) (Verdict, error) {
+	return s.more(size, func(outs [][]byte, needed []length) int32 {
+		for k, text := range []string{state, text} {
+			copy(outs[k], text)
+			needed[k] = length(len(text))
+			if len(sizes) > 0 {
+				needed[k] = length(sizes[k])
+			}
+		}
+		return status
+	})
+}
+
+// There is no verdict, and the session stays as it was, also if it has been used.
+func sessionError(t *testing.T, status int32, state, text string, hasFront bool, sizes ...uint64) error {
+	t.Helper()
+	var err error
+	for _, options := range [][]Option{nil, {Resume([]byte(stateText))}} {
+		s := session(t, nil, nil, options...)
+		s.prefix = hasFront
+		before := s.reached
+		var verdict Verdict
+		verdict, err = s.given(300-int(before.bytes), status, state, text, sizes...)
+		equal(t, []interface{}{verdict, s.reached}, []interface{}{Verdict{}, before})
+		if err == nil {
+			t.Errorf("no error for %q", text)
+		}
+	}
+	return err
+}
+
+func TestRightAnswersToSessionsAreRead(t *testing.T) {
+	for _, right := range []struct {
+		status    int32
+		text      string
+		hasFront  bool
+		confirmed uint64
+		fault     *Unconfirmed
+	}{
+		{done, report, false, 0, nil}, {differs, differing, false, 0, nil}, {differs, differing, true, 0, nil}, {done, front, true, 3, nil},
+		{done, frontAndReplay, true, 3, &Unconfirmed{"unconfirmed: replay fault 1 at entry 4", KindReplay, 1, 4}},
+		{done, frontAndList, true, 3, &Unconfirmed{"unconfirmed: list fault 1 at entry 5", KindList, 1, 5}},
+		{done, strings.Replace(report, `"entries":3,`, `"entries":3,"confirmed":3,`, 1), true, 3, nil},
+	} {
+		s := session(t, nil, nil)
+		s.prefix = right.hasFront
+		verdict, err := s.given(300, right.status, stateText, right.text)
+		equal(t, []interface{}{err, verdict.Matches, verdict.Confirmed, verdict.Unconfirmed},
+			[]interface{}{nil, right.status == done, right.confirmed, right.fault})
+		equal(t, []interface{}{string(s.State()), s.Offset()}, []interface{}{stateText, uint64(300)})
+	}
+}
+
+func TestFrontThatCannotBeIsNone(t *testing.T) {
+	read := func(status int32, text string) error { return sessionError(t, status, stateText, text, true) }
+	checkChanges(t, read, done, front, [][2]string{
+		{`"confirmed":3`, `"confirmed":6`}, {`"confirmed":3`, `"confirmed":0`}, {`"confirmed":3`, `"confirmed":-3`},
+		{`"confirmed":3`, `"confirmed":3.5`}, {`"confirmed":3`, `"confirmed":"3"`}, {`"confirmed":3`, `"confirmed":true`},
+		{`"confirmed":3`, `"confirmed":null`}, {`"confirmed":3`, `"confirmed":4`}, {`"confirmed":3`, `"confirmed":2`}, {`"confirmed":3,`, ``},
+		{`"confirmed":3,`, replayMember}, {`"entries":5`, `"entries":2`}, {`"verdict":"match"`, `"verdict":"differ"`}, {`"good"`, `"wrong"`},
+		{`"state":"match"`, `"state":"missing"`},
+	})
+	checkUnexpected(t, read(differs, front), front)
+	checkUnexpected(t, read(done, report), report) // (a whole list that matches has a front, too)
+	for _, told := range []string{`"confirmed":3,`, `"confirmed":3,` + replayMember, replayMember, `"confirmed":null,`, `"unconfirmed":null,`} {
+		for _, entries := range []string{`"entries":3,`, `"entries":5,`} {
+			text := strings.Replace(differing, `"entries":3,`, entries+told, 1)
+			checkUnexpected(t, read(differs, text), text)
+			checkUnexpected(t, sessionError(t, differs, stateText, text, false), text)
+			checkUnexpected(t, readVerdict(differs, text), text)
+		}
+	}
+	for _, text := range []string{front, frontAndReplay, strings.Replace(report, `"entries":3,`, `"entries":3,"confirmed":3,`, 1)} {
+		checkUnexpected(t, sessionError(t, done, stateText, text, false), text)
+		checkUnexpected(t, readVerdict(done, text), text)
+	}
+}
+
+func TestFaultAfterTheFrontThatCannotBeIsNone(t *testing.T) {
+	read := func(status int32, text string) error { return sessionError(t, status, stateText, text, true) }
+	checkChanges(t, read, done, frontAndReplay, [][2]string{
+		{`"entry":4`, `"entry":3`}, {`y 4"`, `y 3"`}, {`"entry":4,`, ``}, {`"number":1`, `"number":2`}, {`"number":1`, `"number":"1"`},
+		{`"number":1,`, ``}, {`"kind":"replay"`, `"kind":"list"`}, {`"kind":"replay",`, ``}, {`unconfirmed: `, `refused: `},
+		{`unconfirmed: `, ``}, {`unconfirmed: `, `unconfirmed: refused: `}, {` 1 at`, ` 01 at`}, {`"message"`, `"line"`},
+		{`"entries":5`, `"entries":4`}, {`"entry":4`, `"event":4`},
+		{`"entry":4,"message":"unconfirmed: replay fault 1 at entry 4"`, `"entry":2,"message":"unconfirmed: replay fault 1 at entry 2"`},
+		{replayMember, `"unconfirmed":null,`}, {replayMember, `"unconfirmed":[],`}, {replayMember, `"unconfirmed":{},`},
+		{replayMember, `"unconfirmed":"unconfirmed: replay fault 1 at entry 4",`},
+		{replayMember, `"unconfirmed":{"kind":"checkpoint","number":3,"message":"unconfirmed: checkpoint fault 3"},`},
+		{replayMember, `"unconfirmed":{"kind":"log","number":1,"event":4,"message":"unconfirmed: log fault 1 at event 4"},`},
+		{replayMember, `"unconfirmed":{"kind":"command_line","message":"unconfirmed: command line"},`},
+		{replayMember, `"unconfirmed":{"kind":"memory","message":"failed: memory"},`},
+	})
+	checkChanges(t, read, done, frontAndList, [][2]string{{`"entries":5`, `"entries":6`}, {`"entries":5`, `"entries":4`}})
+}
+
+func TestStateThatIsNotThatOfTheReportIsNone(t *testing.T) {
+	for _, change := range [][2]string{
+		{stateText, ""}, {stateText, "x"}, {"ima", "im"}, {"entries 3", "entries 4"}, {"entries 3", "entries 2"}, {"entries 3", "entries 03"},
+		{"bytes 300", "bytes 301"}, {"checkpoint 1", "checkpoint 2"}, {"bytes 300\n", ""},
+	} {
+		state := strings.Replace(stateText, change[0], change[1], 1)
+		checkUnexpected(t, sessionError(t, done, state, report, false), report)
+		checkUnexpected(t, sessionError(t, differs, state, differing, false), differing)
+		checkUnexpected(t, sessionError(t, done, state, front, true), front)
+	}
+	less := strings.Replace(stateText, "300", "299", 1)
+	checkUnexpected(t, sessionError(t, done, less, report, false), report)
+	s := session(t, nil, nil, Prefix())
+	verdict, err := s.given(300, done, less, front) // (the front's end may be anywhere)
+	equal(t, []interface{}{verdict.Confirmed, err, s.Offset()}, []interface{}{uint64(3), nil, uint64(299)})
+	_, err = session(t, nil, nil, Prefix(), Resume([]byte(stateText))).given(0, done, less, front)
+	checkUnexpected(t, err, front)
+	later := strings.NewReplacer("entries 3", "entries 4", "300", "400").Replace(stateText)
+	for _, text := range []string{report, front} {
+		s := session(t, nil, nil, Resume([]byte(later)))
+		s.prefix = text == front
+		_, err := s.given(0, done, strings.Replace(stateText, "300", "400", 1), text)
+		checkUnexpected(t, err, text)
+	}
+}
+
+func TestFailuresLeaveTheSessionAsItWas(t *testing.T) {
+	for _, wrong := range []answer{of(done, ""), of(done, "{}\n"), of(done, report[:len(report)-1]), of(differs, report), of(done, differing),
+		of(refused, report), of(outOfMemory, report), of(tooShort, report), of(5, report), of(-1, report), of(done, listFault),
+		of(refused, memoryFault), of(outOfMemory, listFault), of(refused, malformed)} {
+		checkUnexpected(t, sessionError(t, wrong.status, stateText, string(wrong.text), false), string(wrong.text))
+	}
+	fault := `{"fault":{"kind":"checkpoint","number":3,"message":"refused: checkpoint fault 3"}}` + "\n"
+	wanted := RefusedError{Line: "refused: checkpoint fault 3", Kind: KindCheckpoint, Number: 3}
+	checkRefused(t, sessionError(t, refused, "", fault, false), wanted)
+	equal(t, sessionError(t, outOfMemory, "", memoryFault, false), ErrOutOfMemory)
+	for _, sizes := range [][]uint64{{unset, unset}, {unset, 100}, {64, unset}, {room + 1, 100}, {64, room + 1}, {1 << 62, 100}} {
+		for _, status := range []int32{done, differs, refused, tooShort} {
+			checkUnexpected(t, sessionError(t, status, stateText, report, false, sizes...), report)
+		}
+	}
+}

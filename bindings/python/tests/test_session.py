@@ -1,0 +1,541 @@
+"""Sessions on the sample's list as it grows, and how they take whatever a library may answer.
+
+From bindings/python: IMA_VERIFY_LIBRARY=/path/to/libima_verify.so python3 -m unittest discover tests"""
+
+import contextlib
+import copy
+import ctypes
+import hashlib
+import io
+import pickle
+import sys
+import unittest
+import unittest.mock
+from pathlib import Path
+
+ROOT = Path(__file__).resolve().parents[3]
+sys.path[:0] = [str(ROOT / "bindings/python"), str(ROOT / "bench")]
+
+import ima_verify
+import inputs
+from ima_verify import Algorithm, BootAggregate, Kind, Row, Session, State, Unconfirmed, _answers, _library
+from reference.measurement_list import read_list
+from reference.registers import ALGORITHMS, SHA256
+
+LOG, LIST, EXPECTED = ((ROOT / "samples/real-boot" / name).read_bytes() for name in ("firmware.log", "ima.list", "expected.txt"))
+ENTRIES = read_list(LIST)
+# Where each entry starts, and where the last ends.
+ENDS = [sum(len(entry.spelling()) for entry in ENTRIES[:count]) for count in range(len(ENTRIES) + 1)]
+CUTS = 0, 1, 2, 50, 97, 98, 99
+LONGER = LIST + LIST[ENDS[98]:]
+OTHER_LOG = inputs.made_log([SHA256], 24).spelling()
+
+STATE = b"ima-agent checkpoint 1\nentries 3\nbytes 300\nboot_aggregate none\n"
+REPORT = (b'{"events":1,"locality":0,"entries":3,"boot_aggregate":"good",'
+          b'"registers":[{"bank":"sha256","register":10,"state":"match"}],"verdict":"match"}\n')
+DIFFERING = REPORT.replace(b'"match"}\n', b'"differ"}\n').replace(b'"good"', b'"wrong"')
+FRONT = REPORT.replace(b'"entries":3,', b'"entries":5,"confirmed":3,')
+TOLD = (b'"confirmed":3,"unconfirmed":{"kind":"replay","number":1,"entry":4,"message":"unconfirmed: replay fault 1 at entry 4"},')
+FRONT_WITH_FAULT = FRONT.replace(b'"confirmed":3,', TOLD)
+FRONT_OF_CUT_LIST = FRONT.replace(b'"confirmed":3,', TOLD.replace(b"replay", b"list").replace(b'"entry":4', b'"entry":5').replace(b"y 4", b"y 5"))
+START = _answers.START
+MEMORY = b'{"fault":{"kind":"memory","message":"failed: memory"}}\n'
+FAULT = b'{"fault":{"kind":"checkpoint","number":3,"message":"refused: checkpoint fault 3"}}\n'
+
+
+def tenth_after(count):
+    """The expected registers of the sample, with register 10 as it is after so many entries."""
+    value = bytes(32)
+    for entry in ENTRIES[:count]:
+        value = hashlib.sha256(value + entry.digest_of(SHA256)).digest()
+    lines = EXPECTED.splitlines(True)
+    return b"".join([*lines[:10], f"sha256 10 {value.hex()}\n".encode(), *lines[11:]])
+
+
+def changed(place):
+    """The list with one bit of the template digest of an entry turned, so that it is not genuine."""
+    at = ENDS[place] + 4
+    return LIST[:at] + bytes([LIST[at] ^ 1]) + LIST[at + 1:]
+
+
+def state_after(count, log=LOG, data=LIST):
+    session = Session(log, "")
+    session.more(data[:ENDS[count]])
+    return session.state
+
+
+def sealed(text):
+    """A text of a checkpoint with a last line that has the hash of what stands before it."""
+    body = text[:text.rindex(b"sha256 ")]
+    return body + f"sha256 {hashlib.sha256(body).hexdigest()}\n".encode()
+
+
+class Refusing(unittest.TestCase):
+    def check_refused(self, session, data, kind, number, place, line):
+        """The data is refused, and the session stays as it was."""
+        before = session.state, session.offset
+        with self.assertRaises(ima_verify.Refused) as caught:
+            session.more(data)
+        found = caught.exception
+        self.assertEqual((found.kind, found.number, found.place, found.line), (kind, number, place, line))
+        self.assertEqual((session.state, session.offset), before)
+
+    def check_no_state(self, state, number):
+        """No session goes on from this state, whether that is known at once or only by the library."""
+        with self.assertRaises(ima_verify.Refused) as caught:
+            Session(LOG, EXPECTED, state=state).more(LIST)
+        found = caught.exception
+        wanted = Kind.CHECKPOINT, number, None, f"refused: checkpoint fault {number}"
+        self.assertEqual((found.kind, found.number, found.place, found.line), wanted)
+
+
+class Growing(Refusing):
+    """The list in parts."""
+
+    def test_sample_is_consistent(self):
+        self.assertEqual((ENDS[-1], tenth_after(99)), (len(LIST), EXPECTED))
+
+    def test_list_in_two_parts_is_as_the_whole(self):
+        whole = ima_verify.verify(LOG, LIST, EXPECTED)
+        for cut in CUTS:
+            session = Session(LOG, EXPECTED)
+            self.assertEqual((session.state, session.offset), (None, 0))
+            first = session.more(LIST[:ENDS[cut]])
+            self.assertEqual((first.entries, first.matches, bool(first)), (cut, cut == 99, cut == 99))
+            self.assertEqual(first, ima_verify.verify(LOG, LIST[:ENDS[cut]], EXPECTED))
+            self.assertEqual((session.offset, session.state.splitlines()[1]), (ENDS[cut], b"entries %d" % cut))
+            self.assertEqual(session.more(LIST[ENDS[cut]:]), whole)
+            self.assertEqual(session.offset, len(LIST))
+            self.assertEqual((whole.confirmed, whole.unconfirmed), (None, None))
+
+    def test_list_in_many_parts(self):
+        session, required = Session(LOG, EXPECTED, require="sha256:0-10"), []
+        for count, (start, end) in enumerate(zip(ENDS, ENDS[1:]), 1):
+            verdict = session.more(memoryview(LIST)[start:end])
+            self.assertEqual((verdict.entries, session.offset), (count, end))
+            required.append(verdict.matches)
+        self.assertEqual(required, 98 * [False] + [True])
+        self.assertEqual(verdict, ima_verify.verify(LOG, LIST, EXPECTED, require="sha256:0-10"))
+        self.assertEqual(session.more(b""), verdict)
+        self.assertEqual(session.more(bytearray(LIST[ENDS[98]:])), ima_verify.verify(LOG, LONGER, EXPECTED, require="sha256:0-10"))
+
+    def test_state_is_the_same_however_the_list_came(self):
+        session = Session(LOG, EXPECTED)
+        for start, end in zip(CUTS, CUTS[1:]):
+            session.more(LIST[ENDS[start]:ENDS[end]])
+            self.assertEqual(session.state, state_after(end))
+
+    def test_another_session_goes_on_from_the_state(self):
+        for cut in CUTS:
+            for form in (bytes, bytearray, memoryview):
+                session = Session(LOG, tenth_after(98), state=form(state_after(cut)))
+                self.assertEqual((session.offset, session.state), (ENDS[cut], state_after(cut)))
+                verdict = session.more(LIST[ENDS[cut]:])
+                self.assertEqual((verdict.entries, verdict.rows[10].state), (99, State.DIFFER))
+                later = Session(LOG, EXPECTED.decode(), state=session.state, require=b"sha256:0-23")
+                self.assertEqual(later.more(b""), ima_verify.verify(LOG, LIST, EXPECTED, require="sha256:0-23"))
+
+    def test_nothing_new_gives_the_verdict_again(self):
+        for cut in CUTS:
+            session = Session(LOG, tenth_after(cut), state=state_after(cut))
+            verdict = session.more(b"")
+            self.assertEqual((verdict.entries, verdict.matches), (cut, cut > 0))
+            self.assertEqual(session.state, state_after(cut))
+
+    def test_part_of_a_list_never_matches_without_the_state(self):
+        for cut in CUTS[1:]:
+            verdict = Session(LOG, EXPECTED, state=None).more(LIST[ENDS[cut]:])
+            self.assertEqual((verdict.matches, verdict.boot_aggregate), (False, BootAggregate.MISSING))
+            front = Session(LOG, EXPECTED, prefix=True).more(LIST[ENDS[cut]:])
+            self.assertEqual((front.matches, front.confirmed), (False, None))
+
+    def test_what_came_before_is_not_taken_twice(self):
+        for cut in CUTS[1:]:
+            verdict = Session(LOG, EXPECTED, state=state_after(cut)).more(LIST)
+            self.assertEqual((verdict.matches, verdict.entries), (False, cut + 99))
+
+    def test_refusals_leave_the_session_as_it_was(self):
+        for cut in CUTS[:-1]:
+            session = Session(LOG, EXPECTED, state=state_after(cut) if cut else None)
+            self.check_refused(session, LIST[ENDS[cut]:-1], Kind.LIST, 1, 98, "refused: list fault 1 at entry 98")
+            data = changed(98)[ENDS[cut]:]
+            self.check_refused(session, data, Kind.REPLAY, 1, 98, "refused: replay fault 1 at entry 98")
+            self.check_refused(session, data + b"x", Kind.LIST, 1, 99, "refused: list fault 1 at entry 99")
+            self.assertTrue(session.more(LIST[ENDS[cut]:]))
+
+    def test_inputs_of_the_session_are_refused_as_by_verify(self):
+        line = "refused: log fault 1 at event 24"
+        self.check_refused(Session(LOG[:-1], EXPECTED), LIST, Kind.LOG, 1, 24, line)
+        self.check_refused(Session(LOG, EXPECTED + b"x"), LIST, Kind.EXPECTED, 1, 25, "refused: expected fault 1 at line 25")
+
+    def test_inputs_are_copied(self):
+        log, expected, state = bytearray(LOG), bytearray(EXPECTED), bytearray(state_after(50))
+        session = Session(log, expected, state=state)
+        log[:], expected[:], state[:] = b"", b"x", b""
+        self.assertTrue(session.more(LIST[ENDS[50]:]))
+
+    def test_other_types_are_no_inputs(self):
+        for wrong in (None, 5, [10, 0], "x"):
+            self.assertRaises(TypeError, Session, wrong, EXPECTED)
+            self.assertRaises(TypeError, Session(LOG, EXPECTED).more, wrong)
+            if wrong is not None:
+                self.assertRaises(TypeError, Session, LOG, EXPECTED, state=wrong)
+        for wrong in (None, 5):
+            self.assertRaises(TypeError, Session, LOG, wrong)
+        for wrong in (None, 0, 1, "", "yes", b"x"):
+            self.assertRaises(TypeError, Session, LOG, EXPECTED, prefix=wrong)
+
+    def test_session_is_copied_and_pickled_with_its_state(self):
+        session = Session(LOG, EXPECTED, require="sha256:10", prefix=True)
+        session.more(LIST[:ENDS[50]])
+        for again in (copy.copy(session), copy.deepcopy(session), pickle.loads(pickle.dumps(session))):
+            self.assertEqual((again.state, again.offset), (session.state, ENDS[50]))
+            self.assertEqual(again.more(LIST[ENDS[50]:]).confirmed, 99)
+        self.assertEqual(session.offset, ENDS[50])
+
+
+class Required(Refusing):
+    """Registers that the verdicts of a session must cover."""
+
+    def test_required_register_that_is_not_expected_is_missing(self):
+        text = b"".join(EXPECTED.splitlines(True)[:23])
+        for prefix in (False, True):
+            session = Session(LOG, text, require="sha256:0-23,sha1:10", prefix=prefix)
+            verdict = session.more(LIST)
+            missing = [(row.algorithm, row.register) for row in verdict.rows if row.state is State.MISSING]
+            self.assertEqual(missing, [(Algorithm.SHA1, 10), (Algorithm.SHA256, 23)])
+            self.assertEqual((verdict.matches, verdict.compared, verdict.confirmed, session.offset), (False, 23, None, len(LIST)))
+
+    def test_requirement_is_given_and_of_its_form(self):
+        for wrong in ("", b"", bytearray(), memoryview(b"")):
+            with self.assertRaisesRegex(ValueError, "^not of its form: "):
+                Session(LOG, EXPECTED, require=wrong)
+        for wrong in ("sha256", "sha256:24", "sha256:10-0", "sha256:0-10,", " ", "none", "\u00e4", "\ud800", b"\xff"):
+            session = Session(b"", "x", require=wrong)
+            with self.assertRaises(ValueError) as caught:
+                session.more(b"x")
+            self.assertEqual((str(caught.exception), session.state), (f"not of its form: {wrong!r}", None))
+        for wrong in (None, 5, 0, False, ["sha256:10"]):
+            self.assertRaises(TypeError, Session, LOG, EXPECTED, require=wrong)
+
+    def test_verdict_on_no_registers_is_no_match(self):
+        for prefix in (False, True):
+            verdict = Session(LOG, "", prefix=prefix).more(LIST)
+            self.assertEqual((verdict.matches, verdict.confirmed, verdict.rows, bool(verdict)), (False, None, (), False))
+
+
+class Front(Refusing):
+    """Lists that go on after the registers were read."""
+
+    def check_front(self, verdict, entries, confirmed, unconfirmed=None):
+        self.assertEqual((verdict.matches, verdict.entries, verdict.confirmed, verdict.unconfirmed), (True, entries, confirmed, unconfirmed))
+        self.assertEqual({row.state for row in verdict.rows}, {State.MATCH})
+
+    def test_front_that_the_registers_confirm(self):
+        for count in (1, 2, 50, 97, 98, 99):
+            session = Session(LOG, tenth_after(count), require="sha256:0-10", prefix=True)
+            self.check_front(session.more(LIST), 99, count)
+            self.assertEqual((session.offset, session.state), (ENDS[count], state_after(count)))
+
+    def test_front_is_the_shortest(self):
+        # (without register 10 nothing speaks for more than the boot aggregate)
+        without = b"".join(EXPECTED.splitlines(True)[:10])
+        session = Session(LOG, without, prefix=True)
+        self.check_front(session.more(LIST), 99, 1)
+
+    def test_session_goes_on_from_the_front(self):
+        session = Session(LOG, tenth_after(97), prefix=True)
+        self.check_front(session.more(LIST), 99, 97)
+        later = Session(LOG, EXPECTED, prefix=True, state=session.state)
+        self.check_front(later.more(LONGER[session.offset:]), 100, 99)
+        self.assertEqual(later.offset, len(LIST))
+        self.check_front(later.more(LONGER[later.offset:]), 100, 99)
+        self.assertEqual(later.offset, len(LIST))
+
+    def test_damage_after_the_front_is_told(self):
+        data = tenth_after(97)
+        for listed, entries, kind, number, place in (
+            (changed(98), 99, Kind.REPLAY, 1, 98), (changed(97), 99, Kind.REPLAY, 1, 97), (LIST[:-1], 98, Kind.LIST, 1, 98),
+            (changed(97) + b"x", 99, Kind.LIST, 1, 99), (LIST + (24).to_bytes(4, "little"), 99, Kind.LIST, 2, 99),
+        ):
+            fault = Unconfirmed(f"unconfirmed: {kind.value} fault {number} at entry {place}", kind, number, place)
+            for cut in (0, 1, 50, 97):
+                session = Session(LOG, data, require="sha256:10", prefix=True, state=state_after(cut) if cut else None)
+                self.check_front(session.more(listed[ENDS[cut]:]), entries, 97, fault)
+                self.assertEqual((session.offset, session.state), (ENDS[97], state_after(97)))
+            line = fault.line.replace("unconfirmed", "refused")
+            self.check_refused(Session(LOG, data, require="sha256:10"), listed, kind, number, place, line)
+
+    def test_list_without_a_front_is_as_without_prefix(self):
+        for prefix in (False, True):
+            session = Session(LOG, f"sha256 10 {64 * '1'}", prefix=prefix)
+            self.check_refused(session, changed(5), Kind.REPLAY, 1, 5, "refused: replay fault 1 at entry 5")
+            self.check_refused(session, LIST[:-1], Kind.LIST, 1, 98, "refused: list fault 1 at entry 98")
+            verdict = session.more(LIST)
+            self.assertEqual((verdict.matches, verdict.entries, verdict.confirmed, verdict.unconfirmed), (False, 99, None, None))
+            self.assertEqual(session.state, state_after(99))
+
+    def test_front_never_has_fewer_entries_than_the_state(self):
+        session = Session(LOG, tenth_after(50), prefix=True, state=state_after(97))
+        self.assertEqual((bool(session.more(LIST[ENDS[97]:])), session.offset), (False, len(LIST)))
+
+    def test_fault_within_the_front_is_refused(self):
+        for place in (0, 5, 96):
+            line = f"refused: replay fault 1 at entry {place}"
+            self.check_refused(Session(LOG, tenth_after(97), prefix=True), changed(place), Kind.REPLAY, 1, place, line)
+
+
+class Page(unittest.TestCase):
+    """The function of README.md."""
+
+    def judge(self, *words):
+        page = (ROOT / "bindings/python/README.md").read_text()
+        program, said = {"ima_verify": ima_verify}, io.StringIO()
+        exec(page.split("```python\n")[2].split("```")[0], program)
+        with contextlib.redirect_stdout(said):
+            verdict, state = program["judge"](LOG, *words)
+        return verdict.matches, state, said.getvalue()
+
+    def test_list_is_judged_as_it_grows(self):
+        wanted = True, state_after(50), "50 of 60 entries are confirmed \n"
+        self.assertEqual(self.judge(tenth_after(50), None, lambda start: LIST[start:ENDS[60]]), wanted)
+        self.assertEqual(self.judge(tenth_after(60), wanted[1], lambda start: changed(61)[start:])[:2], (True, state_after(60)))
+        self.assertEqual(self.judge(EXPECTED, wanted[1], lambda start: LIST[start:ENDS[98]]), (False, wanted[1], ""))
+
+
+class States(Refusing):
+    """States that are not those of the list."""
+
+    def test_state_that_is_not_whole_is_refused(self):
+        state = state_after(50)
+        for size in (0, 1, 21, 22, 23, 40, 100, len(state) // 2, len(state) - 1):
+            self.check_no_state(state[:size], 2 if size in (21, 22) else 1)
+        for text in (b"", bytearray(), memoryview(b""), b"\0", b"\n", LIST, EXPECTED, state + b"\n", b" " + state, state + state, state.upper(),
+                     state.replace(b"0\n", b"0\r\n"), state.replace(b"entries 50", b"entries 050"), state.replace(b"entries 50", b"entries 51"),
+                     state.replace(b"entries 50", b"entries -1")):
+            self.check_no_state(text, 1)
+
+    def test_state_with_a_bit_turned_is_refused(self):
+        state = state_after(50)
+        for place in [*range(60), *range(60, len(state), 97), len(state) - 1]:
+            text = state[:place] + bytes([state[place] ^ 1]) + state[place + 1:]
+            self.check_no_state(text, 2 if place in (21, 22) else 1)
+
+    def test_state_of_another_version_is_refused(self):
+        state = state_after(50)
+        for version in (b"0", b"2", b"10", b"", b"1 ", b"1\r"):
+            self.check_no_state(sealed(state.replace(b"checkpoint 1\n", b"checkpoint %b\n" % version)), 2)
+
+    def test_counts_that_cannot_be_are_refused(self):
+        state = state_after(50)
+        for old, new in ((b"bytes %d" % ENDS[50], b"bytes 49"), (b"bytes %d" % ENDS[50], b"bytes 9223372036854775808"),
+                         (b"entries 50", b"entries 18446744073709551616"), (b"bytes ", b"bytes 0"), (b"entries 50", b"entries ")):
+            self.assertIn(old, state)
+            self.check_no_state(sealed(state.replace(old, new, 1)), 1)
+
+    def test_state_of_another_boot_is_refused(self):
+        other = Session(OTHER_LOG, "")
+        other.more(LIST)
+        self.check_no_state(other.state, 3)
+        session = Session(OTHER_LOG, EXPECTED, state=state_after(99))
+        self.check_refused(session, b"", Kind.CHECKPOINT, 3, None, "refused: checkpoint fault 3")
+
+    def test_state_of_another_list_gives_no_match(self):
+        foreign = Session(LOG, "")
+        foreign.more(LIST[:ENDS[50]] + LIST[ENDS[51]:ENDS[60]])
+        for cut in (50, 51, 59, 60):
+            for prefix in (False, True):
+                session = Session(LOG, EXPECTED, prefix=prefix, state=foreign.state)
+                self.assertFalse(session.more(LIST[ENDS[cut]:]))
+
+    def test_state_of_no_entries_is_one(self):
+        state = state_after(0)
+        self.assertIn(b"\nentries 0\nbytes 0\nboot_aggregate none\n", state)
+        self.assertTrue(Session(LOG, EXPECTED, state=state).more(LIST))
+
+
+class Buffers(unittest.TestCase):
+    """A report and a state, of which each may be longer than its buffer."""
+
+    INPUTS = LOG, b"", LIST, EXPECTED, b"sha256:10"
+
+    def ask(self, rooms, switches=(False,), inputs=INPUTS):
+        function, sizes = ima_verify._LIBRARY.ima_verify_more_json, []
+
+        def called(*words):
+            sizes.append((words[-5], words[-2]))
+            return function(*words)
+
+        return *_library.ask_for_texts(called, inputs, switches, rooms), sizes
+
+    def test_second_call_has_room_for_both(self):
+        state, report = state_after(99), ima_verify.verify(LOG, LIST, EXPECTED, require="sha256:10").json.encode() + b"\n"
+        for rooms in ((1, 1), (1, 40_000), (40_000, 1), (len(state) - 1, len(report)), (len(state), len(report) - 1)):
+            wanted = [rooms, (max(len(state), rooms[0]), max(len(report), rooms[1]))]
+            self.assertEqual(self.ask(rooms), (0, [state, report], wanted))
+        for rooms in ((len(state), len(report)), (40_000, 40_000)):
+            self.assertEqual(self.ask(rooms), (0, [state, report], [rooms]))
+
+    def test_refusal_longer_than_its_buffer(self):
+        line = b'{"fault":{"kind":"checkpoint","number":1,"message":"refused: checkpoint fault 1"}}\n'
+        status, texts, sizes = self.ask((5, 5), inputs=(LOG, b"x", *self.INPUTS[2:]))
+        self.assertEqual((status, texts, sizes), (2, [b"", line], [(5, 5), (5, len(line))]))
+
+    def test_first_buffers_are_large_enough(self):
+        four = inputs.made_log(ALGORITHMS, 24).spelling()
+        every_register = "".join(f"{bank.value} {number} {2 * bank.digest_size * '1'}\n" for bank in Algorithm for number in range(24)).encode()
+        _, (state, report), sizes = self.ask((ima_verify._ROOM, ima_verify._ROOM), inputs=(four, b"", LIST, every_register, b""))
+        self.assertEqual(len(sizes), 1)
+        self.assertLess(len(state), ima_verify._ROOM)
+        self.assertGreater(len(state), 4 * len(state_after(99)))
+        self.assertGreater(len(report), 10_000)
+
+
+def answering(status, state, text, needed=None):
+    """A function in place of the library's that gives this, whatever it is asked."""
+    def function(*words):
+        for data, (out, room, size), told in zip((state, text), (words[-6:-3], words[-3:]), needed or (len(state), len(text))):
+            buffer = (ctypes.c_char * room).from_address(ctypes.addressof(out._obj))
+            buffer[:min(len(data), room)] = data[:room]
+            if told is not None:
+                size._obj.value = told
+        return status
+
+    return unittest.mock.patch.object(ima_verify._LIBRARY, "ima_verify_more_json", function)
+
+
+class Answers(unittest.TestCase):
+    """What a library may answer a session, and what not."""
+
+    def check_right(self, status, text, has_front, *wanted):
+        with answering(status, STATE, text):
+            session = Session(b"", b"", prefix=has_front)
+            verdict = session.more(300 * b"x")
+        self.assertEqual((verdict.matches, verdict.entries, verdict.confirmed, verdict.unconfirmed), wanted)
+        self.assertEqual((session.state, session.offset), (STATE, 300))
+
+    def check_wrong(self, status, text, has_front=False, state=STATE, size=300, needed=None, error=ima_verify.LibraryError):
+        """There is no verdict, and the session stays as it was, also if it has been used."""
+        for earlier in (None, STATE):
+            with answering(status, state, text, needed):
+                session = Session(b"", b"", prefix=has_front, state=earlier)
+                with self.assertRaises(error, msg=f"{status} {text!r} {state!r}"):
+                    session.more((size - (300 if earlier else 0)) * b"x")
+            self.assertEqual((session.state, session.offset), (earlier, 300 if earlier else 0))
+
+    def test_right_answers_are_read(self):
+        self.check_right(0, REPORT, False, True, 3, None, None)
+        self.check_right(1, DIFFERING, False, False, 3, None, None)
+        self.check_right(1, DIFFERING, True, False, 3, None, None)
+        self.check_right(0, FRONT, True, True, 5, 3, None)
+        fault = Unconfirmed("unconfirmed: replay fault 1 at entry 4", Kind.REPLAY, 1, 4)
+        self.check_right(0, FRONT_WITH_FAULT, True, True, 5, 3, fault)
+        fault = Unconfirmed("unconfirmed: list fault 1 at entry 5", Kind.LIST, 1, 5)
+        self.check_right(0, FRONT_OF_CUT_LIST, True, True, 5, 3, fault)
+
+    def test_front_that_cannot_be_is_none(self):
+        for old, new in (
+            (b'"confirmed":3', b'"confirmed":6'), (b'"confirmed":3', b'"confirmed":0'), (b'"confirmed":3', b'"confirmed":-3'),
+            (b'"confirmed":3', b'"confirmed":3.0'), (b'"confirmed":3', b'"confirmed":"3"'), (b'"confirmed":3', b'"confirmed":true'),
+            (b'"confirmed":3', b'"confirmed":null'), (b'"confirmed":3', b'"confirmed":4'), (b'"confirmed":3', b'"confirmed":2'),
+            (b'"confirmed":3,', b""), (b'"confirmed":3', b'"unconfirmed":3'), (b'"confirmed":3,', TOLD[len(b'"confirmed":3,'):]),
+            (b'"entries":5', b'"entries":2'), (b'"verdict":"match"', b'"verdict":"differ"'), (b'"good"', b'"wrong"'),
+            (b'"state":"match"', b'"state":"missing"'),
+        ):
+            self.assertIn(old, FRONT)
+            self.check_wrong(0, FRONT.replace(old, new, 1), True)
+        self.check_wrong(1, FRONT, True)
+        # A report of a whole list that matches has a front, too.
+        self.check_wrong(0, REPORT, True)
+        self.check_right(0, REPORT.replace(b'"entries":3,', b'"entries":3,"confirmed":3,'), True, True, 3, 3, None)
+
+    def test_differing_report_has_no_front(self):
+        for told in (b'"confirmed":3,', TOLD, TOLD[len(b'"confirmed":3,'):], b'"confirmed":null,', b'"unconfirmed":null,'):
+            for has_front in (False, True):
+                self.check_wrong(1, DIFFERING.replace(b'"entries":3,', b'"entries":5,' + told), has_front)
+                self.check_wrong(1, DIFFERING.replace(b'"entries":3,', b'"entries":3,' + told), has_front)
+
+    def test_front_that_was_not_asked_for_is_none(self):
+        for text in (FRONT, FRONT_WITH_FAULT, REPORT.replace(b'"entries":3,', b'"entries":3,"confirmed":3,')):
+            self.check_wrong(0, text, False)
+            self.assertRaises(ima_verify.LibraryError, _answers.read_verdict, 0, text)
+
+    def test_fault_after_the_front_that_cannot_be_is_none(self):
+        for text, old, new in (
+            (FRONT_WITH_FAULT, b'"entry":4', b'"entry":3'), (FRONT_WITH_FAULT, b"y 4", b"y 3"), (FRONT_WITH_FAULT, b'"entry":4,', b""),
+            (FRONT_WITH_FAULT, b'"number":1', b'"number":2'), (FRONT_WITH_FAULT, b'"number":1', b'"number":"1"'),
+            (FRONT_WITH_FAULT, b'"number":1,', b""), (FRONT_WITH_FAULT, b'"kind":"replay"', b'"kind":"list"'),
+            (FRONT_WITH_FAULT, b'"kind":"replay",', b""), (FRONT_WITH_FAULT, b"unconfirmed: ", b"refused: "),
+            (FRONT_WITH_FAULT, b"unconfirmed: ", b""), (FRONT_WITH_FAULT, b" 1 at", b" 01 at"), (FRONT_WITH_FAULT, b'"message"', b'"line"'),
+            (FRONT_WITH_FAULT, b'"entries":5', b'"entries":4'), (FRONT_WITH_FAULT, b'"entry":4', b'"event":4'),
+            (FRONT_OF_CUT_LIST, b'"entries":5', b'"entries":6'), (FRONT_OF_CUT_LIST, b'"entries":5', b'"entries":4'),
+        ):
+            self.assertIn(old, text)
+            self.check_wrong(0, text.replace(old, new, 1), True)
+        # Of a replay fault the entry is one after the front; no other fault is told.
+        early = FRONT_WITH_FAULT.replace(b'"entry":4', b'"entry":2').replace(b"y 4", b"y 2")
+        self.check_wrong(0, early, True)
+        for members in (
+            b'"kind":"checkpoint","number":3,"message":"unconfirmed: checkpoint fault 3"',
+            b'"kind":"log","number":1,"event":4,"message":"unconfirmed: log fault 1 at event 4"',
+            b'"kind":"command_line","message":"unconfirmed: command line"', b'"kind":"memory","message":"failed: memory"', b"",
+        ):
+            self.check_wrong(0, FRONT.replace(b'"confirmed":3,', b'"confirmed":3,"unconfirmed":{%b},' % members), True)
+        for value in (b"null", b"[]", b'"unconfirmed: replay fault 1 at entry 4"', b"true"):
+            self.check_wrong(0, FRONT.replace(b'"confirmed":3,', b'"confirmed":3,"unconfirmed":%b,' % value), True)
+
+    def test_state_that_is_not_that_of_the_report_is_none(self):
+        for state in (
+            b"", b"x", STATE[1:], STATE.replace(b"entries 3", b"entries 4"), STATE.replace(b"entries 3", b"entries 2"),
+            STATE.replace(b"entries 3", b"entries 03"), STATE.replace(b"bytes 300", b"bytes 301"), STATE.replace(b"checkpoint 1", b"checkpoint 2"),
+            STATE.replace(b"bytes 300\n", b""),
+        ):
+            self.check_wrong(0, REPORT, state=state)
+            self.check_wrong(1, DIFFERING, state=state)
+            self.check_wrong(0, FRONT, True, state=state)
+        less = STATE.replace(b"bytes 300", b"bytes 299")
+        self.check_wrong(0, REPORT, state=less)
+        with answering(0, less, FRONT):  # (the front's end may be anywhere)
+            session = Session(b"", b"", prefix=True)
+            self.assertEqual((session.more(300 * b"x").confirmed, session.offset), (3, 299))
+            self.assertRaises(ima_verify.LibraryError, Session(b"", b"", prefix=True, state=STATE).more, b"")
+
+    def test_report_on_fewer_entries_than_the_state_has_is_none(self):
+        later = STATE.replace(b"entries 3", b"entries 4").replace(b"300", b"400")
+        for status, text, has_front in ((0, REPORT, False), (1, DIFFERING, False), (0, FRONT, True)):
+            with answering(status, STATE.replace(b"300", b"400"), text):
+                session = Session(b"", b"", prefix=has_front, state=later)
+                self.assertRaises(ima_verify.LibraryError, session.more, b"")
+            self.assertEqual(session.state, later)
+
+    def test_wrong_answers_are_no_verdicts(self):
+        for status, text in ((0, b""), (0, b"\n"), (0, b"{}\n"), (0, REPORT[:-1]), (1, REPORT), (0, DIFFERING), (2, REPORT), (3, REPORT), (4, REPORT),
+                             (5, REPORT), (-1, REPORT), (0, FAULT), (0, MEMORY), (2, MEMORY), (3, FAULT), (2, FAULT[:-1])):
+            self.check_wrong(status, text)
+        for size in range(len(REPORT)):
+            self.check_wrong(0, REPORT[:size])
+
+    def test_failures_leave_the_session_as_it_was(self):
+        self.check_wrong(2, FAULT, state=b"", error=ima_verify.Refused)
+        for text in (MEMORY, b"failed: memory\n", b""):
+            self.check_wrong(3, text, state=b"", error=MemoryError)
+        for needed in ((None, None), (None, len(REPORT)), (len(STATE), None), (1 << 20, len(REPORT)), (len(STATE), 1 << 20)):
+            self.check_wrong(0, REPORT, needed=needed)
+            self.check_wrong(4, REPORT, needed=needed)
+        self.check_wrong(4, REPORT, needed=(1 << 62, 1), error=MemoryError)
+
+    def test_refusals_of_states_are_read(self):
+        for number in (1, 2, 3):
+            with self.assertRaises(ima_verify.Refused) as caught:
+                _answers.raise_failure(2, FAULT.replace(b"3", b"%d" % number))
+            refused = caught.exception
+            self.assertEqual((refused.kind, refused.number, refused.place), ("checkpoint", number, None))
+            self.assertEqual((refused.kind, refused.line), (Kind.CHECKPOINT, f"refused: checkpoint fault {number}"))
+        for old, new in ((b'"number":3', b'"number":1'), (b'"number":3,', b""), (b'"kind":"checkpoint"', b'"kind":"log"'), (b"fault 3", b"fault 03"),
+                         (b'"number":3', b'"number":3,"entry":3'), (b'fault 3"', b'fault 3 at entry 3"')):
+            with self.assertRaises(ima_verify.LibraryError):
+                _answers.raise_failure(2, FAULT.replace(old, new, 1))
+
+
+if __name__ == "__main__":
+    unittest.main()
