@@ -30,6 +30,26 @@ NOTHING = "nothing to compare: no register is expected"
 ROWS = "SELECT machine, verdict, cause, list_from, list_sha256 FROM verdicts"
 CHECKPOINTS = "SELECT machine, checkpoint FROM checkpoints"
 
+# Reads a list in an object store that is a class of fsspec, from some bytes on, and prints the ranges that it is asked for.
+RANGES = """
+import fsspec, verify
+from fsspec.spec import AbstractBufferedFile, AbstractFileSystem
+DATA = bytes(range(251)) * 80_000
+class Object(AbstractBufferedFile):
+    def _fetch_range(self, start, end):
+        asked.append((start, end))
+        return DATA[start:end]
+class Store(AbstractFileSystem):
+    def _open(self, path, mode, **given):
+        return Object(self, path, mode, size=len(DATA))
+fsspec.register_implementation("store", Store)
+for start in (0, 1_000_003, len(DATA) - 1, len(DATA), len(DATA) + 1):
+    asked = []
+    data = verify.read_input("store://list", start)
+    assert data == (None if start > len(DATA) else DATA[start:])
+    print(*asked)
+"""
+
 # The number of the one machine of each kind. All others only grow.
 KINDS = {
     10: "restarted, shorter", 20: "restarted, longer", 30: "restarted, other log", 40: "tampered before", 50: "tampered after",
@@ -219,6 +239,7 @@ def test_polls(tools, check, noted):
         polls = Polls(tools, check, address, machines)
         polls.table.write_text("".join(machine.line() for machine in machines))
         verdicts = tools.folder / "polls.db"
+        test_ranges(polls)
         test_growth(polls, verdicts)
         damage(verdicts)
         undisturbed = shutil.copyfile(verdicts, tools.folder / "undisturbed.db")
@@ -228,6 +249,14 @@ def test_polls(tools, check, noted):
         test_whole(polls, verdicts)
         test_two_polls(polls, verdicts)
         test_damaged_table(polls, verdicts)
+
+
+def test_ranges(polls):
+    """Of a list in an object store no byte before the checkpoint is asked for."""
+    told = polls.tools.start(["-c", RANGES], PYTHONPATH=str(ROOT / "fleet")).communicate(timeout=SECONDS)[0]
+    size = 251 * 80_000
+    lines = [f"(0, {size})", f"(1000003, {size})", f"({size - 1}, {size})", "", ""]
+    polls.check("an object store: the ranges that are asked for", told.splitlines(), lines)
 
 
 def test_growth(polls, verdicts):
