@@ -47,7 +47,7 @@ pub const MEASURE: Command = Command {
 };
 
 /// Every command.
-pub static COMMANDS: [Command; 12] = [
+pub static COMMANDS: [Command; 13] = [
     Command {
         words: &[],
         status: 0,
@@ -93,6 +93,18 @@ verdict match
     },
     Command {
         words: &["verify", "log", "list", "values"],
+        status: 1,
+        output: REPORT,
+    },
+    Command {
+        words: &[
+            "verify",
+            "--prefix",
+            "--save=known",
+            "log",
+            "list",
+            "values",
+        ],
         status: 1,
         output: REPORT,
     },

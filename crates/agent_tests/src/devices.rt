@@ -93,9 +93,9 @@ impl<'a> Files for PieceFiles<'a> {
         self.open(name.unwrap_or("-")).ok_or(Failed)
     }
 
-    /// Nothing can be written.
+    /// Takes the bytes, and keeps none.
     fn replace(&mut self, _name: &str, _beside: &str, _bytes: &[u8]) -> Result<(), Failed> {
-        Err(Failed)
+        Ok(())
     }
 
     fn shared(&self) -> &Self {

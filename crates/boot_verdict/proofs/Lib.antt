@@ -17,3 +17,5 @@ pub mod LineLaws
 pub mod RequirementLaws
 pub mod CheckpointLaws
 pub mod SessionLaws
+pub mod FrontLaws
+pub mod ConfirmLaws

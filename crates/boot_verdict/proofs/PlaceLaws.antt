@@ -42,14 +42,14 @@ is_place events steps = elim (cases_Bool (eqb steps 0)) [
 ]
 
 -- The steps of a place.
-abbrev steps_to : ℕ → Place → ℕ
+abbrev pub steps_to : ℕ → Place → ℕ
 steps_to events Reset = 0
 steps_to events (Event number) = number
 steps_to events (Entry number) = events + 1 + number
 steps_to events Nowhere = 0
 steps_to events Absent = 0
 
-steps_back : (events steps : ℕ) → steps_to events (place_after events steps) ≡ steps
+pub steps_back : (events steps : ℕ) → steps_to events (place_after events steps) ≡ steps
 steps_back events steps = elim (eqb_tells steps 0) [
   | inl same ↦ rw same.0 (sym same.1)
   | inr other ↦ elim (leb_tells steps events) [

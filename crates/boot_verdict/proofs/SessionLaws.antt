@@ -37,7 +37,7 @@ use Rattle.boot_verdict.proofs.StepLaws.{followed_by, none_changes, replayed_by}
 use Rattle.boot_verdict.proofs.ReplayLaws.{only_memory}
 
 -- The checkpoint of a list stands for its replay.
-pub known_replay : (list : List ℕ) (known : Checkpoint) → IsCheckpoint list known
+abbrev pub known_replay : (list : List ℕ) (known : Checkpoint) → IsCheckpoint list known
     → ReplaysAll BanksAfter known.before list (record { follower = known.after; entries = known.entries; stated = known.stated; forged = None })
 known_replay list known is = record {
   entries = is.entries;

@@ -133,15 +133,16 @@ banks_more start old new before step earlier one = record {
       ∙ value_joined a r (value_at start a r) before (step ∷ []);
 }
 
--- Banks that follow a list are its replay.
+-- Banks after the entries of a list are its replay.
+pub replayed_after : (start now : Banks) (entries : List ListEntry) → AreAfter start (entries_as_steps entries) now → IsReplayed start entries now
+replayed_after start now entries after = record {
+  active = after.active;
+  values = λ a r. after.values a r ∙ ap (λ (f : List ℕ → List ℕ). option_map f (value_at start a r))
+      (fun_same _ _ (λ v. entries_value a r v entries));
+}
+
 pub replayed_by : (start now : Banks) (entries : List ListEntry) → AreFollowed BanksAfter start entries now → IsReplayed start entries now
-replayed_by start now entries followed =
-    let after = followed start 0 [] refl (none_taken start) in
-    record {
-      active = after.active;
-      values = λ a r. after.values a r ∙ ap (λ (f : List ℕ → List ℕ). option_map f (value_at start a r))
-          (fun_same _ _ (λ v. entries_value a r v entries));
-    }
+replayed_by start now entries followed = replayed_after start now entries (followed start 0 [] refl (none_taken start))
 
 -- The replay of a list follows it.
 pub followed_by : (start now : Banks) (entries : List ListEntry) → IsReplayed start entries now → AreFollowed BanksAfter start entries now

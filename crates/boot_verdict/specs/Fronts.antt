@@ -23,7 +23,7 @@ use Rattle.boot_verdict.specs.Verdicts.{matches, verdict_of, verdict_on}
 pub record IsConfirmed (algs : AlgSet) (events : List LogEvent) (expected : List Expected) (least : ℕ) (front : List ListEntry) : Type 0 where
   pub genuine : AreGenuine front
   pub enough : least ≤ length front
-  pub matches : matches (verdict_on algs events front expected) ≡ true
+  pub is_match : matches (verdict_on algs events front expected) ≡ true
   pub shortest : (n : ℕ) → least ≤ n → n < length front → matches (verdict_on algs events (take n front) expected) ≡ false
 
 -- None of the fronts of these entries that have at least `least` entries, all genuine, has the verdict 'match'.

@@ -14,7 +14,7 @@ ghost use Rattle.boot_verdict.specs.RegisterTexts.{all_registers, register_line}
 ghost use Rattle.byte_streams.specs.Streams.{LosesFront};
 ghost use Rattle.boot_verdict.specs.ListSources.{failures_after_list};
 ghost use Rattle.boot_verdict.specs.parts.Following.{BanksAfter};
-ghost use Rattle.boot_verdict.specs.parts.ListReplays.{ReplaysAll};
+ghost use Rattle.boot_verdict.specs.parts.ListReplays.{Replays, ReplaysAll};
 ghost use Rattle.boot_verdict.specs.Checkpoints.{GoesOn, HaveValues, IsCheckpoint, IsCounted, IsHash, IsMoreFault, IsPossible, SameData, SameValues, most_after};
 ghost use Rattle.boot_verdict.specs.CheckpointTexts.{IsOfOtherVersion, bank_lines, banks_lines, checkpoint_text, data_lines, number_line, stated_line, stated_words, value_line};
 ghost use Rattle.boot_verdict.specs.parts.CheckpointParts.{HasBank, Sets, TakesBank};
@@ -98,6 +98,7 @@ impl Checkpoint {
     /// The replay of the list.
     pub(crate) fn replay(&self) -> ListReplay<Banks>
         ensures replays { (list : List ℕ) → IsCheckpoint list self.now → ReplaysAll BanksAfter self.now.before list result }
+        ensures known { (list : List ℕ) (is : IsCheckpoint list self.now) → Replays BanksAfter self.now.before is.entries result }
         ensures entries { result.entries ≡ self.now.entries }
         ensures forged { result.forged ≡ None }
     {

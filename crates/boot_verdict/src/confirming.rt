@@ -1,17 +1,17 @@
 //! The confirmed front of a list that grows: the shortest with which the verdict is `match`.
 
-ghost use Rattle.std.specs.Prelude.{◌≡◌, List, ℕ, is_some, option_map, IfOk, IfErr, IfSome, IfNone, OnErr};
+ghost use Rattle.std.specs.Prelude.{◌≡◌, ◌<◌, ◌^◌, List, ℕ, is_some, option_map, IfOk, IfErr, IfSome, IfNone, OnErr};
 ghost use Rattle.byte_streams.specs.Streams.{LosesFront};
 ghost use Rattle.pcr_banks.specs.declared.sets.AlgSet.{AlgSet};
 ghost use Rattle.pcr_banks.specs.Digests.{alg_of, bytes_of};
 ghost use Rattle.boot_log.specs.Replaying.{IsFirmware};
 ghost use Rattle.boot_log.specs.Spelling.{LogEvent};
 ghost use Rattle.boot_verdict.specs.Checkpoints.{IsCheckpoint, IsMoreFault, most_after};
-ghost use Rattle.boot_verdict.specs.ListSources.{failures_after_list};
+ghost use Rattle.boot_verdict.specs.ListSources.{IsListFaultAfter, failures_after_list};
 ghost use Rattle.boot_verdict.specs.Verdicts.{aggregate_of, is_good};
 ghost use Rattle.boot_verdict.specs.parts.Confirming.{IsConfirmingAfter, search_before};
 ghost use Rattle.boot_verdict.specs.parts.ListReplays.{ReplaysAll};
-ghost use Rattle.boot_verdict.specs.parts.Searches.{IsOfSource, Searches, front_after, whole_after, whole_of};
+ghost use Rattle.boot_verdict.specs.parts.Searches.{IsNoListFault, Searches, front_after, unconfirmed_of, whole_after, whole_of, wrong_with};
 
 use crate::checkpoint::Checkpoint;
 use crate::expected::Expected;
@@ -73,7 +73,7 @@ impl Session<'_> {
         Ok(Some(FrontReport {
             report,
             entries: search.entries,
-            unconfirmed: search.whole.err(),
+            unconfirmed: wrong_with(search.whole),
         }))
     }
 }
@@ -101,8 +101,8 @@ impl Checkpoint {
         ensures found { IfOk result (λ search. (list : List ℕ) → IsCheckpoint list self.now
             → Searches self.now list (R.state source.old).remaining (R.state source.new).remaining (most_after self.now limit) expected.now search) }
         ensures fault { IfErr result (λ fault. (list : List ℕ) → IsCheckpoint list self.now
-            → IsMoreFault list (R.state source.old).remaining (R.state source.new).remaining (most_after self.now limit) fault) }
-        ensures other { IfErr result IsOfSource }
+            → IsListFaultAfter list (R.state source.old).remaining (R.state source.new).remaining (most_after self.now limit) fault) }
+        ensures other { IfErr result IsNoListFault }
         ensures source { LosesFront (R.state source.old).remaining (R.state source.new).remaining }
         ensures telling { is_some (R.state source.new).remaining ≡ is_some (R.state source.old).remaining }
         ensures counts { (R.state source.new).failures ≡ failures_after_list result (R.state source.old).failures }
@@ -111,8 +111,7 @@ impl Checkpoint {
         let mut replay = self.searching(expected);
         let whole = match replay.follow(alloc, source, self.room(limit)) {
             Ok(_count) => self.whole(&replay),
-            Err(VerifyFault::List(fault)) => Err(Unconfirmed::List(fault)),
-            Err(fault) => return Err(fault),
+            Err(fault) => Err(unconfirmed_of(fault)?),
         };
         Ok(Search {
             front: self.front_in(&replay),
@@ -123,7 +122,7 @@ impl Checkpoint {
 
     // The replay of the list, searched for a front: its end may be one.
     fn searching<'a>(&self, expected: &'a [Expected]) -> ListReplay<Confirming<'a>>
-        ensures replays { (list : List ℕ) → IsCheckpoint list self.now
+        ensures replays { (list : List ℕ) → IsCheckpoint list self.now → self.now.bytes < 2 ^ 64
             → ReplaysAll IsConfirmingAfter (search_before self.now expected.entry) list result }
         ensures entries { result.entries ≡ self.now.entries }
     {
@@ -153,10 +152,12 @@ impl Checkpoint {
 
     // The checkpoint of the front at which the registers are as expected, if the boot aggregate is good.
     fn front_in(&self, replay: &ListReplay<Confirming<'_>>) -> Option<Checkpoint>
-        ensures { (algs : AlgSet) (events : List LogEvent) → IsFirmware algs events self.now.before
+        ensures front { (algs : AlgSet) (events : List LogEvent) → IsFirmware algs events self.now.before
             → result ≡ front_after (is_good (aggregate_of algs events (option_map (λ digest. (alg_of digest, bytes_of digest)) replay.now.stated)))
             self.now replay.now }
+        ensures counted { replay.now.entries < 2 ^ 64 }
     {
+        let _entries = replay.entries;
         let front = replay.follower.front?;
         if !is_good(aggregate_of(&self.before, replay.stated)) {
             return None;
@@ -176,6 +177,23 @@ fn is_good(aggregate: Aggregate) -> bool
     ensures { result ≡ is_good aggregate }
 {
     matches!(aggregate, Aggregate::Good)
+}
+
+// What is wrong with a list whose bytes have this fault; any other fault is returned as it is.
+fn unconfirmed_of(fault: VerifyFault) -> Result<Unconfirmed, VerifyFault>
+    ensures { result ≡ unconfirmed_of fault }
+{
+    match fault {
+        VerifyFault::List(fault) => Ok(Unconfirmed::List(fault)),
+        other => Err(other),
+    }
+}
+
+// What is wrong with the list, if anything.
+fn wrong_with(whole: Result<Checkpoint, Unconfirmed>) -> Option<Unconfirmed>
+    ensures { result ≡ wrong_with whole }
+{
+    whole.err()
 }
 
 // The checkpoint of the whole list, or the fault with which it is refused.

@@ -1,10 +1,10 @@
 //! Whether two sets of registers have the same values.
 
-ghost use Rattle.std.specs.Prelude.{◌≡◌, ℕ, true};
+ghost use Rattle.std.specs.Prelude.{◌≡◌, ◌↔◌, ℕ, true};
 ghost use Rattle.pcr_banks.specs.Registers.{is_active, value_at};
 ghost use Rattle.boot_verdict.specs.Checkpoints.{AreSameBanks};
 
-use pcr_banks::{Alg, Banks, REGISTERS};
+use pcr_banks::{Alg, Banks, Digest, REGISTERS};
 
 /// Whether the same banks are active, and all registers have the same values.
 pub(crate) fn are_same_banks(first: &Banks, second: &Banks) -> bool
@@ -32,9 +32,16 @@ fn has_same_values(first: &Banks, second: &Banks, alg: Alg) -> bool
     ensures only { AreSameBanks first.now second.now → result ≡ true }
 {
     for register in 0..REGISTERS {
-        if first.read(alg, register) != second.read(alg, register) {
+        if !is_same_value(first.read(alg, register), second.read(alg, register)) {
             return false;
         }
     }
     true
+}
+
+// Whether two registers have the same value, or are both absent.
+fn is_same_value(first: Option<Digest>, second: Option<Digest>) -> bool
+    ensures { (result ≡ true) ↔ (first ≡ second) }
+{
+    first == second
 }

@@ -178,6 +178,7 @@ pub(crate) fn report_on(
         → IsFirmware (algs_in table) events start.now → IfOk result (λ report. (entries : List ListEntry) → Replays BanksAfter start.now entries replay
         → AreGenuine entries × (verdict_of report ≡ verdict_on (algs_in table) events entries expected.now)) }
     ensures fault { IfErr result (λ fault. (entries : List ListEntry) → Replays BanksAfter start.now entries replay → IsFaultOfEntries entries fault) }
+    ensures source { IsErrOf result VerifyFault.Source → ⊥ }
 {
     let entries = replay.entries;
     let stated = replay.stated;

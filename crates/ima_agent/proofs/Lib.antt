@@ -3,6 +3,7 @@ pub mod HashingLaws
 pub mod MeasuringLaws
 pub mod FaultLaws
 pub mod VerifyingLaws
+pub mod GrowingLaws
 pub mod ShowingLaws
 pub mod ReplayingLaws
 pub mod LocatingLaws

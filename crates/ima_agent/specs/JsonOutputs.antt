@@ -1,8 +1,9 @@
 -- What the program shows with `--json`. All of this is this project's choice.
 use Rattle.std.specs.Prelude.{◌≡◌, ℕ, List, Some, option_map, map, string_bytes}
 use Rattle.command_line.specs.declared.json_plan.JsonPlan.{JsonPlan}
-use Rattle.command_line.specs.declared.json_plan.JsonPlan.TheVariants.{Measure, MeasureListed, Verify, Locate, Expected, RegistersAfter, Events, Show, Replay, ReplayExpected}
+use Rattle.command_line.specs.declared.json_plan.JsonPlan.TheVariants.{Measure, MeasureListed, Verify, VerifyGrowing, Locate, Expected, RegistersAfter, Events, Show, Replay, ReplayExpected}
 use Rattle.ima_agent.specs.Expecting.{ShowsExpectedIn}
+use Rattle.ima_agent.specs.Growing.{ShowsGrowth, growth}
 use Rattle.ima_agent.specs.JsonJudging.{ShowsJsonListReport, ShowsJsonPlaces, ShowsJsonReport}
 use Rattle.ima_agent.specs.JsonShowing.{ShowsEntries, ShowsJsonEvents, ShowsJsonRegisters}
 use Rattle.ima_agent.specs.Loading.{Inputs, OfInput}
@@ -25,6 +26,8 @@ IsJsonOutputFor inputs (MeasureListed alg template workers limit print log files
     × (status ≡ 0)
 IsJsonOutputFor inputs (Verify log list expected required) shown status =
     ShowsJsonReport inputs (string_bytes log) (string_bytes list) (string_bytes expected) (option_map string_bytes required) shown status
+IsJsonOutputFor inputs (VerifyGrowing log list expected required extent resume save) shown status =
+    ShowsGrowth inputs (growth log list expected required extent resume save) forms.Json shown status
 IsJsonOutputFor inputs (Locate log list expected required) shown status =
     ShowsJsonPlaces inputs (string_bytes log) (string_bytes list) (string_bytes expected) (option_map string_bytes required) shown status
 IsJsonOutputFor inputs (Expected printed registers) shown status =

@@ -17,6 +17,7 @@ pub mod JsonPlans
 pub mod JsonFaults
 pub mod JsonShowing
 pub mod JsonJudging
+pub mod Growing
 pub mod JsonOutputs
 pub mod Streaming
 pub mod Program

@@ -43,6 +43,10 @@ pub record Inputs : Type 0 where
 abbrev pub untold : Inputs
 untold = record { held = λ name. None; may_fail = λ name. true }
 
+-- The files that were replaced, one after another, each by its name and all bytes that it was given; `None` if this is not told.
+abbrev pub Saved : Type 0
+Saved = Option (List (List ℕ × List ℕ))
+
 -- These are all bytes of the input of this name, if they are told.
 abbrev pub Holds : Inputs → Option (List ℕ) → List ℕ → Type 0
 Holds inputs name bytes = IfSome (inputs.held name) (λ all. bytes ≡ all)

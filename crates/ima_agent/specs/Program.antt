@@ -11,13 +11,14 @@ use Rattle.command_line.specs.declared.json_plan.JsonPlan.{JsonPlan}
 use Rattle.command_line.specs.declared.json_plan.JsonPlan.TheVariants as jsons
 use Rattle.command_line.specs.declared.plan.Plan.{Plan}
 use Rattle.command_line.specs.declared.plan.NameEnd.{NameEnd}
-use Rattle.command_line.specs.declared.plan.Plan.TheVariants.{Registers, Measure, MeasureListed, Verify, VerifyRequired, Locate, LocateRequired, Expected, RegistersAfter, Events, Show, Replay, ReplayExpected, Json, Help}
+use Rattle.command_line.specs.declared.plan.Plan.TheVariants.{Registers, Measure, MeasureListed, Verify, VerifyRequired, VerifyGrowing, Locate, LocateRequired, Expected, RegistersAfter, Events, Show, Replay, ReplayExpected, Json, Help}
 use Rattle.ima_agent.specs.JsonFaults.{IsFailure}
 use Rattle.ima_agent.specs.JsonOutputs.{IsJsonOutputFor}
 use Rattle.ima_agent.specs.JsonPlans.{plain_of}
 use Rattle.ima_agent.specs.JsonShowing.{FailsAfterEntries, RunsOutAfterEvents}
 use Rattle.ima_agent.specs.Loading.{Inputs, IsInputFault, OfInput}
 use Rattle.ima_agent.specs.Expecting.{IsNotPrintedFor, IsRangeFault, ShowsExpected}
+use Rattle.ima_agent.specs.Growing.{IsGrownFault, ShowsGrowth, growth}
 use Rattle.ima_agent.specs.ListVerifying.{IsListReportFaultWith, ShowsListReport}
 use Rattle.ima_agent.specs.Locating.{ShowsPlaces}
 use Rattle.ima_agent.specs.Replaying.{IsReplayFaultOf, ShowsReplay}
@@ -49,6 +50,8 @@ IsOutputFor inputs (Verify log list expected) shown status =
     ShowsReport inputs (string_bytes log) (string_bytes list) (string_bytes expected) shown status
 IsOutputFor inputs (VerifyRequired log list expected required) shown status =
     ShowsRequiredReport inputs (string_bytes log) (string_bytes list) (string_bytes expected) (string_bytes required) shown status
+IsOutputFor inputs (VerifyGrowing log list expected required extent resume save) shown status =
+    ShowsGrowth inputs (growth log list expected required extent resume save) forms.Text shown status
 IsOutputFor inputs (Locate log list expected) shown status =
     ShowsPlaces inputs (string_bytes log) (string_bytes list) (string_bytes expected) shown status
 IsOutputFor inputs (LocateRequired log list expected required) shown status =
@@ -92,6 +95,8 @@ IsPlainFaultOf inputs (Verify log list expected) fault =
     IsReportFault inputs (string_bytes log) (string_bytes list) (string_bytes expected) fault
 IsPlainFaultOf inputs (VerifyRequired log list expected required) fault =
     IsFaultWith (string_bytes required) (IsReportFault inputs (string_bytes log) (string_bytes list) (string_bytes expected)) fault
+IsPlainFaultOf inputs (VerifyGrowing log list expected required extent resume save) fault =
+    IsGrownFault inputs (growth log list expected required extent resume save) fault
 IsPlainFaultOf inputs (Locate log list expected) fault =
     IsReportFault inputs (string_bytes log) (string_bytes list) (string_bytes expected) fault
 IsPlainFaultOf inputs (LocateRequired log list expected required) fault =

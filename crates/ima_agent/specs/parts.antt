@@ -4,6 +4,7 @@ pub mod JsonOutputs
 pub mod Loading
 pub mod Measuring
 pub mod NamedFiles
+pub mod Growing
 pub mod Verifying
 pub mod Replaying
 pub mod Showing

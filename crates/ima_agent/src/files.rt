@@ -1,8 +1,9 @@
 //! Where the program's inputs come from.
 
-ghost use Rattle.std.specs.Prelude.{◌≡◌, ◌<◌, length, List, ℕ, None, Some, Option, option_map, IfOk, IfSome, IsErr, IsErrOf, IsTrue, ⊤};
+ghost use Rattle.std.specs.Prelude.{◌≡◌, ◌<◌, length, List, ℕ, None, Some, Option, option_map, IfOk, IfSome, IsErr, IsErrOf, IsTrue, OnErr, OnOk, ⊤};
 ghost use Rattle.ima_agent.specs.Hashing.{IsHashOfAll};
-ghost use Rattle.ima_agent.specs.Loading.{GivesAll, HasFailed, Inputs, untold};
+ghost use Rattle.ima_agent.specs.Growing.{HasSaved};
+ghost use Rattle.ima_agent.specs.Loading.{GivesAll, HasFailed, Inputs, Saved, untold};
 
 use crate::loading::LoadFault;
 use byte_streams::{Failed, Source};
@@ -12,7 +13,7 @@ use std::alloc::Global;
 /// Where the program's inputs come from.
 ///
 /// An implementation may tell the bytes of its inputs, and which may fail (`told`): a source then gives exactly those bytes, and no
-/// other fails.
+/// other fails. It may also tell which files were replaced (`saved`).
 pub trait Files {
     /// The source of one input's bytes.
     type Src: Source + Drop;
@@ -22,6 +23,9 @@ pub trait Files {
     // What the inputs hold, and which of them may fail.
     ghost told: { Self → Inputs } = { λ _. untold };
 
+    // Which files were replaced so far.
+    ghost saved: { Self → Saved } = { λ _. None };
+
     /// The source of the file of this name, or of standard input without a name. Fails if it cannot be opened.
     fn source(&mut self, name: Option<&str>) -> Result<Self::Src, Failed>
         ensures gives { IfOk result (λ source.
@@ -29,12 +33,16 @@ pub trait Files {
         ensures refused { IsErr result → IsTrue ((told self.old).may_fail (option_map (λ name. name.now) name.entry)) }
         ensures failing { IfOk result (λ source. (later : Self.Src) → HasFailed (Self.Src.state source) (Self.Src.state later)
             → IsTrue ((told self.old).may_fail (option_map (λ name. name.now) name.entry))) }
-        ensures told { told self.new ≡ told self.old };
+        ensures told { told self.new ≡ told self.old }
+        ensures saved { saved self.new ≡ saved self.old };
 
     /// Has the file of this name be exactly these bytes, whatever it was. They are written to the file of the name `beside`, and synced,
     /// and then that is renamed: so whoever opens the file gets all it held before, or all of these bytes. Fails if the system refuses
     /// any of this; the file beside it may then be left.
-    fn replace(&mut self, name: &str, beside: &str, bytes: &[u8]) -> Result<(), Failed>;
+    fn replace(&mut self, name: &str, beside: &str, bytes: &[u8]) -> Result<(), Failed>
+        ensures replaced { OnOk result (HasSaved (saved self.old) (saved self.new) (Some name.now) bytes.now) }
+        ensures kept { OnErr result (saved self.new ≡ saved self.old) }
+        ensures told { told self.new ≡ told self.old };
 
     /// The same files, for several threads at once.
     fn shared(&self) -> &Self::Shared

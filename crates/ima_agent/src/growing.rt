@@ -1,5 +1,21 @@
 //! The report on a list that grows: on a front of it, or going on from a checkpoint.
 
+ghost use Rattle.std.specs.Prelude.{◌≡◌, ◌⊎◌, ℕ, List, [], None, Some, true, false, option_map, IfOk, IfErr, IfSome, IsTrue, OnErr, OnOk};
+ghost use Rattle.boot_verdict.specs.declared.checkpoint.Checkpoint.{Checkpoint as CheckpointOf};
+ghost use Rattle.boot_verdict.specs.CheckpointTexts.{checkpoint_text};
+ghost use Rattle.boot_verdict.specs.Checkpoints.{IsCheckpoint, most_after};
+ghost use Rattle.boot_verdict.specs.Sessions.{HasTaken, IsOfBoot};
+ghost use Rattle.boot_verdict.specs.Verdicts.{IsVerdict, verdict_of};
+ghost use Rattle.json_texts.specs.JsonValues.{line_of};
+ghost use Rattle.json_texts.specs.ReportJson.{front_report_json, meets, report_json};
+ghost use Rattle.ima_agent.specs.declared.fault.NotResumed.TheVariants.{OtherBoot};
+ghost use Rattle.ima_agent.specs.declared.fault.RunFault.TheVariants as runs;
+ghost use Rattle.ima_agent.specs.declared.output.Form.TheVariants.{Text};
+ghost use Rattle.ima_agent.specs.Growing.{AreGrounds, HasNoGrounds, HasSaved, IsCheckpointText, IsGrownFault, IsGrownFaultWith, IsKnown, IsNoCheckpoint, IsNotKnown, IsNotSaved, IsOfOtherBoot, IsTaken, ShowsAndSaves, ShowsGrownWith, entries_taken, front_report_in, most_more, report_in, seeks_front};
+ghost use Rattle.ima_agent.specs.Loading.{GivesAll, HasFailed, IsNotWritten, input_limit};
+ghost use Rattle.ima_agent.specs.parts.Growing.{IsNotJudged, Judges, JudgesWhole, growth_of, judged_text, judged_well};
+ghost use Rattle.ima_agent.specs.Measuring.{HasLogFault};
+
 use crate::fault::{NotResumed, RunFault};
 use crate::files::Files;
 use crate::inputs::{INPUT_LIMIT, loaded, not_read, not_written};
@@ -14,6 +30,7 @@ use boot_verdict::{
 use byte_streams::{Failed, Source, VecSink};
 use command_line::Extent;
 use json_texts::{append_front_report, append_report, meets};
+use ima_list::laws::{entries_to_the_end_are_the_reading, no_bytes_have_two_readings};
 use std::alloc::{AllocError, Global};
 
 /// What is asked of a list that grows.
@@ -42,7 +59,13 @@ pub(crate) fn grown<F: Files>(
     files: &mut F,
     asked: Growing<'_>,
     form: Form,
-) -> Result<Output, RunFault> {
+) -> Result<Output, RunFault>
+    // The checkpoint of what the report is on is what is saved, and nothing else.
+    ensures shown { IfOk result (λ output. ShowsAndSaves (F.told files.old) (growth_of asked.entry) form (F.saved files.old) (F.saved files.new)
+        output.text.items output.status) }
+    ensures kept { OnErr result (F.saved files.new ≡ F.saved files.old) }
+    ensures fault { IfErr result (IsGrownFault (F.told files.old) (growth_of asked.entry)) }
+{
     match asked.required {
         None => grown_with(alloc, files, asked, None, form),
         Some(required) => {
@@ -59,7 +82,13 @@ fn grown_with<F: Files>(
     asked: Growing<'_>,
     requirement: Option<&Requirement>,
     form: Form,
-) -> Result<Output, RunFault> {
+) -> Result<Output, RunFault>
+    ensures shown { IfOk result (λ output. (next : CheckpointOf) × ShowsGrownWith (F.told files.old) (growth_of asked.entry)
+        (option_map (λ ranges. ranges.now) requirement.entry) form next output.text.items output.status
+        × HasSaved (F.saved files.old) (F.saved files.new) (growth_of asked.entry).save (checkpoint_text next)) }
+    ensures kept { OnErr result (F.saved files.new ≡ F.saved files.old) }
+    ensures fault { IfErr result (IsGrownFaultWith (F.told files.old) (growth_of asked.entry) (option_map (λ ranges. ranges.now) requirement.entry)) }
+{
     let Grounds {
         log,
         expected,
@@ -67,13 +96,14 @@ fn grown_with<F: Files>(
         mut list,
     } = grounds_of(alloc, files, asked)?;
     let mut session = session_of(&log, known)?;
+    let seeks = seeks_front(asked.extent, requirement, &expected);
     let judged = judged_from(
         alloc,
         &mut session,
         &mut list,
-        asked,
+        asked.list,
         &expected,
-        requirement,
+        seeks,
     )?;
     let output = judged_output(alloc, &judged, requirement, form)?;
     save(alloc, files, asked.save, session.checkpoint())?;
@@ -94,7 +124,15 @@ fn grounds_of<F: Files>(
     alloc: Global,
     files: &mut F,
     asked: Growing<'_>,
-) -> Result<Grounds<F::Src>, RunFault> {
+) -> Result<Grounds<F::Src>, RunFault>
+    ensures grounds { IfOk result (λ grounds. AreGrounds (F.told files.old) (growth_of asked.entry) grounds.log.items grounds.expected.items
+        grounds.known) }
+    ensures given { IfOk result (λ grounds. GivesAll ((F.told files.old).held (Some asked.entry.list.now)) (F.Src.state grounds.list)) }
+    ensures failing { IfOk result (λ grounds. (later : F.Src) → HasFailed (F.Src.state grounds.list) (F.Src.state later)
+        → IsTrue ((F.told files.old).may_fail (Some asked.entry.list.now))) }
+    ensures saved { F.saved files.new ≡ F.saved files.old }
+    ensures fault { IfErr result (HasNoGrounds (F.told files.old) (growth_of asked.entry)) }
+{
     let log = loaded(alloc, files, Some(asked.log))?;
     let text = loaded(alloc, files, Some(asked.expected))?;
     let expected = read_expected(alloc, &text)?;
@@ -115,7 +153,12 @@ fn known_from<F: Files>(
     alloc: Global,
     files: &mut F,
     name: Option<&str>,
-) -> Result<Option<Checkpoint>, RunFault> {
+) -> Result<Option<Checkpoint>, RunFault>
+    ensures known { IfOk result (IsKnown (F.told files.old) (option_map (λ name. name.now) name.entry)) }
+    ensures told { F.told files.new ≡ F.told files.old }
+    ensures saved { F.saved files.new ≡ F.saved files.old }
+    ensures fault { IfErr result (IsNotKnown (F.told files.old) (option_map (λ name. name.now) name.entry)) }
+{
     match name {
         None => Ok(None),
         Some(name) => {
@@ -126,7 +169,10 @@ fn known_from<F: Files>(
 }
 
 // The checkpoint whose text this is.
-fn checkpoint_in(alloc: Global, text: &[u8]) -> Result<Checkpoint, RunFault> {
+fn checkpoint_in(alloc: Global, text: &[u8]) -> Result<Checkpoint, RunFault>
+    ensures found { IfOk result (IsCheckpointText text.now) }
+    ensures fault { IfErr result (IsNoCheckpoint text.now) }
+{
     match read_checkpoint(alloc, text) {
         Ok(known) => Ok(known),
         Err(CheckpointFault::Damaged) => Err(RunFault::Checkpoint(NotResumed::Damaged)),
@@ -136,14 +182,43 @@ fn checkpoint_in(alloc: Global, text: &[u8]) -> Result<Checkpoint, RunFault> {
 }
 
 // A session of this log that goes on from this checkpoint, if there is one.
-fn session_of(log: &[u8], known: Option<Checkpoint>) -> Result<Session<'_>, RunFault> {
+fn session_of(log: &[u8], known: Option<Checkpoint>) -> Result<Session<'_>, RunFault>
+    ensures taken { IfOk result (λ session. (taken : List ℕ) → IsTaken known taken → HasTaken log.now taken session) }
+    ensures entries { IfOk result (λ session. session.known.entries ≡ entries_taken known) }
+    ensures most { IfOk result (λ session. most_after session.known input_limit ≡ most_more known) }
+    ensures fault { IfErr result (λ fault. HasLogFault log.now fault ⊎ ((fault ≡ runs.Checkpoint OtherBoot) × IsOfOtherBoot log.now known)) }
+{
     match known {
-        None => Ok(Session::new(log)?),
-        Some(known) => match Session::resumed(log, known) {
-            Ok(session) => Ok(session),
-            Err(ResumeFault::Log(fault)) => Err(fault.into()),
-            Err(ResumeFault::OtherBoot) => Err(RunFault::Checkpoint(NotResumed::OtherBoot)),
-        },
+        None => session_before(log),
+        Some(known) => session_after(log, known),
+    }
+}
+
+// A session of this log that has taken nothing.
+fn session_before(log: &[u8]) -> Result<Session<'_>, RunFault>
+    ensures taken { IfOk result (HasTaken log.now []) }
+    ensures entries { IfOk result (λ session. session.known.entries ≡ 0) }
+    ensures most { IfOk result (λ session. most_after session.known input_limit ≡ input_limit) }
+    ensures fault { IfErr result (HasLogFault log.now) }
+{
+    entries_to_the_end_are_the_reading();
+    no_bytes_have_two_readings();
+    match Session::new(log) {
+        Ok(session) => Ok(session),
+        Err(fault) => Err(fault.into()),
+    }
+}
+
+// A session of this log that goes on from this checkpoint.
+fn session_after(log: &[u8], known: Checkpoint) -> Result<Session<'_>, RunFault>
+    ensures taken { IfOk result (λ session. (taken : List ℕ) → IsCheckpoint taken known → HasTaken log.now taken session) }
+    ensures known { IfOk result (λ session. session.known ≡ known) }
+    ensures fault { IfErr result (λ fault. HasLogFault log.now fault ⊎ ((fault ≡ runs.Checkpoint OtherBoot) × (IsOfBoot log.now known → ⊥))) }
+{
+    match Session::resumed(log, known) {
+        Ok(session) => Ok(session),
+        Err(ResumeFault::Log(fault)) => Err(fault.into()),
+        Err(ResumeFault::OtherBoot) => Err(RunFault::Checkpoint(NotResumed::OtherBoot)),
     }
 }
 
@@ -159,23 +234,25 @@ fn judged_from<R: Source>(
     alloc: Global,
     session: &mut Session<'_>,
     list: &mut R,
-    asked: Growing<'_>,
+    name: &str,
     expected: &[Expected],
-    requirement: Option<&Requirement>,
-) -> Result<Judged, RunFault> {
-    if is_front_asked(asked.extent, requirement, expected) {
-        front_from(alloc, session, list, asked.list, expected)
+    seeks: bool,
+) -> Result<Judged, RunFault>
+    ensures judged { IfOk result (Judges seeks (R.state list.old).remaining (R.state list.new).remaining expected.now session.old session.new) }
+    ensures fault { IfErr result (IsNotJudged name.now seeks (R.state list.old) (R.state list.new) expected.now session.old) }
+{
+    if seeks {
+        front_from(alloc, session, list, name, expected)
     } else {
-        whole_from(alloc, session, list, asked.list, expected)
+        let report = whole_from(alloc, session, list, name, expected)?;
+        Ok(Judged::Whole(report))
     }
 }
 
 // Whether a front is asked for that can be confirmed: the expected registers have all that is required.
-fn is_front_asked(
-    extent: Extent,
-    requirement: Option<&Requirement>,
-    expected: &[Expected],
-) -> bool {
+fn seeks_front(extent: Extent, requirement: Option<&Requirement>, expected: &[Expected]) -> bool
+    ensures { result ≡ seeks_front extent (option_map (λ ranges. ranges.now) requirement.entry) expected.now }
+{
     match (extent, requirement) {
         (Extent::Whole, _) => false,
         (Extent::Front, None) => true,
@@ -190,9 +267,12 @@ fn whole_from<R: Source>(
     list: &mut R,
     name: &str,
     expected: &[Expected],
-) -> Result<Judged, RunFault> {
+) -> Result<Report, RunFault>
+    ensures judged { IfOk result (JudgesWhole (R.state list.old).remaining (R.state list.new).remaining expected.now session.old session.new) }
+    ensures fault { IfErr result (IsNotJudged name.now false (R.state list.old) (R.state list.new) expected.now session.old) }
+{
     match session.more(alloc, list, INPUT_LIMIT) {
-        Ok(()) => report_of(alloc, session, name, expected),
+        Ok(()) => Ok(report_of(alloc, session, expected)?),
         Err(fault) => Err(verdict_fault(alloc, name, fault)),
     }
 }
@@ -204,24 +284,28 @@ fn front_from<R: Source>(
     list: &mut R,
     name: &str,
     expected: &[Expected],
-) -> Result<Judged, RunFault> {
+) -> Result<Judged, RunFault>
+    ensures judged { IfOk result (Judges true (R.state list.old).remaining (R.state list.new).remaining expected.now session.old session.new) }
+    ensures fault { IfErr result (IsNotJudged name.now true (R.state list.old) (R.state list.new) expected.now session.old) }
+{
     match session.confirm(alloc, list, INPUT_LIMIT, expected) {
         Ok(Some(front)) => Ok(Judged::Front(front)),
-        Ok(None) => report_of(alloc, session, name, expected),
+        Ok(None) => Ok(Judged::Whole(report_of(alloc, session, expected)?)),
         Err(fault) => Err(verdict_fault(alloc, name, fault)),
     }
 }
 
-// The report on all that the session has taken.
+// The report on all that the session has taken. It fails only if memory runs out.
 fn report_of(
     alloc: Global,
     session: &Session<'_>,
-    name: &str,
     expected: &[Expected],
-) -> Result<Judged, RunFault> {
+) -> Result<Report, AllocError>
+    ensures { IfOk result (λ report. (log list : List ℕ) → HasTaken log list session.now → IsVerdict log list expected.now (verdict_of report)) }
+{
     match session.report(alloc, expected) {
-        Ok(report) => Ok(Judged::Whole(report)),
-        Err(fault) => Err(verdict_fault(alloc, name, fault)),
+        Ok(report) => Ok(report),
+        Err(_) => Err(AllocError),
     }
 }
 
@@ -231,7 +315,10 @@ fn judged_output(
     judged: &Judged,
     requirement: Option<&Requirement>,
     form: Form,
-) -> Result<Output, AllocError> {
+) -> Result<Output, AllocError>
+    ensures text { IfOk result (λ output. output.text.items ≡ judged_text form (option_map (λ ranges. ranges.now) requirement.entry) judged.now) }
+    ensures status { IfOk result (λ output. output.status ≡ judged_well (option_map (λ ranges. ranges.now) requirement.entry) judged.now) }
+{
     match judged {
         Judged::Whole(report) => {
             let text = report_text(alloc, report, requirement, form)?;
@@ -250,14 +337,32 @@ fn report_text(
     report: &Report,
     requirement: Option<&Requirement>,
     form: Form,
-) -> Result<Vec<u8>, AllocError> {
+) -> Result<Vec<u8>, AllocError>
+    ensures { IfOk result (λ text. text.items ≡ report_in form (option_map (λ ranges. ranges.now) requirement.entry) (verdict_of report.now)) }
+{
+    match form {
+        Form::Text => report_lines(alloc, report, requirement),
+        Form::Json => report_line(alloc, report, requirement),
+    }
+}
+
+// A report on a whole list as lines of text.
+fn report_lines(
+    alloc: Global,
+    report: &Report,
+    requirement: Option<&Requirement>,
+) -> Result<Vec<u8>, AllocError>
+    ensures { IfOk result (λ text. text.items ≡ report_in Text (option_map (λ ranges. ranges.now) requirement.entry) (verdict_of report.now)) }
+{
     let mut text = VecSink::new(Vec::new(alloc));
-    let written = match (form, requirement) {
-        (Form::Json, _) => return report_line(alloc, report, requirement),
-        (Form::Text, None) => write_report(report, &mut text),
-        (Form::Text, Some(requirement)) => write_required_report(report, requirement, &mut text),
+    let written = match requirement {
+        None => write_report(report, &mut text),
+        Some(requirement) => write_required_report(report, requirement, &mut text),
     };
-    text_in(text, written)
+    match written {
+        Ok(()) => Ok(text.into_bytes()),
+        Err(Failed) => Err(AllocError),
+    }
 }
 
 // A report on a whole list as a line of JSON.
@@ -265,7 +370,9 @@ fn report_line(
     alloc: Global,
     report: &Report,
     requirement: Option<&Requirement>,
-) -> Result<Vec<u8>, AllocError> {
+) -> Result<Vec<u8>, AllocError>
+    ensures { IfOk result (λ line. line.items ≡ line_of (report_json (option_map (λ ranges. ranges.now) requirement.entry) (verdict_of report.now))) }
+{
     let mut line = Vec::new(alloc);
     append_report(alloc, report, requirement, &mut line)?;
     Ok(line)
@@ -277,16 +384,32 @@ fn front_text(
     front: &FrontReport,
     requirement: Option<&Requirement>,
     form: Form,
-) -> Result<Vec<u8>, AllocError> {
+) -> Result<Vec<u8>, AllocError>
+    ensures { IfOk result (λ text. text.items ≡ front_report_in form (option_map (λ ranges. ranges.now) requirement.entry) front.now) }
+{
+    match form {
+        Form::Text => front_lines(alloc, front, requirement),
+        Form::Json => front_line(alloc, front, requirement),
+    }
+}
+
+// A report on a confirmed front as lines of text.
+fn front_lines(
+    alloc: Global,
+    front: &FrontReport,
+    requirement: Option<&Requirement>,
+) -> Result<Vec<u8>, AllocError>
+    ensures { IfOk result (λ text. text.items ≡ front_report_in Text (option_map (λ ranges. ranges.now) requirement.entry) front.now) }
+{
     let mut text = VecSink::new(Vec::new(alloc));
-    let written = match (form, requirement) {
-        (Form::Json, _) => return front_line(alloc, front, requirement),
-        (Form::Text, None) => write_front_report(front, &mut text),
-        (Form::Text, Some(requirement)) => {
-            write_required_front_report(front, requirement, &mut text)
-        }
+    let written = match requirement {
+        None => write_front_report(front, &mut text),
+        Some(requirement) => write_required_front_report(front, requirement, &mut text),
     };
-    text_in(text, written)
+    match written {
+        Ok(()) => Ok(text.into_bytes()),
+        Err(Failed) => Err(AllocError),
+    }
 }
 
 // A report on a confirmed front as a line of JSON.
@@ -294,18 +417,12 @@ fn front_line(
     alloc: Global,
     front: &FrontReport,
     requirement: Option<&Requirement>,
-) -> Result<Vec<u8>, AllocError> {
+) -> Result<Vec<u8>, AllocError>
+    ensures { IfOk result (λ line. line.items ≡ line_of (front_report_json (option_map (λ ranges. ranges.now) requirement.entry) (verdict_of front.now.report) front.now.entries front.now.unconfirmed)) }
+{
     let mut line = Vec::new(alloc);
     append_front_report(alloc, front, requirement, &mut line)?;
     Ok(line)
-}
-
-// The text that was written to this sink. A sink in memory fails only if that runs out.
-fn text_in(text: VecSink, written: Result<(), Failed>) -> Result<Vec<u8>, AllocError> {
-    match written {
-        Ok(()) => Ok(text.into_bytes()),
-        Err(Failed) => Err(AllocError),
-    }
 }
 
 // Saves the checkpoint under this name, if there is one.
@@ -314,7 +431,11 @@ fn save<F: Files>(
     files: &mut F,
     name: Option<&str>,
     known: &Checkpoint,
-) -> Result<(), RunFault> {
+) -> Result<(), RunFault>
+    ensures saved { OnOk result (HasSaved (F.saved files.old) (F.saved files.new) (option_map (λ name. name.now) name.entry) (checkpoint_text known.now)) }
+    ensures kept { OnErr result (F.saved files.new ≡ F.saved files.old) }
+    ensures fault { IfErr result (λ fault. IsNotSaved (option_map (λ name. name.now) name.entry) fault ⊎ (fault ≡ runs.Memory)) }
+{
     match name {
         None => Ok(()),
         Some(name) => save_as(alloc, files, name, known),
@@ -327,7 +448,11 @@ fn save_as<F: Files>(
     files: &mut F,
     name: &str,
     known: &Checkpoint,
-) -> Result<(), RunFault> {
+) -> Result<(), RunFault>
+    ensures saved { OnOk result (HasSaved (F.saved files.old) (F.saved files.new) (Some name.now) (checkpoint_text known.now)) }
+    ensures kept { OnErr result (F.saved files.new ≡ F.saved files.old) }
+    ensures fault { IfErr result (λ fault. IsNotWritten name.now fault ⊎ (fault ≡ runs.Memory)) }
+{
     let text = write_checkpoint(alloc, known)?;
     let mut beside = String::from_str(alloc, name)?;
     beside.push_str(".new")?;

@@ -28,6 +28,7 @@ pub(crate) fn loaded<F: Files>(
     ensures within { IfOk result (λ bytes. vec_len bytes ≤ input_limit) }
     ensures fault { IfErr result (IsInputFault (F.told files.old) (option_map (λ name. name.now) name.entry)) }
     ensures told { F.told files.new ≡ F.told files.old }
+    ensures saved { F.saved files.new ≡ F.saved files.old }
 {
     let input = name.unwrap_or(STANDARD_INPUT);
     match files.source(name) {

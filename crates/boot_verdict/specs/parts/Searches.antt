@@ -27,6 +27,7 @@ pub record IsConfirmedAt (algs : AlgSet) (events : List LogEvent) (expected : Li
   pub begins : BeginsWith bytes front rest
   pub confirmed : IsConfirmed algs events expected known.entries front
   pub checkpoint : IsCheckpoint (list_spelling front) at
+  pub same : checkpoint.entries ≡ front
   pub before : at.before ≡ known.before
 
 -- The confirmed front of these entries, with which the bytes begin, or none.
@@ -92,11 +93,16 @@ whole_of (Ok whole) = Ok whole
 whole_of (Err (unconfirmed.List fault)) = Err (faults.List fault)
 whole_of (Err (unconfirmed.Replay fault)) = Err (faults.Replay fault)
 
--- The source failed or had too much, or memory ran out.
-abbrev pub IsOfSource : VerifyFault → Type 0
-IsOfSource faults.Source = Unit {0}
-IsOfSource faults.TooLong = Unit {0}
-IsOfSource faults.Memory = Unit {0}
-IsOfSource (faults.Log fault) = ⊥
-IsOfSource (faults.List fault) = ⊥
-IsOfSource (faults.Replay fault) = ⊥
+-- What is wrong with a list, by the fault of its bytes; any other fault is as it is.
+abbrev pub unconfirmed_of : VerifyFault → Result Unconfirmed VerifyFault
+unconfirmed_of (faults.List fault) = Ok (unconfirmed.List fault)
+unconfirmed_of (faults.Log fault) = Err (faults.Log fault)
+unconfirmed_of (faults.Replay fault) = Err (faults.Replay fault)
+unconfirmed_of faults.Source = Err faults.Source
+unconfirmed_of faults.TooLong = Err faults.TooLong
+unconfirmed_of faults.Memory = Err faults.Memory
+
+-- It is no fault of a list.
+abbrev pub IsNoListFault : VerifyFault → Type 0
+IsNoListFault (faults.List fault) = ⊥
+IsNoListFault fault = Unit {0}

@@ -58,6 +58,7 @@ MeasuresFiles (plans.Measure alg template workers limit print log files) = Unit 
 MeasuresFiles (plans.MeasureListed alg template workers limit print log files names ends) = Unit {0}
 MeasuresFiles (plans.Verify log list expected) = ⊥
 MeasuresFiles (plans.VerifyRequired log list expected required) = ⊥
+MeasuresFiles (plans.VerifyGrowing log list expected required extent resume save) = ⊥
 MeasuresFiles (plans.Locate log list expected) = ⊥
 MeasuresFiles (plans.LocateRequired log list expected required) = ⊥
 MeasuresFiles (plans.Expected printed registers) = ⊥
@@ -83,6 +84,7 @@ IsAskedOf (plans.MeasureListed alg template workers limit print log files names 
     HasParts asked (record { alg = alg; template = template; workers = workers; limit = limit }) (printings.Text print) (string_bytes log) files.items
 IsAskedOf (plans.Verify log list expected) asked = ⊥
 IsAskedOf (plans.VerifyRequired log list expected required) asked = ⊥
+IsAskedOf (plans.VerifyGrowing log list expected required extent resume save) asked = ⊥
 IsAskedOf (plans.Locate log list expected) asked = ⊥
 IsAskedOf (plans.LocateRequired log list expected required) asked = ⊥
 IsAskedOf (plans.Expected printed registers) asked = ⊥

@@ -2,7 +2,7 @@
 use Rattle.command_line.specs.declared.json_plan.JsonPlan.{JsonPlan}
 use Rattle.command_line.specs.declared.json_plan.JsonPlan.TheVariants as jsons
 use Rattle.command_line.specs.declared.plan.Plan.{Plan}
-use Rattle.command_line.specs.declared.plan.Plan.TheVariants.{Verify, VerifyRequired, Locate, LocateRequired, Events, ReplayExpected, Json, Help}
+use Rattle.command_line.specs.declared.plan.Plan.TheVariants.{Verify, VerifyRequired, VerifyGrowing, Locate, LocateRequired, Events, ReplayExpected, Json, Help}
 
 -- The plan shows something of its inputs: it is not the help.
 abbrev pub ShowsInputs : Plan → Type 0
@@ -14,6 +14,7 @@ abbrev pub ShowsText : Plan → Type 0
 ShowsText (Help text) = ⊥
 ShowsText (Verify log list expected) = ⊥
 ShowsText (VerifyRequired log list expected required) = ⊥
+ShowsText (VerifyGrowing log list expected required extent resume save) = ⊥
 ShowsText (Locate log list expected) = ⊥
 ShowsText (LocateRequired log list expected required) = ⊥
 ShowsText (Events log requested) = ⊥

@@ -30,9 +30,9 @@ returns-clause-taken c =
     let boot = of_boot c.args.log.now c.args.known c.registers.result sound.0 sound.1 sound.2 (c.registers.ensures sound.0 sound.1 viewed)
     (c.are_same_banks.ensures.same c.if-not-are_same_banks.false) in
     λ list is. record {
-      table = sound.0;
-      events = sound.1;
-      log_is = sound.2;
+      table = boot.table;
+      events = boot.events;
+      log_is = boot.log_is;
       same_log = found;
       start = boot.start;
       checkpoint = is;
