@@ -63,6 +63,27 @@ func ExampleListing_Fault() {
 	// refused: list fault 1 at entry 98
 }
 
+func ExampleSession() {
+	firmware, list := read("firmware.log"), read("ima.list")
+	first, err := imaverify.NewSession(firmware, nil)
+	if err != nil {
+		log.Fatal(err)
+	}
+	verdict, err := first.More(list[:101]) // the boot aggregate
+	fmt.Println(verdict.Matches, verdict.Entries, err)
+
+	options := []imaverify.Option{imaverify.Require("sha256:0-10"), imaverify.Prefix(), imaverify.Resume(first.State())}
+	later, err := imaverify.NewSession(firmware, read("expected.txt"), options...)
+	if err != nil {
+		log.Fatal(err) // such as "refused: checkpoint fault 1", of the type *imaverify.RefusedError
+	}
+	verdict, err = later.More(append(list[later.Offset():], "cut"...))
+	fmt.Println(verdict.Matches, verdict.Confirmed, verdict.Unconfirmed.Line, err)
+	// Output:
+	// false 1 <nil>
+	// true 99 unconfirmed: list fault 1 at entry 99 <nil>
+}
+
 func ExampleEvents() {
 	firmware := read("firmware.log")
 	places, err := imaverify.LocateRequired(firmware, read("ima.list"), read("expected.txt"), "sha256:4")

@@ -297,7 +297,7 @@ class Page(unittest.TestCase):
         return verdict.matches, state, said.getvalue()
 
     def test_list_is_judged_as_it_grows(self):
-        wanted = True, state_after(50), "50 of 60 entries are confirmed \n"
+        wanted = True, state_after(50), "50 of 60 entries are confirmed\n"
         self.assertEqual(self.judge(tenth_after(50), None, lambda start: LIST[start:ENDS[60]]), wanted)
         self.assertEqual(self.judge(tenth_after(60), wanted[1], lambda start: changed(61)[start:])[:2], (True, state_after(60)))
         self.assertEqual(self.judge(EXPECTED, wanted[1], lambda start: LIST[start:ENDS[98]]), (False, wanted[1], ""))

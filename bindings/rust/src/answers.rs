@@ -2,7 +2,7 @@
 
 use crate::library::{DIFFERS, DONE, OUT_OF_MEMORY, REFUSED};
 use crate::{Algorithm, BootAggregate, Content, Entries, Entry, Error, Event, Events, File, Kind, ListVerdict, LogAlgorithm};
-use crate::{Place, PlaceRow, Places, Register, Row, State, Verdict};
+use crate::{Place, PlaceRow, Places, Register, Row, State, Unconfirmed, Verdict};
 use serde::de::{DeserializeOwned, Error as _};
 use serde::{Deserialize, Deserializer};
 use std::collections::BTreeMap;
@@ -17,13 +17,47 @@ pub(crate) struct Answer {
 }
 
 impl Answer {
+    /// The verdict on a whole list.
     pub(crate) fn verdict(self) -> Result<Verdict, Error> {
+        self.read(|answer| answer.report().filter(|verdict| verdict.confirmed.is_none()))
+    }
+
+    /// The verdict on a list that has so many bytes after a checkpoint, and the next checkpoint, which is of the list that the report is on:
+    /// of the confirmed front, which only a report of a call that asks for it has, and then exactly if its verdict is a match, else of the
+    /// whole list.
+    pub(crate) fn more(
+        self,
+        state: Vec<u8>,
+        from: &Checkpoint,
+        size: u64,
+        has_front: bool,
+    ) -> Result<(Verdict, Checkpoint), Error> {
         self.read(|answer| {
-            let Report { events, locality, boot_aggregate, rest } = object(&answer.text)?;
-            let matches = answer.matches(&rest, boot_aggregate == BootAggregate::Good)?;
-            let (entries, rows, json) = (rest.entries, rest.registers, answer.line()?);
-            Some(Verdict { events, locality, entries, boot_aggregate, rows, matches, json })
+            let (mut verdict, reached) = (answer.report()?, Checkpoint::of(state)?);
+            let (end, confirmed) = (from.bytes.checked_add(size)?, verdict.confirmed);
+            let has_right_front = confirmed.is_some() == (has_front && answer.status == DONE);
+            let is_right_end =
+                if confirmed.is_some() { (from.bytes..=end).contains(&reached.bytes) } else { reached.bytes == end };
+            let entries = confirmed.unwrap_or(verdict.entries);
+            (has_right_front && is_right_end && from.entries <= entries && entries == reached.entries).then_some(())?;
+            if !verdict.matches {
+                (verdict.confirmed, verdict.unconfirmed) = (None, None); // (no register confirms anything if there is none)
+            }
+            Some((verdict, reached))
         })
+    }
+
+    fn report(&self) -> Option<Verdict> {
+        let Report { events, locality, boot_aggregate, confirmed, unconfirmed, rest } = object(&self.text)?;
+        let matches = self.matches(&rest, boot_aggregate == BootAggregate::Good)?;
+        let (entries, rows, json) = (rest.entries, rest.registers, self.line()?);
+        let is_front = |confirmed| (1..=entries).contains(&confirmed) && self.status == DONE;
+        confirmed.map_or(unconfirmed.is_none(), is_front).then_some(())?;
+        let unconfirmed = match unconfirmed {
+            Some(fault) => Some(unconfirmed_fault(fault, confirmed?, entries)?),
+            None => None,
+        };
+        Some(Verdict { events, locality, entries, boot_aggregate, rows, matches, json, confirmed, unconfirmed })
     }
 
     /// The verdict on a list alone.
@@ -114,8 +148,16 @@ impl Answer {
         })
     }
 
+    /// The answer, if it is a result or a refusal.
+    pub(crate) fn of_inputs(self) -> Result<Self, Error> {
+        match self.status {
+            DONE | DIFFERS | REFUSED => Ok(self),
+            _ => Err(self.failure()),
+        }
+    }
+
     /// The error of an answer whose status is that of no result and no refusal.
-    pub(crate) fn failure(&self) -> Error {
+    fn failure(&self) -> Error {
         let is_memory = || self.text.is_empty() || fault_in(&self.text[self.last_line()..]) == Some(Error::OutOfMemory);
         if self.status == OUT_OF_MEMORY && is_memory() {
             Error::OutOfMemory
@@ -201,6 +243,36 @@ impl Lines {
     }
 }
 
+/// The text of a checkpoint, and how many entries and bytes of the list it covers. That of no entries has no text.
+#[derive(Debug, Clone, Default, PartialEq)]
+pub(crate) struct Checkpoint {
+    pub(crate) text: Vec<u8>,
+    pub(crate) entries: u64,
+    pub(crate) bytes: u64,
+}
+
+impl Checkpoint {
+    const NAME: &'static [u8] = b"ima-agent checkpoint ";
+    const FIRST_LINE: &'static [u8] = b"ima-agent checkpoint 1\n";
+    const MOST_BYTES: u64 = i64::MAX as u64;
+
+    /// The checkpoint whose text this is, if it begins as one. (The library judges the rest.)
+    fn of(text: Vec<u8>) -> Option<Self> {
+        let mut lines = text.strip_prefix(Self::FIRST_LINE)?.splitn(3, |byte| *byte == b'\n');
+        let mut count = |name| number_in(std::str::from_utf8(lines.next()?).ok()?.strip_prefix(name)?);
+        let (entries, bytes) = (count("entries ")?, count("bytes ")?);
+        (lines.next().is_some() && entries <= bytes && bytes <= Self::MOST_BYTES).then_some(Self { text, entries, bytes })
+    }
+
+    /// The same, or the refusal.
+    pub(crate) fn of_state(text: &[u8]) -> Result<Self, Error> {
+        let is_other = text.starts_with(Self::NAME) && !text.starts_with(Self::FIRST_LINE);
+        let number = if is_other { 2 } else { 1 };
+        let line = format!("refused: checkpoint fault {number}");
+        Self::of(text.to_vec()).ok_or(Error::Refused { line, kind: Kind::Checkpoint, number, place: None })
+    }
+}
+
 /// The member `fault` of a result, which has none: it cannot be read.
 #[derive(Default)]
 struct NoFault;
@@ -217,8 +289,17 @@ struct Report {
     events: u64,
     locality: u8,
     boot_aggregate: BootAggregate,
+    #[serde(default, deserialize_with = "told")]
+    confirmed: Option<u64>,
+    #[serde(default, deserialize_with = "told")]
+    unconfirmed: Option<Fault>,
     #[serde(flatten)]
     rest: ListReport,
+}
+
+/// A member that is there, and no null.
+fn told<'de, D: Deserializer<'de>, T: Deserialize<'de>>(from: D) -> Result<Option<T>, D::Error> {
+    T::deserialize(from).map(Some)
 }
 
 #[derive(Deserialize)]
@@ -374,19 +455,37 @@ fn name(text: Option<String>, bytes: Option<Bytes>) -> Option<Vec<u8>> {
     text.map(String::into_bytes).or(bytes.map(|Bytes(bytes)| bytes))
 }
 
-/// The error that the line of a fault states. The members of one that is JSON say the same as its message, which alone has the line of a
-/// text.
+/// The error that the line of a fault states. The members of one that is JSON say the same as its message.
 fn fault_in(text: &[u8]) -> Option<Error> {
     if !text.starts_with(b"{") {
         return fault_said_by(std::str::from_utf8(text).ok()?.strip_suffix('\n')?);
     }
-    let Fault { kind, number, event, entry, message } = object::<FaultLine>(text)?.fault;
-    let fault = fault_said_by(&message)?;
+    let fault = object::<FaultLine>(text)?.fault;
+    fault_with(&fault, &fault.message)
+}
+
+/// The fault of a list with so many entries, of which so many are confirmed: it is after these.
+fn unconfirmed_fault(fault: Fault, confirmed: u64, entries: u64) -> Option<Unconfirmed> {
+    let line = fault.message.strip_prefix("unconfirmed: ")?;
+    let Error::Refused { kind, number, place, .. } = fault_with(&fault, &format!("refused: {line}"))? else { return None };
+    let is_after = match kind {
+        Kind::List => place == Some(entries),
+        Kind::Replay => place.map_or(false, |entry| (confirmed..entries).contains(&entry)),
+        _ => false,
+    };
+    is_after.then_some(Unconfirmed { line: fault.message, kind, number, entry: place? })
+}
+
+/// The error that a line states, where the members of a fault say the same, but that the line alone has the line of a text.
+fn fault_with(members: &Fault, line: &str) -> Option<Error> {
+    let Fault { ref kind, number, event, entry, .. } = *members;
+    let fault = fault_said_by(line)?;
     let said = match fault {
         Error::Refused { kind: Kind::Log, number, place, .. } => ("log", Some(number), place, None),
         Error::Refused { kind: Kind::List, number, place, .. } => ("list", Some(number), None, place),
         Error::Refused { kind: Kind::Replay, number, place, .. } => ("replay", Some(number), None, place),
         Error::Refused { kind: Kind::Expected, number, .. } => ("expected", Some(number), None, None),
+        Error::Refused { kind: Kind::Checkpoint, number, .. } => ("checkpoint", Some(number), None, None),
         Error::Malformed => ("command_line", None, None, None),
         _ => ("memory", None, None, None),
     };
@@ -404,6 +503,7 @@ fn fault_said_by(line: &str) -> Option<Error> {
         ["refused:", "replay", "fault", digits, "at", "entry", place] => (Kind::Replay, digits, Some(place)),
         ["refused:", "expected", "fault", digits] => (Kind::Expected, digits, None),
         ["refused:", "expected", "fault", digits, "at", "line", place] => (Kind::Expected, digits, Some(place)),
+        ["refused:", "checkpoint", "fault", digits] => (Kind::Checkpoint, digits, None),
         _ => return None,
     };
     let place = match place {

@@ -15,12 +15,16 @@
 //! ```
 //!
 //! Say which registers a verdict must cover: that of [`verify`] covers only those that `expected` names; one on none is no match.
-//! [`entries`] and [`events`] go through the inputs themselves.
+//! [`entries`] and [`events`] go through the inputs themselves. A [`Session`] is for a list that grows, and for one that went on after the
+//! expected registers were read.
 //!
 //! Any number of threads may call at once.
 
 mod answers;
 mod library;
+mod session;
+
+pub use session::Session;
 
 /// The example of the page runs.
 #[cfg(doctest)]
@@ -118,6 +122,23 @@ pub struct Verdict {
     pub matches: bool,
     /// The report as `ima-agent verify --json` prints it, without the line feed.
     pub json: String,
+    /// Only of a [`Session`] with a prefix: the verdict is a match on the list's first entries, so many of all `entries`, and says nothing of
+    /// those after them.
+    pub confirmed: Option<u64>,
+    /// The first fault of those after the confirmed ones, if they have one.
+    pub unconfirmed: Option<Unconfirmed>,
+}
+
+/// A fault of a list after its confirmed front, for which the list is not refused.
+#[derive(Debug, Clone, PartialEq, Eq, Hash)]
+pub struct Unconfirmed {
+    /// As `unconfirmed: replay fault 1 at entry 98`.
+    pub line: String,
+    /// [`Kind::List`] or [`Kind::Replay`].
+    pub kind: Kind,
+    pub number: u64,
+    /// The number of the entry.
+    pub entry: u64,
 }
 
 impl Verdict {
@@ -334,6 +355,8 @@ pub enum Kind {
     /// An entry of the list is not genuine.
     Replay,
     Expected,
+    /// The state of a session: it is damaged (1), of another version (2), or of another boot (3).
+    Checkpoint,
 }
 
 /// Why there is no result.

@@ -10,7 +10,8 @@ pub(crate) const REFUSED: i32 = 2;
 pub(crate) const OUT_OF_MEMORY: i32 = 3;
 pub(crate) const TOO_SHORT: i32 = 4;
 
-/// Room for what is not made of each entry or event: four banks have 96 registers, and no row of these has more than 256 bytes.
+/// Room for what is not made of each entry or event: four banks have 96 registers, and no row of these has more than 256 bytes. (A
+/// checkpoint has each register twice, in at most 140 bytes.)
 pub(crate) const ROOM: usize = 32 * 1024;
 
 /// Room for the entries of a list of this size: an entry's text is at most twice as long as the entry.
@@ -35,6 +36,27 @@ mod c {
 
     extern "C" {
         pub(super) fn ima_verify_version() -> u32;
+
+        #[rustfmt::skip]
+        pub(super) fn ima_verify_more_json(
+            log: *const u8,
+            log_size: usize,
+            state: *const u8,
+            state_size: usize,
+            more: *const u8,
+            more_size: usize,
+            expected: *const u8,
+            expected_size: usize,
+            require: *const u8,
+            require_size: usize,
+            prefix: bool,
+            next: *mut u8,
+            next_size: usize,
+            next_needed: *mut usize,
+            out: *mut u8,
+            out_size: usize,
+            needed: *mut usize,
+        ) -> i32;
     }
 
     functions! {
@@ -84,26 +106,74 @@ calls! {
     show = ima_show(list);
 }
 
+/// The inputs of a session's call.
+pub(crate) struct More<'a> {
+    pub(crate) log: &'a [u8],
+    pub(crate) state: &'a [u8],
+    pub(crate) data: &'a [u8],
+    pub(crate) expected: &'a [u8],
+    pub(crate) require: &'a [u8],
+    pub(crate) prefix: bool,
+}
+
+/// The call of a session: it gives the status, and how long the next state and the text are.
+#[rustfmt::skip]
+pub(crate) fn verify_more(inputs: &More, [next, out]: &mut [Vec<u8>; 2]) -> (i32, [usize; 2]) {
+    let &More { log, state, data, expected, require, prefix } = inputs;
+    let (mut next_needed, mut needed) = (usize::MAX, usize::MAX);
+    // SAFETY: as of the calls above; `next` and `out` are two buffers, and their sizes two variables.
+    let status = unsafe {
+        c::ima_verify_more_json(
+            log.as_ptr(), log.len(), state.as_ptr(), state.len(), data.as_ptr(), data.len(),
+            expected.as_ptr(), expected.len(), require.as_ptr(), require.len(), prefix,
+            next.as_mut_ptr(), next.len(), &mut next_needed, out.as_mut_ptr(), out.len(), &mut needed,
+        )
+    };
+    (status, [next_needed, needed])
+}
+
 /// Calls the library with room for a text of this size, and once more if that is too short. The answer is a result or a refusal.
 pub(crate) fn ask(room: usize, mut call: impl FnMut(&mut [u8]) -> (i32, usize)) -> Result<Answer, Error> {
+    let (status, [text]) = ask_for_texts([room], |[out]| {
+        let (status, needed) = call(out);
+        (status, [needed])
+    })?;
+    Answer { status, text }.of_inputs()
+}
+
+/// Calls the library with room for texts of these sizes, and once more if one is too short. It gives the status and the texts.
+pub(crate) fn ask_for_texts<const N: usize>(
+    rooms: [usize; N],
+    mut call: impl FnMut(&mut [Vec<u8>; N]) -> (i32, [usize; N]),
+) -> Result<(i32, [Vec<u8>; N]), Error> {
     if version() < VERSION {
         return Err(Error::Version(version()));
     }
-    let mut out = zeros(room)?;
-    let (mut status, mut needed) = call(&mut out);
-    if status == TOO_SHORT && room < needed && needed < usize::MAX {
-        out = zeros(needed)?;
-        (status, needed) = call(&mut out);
+    let mut outs = buffers(rooms)?;
+    let (mut status, mut needed) = call(&mut outs);
+    let is_more = needed.iter().zip(rooms).any(|(needed, room)| *needed > room);
+    if status == TOO_SHORT && is_more && !needed.contains(&usize::MAX) {
+        for (size, room) in needed.iter_mut().zip(rooms) {
+            *size = room.max(*size);
+        }
+        outs = buffers(needed)?;
+        (status, needed) = call(&mut outs);
     }
-    if needed > out.len() {
-        return Err(Error::Unexpected { status, needed, text: Vec::new() });
+    for (out, needed) in outs.iter_mut().zip(needed) {
+        if needed > out.len() {
+            return Err(Error::Unexpected { status, needed, text: Vec::new() });
+        }
+        out.truncate(needed);
     }
-    out.truncate(needed);
-    let answer = Answer { status, text: out };
-    match status {
-        DONE | DIFFERS | REFUSED => Ok(answer),
-        _ => Err(answer.failure()),
+    Ok((status, outs))
+}
+
+fn buffers<const N: usize>(rooms: [usize; N]) -> Result<[Vec<u8>; N], Error> {
+    let mut outs = rooms.map(|_| Vec::new());
+    for (out, room) in outs.iter_mut().zip(rooms) {
+        *out = zeros(room)?;
     }
+    Ok(outs)
 }
 
 fn zeros(size: usize) -> Result<Vec<u8>, Error> {

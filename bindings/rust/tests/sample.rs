@@ -70,7 +70,17 @@ fn verdict_on_the_sample_is_a_match() {
     let lines = (0..24).map(row).collect::<Vec<_>>().join(",");
     let front = r#"{"events":24,"locality":0,"entries":99,"boot_aggregate":"good","registers":["#;
     let json = format!("{front}{lines}],\"verdict\":\"match\"}}");
-    let wanted = Verdict { events: 24, locality: 0, entries: 99, boot_aggregate: BootAggregate::Good, rows, matches: true, json };
+    let wanted = Verdict {
+        events: 24,
+        locality: 0,
+        entries: 99,
+        boot_aggregate: BootAggregate::Good,
+        rows,
+        matches: true,
+        json,
+        confirmed: None,
+        unconfirmed: None,
+    };
     assert_eq!(verify(&log(), &list(), &expected()).unwrap(), wanted);
 }
 

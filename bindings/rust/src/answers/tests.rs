@@ -583,6 +583,10 @@ fn refusals_are_read() {
             r#"{"fault":{"kind":"expected","number":6,"message":"refused: expected fault 6"}}"#,
             refused("refused: expected fault 6", Kind::Expected, 6, None),
         ),
+        (
+            r#"{"fault":{"kind":"checkpoint","number":3,"message":"refused: checkpoint fault 3"}}"#,
+            refused("refused: checkpoint fault 3", Kind::Checkpoint, 3, None),
+        ),
     ] {
         assert_eq!(answered(REFUSED, &format!("{text}\n"), text.len() + 1).unwrap_err(), wanted);
     }

@@ -1,0 +1,276 @@
+//! What a library may answer a session, and what not: lines of the forms that `docs/formats.md` shows, and changes of them.
+
+use super::Session;
+use crate::answers::Answer;
+use crate::library::{ask_for_texts, verify_more, More, DIFFERS, DONE, OUT_OF_MEMORY, REFUSED, ROOM, TOO_SHORT};
+use crate::{verify, Error, Kind, Unconfirmed, Verdict};
+
+const REPORT: &str = concat!(
+    r#"{"events":1,"locality":0,"entries":3,"boot_aggregate":"good","#,
+    r#""registers":[{"bank":"sha256","register":10,"state":"match"}],"verdict":"match"}"#,
+    "\n"
+);
+const STATE: &str = "ima-agent checkpoint 1\nentries 3\nbytes 300\nboot_aggregate none\n";
+const REPLAY: &str =
+    r#""unconfirmed":{"kind":"replay","number":1,"entry":4,"message":"unconfirmed: replay fault 1 at entry 4"},"#;
+const LIST: &str = r#""unconfirmed":{"kind":"list","number":1,"entry":5,"message":"unconfirmed: list fault 1 at entry 5"},"#;
+const CONFIRMED: &str = r#""confirmed":3,"#;
+const ENTRIES: &str = r#""entries":3,"#;
+const MEMORY: &str = "{\"fault\":{\"kind\":\"memory\",\"message\":\"failed: memory\"}}\n";
+const FAULT: &str = "{\"fault\":{\"kind\":\"checkpoint\",\"number\":3,\"message\":\"refused: checkpoint fault 3\"}}\n";
+
+fn differing() -> String {
+    REPORT.replace(r#""good""#, r#""wrong""#).replace(r#""verdict":"match""#, r#""verdict":"differ""#)
+}
+
+fn front() -> String {
+    REPORT.replace(ENTRIES, r#""entries":5,"confirmed":3,"#)
+}
+
+/// The same with what is told of the entries after it.
+fn front_and(fault: &str) -> String {
+    front().replace(CONFIRMED, &format!("{CONFIRMED}{fault}"))
+}
+
+fn whole_front() -> String {
+    REPORT.replace(ENTRIES, r#""entries":3,"confirmed":3,"#)
+}
+
+fn session(state: Option<&str>, prefix: bool) -> Session {
+    let session = Session { prefix, ..Session::new(b"", b"") };
+    match state {
+        Some(state) => session.resume(state.as_bytes()).unwrap(),
+        None => session,
+    }
+}
+
+fn texts(state: &str, text: &str) -> [Vec<u8>; 2] {
+    [state.into(), text.into()]
+}
+
+/// The error of an answer to a call that makes 300 bytes. The session stays as it was, also if it has been used.
+fn error(status: i32, state: &str, text: &str, prefix: bool) -> Error {
+    let errors = [None, Some(STATE)].map(|earlier| {
+        let mut session = session(earlier, prefix);
+        let before = session.reached.clone();
+        let error = session.answered(300 - before.bytes as usize, (status, texts(state, text)));
+        assert_eq!(session.reached, before);
+        error.expect_err(text)
+    });
+    errors[1].clone()
+}
+
+fn check_unexpected(status: i32, state: &str, text: &str, prefix: bool) {
+    let found = error(status, state, text, prefix);
+    assert!(matches!(found, Error::Unexpected { .. }), "{found:?} of {text:?}");
+}
+
+/// A text with a change is not read.
+fn check_changes(text: &str, changes: &[(&str, &str)]) {
+    for (old, new) in changes {
+        let changed = text.replacen(old, new, 1);
+        assert_ne!(changed, text, "{old:?}");
+        check_unexpected(DONE, STATE, &changed, true);
+    }
+}
+
+fn is_whole(status: i32, text: &str) -> bool {
+    Answer { status, text: text.into() }.verdict().is_ok()
+}
+
+#[test]
+fn right_answers_are_read() {
+    let fault = |line: &str, kind, entry| Some(Unconfirmed { line: line.to_owned(), kind, number: 1, entry });
+    for (status, text, prefix, confirmed, unconfirmed) in [
+        (DONE, REPORT.to_owned(), false, None, None),
+        (DIFFERS, differing(), false, None, None),
+        (DIFFERS, differing(), true, None, None),
+        (DONE, front(), true, Some(3), None),
+        (DONE, whole_front(), true, Some(3), None),
+        (DONE, front_and(REPLAY), true, Some(3), fault("unconfirmed: replay fault 1 at entry 4", Kind::Replay, 4)),
+        (DONE, front_and(LIST), true, Some(3), fault("unconfirmed: list fault 1 at entry 5", Kind::List, 5)),
+    ] {
+        let mut session = session(None, prefix);
+        let verdict = session.answered(300, (status, texts(STATE, &text))).unwrap();
+        assert_eq!((verdict.matches, verdict.confirmed, verdict.unconfirmed), (status == DONE, confirmed, unconfirmed));
+        assert_eq!((session.state(), session.offset()), (Some(STATE.as_bytes()), 300));
+        assert_eq!(format!("{}\n", verdict.json), text);
+    }
+}
+
+#[test]
+fn front_that_cannot_be_is_none() {
+    check_changes(
+        &front(),
+        &[
+            (r#""confirmed":3"#, r#""confirmed":6"#),
+            (r#""confirmed":3"#, r#""confirmed":0"#),
+            (r#""confirmed":3"#, r#""confirmed":-3"#),
+            (r#""confirmed":3"#, r#""confirmed":3.0"#),
+            (r#""confirmed":3"#, r#""confirmed":"3""#),
+            (r#""confirmed":3"#, r#""confirmed":true"#),
+            (r#""confirmed":3"#, r#""confirmed":null"#),
+            (r#""confirmed":3"#, r#""confirmed":4"#),
+            (r#""confirmed":3"#, r#""confirmed":2"#),
+            (CONFIRMED, ""),
+            (CONFIRMED, REPLAY),
+            (r#""entries":5"#, r#""entries":2"#),
+            (r#""verdict":"match""#, r#""verdict":"differ""#),
+            (r#""good""#, r#""wrong""#),
+            (r#""state":"match""#, r#""state":"missing""#),
+        ],
+    );
+    check_unexpected(DIFFERS, STATE, &front(), true);
+    check_unexpected(DONE, STATE, REPORT, true); // (a whole list that matches has a front, too)
+    let both = format!("{CONFIRMED}{REPLAY}");
+    for told in [CONFIRMED, &both, REPLAY, r#""confirmed":null,"#, r#""unconfirmed":null,"#] {
+        for entries in [ENTRIES, r#""entries":5,"#] {
+            let text = differing().replace(ENTRIES, &format!("{entries}{told}"));
+            check_unexpected(DIFFERS, STATE, &text, true);
+            check_unexpected(DIFFERS, STATE, &text, false);
+            assert!(!is_whole(DIFFERS, &text));
+        }
+    }
+    for text in [front(), front_and(REPLAY), whole_front()] {
+        check_unexpected(DONE, STATE, &text, false);
+        assert!(!is_whole(DONE, &text));
+    }
+}
+
+#[test]
+fn fault_after_the_front_that_cannot_be_is_none() {
+    check_changes(
+        &front_and(REPLAY),
+        &[
+            (r#""entry":4"#, r#""entry":3"#),
+            (r#"y 4""#, r#"y 3""#),
+            (r#""entry":4,"#, ""),
+            (r#""number":1"#, r#""number":2"#),
+            (r#""number":1"#, r#""number":"1""#),
+            (r#""number":1,"#, ""),
+            (r#""kind":"replay""#, r#""kind":"list""#),
+            (r#""kind":"replay","#, ""),
+            ("unconfirmed: ", "refused: "),
+            ("unconfirmed: ", ""),
+            ("unconfirmed: ", "unconfirmed: refused: "),
+            (" 1 at", " 01 at"),
+            (r#""message""#, r#""line""#),
+            (r#""entries":5"#, r#""entries":4"#),
+            (r#""entry":4"#, r#""event":4"#),
+            (REPLAY, &REPLAY.replace(r#""entry":4"#, r#""entry":2"#).replace("y 4", "y 2")),
+            (REPLAY, r#""unconfirmed":null,"#),
+            (REPLAY, r#""unconfirmed":[],"#),
+            (REPLAY, r#""unconfirmed":{},"#),
+            (REPLAY, r#""unconfirmed":"unconfirmed: replay fault 1 at entry 4","#),
+            (REPLAY, r#""unconfirmed":{"kind":"checkpoint","number":3,"message":"unconfirmed: checkpoint fault 3"},"#),
+            (REPLAY, r#""unconfirmed":{"kind":"log","number":1,"event":4,"message":"unconfirmed: log fault 1 at event 4"},"#),
+            (REPLAY, r#""unconfirmed":{"kind":"command_line","message":"unconfirmed: command line"},"#),
+            (REPLAY, r#""unconfirmed":{"kind":"memory","message":"failed: memory"},"#),
+        ],
+    );
+    check_changes(&front_and(LIST), &[(r#""entries":5"#, r#""entries":6"#), (r#""entries":5"#, r#""entries":4"#)]);
+}
+
+#[test]
+fn state_that_is_not_that_of_the_report_is_none() {
+    for (old, new) in [
+        (STATE, ""),
+        (STATE, "x"),
+        ("ima", "im"),
+        ("entries 3", "entries 4"),
+        ("entries 3", "entries 2"),
+        ("entries 3", "entries 03"),
+        ("entries 3", "entries +3"),
+        ("bytes 300", "bytes 301"),
+        ("checkpoint 1", "checkpoint 2"),
+        ("bytes 300\n", ""),
+        ("bytes 300\nboot_aggregate none\n", "bytes 300"),
+    ] {
+        let state = STATE.replacen(old, new, 1);
+        assert_ne!(state, STATE);
+        check_unexpected(DONE, &state, REPORT, false);
+        check_unexpected(DIFFERS, &state, &differing(), false);
+        check_unexpected(DONE, &state, &front(), true);
+    }
+    let less = STATE.replace("300", "299");
+    check_unexpected(DONE, &less, REPORT, false);
+    let mut new = session(None, true);
+    let verdict = new.answered(300, (DONE, texts(&less, &front()))).unwrap(); // (the front's end may be anywhere)
+    assert_eq!((verdict.confirmed, new.offset()), (Some(3), 299));
+    assert!(session(Some(STATE), true).answered(0, (DONE, texts(&less, &front()))).is_err());
+    let later = STATE.replace("entries 3", "entries 4").replace("300", "400");
+    for (text, prefix) in [(REPORT.to_owned(), false), (front(), true)] {
+        assert!(session(Some(&later), prefix).answered(0, (DONE, texts(&STATE.replace("300", "400"), &text))).is_err());
+    }
+}
+
+#[test]
+fn failures_leave_the_session_as_it_was() {
+    for (status, text) in [
+        (DONE, ""),
+        (DONE, "{}\n"),
+        (DONE, &REPORT[..REPORT.len() - 1]),
+        (DIFFERS, REPORT),
+        (DONE, &differing()),
+        (REFUSED, REPORT),
+        (OUT_OF_MEMORY, REPORT),
+        (TOO_SHORT, REPORT),
+        (5, REPORT),
+        (-1, REPORT),
+        (DONE, FAULT),
+        (REFUSED, MEMORY),
+        (OUT_OF_MEMORY, FAULT),
+    ] {
+        check_unexpected(status, STATE, text, false);
+    }
+    let line = "refused: checkpoint fault 3".to_owned();
+    let wanted = Error::Refused { line, kind: Kind::Checkpoint, number: 3, place: None };
+    assert_eq!(error(REFUSED, "", FAULT, false), wanted);
+    assert_eq!(error(OUT_OF_MEMORY, "", MEMORY, false), Error::OutOfMemory);
+    for old in ["\"number\":3", "\"kind\":\"checkpoint\"", "fault 3"] {
+        check_unexpected(REFUSED, "", &FAULT.replace(old, &old.replace('3', "2").replace("checkpoint", "log")), false);
+    }
+    check_unexpected(REFUSED, "", &FAULT.replace("\"message\"", "\"entry\":3,\"message\""), false);
+}
+
+#[test]
+fn sizes_that_cannot_be_are_errors() {
+    for needed in [[usize::MAX; 2], [usize::MAX, 9], [9, usize::MAX], [ROOM + 1, 9], [9, ROOM + 1]] {
+        for status in [DONE, DIFFERS, REFUSED] {
+            assert!(matches!(ask_for_texts([ROOM; 2], |_| (status, needed)), Err(Error::Unexpected { .. })));
+        }
+    }
+    let huge = ask_for_texts([ROOM; 2], |_| (TOO_SHORT, [usize::MAX - 1, 9]));
+    assert_eq!(huge.unwrap_err(), Error::OutOfMemory);
+    let mut calls = 0;
+    let (status, texts) = ask_for_texts([5, 5], |outs| {
+        calls += 1;
+        assert_eq!((outs[0].len(), outs[1].len()), if calls == 1 { (5, 5) } else { (5, 9) });
+        (TOO_SHORT, [3, 9])
+    })
+    .unwrap();
+    assert_eq!((calls, status, texts.map(|text| text.len())), (2, TOO_SHORT, [3, 9]));
+    check_unexpected(TOO_SHORT, "", "", false);
+}
+
+#[test]
+fn second_call_has_room_for_both_texts() {
+    let sample = |name| std::fs::read(format!("{}/../../samples/real-boot/{name}", env!("CARGO_MANIFEST_DIR"))).unwrap();
+    let (log, data, expected) = (sample("firmware.log"), sample("ima.list"), sample("expected.txt"));
+    let mut session = Session::new(&log, &expected);
+    let Verdict { json, .. } = session.more(&data).unwrap();
+    assert_eq!(verify(&log, &data, &expected).unwrap().json, json);
+    let (state, line) = (session.state().unwrap(), format!("{json}\n"));
+    let inputs = More { log: &log, state: b"", data: &data, expected: &expected, require: b"", prefix: false };
+    let sizes = (state.len(), line.len());
+    for (next, out) in [(1, 1), (1, 40_000), (40_000, 1), (sizes.0 - 1, sizes.1), (sizes.0, sizes.1 - 1), sizes, (40_000, 40_000)]
+    {
+        let mut calls = 0;
+        let counted = ask_for_texts([next, out], |outs| {
+            calls += 1;
+            verify_more(&inputs, outs)
+        });
+        assert_eq!(counted.unwrap(), (DONE, [state.to_vec(), line.clone().into_bytes()]));
+        assert_eq!(calls, if next < sizes.0 || out < sizes.1 { 2 } else { 1 });
+    }
+}
