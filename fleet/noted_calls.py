@@ -1,4 +1,5 @@
-"""Preloaded by the workers of fleet/test: notes each call of `ima_verify.verify` on a log in the file NOTED_CALLS, a line each.
+"""Preloaded by the workers of fleet/test: notes each call of `ima_verify.verify` on a log, and each of a session's `more`, in the file
+NOTED_CALLS, a line each.
 
 A machine is known by its number, that of the empty lines at the end of its expected registers. The machine DEADLY kills its
 worker, and the machine LARGE gets no memory."""
@@ -11,14 +12,30 @@ import ima_verify
 
 SECONDS = 0.01
 if not hasattr(ima_verify, "unnoted"):  # (Dask may load this twice)
-    ima_verify.unnoted = ima_verify.verify
+    ima_verify.unnoted, ima_verify.Unnoted = ima_verify.verify, ima_verify.Session
 
 
 def noted(log, measurements, expected, **given):
     """Notes the call, unless it only asks what may be required, and does it."""
     if log:
-        note(str(len(expected) - len(expected.rstrip(b"\n")) - 1))
+        note(number_of(expected))
     return ima_verify.unnoted(log, measurements, expected, **given)
+
+
+class Noted(ima_verify.Unnoted):
+    """A session that notes its calls."""
+
+    def __init__(self, log, expected, **given):
+        super().__init__(log, expected, **given)
+        self.number = number_of(expected)
+
+    def more(self, data):
+        note(self.number)
+        return super().more(data)
+
+
+def number_of(expected):
+    return str(len(expected) - len(expected.rstrip(b"\n")) - 1)
 
 
 def note(number):
@@ -32,4 +49,4 @@ def note(number):
         raise MemoryError
 
 
-ima_verify.verify = noted
+ima_verify.verify, ima_verify.Session = noted, Noted

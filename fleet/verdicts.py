@@ -1,4 +1,5 @@
-"""The table of verdicts: a file of SQLite, with one row for each machine that has a verdict."""
+"""The table of verdicts: a file of SQLite, with one row for each machine that has a verdict. Polls also keep there each machine's
+checkpoint, and each change of a verdict."""
 
 import sqlite3
 from typing import Collection, Dict, Iterable, Optional, Sequence, Tuple
@@ -9,7 +10,7 @@ VERDICTS = ("match", "differ", "refused", "unreadable", "failed")
 
 # Marks a file as a table of verdicts, and says which form its tables have.
 _APPLICATION = 0x494D4156
-_FORM = 2
+_FORM = 3
 _SECONDS = 60
 
 _TABLES = f"""
@@ -22,7 +23,9 @@ CREATE TABLE verdicts (
     events INTEGER, locality INTEGER, entries INTEGER, boot_aggregate TEXT,
     log TEXT NOT NULL, list TEXT NOT NULL, expected TEXT NOT NULL, -- the paths
     log_sha256 TEXT, list_sha256 TEXT, expected_sha256 TEXT, -- of the bytes that were read
-    interface_version INTEGER, worker TEXT, time TEXT NOT NULL
+    list_from INTEGER, -- from which byte on the list was read: that of the checkpoint, or 0
+    interface_version INTEGER, worker TEXT, time TEXT NOT NULL,
+    poll INTEGER REFERENCES polls -- which poll gave it; NULL if none did
 ) WITHOUT ROWID;
 CREATE TABLE registers (
     machine TEXT NOT NULL REFERENCES verdicts,
@@ -33,6 +36,15 @@ CREATE TABLE registers (
     PRIMARY KEY (machine, algorithm, register)
 ) WITHOUT ROWID;
 CREATE TABLE ends (time TEXT NOT NULL); -- when a run had given its counts, by the client's clock
+CREATE TABLE polls (number INTEGER PRIMARY KEY, time TEXT NOT NULL); -- when each poll began, by the client's clock
+CREATE TABLE checkpoints (machine TEXT NOT NULL PRIMARY KEY REFERENCES verdicts, checkpoint BLOB NOT NULL);
+CREATE TABLE changes (
+    number INTEGER PRIMARY KEY,
+    machine TEXT NOT NULL,
+    poll INTEGER NOT NULL REFERENCES polls,
+    verdict TEXT NOT NULL, -- which another one was before, or none
+    cause TEXT, time TEXT NOT NULL
+);
 PRAGMA application_id = {_APPLICATION};
 PRAGMA user_version = {_FORM};
 COMMIT;
@@ -40,11 +52,11 @@ COMMIT;
 
 _FIELDS = (
     "verdict", "cause", "events", "locality", "entries", "boot_aggregate", "log_sha256", "list_sha256", "expected_sha256",
-    "interface_version", "worker", "time",
+    "list_from", "interface_version", "worker", "time",
 )
 _INSERT = (
-    f"INSERT INTO verdicts (machine, required, log, list, expected, {', '.join(_FIELDS)}) "
-    f"VALUES ({', '.join('?' * (5 + len(_FIELDS)))})"
+    f"INSERT INTO verdicts (machine, required, log, list, expected, poll, {', '.join(_FIELDS)}) "
+    f"VALUES ({', '.join('?' * (6 + len(_FIELDS)))})"
 )
 
 
@@ -54,10 +66,11 @@ class BadVerdicts(Exception):
 
 class Verdicts:
     """An open table of verdicts, all with the registers `required`. Only the process that has it open writes it, a transaction
-    at a time."""
+    at a time. `poll` is the number of the poll that it is open for, once that has begun."""
 
     def __init__(self, path: str, required: str):
         self.required = required
+        self.poll: Optional[int] = None
         self.connection = sqlite3.connect(path, timeout=_SECONDS)
         application, form, tables = (
             self.connection.execute(query).fetchone()[0]
@@ -71,13 +84,15 @@ class Verdicts:
             raise BadVerdicts("another version of this program made it: take another TABLE")
         self.connection.execute("PRAGMA foreign_keys = ON")
 
-    def recorded(self, machines: Sequence[Machine]) -> Dict[str, str]:
+    def recorded(self, machines: Sequence[Machine], is_poll: bool) -> Dict[str, str]:
         """The verdict of each machine that has one, by name. All rows must be of these machines, with the same paths, and given
-        with the same requirement."""
+        with the same requirement, all by polls or none."""
         paths = {machine.name: machine.paths for machine in machines}
         verdicts = {}
-        rows = self.connection.execute("SELECT machine, verdict, required, log, list, expected FROM verdicts")
-        for name, verdict, required, *recorded in rows:
+        rows = self.connection.execute("SELECT machine, verdict, required, poll, log, list, expected FROM verdicts")
+        for name, verdict, required, poll, *recorded in rows:
+            if (poll is not None) != is_poll:
+                raise BadVerdicts(f"its verdicts were given {'without' if is_poll else 'with'} --poll: take another TABLE")
             if required != self.required:
                 raise BadVerdicts(f"its verdict of {name!r} was given with --require {required}: take another TABLE")
             if name not in paths:
@@ -87,17 +102,55 @@ class Verdicts:
             verdicts[name] = verdict
         return verdicts
 
+    def require_whole(self) -> None:
+        """Refuses a table that is damaged or written by halves: a poll goes on from what it has."""
+        damage = self.connection.execute("PRAGMA quick_check(1)").fetchone()[0]
+        if damage != "ok":
+            raise BadVerdicts(f"it is damaged: {damage}")
+        orphan = self.connection.execute("PRAGMA foreign_key_check").fetchone()
+        if orphan is not None:
+            raise BadVerdicts(f"it is damaged: a row of {orphan[0]} lacks that of {orphan[2]}")
+
+    def begin_poll(self, time: str) -> None:
+        """Begins a poll: an earlier one that still runs records no more."""
+        with self.connection:
+            self.poll = self.connection.execute("INSERT INTO polls (time) VALUES (?)", (time,)).lastrowid
+
+    def checkpoint(self, machine: Machine) -> Optional[bytes]:
+        """The machine's checkpoint, whatever bytes that is, or None."""
+        query = "SELECT CAST(checkpoint AS BLOB) FROM checkpoints WHERE machine = ?"
+        found = self.connection.execute(query, (machine.name,)).fetchone()
+        return None if found is None else found[0]
+
     def record(self, answers: Iterable[Tuple[Machine, dict]], again: Collection[str]) -> None:
         """Records answers, each with its machine, in one transaction. What the machines of `again` had is replaced."""
         with self.connection:
+            self.connection.execute("BEGIN IMMEDIATE")
+            if self.poll != self.connection.execute("SELECT max(number) FROM polls").fetchone()[0]:
+                raise BadVerdicts("a later poll has begun")
             for machine, answer in answers:
+                if self.poll is not None:
+                    self._record_change(machine.name, answer)
                 if machine.name in again:
-                    self.connection.execute("DELETE FROM registers WHERE machine = ?", (machine.name,))
-                    self.connection.execute("DELETE FROM verdicts WHERE machine = ?", (machine.name,))
-                fields = (answer.get(field) for field in _FIELDS)
-                self.connection.execute(_INSERT, (machine.name, self.required, *machine.paths, *fields))
-                rows = ((machine.name, *row) for row in answer.get("rows", ()))
-                self.connection.executemany("INSERT INTO registers VALUES (?, ?, ?, ?, ?)", rows)
+                    for table in ("checkpoints", "registers", "verdicts"):
+                        self.connection.execute(f"DELETE FROM {table} WHERE machine = ?", (machine.name,))
+                self._record_verdict(machine, answer)
+
+    def _record_change(self, name: str, answer: dict) -> None:
+        """Records that the machine had another verdict, or none."""
+        self.connection.execute(
+            "INSERT INTO changes (machine, poll, verdict, cause, time) SELECT :machine, :poll, :verdict, :cause, :time "
+            "WHERE NOT EXISTS (SELECT 1 FROM verdicts WHERE machine = :machine AND verdict = :verdict)",
+            {"machine": name, "poll": self.poll, **{field: answer.get(field) for field in ("verdict", "cause", "time")}},
+        )
+
+    def _record_verdict(self, machine: Machine, answer: dict) -> None:
+        fields = (answer.get(field) for field in _FIELDS)
+        self.connection.execute(_INSERT, (machine.name, self.required, *machine.paths, self.poll, *fields))
+        rows = ((machine.name, *row) for row in answer.get("rows", ()))
+        self.connection.executemany("INSERT INTO registers VALUES (?, ?, ?, ?, ?)", rows)
+        if answer.get("checkpoint") is not None:
+            self.connection.execute("INSERT INTO checkpoints VALUES (?, ?)", (machine.name, answer["checkpoint"].encode()))
 
     def standing(self, again: Sequence[str]) -> Tuple[int, Optional[str]]:
         """How many verdicts are of none of these kinds, and when the first of them was given."""
@@ -119,6 +172,6 @@ class Verdicts:
             self.connection.execute("INSERT INTO ends VALUES (?)", (time,))
 
     def counts(self) -> Dict[str, int]:
-        """How many machines have each verdict."""
-        query = "SELECT verdict, count(*) FROM verdicts WHERE required = ? GROUP BY verdict"
-        return dict.fromkeys(VERDICTS, 0) | dict(self.connection.execute(query, (self.required,)))
+        """How many machines have each verdict, of this poll if it is one."""
+        query = "SELECT verdict, count(*) FROM verdicts WHERE required = ? AND poll IS ? GROUP BY verdict"
+        return dict.fromkeys(VERDICTS, 0) | dict(self.connection.execute(query, (self.required, self.poll)))

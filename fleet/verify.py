@@ -10,6 +10,8 @@ themselves, and need the Python package `ima_verify` and the library below it.
 
 REGISTERS is what each machine's expected registers must name, as sha256:0-10, or `none`.
 
+With --poll each run verifies all machines, each from its checkpoint in TABLE on, if it has one.
+
 The same command goes on after a stop, with the machines that TABLE lacks. Progress goes to standard error; at the end the number
 of machines with each verdict goes to standard output. Exit status: 0 if every machine matches; 1 if one does not; 2 if the
 arguments or one of the tables are refused; 3 if the run could not go on. docs/fleet.md has more."""
@@ -19,6 +21,7 @@ import asyncio
 import hashlib
 import itertools
 import json
+import os
 import re
 import signal
 import sqlite3
@@ -30,7 +33,7 @@ from dataclasses import dataclass, field
 from datetime import datetime, timezone
 from pathlib import Path
 from tempfile import TemporaryDirectory
-from typing import Any, Dict, List, Sequence, Tuple
+from typing import Any, Dict, List, Optional, Sequence, Tuple
 
 sys.dont_write_bytecode = True  # (beside the programs nothing is written)
 
@@ -51,6 +54,10 @@ NONE = "none"
 
 # Why a machine is refused whose inputs the library takes. Its own lines begin with `refused:`.
 NOTHING_EXPECTED = "nothing to compare: no register is expected"
+
+# The library's line on a checkpoint that is not as it was made, and why no verdict goes on from one of a longer list.
+DAMAGED = "refused: checkpoint fault 1"
+SHORTER = "list: it is shorter than at the checkpoint"
 
 # What may come of a machine besides a verdict: its workers died, its worker lacks the library or a driver, or there is no answer.
 SUSPECT, UNFIT, LOST = "suspect", "unfit", "lost"
@@ -90,12 +97,23 @@ def required_verdict(log: bytes, measurements: bytes, expected: bytes, require: 
     return ima_verify.verify(log, measurements, expected, require=require)
 
 
-def require_fitness(require: str) -> None:
-    """Makes sure that this process has the library, and that it takes this text for what is required.
+def session_on(log: bytes, expected: bytes, require: str, checkpoint: Optional[bytes]):
+    """The library's session on a list, from a checkpoint on, where these registers are required."""
+    from ima_verify import Session
+
+    if require == NONE:
+        return Session(log, expected, state=checkpoint)
+    return Session(log, expected, require=require, state=checkpoint)
+
+
+def require_fitness(require: str, is_poll: bool) -> None:
+    """Makes sure that this process has the library, with sessions for a poll, and that it takes this text for what is required.
 
     Else there is an ImportError, or a ValueError. The library reads that text before the inputs."""
     import ima_verify
 
+    if is_poll:
+        from ima_verify import Session  # noqa: F401
     try:
         required_verdict(b"", b"", b"", require)
     except ValueError:
@@ -104,8 +122,20 @@ def require_fitness(require: str) -> None:
         pass
 
 
-def read_input(path):
-    """The bytes of an input, but at most one more than are allowed."""
+def list_start(checkpoint: Optional[bytes]) -> int:
+    """How many bytes the list had at the checkpoint; 0 without one, and of what is none, which the verdict then refuses."""
+    if checkpoint is None:
+        return 0
+    import ima_verify
+
+    try:
+        return ima_verify.Session(b"", b"", state=checkpoint).offset
+    except ima_verify.Refused:
+        return 0
+
+
+def read_input(path: str, start: int = 0) -> Optional[bytes]:
+    """The bytes of an input from this one on, but at most one more than are allowed; None if there are fewer before."""
     if path.startswith("/"):
         opened = open(path, "rb")
     else:
@@ -113,6 +143,11 @@ def read_input(path):
 
         opened = fsspec.open(path, "rb")
     with opened as file:
+        if start:
+            file.seek(0, os.SEEK_END)
+            if file.tell() < start:
+                return None
+            file.seek(start)
         return file.read(MOST_BYTES + 1)
 
 
@@ -130,37 +165,71 @@ def verdict_fields(verdict):
     }
 
 
-def verdict_on(paths: Sequence[str], require: str) -> Dict[str, Any]:
-    """The fields of the row of a machine with these paths."""
-    import ima_verify
+def read_inputs(paths: Sequence[str], start: int) -> Tuple[Dict[str, Any], List[Optional[bytes]]]:
+    """What a machine's row says of its inputs, of the list from this byte on, and the bytes of each; or a row that says which is none.
 
-    fields, inputs = {"interface_version": ima_verify.version()}, []
+    There is None in place of a list that has fewer bytes before."""
+    fields, inputs = {"list_from": start}, []
     for part, path in zip(PARTS, paths):
         try:
-            data = read_input(path)
+            data = read_input(path, start if part == "list" else 0)
         except (MemoryError, ImportError):
             raise
         except Exception as fault:  # whatever the driver of an object store raises
-            return {**fields, "verdict": "unreadable", "cause": f"{part}: {cause_of(fault)}"}
-        if len(data) > MOST_BYTES:
-            return {**fields, "verdict": "refused", "cause": f"refused: too long {path}"}
-        fields[f"{part}_sha256"] = hashlib.sha256(data).hexdigest()
+            return {**fields, "verdict": "unreadable", "cause": f"{part}: {cause_of(fault)}"}, []
+        if data is not None and len(data) > MOST_BYTES:
+            return {**fields, "verdict": "refused", "cause": f"refused: too long {path}"}, []
+        fields[f"{part}_sha256"] = None if data is None else hashlib.sha256(data).hexdigest()
         inputs.append(data)
+    return fields, inputs
+
+
+def verdict_on(paths: Sequence[str], require: str, is_poll: bool = False, checkpoint: Optional[bytes] = None) -> Dict[str, Any]:
+    """The fields of the row of a machine with these paths, in a poll with the next checkpoint. Of the list only what follows the
+    checkpoint is read, if there is one."""
+    import ima_verify
+
+    read, inputs = read_inputs(paths, list_start(checkpoint))
+    fields = {**read, "interface_version": ima_verify.version()}
+    if not inputs:
+        return fields
+    log, measurements, expected = inputs
+    next_checkpoint = {}
     try:
-        verdict = required_verdict(*inputs, require)
+        if is_poll:
+            session = session_on(log, expected, require, checkpoint)
+            verdict = session.more(measurements or b"")
+            next_checkpoint["checkpoint"] = session.state.decode()
+        else:
+            verdict = required_verdict(log, measurements, expected, require)
     except ima_verify.Refused as fault:
-        return {**fields, "verdict": "refused", "cause": fault.line}
+        # (an empty checkpoint is a damaged one: the machine is refused until --whole)
+        kept = {"checkpoint": ""} if fault.line == DAMAGED else {}
+        return {**fields, "verdict": "refused", "cause": fault.line, **kept}
+    if measurements is None:
+        return {**fields, "verdict": "unreadable", "cause": SHORTER}
     if not verdict.compared:
         return {**fields, "verdict": "refused", "cause": NOTHING_EXPECTED}
-    return {**fields, **verdict_fields(verdict)}
+    return {**fields, **verdict_fields(verdict), **next_checkpoint}
 
 
-def verify_machine(paths: Sequence[str], require: str) -> str:
+def polled_verdict(paths: Sequence[str], require: str, checkpoint: Optional[bytes]) -> Dict[str, Any]:
+    """The fields of the row of a machine in a poll, from the checkpoint on only if that gives a match.
+
+    Else the verdict is that on the whole list, which may be of another boot. No damaged checkpoint is passed over."""
+    if checkpoint is not None:
+        fields = verdict_on(paths, require, True, checkpoint)
+        if fields["verdict"] == "match" or fields.get("cause") == DAMAGED:
+            return fields
+    return verdict_on(paths, require, True)
+
+
+def verify_machine(paths: Sequence[str], checkpoint: Optional[bytes], require: str, is_poll: bool) -> str:
     """A worker's answer on the machine with these paths, in JSON. If it raises an exception, Dask tries again."""
     from distributed import get_worker
 
     try:
-        fields = verdict_on(paths, require)
+        fields = polled_verdict(paths, require, checkpoint) if is_poll else verdict_on(paths, require)
     except ImportError as fault:  # of the package, the library, or the driver of an object store: no verdict on the machine
         fields = {"verdict": UNFIT, "cause": cause_of(fault)}
     except Exception as fault:  # as one that any client has, and that is no deeper than this
@@ -223,7 +292,11 @@ class Run:
             return
         keys = list(itertools.islice(self.keys, len(machines)))
         paths = [machine.paths for machine in machines]
-        futures = self.client.map(verify_machine, paths, key=keys, retries=RETRIES, pure=False, require=self.options.require)
+        checkpoints = map(self.table.checkpoint, machines) if self.options.poll and not self.options.whole else [None] * len(machines)
+        futures = self.client.map(
+            verify_machine, paths, list(checkpoints), key=keys, retries=RETRIES, pure=False,
+            require=self.options.require, is_poll=self.options.poll,
+        )
         for machine, future in zip(machines, futures):
             task = asyncio.create_task(self._follow(machine, future, is_alone))
             self.following.add(task)
@@ -276,7 +349,7 @@ class Run:
             return
         try:
             self.table.record(verdicts, self.before)
-        except sqlite3.IntegrityError as fault:
+        except (sqlite3.IntegrityError, BadVerdicts) as fault:
             raise CannotGoOn(f"another run records in this table: {fault}") from None
         for machine, answer in verdicts:
             self.progress.count(answer["verdict"], self.before.get(machine.name))
@@ -309,7 +382,7 @@ async def require_fit_workers(client, options: argparse.Namespace) -> None:
     if not workers_of(client)[0]:
         print("waiting for a worker", file=sys.stderr, flush=True)
     await client.wait_for_workers(1, timeout=options.patience)
-    faults = await client.run(require_fitness, options.require, on_error="return")
+    faults = await client.run(require_fitness, options.require, options.poll, on_error="return")
     for worker, fault in faults.items():
         if isinstance(fault, ValueError):
             raise NotStarted(fault)
@@ -342,6 +415,8 @@ async def run(options, table, machines, recorded):
     try:
         async with connection(options) as client:
             await require_fit_workers(client, options)
+            if options.poll:
+                table.begin_poll(now())
             progress = Progress(len(machines), recorded.values(), VERDICTS, sys.stderr, options.progress)
             whole = Run(client, table, progress, options, before, len(missing))
             try:
@@ -397,6 +472,13 @@ def options_of(words):
         help=f"verify anew the machines with these verdicts, as refused,unreadable,failed; {NONE}: all verdicts stand",
     )
     parser.add_argument(
+        "--poll", action="store_true",
+        help="verify all machines, each from its checkpoint in TABLE on, and note there which verdicts change",
+    )
+    parser.add_argument(
+        "--whole", action="store_true", help="with --poll: read all lists from their beginnings, whatever checkpoints there are",
+    )
+    parser.add_argument(
         "--in-flight", metavar="N", type=positive,
         help=f"how many machines are in flight at most (default: 4 a thread of the workers, at least {LEAST_IN_FLIGHT})",
     )
@@ -416,6 +498,12 @@ def options_of(words):
             "--require is missing: write which registers each machine's expected registers must name, as --require sha256:0-10, "
             f"or --require {NONE} if they may name any"
         )
+    if options.whole and not options.poll:
+        parser.error("--whole is of --poll: any other run reads the whole lists")
+    if options.poll:
+        if options.again is not None:
+            parser.error("--again is not of --poll, which gives all verdicts anew")
+        options.again = list(VERDICTS)
     return options
 
 
@@ -425,11 +513,11 @@ def complain(text, status):
     return status
 
 
-def judge(require: str) -> None:
+def judge(options: argparse.Namespace) -> None:
     """Refuses a wrong `--require`. Where this computer lacks the library, the workers do, by theirs."""
     sys.path.append(str(BINDING))  # (which workers of this computer take over)
     try:
-        require_fitness(require)
+        require_fitness(options.require, options.poll)
     except ImportError:
         pass
     except ValueError as fault:
@@ -444,7 +532,9 @@ def open_tables(options: argparse.Namespace) -> Tuple[List[Machine], Verdicts, D
         raise NotStarted(f"{options.machines}: {fault}") from None
     try:
         table = Verdicts(options.table, options.require)
-        recorded = table.recorded(machines)
+        if options.poll:
+            table.require_whole()
+        recorded = table.recorded(machines, options.poll)
         if options.again is None:
             table.require_no_end()
     except (sqlite3.Error, BadVerdicts) as fault:
@@ -454,13 +544,15 @@ def open_tables(options: argparse.Namespace) -> Tuple[List[Machine], Verdicts, D
 
 def verify_fleet(options: argparse.Namespace) -> int:
     """Verifies what is to be verified, prints how many machines have each verdict, and gives the exit status."""
-    judge(options.require)
+    judge(options)
     machines, table, recorded = open_tables(options)
     standing, since = table.standing(options.again or [])
     if standing:
         complain(f"verdicts that stand from earlier runs: {standing}, the oldest since {since}; --again gives new ones", 0)
     asyncio.run(run(options, table, machines, recorded))
     counts = table.counts()
+    if sum(counts.values()) != len(machines):
+        raise CannotGoOn("another run records in this table")
     print("".join(f"{kind} {counts[kind]}\n" for kind in VERDICTS), end="", flush=True)
     table.end(now())  # (not before, so that the same command goes on until the counts are told)
     return 0 if counts["match"] == len(machines) else 1

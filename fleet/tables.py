@@ -1,0 +1,42 @@
+"""What a table of verdicts has, for the tests."""
+
+import sqlite3
+
+from cluster import SECONDS
+
+
+def query(table, text, *values):
+    """The answer of SQLite; an empty one, if there is no such table yet."""
+    with sqlite3.connect(table, timeout=SECONDS) as connection:
+        try:
+            return connection.execute(text, values).fetchall()
+        except sqlite3.OperationalError:
+            return []
+
+
+def change(table, text, *values):
+    """Changes a table by another hand than that of fleet/verify.py."""
+    with sqlite3.connect(table, timeout=SECONDS) as connection:
+        connection.execute(text, values)
+
+
+def rows_of(table):
+    """By name, the verdict, cause, events, entries, boot aggregate, and the registers."""
+    registers = {}
+    for name, *row in query(table, "SELECT machine, algorithm, register, state, value FROM registers ORDER BY 1, 2, 3"):
+        registers.setdefault(name, []).append(tuple(row))
+    rows = query(table, "SELECT machine, verdict, cause, events, entries, boot_aggregate FROM verdicts")
+    return {name: (*row, registers.get(name, [])) for name, *row in rows}
+
+
+def hashes_of(table):
+    rows = query(table, "SELECT machine, log_sha256, list_sha256, expected_sha256 FROM verdicts")
+    return {name: hashes for name, *hashes in rows}
+
+
+def times_of(table):
+    return dict(query(table, "SELECT machine, time FROM verdicts"))
+
+
+def counted(table):
+    return len(query(table, "SELECT 1 FROM verdicts"))
