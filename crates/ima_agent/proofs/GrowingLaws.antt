@@ -128,9 +128,9 @@ module _ (inputs : Inputs) (name : List ℕ) (old new : Option (List ℕ)) (limi
       let more = longer_than (inputs.held (Some name)) is.0 is.1 has is.2 is.4 in (is.0, more.0, more.1, is.3, more.2, is.5)
   fault_after taken verdicts.Memory failing is = tt
 
-  unconfirmed_before : (log taken : List ℕ) (expected : List Expected) (least : ℕ) → CameUnconfirmed log taken old new limit expected least
-      → IsUnconfirmedBefore inputs name log expected taken least
-  unconfirmed_before log taken expected least is =
+  unconfirmed_before : (log taken : List ℕ) (expected : List Expected) (least count : ℕ) → CameUnconfirmed log taken old new limit expected least count
+      → IsUnconfirmedBefore inputs name log expected taken least count
+  unconfirmed_before log taken expected least count is =
       let held = begins is.came is.over is.came_is in
       record {
         came = is.came;
@@ -139,14 +139,17 @@ module _ (inputs : Inputs) (name : List ℕ) (old new : Option (List ℕ)) (limi
         rest = is.rest;
         held = held.1;
         begins = is.begins;
+        count_is = is.count_is;
         none = is.none;
       }
 
   pub refused_unconfirmed : (log taken : List ℕ) (expected : List Expected) (least : ℕ) (first : VerifyFault)
       → IsUnconfirmedFault log taken old new limit expected least first → IsRefusedUnconfirmed inputs name log expected taken least first
   refused_unconfirmed log taken expected least (verdicts.Log first) is = tt
-  refused_unconfirmed log taken expected least (verdicts.List first) is = unconfirmed_before log taken expected least is
-  refused_unconfirmed log taken expected least (verdicts.Replay first) is = unconfirmed_before log taken expected least is
+  refused_unconfirmed log taken expected least (verdicts.List first) is =
+      (is.0, is.1, unconfirmed_before log taken expected least is.0 is.2)
+  refused_unconfirmed log taken expected least (verdicts.Replay first) is =
+      record { more = is.more; entries = is.entries; held = whole is.more is.came; list_is = is.list_is; none = is.none }
   refused_unconfirmed log taken expected least verdicts.Source is = tt
   refused_unconfirmed log taken expected least verdicts.TooLong is = tt
   refused_unconfirmed log taken expected least verdicts.Memory is = tt

@@ -86,13 +86,15 @@ module _ (taken more : List ℕ) (new : Option (List ℕ)) (limit : ℕ) where
   all_taken log after takes = of_all (λ (bytes : List ℕ). HasTaken log bytes after) takes.more takes.came takes.taken
 
   module _ (log : List ℕ) (expected : List Expected) (least : ℕ) where
-    came_unconfirmed : CameUnconfirmed log taken (Some more) new limit expected least → BeginsUnconfirmed log (taken ++ more) expected least
-    came_unconfirmed came =
+    came_unconfirmed : (count : ℕ) → CameUnconfirmed log taken (Some more) new limit expected least count
+        → BeginsUnconfirmed log (taken ++ more) expected least count
+    came_unconfirmed count came =
         let rest = rest_of came.came came.over came.came_is in
         record {
           entries = came.entries;
           rest = came.rest ++ rest.0;
           begins = goes_on (taken ++ came.came) rest.0 (taken ++ more) came.entries came.rest rest.1 came.begins;
+          count_is = came.count_is;
           none = came.none;
         }
 
@@ -100,8 +102,12 @@ module _ (taken more : List ℕ) (new : Option (List ℕ)) (limit : ℕ) where
     pub unconfirmed_in : (first : VerifyFault) → IsUnconfirmedFault log taken (Some more) new limit expected least first
         → IsUnconfirmedIn log (taken ++ more) expected least first
     unconfirmed_in (verdicts.Log first) is = tt
-    unconfirmed_in (verdicts.List first) is = came_unconfirmed is
-    unconfirmed_in (verdicts.Replay first) is = came_unconfirmed is
+    unconfirmed_in (verdicts.List first) is = (is.0, is.1, came_unconfirmed is.0 is.2)
+    unconfirmed_in (verdicts.Replay first) is = record {
+      entries = is.entries;
+      list_is = of_all (λ (bytes : List ℕ). IsReading bytes (Ok is.entries)) is.more is.came is.list_is;
+      none = is.none;
+    }
     unconfirmed_in verdicts.Source is = tt
     unconfirmed_in verdicts.TooLong is = tt
     unconfirmed_in verdicts.Memory is = tt

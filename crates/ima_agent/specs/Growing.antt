@@ -255,19 +255,22 @@ IsFaultAfter inputs name taken most verdicts.TooLong =
     (more : List ℕ) × (over : List ℕ) × Holds inputs (Some name) (more ++ over) × (length more ≡ most) × (0 < length over) × IsSound (taken ++ more)
 IsFaultAfter inputs name taken most verdicts.Memory = Unit {0}
 
--- If a front is sought, a list is refused only if none is confirmed: of the entries that came before the fault.
-pub record IsUnconfirmedBefore (inputs : Inputs) (name log : List ℕ) (expected : List Expected) (taken : List ℕ) (least : ℕ) : Type 0 where
+-- So many entries are at the front of that list, and no front of them is confirmed.
+pub record IsUnconfirmedBefore (inputs : Inputs) (name log : List ℕ) (expected : List Expected) (taken : List ℕ) (least count : ℕ) : Type 0 where
   pub came : List ℕ
   pub later : List ℕ
   pub entries : List ListEntry
   pub rest : List ℕ
   pub held : Holds inputs (Some name) (came ++ later)
   pub begins : BeginsWith (taken ++ came) entries rest
+  pub count_is : length entries ≡ count
   pub none : (table : List TableRow) (events : List LogEvent) → IsLog log table events → AreUnconfirmed (algs_in table) events expected least entries
 
+-- If a front is sought, a list is refused only if none is confirmed: of the entries before the one that the fault names, or of all.
 abbrev pub IsRefusedUnconfirmed : Inputs → List ℕ → List ℕ → List Expected → List ℕ → ℕ → VerifyFault → Type 0
-IsRefusedUnconfirmed inputs name log expected taken least (verdicts.List first) = IsUnconfirmedBefore inputs name log expected taken least
-IsRefusedUnconfirmed inputs name log expected taken least (verdicts.Replay first) = IsUnconfirmedBefore inputs name log expected taken least
+IsRefusedUnconfirmed inputs name log expected taken least (verdicts.List first) =
+    (count : ℕ) × (list_fault_entry first ≡ Some count) × IsUnconfirmedBefore inputs name log expected taken least count
+IsRefusedUnconfirmed inputs name log expected taken least (verdicts.Replay first) = IsUnconfirmed inputs name log expected taken least
 IsRefusedUnconfirmed inputs name log expected taken least first = Unit {0}
 
 -- Why the list is not taken, whatever list was taken before: the first cause, or memory ran out.

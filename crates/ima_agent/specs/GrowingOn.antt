@@ -97,17 +97,19 @@ IsFaultIn list (verdicts.List first) = IsReading list (Err first)
 IsFaultIn list (verdicts.Replay first) = IsForged list first
 IsFaultIn list first = Unit {0}
 
--- No front of the entries that the list begins with is confirmed, with so many entries or more.
-pub record BeginsUnconfirmed (log list : List ℕ) (expected : List Expected) (least : ℕ) : Type 0 where
+-- The list begins with `count` entries, and no front of them is confirmed, with at least `least`.
+pub record BeginsUnconfirmed (log list : List ℕ) (expected : List Expected) (least count : ℕ) : Type 0 where
   pub entries : List ListEntry
   pub rest : List ℕ
   pub begins : BeginsWith list entries rest
+  pub count_is : length entries ≡ count
   pub none : (table : List TableRow) (events : List LogEvent) → IsLog log table events → AreUnconfirmed (algs_in table) events expected least entries
 
 -- The list is refused only if no front is confirmed.
 abbrev pub IsUnconfirmedIn : List ℕ → List ℕ → List Expected → ℕ → VerifyFault → Type 0
-IsUnconfirmedIn log list expected least (verdicts.List first) = BeginsUnconfirmed log list expected least
-IsUnconfirmedIn log list expected least (verdicts.Replay first) = BeginsUnconfirmed log list expected least
+IsUnconfirmedIn log list expected least (verdicts.List first) =
+    (count : ℕ) × (list_fault_entry first ≡ Some count) × BeginsUnconfirmed log list expected least count
+IsUnconfirmedIn log list expected least (verdicts.Replay first) = HasNoFront log list expected least
 IsUnconfirmedIn log list expected least first = Unit {0}
 
 -- ---- the report

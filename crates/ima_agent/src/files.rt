@@ -36,9 +36,9 @@ pub trait Files {
         ensures told { told self.new ≡ told self.old }
         ensures saved { saved self.new ≡ saved self.old };
 
-    /// Has the file of this name be exactly these bytes, whatever it was. They are written to the file of the name `beside`, and synced,
-    /// and then that is renamed: so whoever opens the file gets all it held before, or all of these bytes. Fails if the system refuses
-    /// any of this; the file beside it may then be left.
+    /// Has the file of this name be exactly these bytes, whatever it was. They are written to a new file of the name `beside`, of which an
+    /// old one is removed, and synced, and then that is renamed: so whoever opens the file gets all it held before, or all of these bytes.
+    /// No two callers may do this to one file at once. Fails if the system refuses any of this; the file beside it may then be left.
     fn replace(&mut self, name: &str, beside: &str, bytes: &[u8]) -> Result<(), Failed>
         ensures replaced { OnOk result (HasSaved (saved self.old) (saved self.new) (Some name.now) bytes.now) }
         ensures kept { OnErr result (saved self.new ≡ saved self.old) }

@@ -185,7 +185,9 @@ impl<R: FileSystem + io::Input + Sync> Files for SystemFiles<'_, R> {
 
 // Has the file of this name be these bytes, by way of the file beside it.
 fn replaced<R: FileSystem>(rt: &R, name: &str, beside: &str, bytes: &[u8]) -> io::Result<()> {
-    let mut file = File::create(rt, beside)?;
+    // (what a run that was stopped has left; else there is nothing to remove)
+    let _ = fs::remove_file(rt, beside);
+    let mut file = File::create_new(rt, beside)?;
     file.write_all(bytes)?;
     file.sync_all()?;
     fs::rename(rt, beside, name)
