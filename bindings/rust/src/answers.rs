@@ -51,8 +51,7 @@ impl Answer {
         let Report { events, locality, boot_aggregate, confirmed, unconfirmed, rest } = object(&self.text)?;
         let matches = self.matches(&rest, boot_aggregate == BootAggregate::Good)?;
         let (entries, rows, json) = (rest.entries, rest.registers, self.line()?);
-        let is_front = |confirmed| (1..=entries).contains(&confirmed) && self.status == DONE;
-        confirmed.map_or(unconfirmed.is_none(), is_front).then_some(())?;
+        confirmed.map_or(unconfirmed.is_none(), |confirmed| (1..=entries).contains(&confirmed)).then_some(())?;
         let unconfirmed = match unconfirmed {
             Some(fault) => Some(unconfirmed_fault(fault, confirmed?, entries)?),
             None => None,
