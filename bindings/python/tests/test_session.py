@@ -535,7 +535,8 @@ class Answers(unittest.TestCase):
 
     def test_wrong_answers_are_no_verdicts(self):
         for status, text in ((0, b""), (0, b"\n"), (0, b"{}\n"), (0, REPORT[:-1]), (1, REPORT), (0, DIFFERING), (2, REPORT), (3, REPORT), (4, REPORT),
-                             (5, REPORT), (-1, REPORT), (0, FAULT), (0, MEMORY), (2, MEMORY), (3, FAULT), (2, FAULT[:-1])):
+                             (5, REPORT), (-1, REPORT), (0, FAULT), (0, MEMORY), (2, MEMORY), (3, FAULT), (2, FAULT[:-1]),
+                             (2, b'{"fault":{"kind":"command_line","message":"refused: command line"}}\n')):  # (nothing was required)
             self.check_wrong(status, text)
         for size in range(len(REPORT)):
             self.check_wrong(0, REPORT[:size])

@@ -230,6 +230,7 @@ fn failures_leave_the_session_as_it_was() {
         (-1, REPORT),
         (DONE, FAULT),
         (REFUSED, MEMORY),
+        (REFUSED, "{\"fault\":{\"kind\":\"command_line\",\"message\":\"refused: command line\"}}\n"), // (nothing was required)
         (OUT_OF_MEMORY, FAULT),
     ] {
         check_unexpected(status, STATE, text, false);
