@@ -54,7 +54,7 @@ for start in (0, 1_000_003, len(DATA) - 1, len(DATA), len(DATA) + 1):
 KINDS = {
     10: "restarted, shorter", 20: "restarted, longer", 30: "restarted, other log", 40: "tampered before", 50: "tampered after",
     60: "gone", 70: "ahead", 80: "damaged", 90: "damaged, shorter", 100: "other version", 110: "no text", 120: "lost",
-    130: "still", 140: "emptied", 150: "expects nothing",
+    130: "still", 140: "emptied", 150: "expects nothing", 160: "cut",
 }
 
 
@@ -125,6 +125,8 @@ class Growing:
         elif poll == 3 and self.kind.startswith("restarted"):
             boot, count = (OTHER if "log" in self.kind else AGAIN), MOST_ENTRIES
         measurements, expected = boot.list(count), boot.expected(count)
+        if poll == 3 and self.kind == "cut":  # (while the registers stay as they were at the checkpoint)
+            measurements, expected = boot.list(self.count(2) - 1), boot.expected(self.count(2))
         if poll == 2 and self.kind == "ahead":
             expected = boot.expected(count - 1)
         if poll == 3 and self.kind.startswith("tampered"):
@@ -162,7 +164,7 @@ class Growing:
             return (*row[:4], None) if self.kind == "damaged, shorter" else row
         if self.kind == "gone":
             return self.row("unreadable", GONE.format(self.paths[1]), None)
-        if self.kind == "emptied":
+        if self.kind in ("emptied", "cut"):
             return self.row("differ")
         is_whole = self.kind.startswith("restarted") or self.kind in ("other version", "lost")
         return self.row(start=0 if is_whole else before)
@@ -174,7 +176,7 @@ class Growing:
             return self.row("refused", self.replay_fault)
         if self.kind == "expects nothing":
             return self.row("refused", NOTHING)
-        return self.row("differ" if self.kind == "emptied" else "match")
+        return self.row("differ" if self.kind in ("emptied", "cut") else "match")
 
 
 @dataclass
@@ -199,10 +201,11 @@ class Polls:
 
     def check_poll(self, title, verdicts, rows, *words):
         """A poll gives these rows, of which each match and no other gives status 0, and counts them."""
-        status, output, _ = self.tools.verify(*self.words(verdicts, *words))
+        status, output, errors = self.tools.verify(*self.words(verdicts, *words))
         counts = Counter(verdict for _, verdict, *_ in rows)
         lines = "".join(f"{kind} {counts[kind]}\n" for kind in ("match", "differ", "refused", "unreadable", "failed"))
-        self.check(f"{title}: status and counts", (status, output), (0 if counts["match"] == len(rows) else 1, lines))
+        told = errors if status > 1 else ""
+        self.check(f"{title}: status and counts", (status, output, told), (0 if counts["match"] == len(rows) else 1, lines, ""))
         self.check(f"{title}: verdicts, and what was read of the lists", dict(keyed(query(verdicts, ROWS))), dict(keyed(rows)))
         kept = {name for name, verdict, cause, *_ in rows if verdict in ("match", "differ") or cause == DAMAGED}
         self.check(f"{title}: who has a checkpoint", {name for name, _ in query(verdicts, CHECKPOINTS)}, kept)
