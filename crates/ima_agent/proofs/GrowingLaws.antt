@@ -4,7 +4,7 @@ use Rattle.std.specs.Prelude.{◌⊎◌, IfSome, IfOk, IfErr, IsTrue, Result}
 use Rattle.byte_streams.specs.Streams.{SourceState}
 use Rattle.ima_list.specs.declared.fault.ListFault.{ListFault}
 use Rattle.ima_list.specs.declared.fault.ListFault.TheVariants as lists
-use Rattle.ima_list.specs.Spelling.{IsReading}
+use Rattle.ima_list.specs.Spelling.{IsReading, list_spelling}
 use Rattle.boot_verdict.specs.declared.checkpoint.Checkpoint.{Checkpoint}
 use Rattle.boot_verdict.specs.declared.expected.Expected.{Expected}
 use Rattle.boot_verdict.specs.declared.front_report.FrontReport.{FrontReport}
@@ -18,7 +18,7 @@ use Rattle.boot_verdict.specs.CheckpointTexts.{checkpoint_text}
 use Rattle.boot_verdict.specs.Checkpoints.{IsMoreFault, most_after}
 use Rattle.boot_verdict.specs.Fronts.{CameUnconfirmed, IsFrontReport, IsUnconfirmedFault, IsWrongWith, TakesUnconfirmed}
 use Rattle.boot_verdict.specs.ListSources.{CameFrom, CameWhole, FailsFor, IsListFaultAfter}
-use Rattle.boot_verdict.specs.Sessions.{HasTaken}
+use Rattle.boot_verdict.specs.Sessions.{HasTaken, IsOfBoot}
 use Rattle.boot_verdict.specs.Verdicts.{IsSomeLog, Verdict}
 use Rattle.ima_agent.specs.declared.fault.NotResumed.TheVariants.{OtherBoot}
 use Rattle.ima_agent.specs.declared.fault.RunFault.{RunFault}
@@ -33,6 +33,10 @@ use Rattle.ima_agent.specs.Loading.{HasFailed, Inputs, Holds, OfInput, Saved, in
 use Rattle.ima_agent.specs.Measuring.{HasLogFault}
 use Rattle.ima_agent.specs.parts.Growing.{IsNotJudged, IsNotTakenFrom, Judges, TakesVerdict, judged_text, judged_well}
 use Rattle.ima_agent.proofs.VerifyingLaws.{HasAll, held_more, held_whole, longer}
+
+-- A session goes on in the boot of its log.
+of_boot : (log list : List ℕ) (session : Session) → HasTaken log list session → IsOfBoot log session.known
+of_boot log list session is = record { table = is.table; events = is.events; log_is = is.log_is; start = is.start }
 
 module _ (inputs : Inputs) (name : List ℕ) (old new : Option (List ℕ)) (limit : ℕ) (has : HasAll (inputs.held (Some name)) old) where
   -- ---- what came, and the input
@@ -78,6 +82,7 @@ module _ (inputs : Inputs) (name : List ℕ) (old new : Option (List ℕ)) (limi
     held = whole is.takes.more is.takes.came;
     verdict_is = is.verdict_is;
     next_is = is.takes.taken.checkpoint;
+    next_boot = of_boot log (taken ++ is.takes.more) after is.takes.taken;
   }
 
   pub none_confirmed : (log taken : List ℕ) (expected : List Expected) (least : ℕ) (after : Session)
@@ -114,6 +119,7 @@ module _ (inputs : Inputs) (name : List ℕ) (old new : Option (List ℕ)) (limi
         verdict_is = is.verdict_is;
         wrong = wrong_after taken report.entries report.unconfirmed is.wrong;
         next_is = is.taken.checkpoint;
+        next_boot = of_boot log (list_spelling is.front) after is.taken;
       }
 
   -- ---- why there is none

@@ -119,12 +119,13 @@ front_report_in forms.Json required front =
     line_of (front_report_json required (verdict_of front.report) front.entries front.unconfirmed)
 
 -- This is the verdict on the log and the list that goes on, after `taken`, with the bytes of the input of this name; and this is the
--- checkpoint of that list.
+-- checkpoint of that list, in this boot.
 pub record IsVerdictAfter (inputs : Inputs) (name log : List ℕ) (expected : List Expected) (taken : List ℕ) (verdict : Verdict) (next : Checkpoint) : Type 0 where
   pub more : List ℕ
   pub held : Holds inputs (Some name) more
   pub verdict_is : IsVerdict log (taken ++ more) expected verdict
   pub next_is : IsCheckpoint (taken ++ more) next
+  pub next_boot : IsOfBoot log next
 
 -- No front of that list is confirmed, with as many entries as were taken or more.
 pub record IsUnconfirmed (inputs : Inputs) (name log : List ℕ) (expected : List Expected) (taken : List ℕ) (least : ℕ) : Type 0 where
@@ -147,7 +148,7 @@ IsWrongAfter inputs name taken count (Some (unconfirmed.List fault)) =
     OfInput inputs (Some name) (λ more. IsReading (taken ++ more) (Err fault)) × (list_fault_entry fault ≡ Some count)
 
 -- The report is on the confirmed front of the list that goes on, after `taken`, with the bytes of the input of this name; and this is the
--- checkpoint of the front.
+-- checkpoint of the front, in this boot.
 pub record IsFrontAfter (inputs : Inputs) (name log : List ℕ) (expected : List Expected) (taken : List ℕ) (least : ℕ) (report : FrontReport)
     (next : Checkpoint) : Type 0 where
   pub came : List ℕ
@@ -163,6 +164,7 @@ pub record IsFrontAfter (inputs : Inputs) (name log : List ℕ) (expected : List
   pub verdict_is : verdict_of report.report ≡ verdict_on (algs_in table) events front expected
   pub wrong : IsWrongAfter inputs name taken report.entries report.unconfirmed
   pub next_is : IsCheckpoint (list_spelling front) next
+  pub next_boot : IsOfBoot log next
 
 -- A front is asked for, and one can be confirmed: the expected registers have all that is required.
 abbrev pub seeks_front : Extent → Option (List BankRange) → List Expected → Bool
