@@ -29,8 +29,8 @@ use boot_verdict::{
 };
 use byte_streams::{Failed, Source, VecSink};
 use command_line::Extent;
-use json_texts::{append_front_report, append_report, meets};
 use ima_list::laws::{entries_to_the_end_are_the_reading, no_bytes_have_two_readings};
+use json_texts::{append_front_report, append_report, meets};
 use std::alloc::{AllocError, Global};
 
 /// What is asked of a list that grows.
@@ -63,8 +63,14 @@ pub(crate) fn growing_of<'a>(
     save: &'a Option<String>,
 ) -> Growing<'a>
     ensures { growth_of result ≡ record {
-      log = log.now; list = list.now; expected = expected.now; required = option_map string_bytes required.now; extent = extent;
-      resume = option_map string_bytes resume.now; save = option_map string_bytes save.now } }
+      log = log.now;
+      list = list.now;
+      expected = expected.now;
+      required = option_map string_bytes required.now;
+      extent = extent;
+      resume = option_map string_bytes resume.now;
+      save = option_map string_bytes save.now;
+    } }
 {
     Growing {
         log,
@@ -123,14 +129,7 @@ fn grown_with<F: Files>(
     } = grounds_of(alloc, files, asked)?;
     let mut session = session_of(&log, known)?;
     let seeks = seeks_front(asked.extent, requirement, &expected);
-    let judged = judged_from(
-        alloc,
-        &mut session,
-        &mut list,
-        asked.list,
-        &expected,
-        seeks,
-    )?;
+    let judged = judged_from(alloc, &mut session, &mut list, asked.list, &expected, seeks)?;
     let output = judged_output(alloc, &judged, requirement, form)?;
     save(alloc, files, asked.save, session.checkpoint())?;
     Ok(output)

@@ -17,7 +17,7 @@ mod registers;
 use crate::expecting::expected_from;
 use crate::fault::RunFault;
 use crate::files::Files;
-use crate::growing::{grown, growing_of};
+use crate::growing::{growing_of, grown};
 use crate::measuring::measured_as_json;
 use crate::output::{Form, Output};
 use crate::progress::Progress;

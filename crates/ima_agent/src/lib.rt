@@ -42,7 +42,9 @@ pub use boot_verdict::{
     write_events, write_expected, write_places, write_registers, write_report,
     write_required_places, write_required_report,
 };
-pub use command_line::{DataShown, Extent, JsonPlan, JsonPrint, NameEnd, Plan, Print, words_after_name};
+pub use command_line::{
+    DataShown, Extent, JsonPlan, JsonPrint, NameEnd, Plan, Print, words_after_name,
+};
 pub use escaping::escaped;
 pub use expecting::expected_on;
 pub use explaining::{Failure, explanation};

@@ -14,7 +14,7 @@ use crate::expecting::expected_from;
 use crate::explaining::Failure;
 use crate::fault::RunFault;
 use crate::files::Files;
-use crate::growing::{grown, growing_of};
+use crate::growing::{growing_of, grown};
 use crate::json_outputs::json_for;
 use crate::list_verifying::list_verified;
 use crate::locating::{located, located_with};

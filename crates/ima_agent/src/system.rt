@@ -12,11 +12,10 @@ use crate::loading::LoadFault;
 use byte_streams::{Failed, Sink, Source};
 use pcr_banks::{Alg, Digest};
 use std::alloc::Global;
-use std::fs;
 use std::fs::{File, OpenFile};
-use std::io;
 use std::io::{Read, Write};
 use std::rt::Files as FileSystem;
+use std::{fs, io};
 
 /// A source over a `std` reader.
 ///
