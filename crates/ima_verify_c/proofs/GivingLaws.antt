@@ -16,7 +16,7 @@ use Rattle.ima_agent.specs.JsonJudging.{IsRequired}
 use Rattle.ima_agent.specs.JsonFaults.{IsFailure, ToldAsJson}
 use Rattle.ima_agent.specs.JsonShowing.{ShowsEntries}
 use Rattle.ima_agent.specs.Showing.{IsFitted, IsNoListFor, ShowsList}
-use Rattle.ima_verify_c.specs.Answers.{Answers, AnswersMore, AreGiven, IsEntriesAnswer, IsGiven, IsJsonEntriesAnswer, IsJsonMoreAnswer, IsJsonRefusal, IsMoreAnswer, IsRefusal}
+use Rattle.ima_verify_c.specs.Answers.{Answers, AnswersMore, IsEntriesAnswer, IsGiven, IsJsonEntriesAnswer, IsJsonMoreAnswer, IsJsonRefusal, IsMoreAnswer, IsRefusal}
 use Rattle.ima_verify_c.specs.parts.Givings.{IsFaultText, IsGrownOf, IsJsonGrownOf, IsJsonOf, IsOf, IsTextOf}
 
 -- What holds of a text and a status holds of equal ones.
@@ -182,18 +182,6 @@ refused_without_next fault answer needed old new next given = without_next (IsFa
 pub refused_as_json_without_next : (fault : RunFault) (answer : ℤ) (needed : ℕ) (old new next : List ℕ)
     → Answers (IsFailure true fault) answer needed old new → AnswersMore (IsJsonGrownOf (Err fault)) answer needed old new 0 next next
 refused_as_json_without_next fault answer needed old new next given = without_next (IsFailure true fault) answer needed old new next given
-
--- Both texts were given.
-pub both_given : (grown : Grown) (answer : ℤ) (needed : ℕ) (old new : List ℕ) (next_needed : ℕ) (next_old next_new : List ℕ)
-    → AreGiven grown.output.text.items grown.output.status grown.checkpoint.items answer needed old new next_needed next_old next_new
-    → AnswersMore (IsGrownOf (Ok grown)) answer needed old new next_needed next_old next_new
-both_given grown answer needed old new next_needed next_old next_new given = record {
-  text = grown.output.text.items;
-  status = grown.output.status;
-  state = grown.checkpoint.items;
-  is_answer = (refl, refl, refl);
-  given = given;
-}
 
 -- What holds of two texts and a status holds of equal ones.
 same_texts : (P : List ℕ → ℕ → List ℕ → Type 0) (text shown : List ℕ) (status exit : ℕ) (state saved : List ℕ) → text ≡ shown → status ≡ exit
