@@ -65,7 +65,7 @@ enum ima_status {
     IMA_REFUSED = 2,
     /* Memory ran out. */
     IMA_OUT_OF_MEMORY = 3,
-    /* `out` is too short for the text; `*needed` says how long that is. */
+    /* `out` is too short for the text; `*needed` says how long that is. (Of ima_verify_more, or `next` is.) */
     IMA_TOO_SHORT = 4
 };
 

@@ -1,5 +1,5 @@
 -- What was made, once it is given, is an answer.
-use Rattle.std.proofs.Common.{◌≡◌, ℕ, List, [], length, true, Option, None, Some, Ok, Err, refl, sym, subst, inl, inr, Result}
+use Rattle.std.proofs.Common.{◌≡◌, ℕ, ◌<◌, arith, List, [], length, true, Option, None, Some, Ok, Err, refl, sym, subst, inl, inr, Result}
 use Rattle.std.specs.Prelude.{ℤ, ◌⊎◌, IfOk, IfErr}
 use Rattle.std.specs.Global.{Vec}
 use Rattle.ima_agent.specs.declared.fault.RunFault.{RunFault}
@@ -150,6 +150,38 @@ gives_json_fitted list (Err fault) answer needed old new shows memory given refu
 }
 
 -- ---- of a list that grows
+
+text_short : (room size next : ℕ) → (room < size) ⊎ (next < 0) → room < size
+text_short room size next (inl short) = short
+text_short room size next (inr none) = omega (arith, none)
+
+-- Beside the line of a fault there is no checkpoint.
+without_next : (IsAnswer : List ℕ → ℕ → Type 0) (answer : ℤ) (needed : ℕ) (old new next : List ℕ) → Answers IsAnswer answer needed old new
+    → AnswersMore (λ text status state. IsAnswer text status × (state ≡ [])) answer needed old new 0 next next
+without_next IsAnswer answer needed old new next given = record {
+  text = given.text;
+  status = given.status;
+  state = [];
+  is_answer = (given.is_answer, refl);
+  given = record {
+    size = given.given.size;
+    next_size = refl;
+    answer_if = λ fits next-fits. given.given.answer_if fits;
+    buffer_if = λ fits next-fits. given.given.buffer_if fits;
+    next_if = λ fits next-fits. refl;
+    answer_else = λ short. given.given.answer_else (text_short (length old) (length given.text) (length next) short);
+    buffer_else = λ short. given.given.buffer_else (text_short (length old) (length given.text) (length next) short);
+    next_else = λ short. refl;
+  };
+}
+
+pub refused_without_next : (fault : RunFault) (answer : ℤ) (needed : ℕ) (old new next : List ℕ) → Answers (IsFaultText fault) answer needed old new
+    → AnswersMore (IsGrownOf (Err fault)) answer needed old new 0 next next
+refused_without_next fault answer needed old new next given = without_next (IsFaultText fault) answer needed old new next given
+
+pub refused_as_json_without_next : (fault : RunFault) (answer : ℤ) (needed : ℕ) (old new next : List ℕ)
+    → Answers (IsFailure true fault) answer needed old new → AnswersMore (IsJsonGrownOf (Err fault)) answer needed old new 0 next next
+refused_as_json_without_next fault answer needed old new next given = without_next (IsFailure true fault) answer needed old new next given
 
 -- What holds of two texts and a status holds of equal ones.
 same_texts : (P : List ℕ → ℕ → List ℕ → Type 0) (text shown : List ℕ) (status exit : ℕ) (state saved : List ℕ) → text ≡ shown → status ≡ exit
