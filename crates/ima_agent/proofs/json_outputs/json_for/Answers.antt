@@ -29,3 +29,8 @@ returns-in-ReplayExpected-clause-fault g c =
     (list_report_fault told c.in-ReplayExpected.list c.in-ReplayExpected.expected c.in-ReplayExpected.required c.list_report.result
     (subst (λ (text : Option (List ℕ)). IfErr c.list_report.result (IsFaultWhere text (IsListReportFault told (string_bytes c.in-ReplayExpected.list) (string_bytes c.in-ReplayExpected.expected))))
     c.as_deref-in-ReplayExpected.ensures.value (rw (c.deref-in-ReplayExpected.ensures, c.deref-in-ReplayExpected-2.ensures) at c.list_report.ensures.fault)))
+
+pub returns-in-VerifyGrowing-clause-fault : goal.returns-in-VerifyGrowing-clause-fault
+returns-in-VerifyGrowing-clause-fault g c =
+    rw c.in-VerifyGrowing.is
+    (rw (c.growing_of-asked.ensures, c.deref-in-VerifyGrowing.ensures, c.deref-in-VerifyGrowing-2.ensures, c.deref-in-VerifyGrowing-3.ensures) at c.grown.ensures.fault)
