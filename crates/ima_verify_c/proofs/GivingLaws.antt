@@ -193,7 +193,7 @@ gives_grown : (Shows : List ℕ → ℕ → List ℕ → Type 0) (Cause : RunFau
     → IfOk made (λ grown. Shows grown.output.text.items grown.output.status grown.checkpoint.items) → IfErr made Cause
     → AnswersMore (IsGrownOf made) answer needed old new next_needed next_old next_new
     → AnswersMore (λ text status state. Shows text status state ⊎ (IsRefusal Cause text status × (state ≡ []))) answer needed old new next_needed
-      next_old next_new
+    next_old next_new
 gives_grown Shows Cause (Ok grown) answer needed old new next_needed next_old next_new memory shows none given = record {
   text = given.text;
   status = given.status;
@@ -217,7 +217,7 @@ gives_json_grown : (Shows : List ℕ → ℕ → List ℕ → Type 0) (Cause : R
     → IfOk made (λ grown. Shows grown.output.text.items grown.output.status grown.checkpoint.items) → IfErr made Cause
     → AnswersMore (IsJsonGrownOf made) answer needed old new next_needed next_old next_new
     → AnswersMore (λ text status state. Shows text status state ⊎ (IsJsonRefusal Cause text status × (state ≡ []))) answer needed old new
-      next_needed next_old next_new
+    next_needed next_old next_new
 gives_json_grown Shows Cause (Ok grown) answer needed old new next_needed next_old next_new memory shows none given = record {
   text = given.text;
   status = given.status;

@@ -17,9 +17,10 @@ use crate::giving::{
     give, give_fitted, give_grown, give_json, give_json_fitted, give_json_grown, give_text,
 };
 use ima_agent::{
-    Extent, Form, GrowingOn, entries_within, expected_on, grown_on, json_entries_within, json_events_on, json_list_report_on,
-    json_places_on, json_registers_on, json_replay_on, json_report_on, places_on, registers_on,
-    report_on, required_list_report_on, required_places_on, required_report_on,
+    Extent, Form, GrowingOn, entries_within, expected_on, grown_on, json_entries_within,
+    json_events_on, json_list_report_on, json_places_on, json_registers_on, json_replay_on,
+    json_report_on, places_on, registers_on, report_on, required_list_report_on,
+    required_places_on, required_report_on,
 };
 use std::alloc::Global;
 
@@ -332,11 +333,7 @@ fn required_by(require: &[u8]) -> Option<&[u8]>
 fn extent_by(prefix: bool) -> Extent
     ensures { result ≡ extent_for prefix }
 {
-    if prefix {
-        Extent::Front
-    } else {
-        Extent::Whole
-    }
+    if prefix { Extent::Front } else { Extent::Whole }
 }
 
 /// The registers that differ from their reset values after a firmware event log, as `registers --json` writes them.
