@@ -1,5 +1,5 @@
 -- The report on a list that grows, of bytes in memory, and the checkpoint of what it is on. All of this is this project's choice.
-use Rattle.std.specs.Prelude.{◌≡◌, ℕ, ◌⊎◌, Bool, true, List, ◌++◌, length, [], Option, Some, None, Ok, Err, option_map}
+use Rattle.std.specs.Prelude.{◌≡◌, ℕ, ◌⊎◌, if◌then◌else◌, Bool, true, List, ◌++◌, length, [], Option, Some, None, Ok, Err, option_map}
 use Rattle.boot_log.specs.Spelling.{IsLog, LogEvent, algs_in}
 use Rattle.boot_log.specs.declared.header.Row.{Row as TableRow}
 use Rattle.ima_list.specs.ListEntry.{ListEntry}
@@ -20,6 +20,7 @@ use Rattle.boot_verdict.specs.ExpectedTexts.{IsExpectedText}
 use Rattle.boot_verdict.specs.Fronts.{AreUnconfirmed, IsConfirmed}
 use Rattle.boot_verdict.specs.Verdicts.{IsForged, IsSomeLog, IsVerdict, Verdict, verdict_of, verdict_on}
 use Rattle.command_line.specs.declared.plan.Extent.{Extent}
+use Rattle.command_line.specs.declared.plan.Extent.TheVariants.{Front, Whole}
 use Rattle.json_texts.specs.ReportJson.{meets}
 use Rattle.ima_agent.specs.declared.fault.NotResumed.TheVariants.{OtherBoot}
 use Rattle.ima_agent.specs.declared.fault.RunFault.{RunFault}
@@ -40,6 +41,10 @@ pub record GrowthOn : Type 0 where
   pub expected : List ℕ
   pub required : Option (List ℕ)
   pub extent : Extent
+
+-- The part of a list that is asked for: the confirmed front, or all of it.
+abbrev pub extent_for : Bool → Extent
+extent_for prefix = if prefix then Front else Whole
 
 -- The same of the bytes that a caller gives.
 abbrev pub growth_on : GrowingOn → GrowthOn

@@ -275,7 +275,11 @@ fn judged_from<R: Source>(
 }
 
 // Whether a front is asked for that can be confirmed: the expected registers have all that is required.
-pub(crate) fn seeks_front(extent: Extent, requirement: Option<&Requirement>, expected: &[Expected]) -> bool
+pub(crate) fn seeks_front(
+    extent: Extent,
+    requirement: Option<&Requirement>,
+    expected: &[Expected],
+) -> bool
     ensures { result ≡ seeks_front extent (option_map (λ ranges. ranges.now) requirement.entry) expected.now }
 {
     match (extent, requirement) {

@@ -8,11 +8,8 @@ use Rattle.ima_agent.specs.declared.growing_on.Grown.{Grown}
 use Rattle.ima_agent.specs.declared.output.Output.{Output}
 use Rattle.ima_agent.specs.declared.json_outputs.entries_within.FittedOutput.{FittedOutput}
 use Rattle.ima_agent.specs.declared.showing.Fitted.{Fitted}
-use Rattle.boot_verdict.specs.declared.requirement.BankRange.{BankRange}
 use Rattle.ima_agent.specs.declared.output.Form.TheVariants.{Json, Text}
-use Rattle.ima_agent.specs.Growing.{IsNotRequired}
-use Rattle.ima_agent.specs.GrowingOn.{GrowthOn, IsNotGrownOn, IsNotGrownOnWith, ShowsGrownOn}
-use Rattle.ima_agent.specs.JsonJudging.{IsRequired}
+use Rattle.ima_agent.specs.GrowingOn.{GrowthOn, IsNotGrownOn, ShowsGrownOn}
 use Rattle.ima_agent.specs.JsonFaults.{IsFailure, ToldAsJson}
 use Rattle.ima_agent.specs.JsonShowing.{ShowsEntries}
 use Rattle.ima_agent.specs.Showing.{IsFitted, IsNoListFor, ShowsList}
@@ -196,7 +193,7 @@ gives_grown : (Shows : List ℕ → ℕ → List ℕ → Type 0) (Cause : RunFau
     → IfOk made (λ grown. Shows grown.output.text.items grown.output.status grown.checkpoint.items) → IfErr made Cause
     → AnswersMore (IsGrownOf made) answer needed old new next_needed next_old next_new
     → AnswersMore (λ text status state. Shows text status state ⊎ (IsRefusal Cause text status × (state ≡ []))) answer needed old new next_needed
-      next_old next_new
+    next_old next_new
 gives_grown Shows Cause (Ok grown) answer needed old new next_needed next_old next_new memory shows none given = record {
   text = given.text;
   status = given.status;
@@ -220,7 +217,7 @@ gives_json_grown : (Shows : List ℕ → ℕ → List ℕ → Type 0) (Cause : R
     → IfOk made (λ grown. Shows grown.output.text.items grown.output.status grown.checkpoint.items) → IfErr made Cause
     → AnswersMore (IsJsonGrownOf made) answer needed old new next_needed next_old next_new
     → AnswersMore (λ text status state. Shows text status state ⊎ (IsJsonRefusal Cause text status × (state ≡ []))) answer needed old new
-      next_needed next_old next_new
+    next_needed next_old next_new
 gives_json_grown Shows Cause (Ok grown) answer needed old new next_needed next_old next_new memory shows none given = record {
   text = given.text;
   status = given.status;
@@ -239,14 +236,12 @@ gives_json_grown Shows Cause (Err fault) answer needed old new next_needed next_
 }
 
 -- A list that grows may lack memory.
-memory_where : (asked : GrowthOn) (required : Option (List ℕ))
-    → IsNotRequired required Memory
-    ⊎ ((ranges : Option (List BankRange)) × IsRequired required ranges × IsNotGrownOnWith asked ranges Memory)
-memory_where asked None = inr (None, tt, inr (inr (inr refl)))
-memory_where asked (Some text) = inl (inr refl)
+memory_where : (asked : GrowthOn) (required : Option (List ℕ)) → asked.required ≡ required → IsNotGrownOn asked Memory
+memory_where asked None same = inr (None, rw same tt, inr (inr (inr refl)))
+memory_where asked (Some text) same = inl (rw same (inr refl))
 
 no_memory : (asked : GrowthOn) → IsNotGrownOn asked Memory
-no_memory asked = memory_where asked asked.required
+no_memory asked = memory_where asked asked.required refl
 
 -- What is asked was given as text.
 pub gives_more : (asked wanted : GrowthOn) (made : Result Grown RunFault) (answer : ℤ) (needed : ℕ) (old new : List ℕ) (next_needed : ℕ)

@@ -1,12 +1,11 @@
 -- What a caller in C finds after a call. All of this is this project's choice.
-use Rattle.std.specs.Prelude.{◌≡◌, ℕ, ℤ, pos, ◌<◌, ◌≤◌, ◌⊎◌, if◌then◌else◌, Bool, List, [], ◌∷◌, ◌++◌, length, drop, Option, None, Some}
-use Rattle.command_line.specs.declared.plan.Extent.TheVariants.{Front, Whole}
+use Rattle.std.specs.Prelude.{◌≡◌, ℕ, ℤ, pos, ◌<◌, ◌≤◌, ◌⊎◌, Bool, List, [], ◌∷◌, ◌++◌, length, drop, Option, None, Some}
 use Rattle.ima_agent.specs.declared.fault.RunFault.{RunFault}
 use Rattle.ima_agent.specs.declared.fault.RunFault.TheVariants.{Memory}
 use Rattle.ima_agent.specs.declared.output.Form.TheVariants.{Json, Text}
 use Rattle.ima_agent.specs.Expecting.{IsNotExpectedOn, ShowsExpected, range_text}
 use Rattle.ima_agent.specs.FaultTexts.{fault_line, fault_status}
-use Rattle.ima_agent.specs.GrowingOn.{GrowthOn, IsNotGrownOn, ShowsGrownOn}
+use Rattle.ima_agent.specs.GrowingOn.{GrowthOn, IsNotGrownOn, ShowsGrownOn, extent_for}
 use Rattle.ima_agent.specs.JsonFaults.{ToldAsJson}
 use Rattle.ima_agent.specs.JsonJudging.{IsFaultWhere, ShowsJsonListReportOn, ShowsJsonPlacesOn, ShowsJsonReportOn}
 use Rattle.ima_agent.specs.JsonShowing.{ShowsEntries, ShowsJsonEvents, ShowsJsonRegisters}
@@ -176,7 +175,7 @@ growth_by log state more expected require prefix = record {
   more = more;
   expected = expected;
   required = required_by require;
-  extent = if prefix then Front else Whole;
+  extent = extent_for prefix;
 }
 
 -- The report that is asked for, with its status, and the text of the checkpoint of what it is on; or why there is none, and no text of a

@@ -9,18 +9,18 @@
 
 mod giving;
 
-ghost use Rattle.std.specs.Prelude.{◌≡◌, if◌then◌else◌, None, Some, option_map};
-ghost use Rattle.command_line.specs.declared.plan.Extent.TheVariants.{Front, Whole};
+ghost use Rattle.std.specs.Prelude.{◌≡◌, None, Some, option_map};
 ghost use Rattle.ima_verify_c.specs.Answers.{Answers, AnswersMore, IsPlacesAnswer, IsEntriesAnswer, IsExpectedAnswer, IsJsonEntriesAnswer, IsJsonEventsAnswer, IsJsonListReportAnswer, IsJsonMoreAnswer, IsJsonPlacesAnswer, IsJsonRegistersAnswer, IsJsonReplayAnswer, IsJsonReportAnswer, IsMoreAnswer, IsRegistersAnswer, IsReportAnswer, IsRequiredListReportAnswer, IsRequiredPlacesAnswer, IsRequiredReportAnswer, growth_by, interface_version, required_by};
-ghost use Rattle.ima_agent.specs.GrowingOn.{growth_on};
+ghost use Rattle.ima_agent.specs.GrowingOn.{extent_for, growth_on};
 
 use crate::giving::{
     give, give_fitted, give_grown, give_json, give_json_fitted, give_json_grown, give_text,
 };
 use ima_agent::{
-    Extent, Form, GrowingOn, entries_within, expected_on, grown_on, json_entries_within, json_events_on, json_list_report_on,
-    json_places_on, json_registers_on, json_replay_on, json_report_on, places_on, registers_on,
-    report_on, required_list_report_on, required_places_on, required_report_on,
+    Extent, Form, GrowingOn, entries_within, expected_on, grown_on, json_entries_within,
+    json_events_on, json_list_report_on, json_places_on, json_registers_on, json_replay_on,
+    json_report_on, places_on, registers_on, report_on, required_list_report_on,
+    required_places_on, required_report_on,
 };
 use std::alloc::Global;
 
@@ -331,13 +331,9 @@ fn required_by(require: &[u8]) -> Option<&[u8]>
 
 // The confirmed front, or the whole list.
 fn extent_by(prefix: bool) -> Extent
-    ensures { result ≡ (if prefix then Front else Whole) }
+    ensures { result ≡ extent_for prefix }
 {
-    if prefix {
-        Extent::Front
-    } else {
-        Extent::Whole
-    }
+    if prefix { Extent::Front } else { Extent::Whole }
 }
 
 /// The registers that differ from their reset values after a firmware event log, as `registers --json` writes them.

@@ -6,21 +6,21 @@ pub returns-in-Ok-Some-clause-judged : goal.returns-in-Ok-Some-clause-judged
 returns-in-Ok-Some-clause-judged c = (
   refl,
   λ log taken has.
-  let found = rw c.in-Ok-Some.field-0-is at c.in-Ok-Some.ensures.front in
-  let is = rw c.new-source.ensures at (found log taken has) in
-  front_in taken c.args.more.now _ _ log c.args.expected.now _ c.confirm.new.self c.in-Ok-Some.front is,
+      let found = rw c.in-Ok-Some.field-0-is at c.in-Ok-Some.ensures.front in
+      let is = rw c.new-source.ensures at (found log taken has) in
+      front_in taken c.args.more.now _ _ log c.args.expected.now _ c.confirm.new.self c.in-Ok-Some.front is,
 )
 
 pub returns-in_ok-report_of-in-Ok-None-clause-judged : goal.returns-in_ok-report_of-in-Ok-None-clause-judged
 returns-in_ok-report_of-in-Ok-None-clause-judged c = (
   λ log taken has.
-  let none = rw c.in-Ok-None.field-0-is at c.in-Ok-None.ensures.none in
-  let takes = rw c.new-source.ensures at (none log taken has) in
-  let all = all_taken taken c.args.more.now _ _ log c.confirm.new.self takes.takes in
-  (c.in_ok-report_of-in-Ok-None.ensures log (taken ++ c.args.more.now) all, all.checkpoint),
+      let none = rw c.in-Ok-None.field-0-is at c.in-Ok-None.ensures.none in
+      let takes = rw c.new-source.ensures at (none log taken has) in
+      let all = all_taken taken c.args.more.now _ _ log c.confirm.new.self takes.takes in
+      (c.in_ok-report_of-in-Ok-None.ensures log (taken ++ c.args.more.now) all, all.checkpoint),
   λ sought log taken has.
-  let none = rw c.in-Ok-None.field-0-is at c.in-Ok-None.ensures.none in
-  no_front taken c.args.more.now _ _ log c.args.expected.now _ c.confirm.new.self (rw c.new-source.ensures at (none log taken has)),
+      let none = rw c.in-Ok-None.field-0-is at c.in-Ok-None.ensures.none in
+      no_front taken c.args.more.now _ _ log c.args.expected.now _ c.confirm.new.self (rw c.new-source.ensures at (none log taken has)),
 )
 
 pub returns-in-Err-clause-fault : goal.returns-in-Err-clause-fault
