@@ -69,13 +69,22 @@ def _quiet() -> None:
 
 
 @asynccontextmanager
+async def opened(client: Any) -> AsyncIterator[Any]:
+    """A client, which is closed in the end, also if a signal comes before it has reached its scheduler."""
+    try:
+        yield await client
+    finally:
+        await client.close()
+
+
+@asynccontextmanager
 async def connect(scheduler: Optional[str], workers: Optional[int]) -> AsyncIterator[Connection]:
     """A client of the scheduler at this address, or of one with so many workers on this computer."""
     if scheduler is not None:
         from distributed import Client
 
         _quiet()
-        async with Client(scheduler, asynchronous=True) as client:
+        async with opened(Client(scheduler, asynchronous=True)) as client:
             yield Connection(client, None)
         return
     assert workers is not None
@@ -88,6 +97,6 @@ async def connect(scheduler: Optional[str], workers: Optional[int]) -> AsyncIter
             with suppress(OSError):  # (that it is gone is found when workers are looked for)
                 own.stdin.write(f"{started.address}\n")
                 own.stdin.flush()
-            async with Client(started.address, asynchronous=True) as client:
+            async with opened(Client(started.address, asynchronous=True)) as client:
                 yield Connection(client, own)
             await asyncio.get_running_loop().run_in_executor(None, end, own)  # (the workers before their scheduler)

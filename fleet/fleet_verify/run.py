@@ -38,7 +38,6 @@ class Batch:
     """Machines that one worker verifies, and what came of it: answers on the first of them, or why there are none."""
 
     tasks: List[Task]
-    address: str
     is_alone: bool
     answers: List[Fields] = field(default_factory=list)
     seconds: float = 0
@@ -48,7 +47,8 @@ class Batch:
 
 @dataclass
 class Run:
-    """A run: its batches are in flight, one on each thread of the workers. `ledger` has the machines and the table."""
+    """A run: its batches are in flight, one for each thread of the workers. `ledger` has the machines and the table, and `sizes` by the
+    workers' addresses how many machines each may do in a batch."""
 
     connection: Connection
     ledger: Ledger
@@ -81,7 +81,7 @@ class Run:
     async def _verify(self, is_alone: bool) -> None:
         while True:
             self._look()
-            self.ledger.take_turn(self._ahead(), self.arrived)
+            self.ledger.take_turn(self._most * self._threads, self.arrived)
             self._submit(is_alone)
             if self.ledger.is_done and not self.in_flight:
                 return
@@ -96,36 +96,36 @@ class Run:
             self.looking = None
         if self.looking is None and time.monotonic() - self.looked > LOOK_SECONDS:
             self.looking, self.looked = asyncio.create_task(self.connection.look()), time.monotonic()
-        self.sizes = {address: self.sizes.get(address, FIRST_BATCH) for address in self.connection.threads}
 
-    def _ahead(self) -> int:
-        """How many machines are to be ready: a batch for each thread."""
-        return sum(self.sizes[address] * threads for address, threads in self.connection.threads.items())
+    @property
+    def _threads(self) -> int:
+        return sum(self.connection.threads.values())
+
+    @property
+    def _most(self) -> int:
+        """How many machines the fastest worker may do in a batch."""
+        return max((self.sizes.get(address, 0) for address in self.connection.threads), default=0) or FIRST_BATCH
 
     def _submit(self, is_alone: bool) -> None:
-        """Gives a batch to each thread that has none, and so none is lost with a worker but the one that it is at."""
-        busy = Counter(batch.address for batch in self.in_flight)
-        for address, threads in self.connection.threads.items():
-            for _ in range(threads - busy[address]):
-                size = self._size(address, is_alone)
-                tasks = [self.ledger.next.popleft() for _ in range(min(size, len(self.ledger.next)))]
-                if not tasks:
-                    return
-                self._send(Batch(tasks, address, is_alone))
+        """Gives a batch for each thread that has none. (None waits behind another, and so a worker that dies had one for each thread.)"""
+        while len(self.in_flight) < (1 if is_alone else self._threads):
+            size = 1 if is_alone else self._size()
+            tasks = [self.ledger.next.popleft() for _ in range(min(size, len(self.ledger.next)))]
+            if not tasks:
+                return
+            self._send(Batch(tasks, is_alone))
 
-    def _size(self, address: str, is_alone: bool) -> int:
-        """How many machines to give to this worker."""
-        if is_alone:
-            return 0 if self.in_flight else 1
+    def _size(self) -> int:
+        """How many machines to give to a worker."""
         if self.ledger.unrecorded > MOST_UNRECORDED:
             return 0
-        threads = sum(self.connection.threads.values())
-        size = self.sizes[address]
-        size = min(size, max(math.ceil(self.ledger.remaining / threads), math.ceil(size / LEAST_PART)))
+        share, least = math.ceil(self.ledger.remaining / self._threads), math.ceil(self._most / LEAST_PART)
+        size = min(self._most, max(share, least))
         most: Optional[int] = self.options.in_flight
         if most is None:
             return size
-        return min(size, max(most // threads, 1), most - sum(len(batch.tasks) for batch in self.in_flight))
+        given = sum(len(batch.tasks) for batch in self.in_flight) + self.ledger.unrecorded
+        return min(size, max(most // self._threads, 1), most - given)
 
     def _send(self, batch: Batch) -> None:
         machines = [
@@ -134,7 +134,6 @@ class Run:
         request = {"machines": machines, "require": self.options.require, "is_poll": self.options.poll, "seconds": BATCH_SECONDS}
         future = self.connection.client.submit(
             verify_batch, json.dumps(request), key=next(self.keys), retries=TRIES - 1, pure=False,
-            workers=[batch.address], allow_other_workers=True,
         )
         self.in_flight.append(batch)
         following = asyncio.create_task(self._follow(batch, future))
@@ -195,9 +194,8 @@ class Run:
                 self._try_again(task, answer)
         done = len(batch.answers)
         self.ledger.give_back(batch.tasks[done:])
-        if batch.address in self.sizes:
-            size = math.ceil(SPARE * BATCH_SECONDS * done / max(batch.seconds, BATCH_SECONDS / MOST_BATCH))
-            self.sizes[batch.address] = min(size, MOST_BATCH)
+        size = math.ceil(SPARE * BATCH_SECONDS * done / max(batch.seconds, BATCH_SECONDS / MOST_BATCH))
+        self.sizes[batch.answers[0]["worker"]] = min(size, MOST_BATCH)
 
     def _try_again(self, task: Task, answer: Fields) -> None:
         """A machine on which a worker met an error is tried twice more."""

@@ -27,10 +27,10 @@ CREATE TABLE verdicts (
     list_from INTEGER, -- from which byte on the list was read: that of the checkpoint, or 0
     interface_version INTEGER, worker TEXT, time TEXT NOT NULL,
     poll INTEGER REFERENCES polls, -- which poll gave it; NULL if none did
-    report TEXT CHECK (json_valid(report)) -- as `ima-agent verify --json` prints it, if there is one
+    report TEXT CHECK (report IS NULL OR json_valid(report)) -- as `ima-agent verify --json` prints it, if there is one
 ) WITHOUT ROWID;
 CREATE VIEW registers (machine, algorithm, register, state, value) AS
-    SELECT machine, json_extract(row.value, '$.algorithm'), json_extract(row.value, '$.register'), json_extract(row.value, '$.state'),
+    SELECT machine, json_extract(row.value, '$.bank'), json_extract(row.value, '$.register'), json_extract(row.value, '$.state'),
         json_extract(row.value, '$.value') FROM verdicts, json_each(report, '$.registers') AS row;
 CREATE TABLE ends (time TEXT NOT NULL); -- when a run had given its counts, by the client's clock
 CREATE TABLE polls (number INTEGER PRIMARY KEY, time TEXT NOT NULL); -- when each poll began, by the client's clock

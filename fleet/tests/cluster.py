@@ -23,12 +23,12 @@ def python_with_dask():
     return None
 
 
-def until(what, condition):
-    """Waits until the condition holds."""
+def until(what, condition, client=None):
+    """Waits until the condition holds, for as long as the client runs, if one is given."""
     limit = time.monotonic() + SECONDS
     while not condition():
-        if time.monotonic() > limit:
-            raise TimeoutError(f"{what} did not come in {SECONDS} seconds")
+        if time.monotonic() > limit or client is not None and client.poll() is not None:
+            raise TimeoutError(f"{what} did not come")
         time.sleep(0.02)
 
 

@@ -46,7 +46,8 @@ class Ends:
         """The last line that a client wrote to standard error has these words, and nothing was a traceback."""
         said = (self.tools.folder / name).read_text()
         *_, last = said.splitlines() or [""]
-        self.check(f"{title}: what is said", (wanted in last, "Traceback" in said, said if "Traceback" in said else ""), (True, False, ""))
+        is_right = wanted in last and "Traceback" not in said
+        self.check(f"{title}: what is said", said if not is_right else wanted, wanted)
 
     def check_rest(self, title, name, recorded):
         """The same command goes on, and what was recorded stays."""
@@ -78,7 +79,7 @@ def test_signals(ends):
         table = ends.tools.folder / f"{name}.db"
         with ends.tools.gate(GATE):
             client = ends.client(name)
-            until("a verdict", lambda: counted(table))
+            until("a verdict", lambda: counted(table), client)
             send(client.pid, signal.Signals[name])
             output = client.communicate(timeout=SECONDS)[0]
         recorded = times_of(table)
@@ -95,7 +96,7 @@ def test_early_signals(ends):
         for number, delay in enumerate((0, 0.3, 0.6, 0.9, 1.2, 1.5)):
             name = f"early {number}"
             client = ends.client(name)
-            until("a table", (ends.tools.folder / f"{name}.db").exists)
+            until("a table", (ends.tools.folder / f"{name}.db").exists, client)
             time.sleep(delay)
             client.send_signal((signal.SIGINT, signal.SIGTERM)[number % 2])
             begun.append((name, client))
@@ -110,11 +111,11 @@ def test_own_worker_killed(ends):
     before, table = len(ends.noted()), ends.tools.folder / "own.db"
     with ends.tools.gate(GATE):
         client = ends.client("own")
-        until("the gate", lambda: len([number for number in ends.noted()[before:] if int(number) >= GATE]) == 2)
+        until("the gate", lambda: len([number for number in ends.noted()[before:] if int(number) >= GATE]) == 2, client)
         (nursery,) = children_of(client.pid)
         workers = children_of(nursery)
         os.kill(workers[0], signal.SIGKILL)
-        until("another worker", lambda: len(set(children_of(nursery)) - set(workers)) == 1)
+        until("another worker", lambda: len(set(children_of(nursery)) - set(workers)) == 1, client)
     client.communicate(timeout=SECONDS)
     ends.check("an own worker killed: status", client.returncode, 1)
     ends.check_said("an own worker killed", "own", "done")

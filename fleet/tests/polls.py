@@ -297,7 +297,7 @@ def test_killed_poll(polls, verdicts, undisturbed):
     done = "SELECT 1 FROM verdicts WHERE poll = 3"
     with polls.tools.gate(MACHINES // 2):
         client = polls.tools.client(*polls.words(verdicts))
-        until("the middle", lambda: len(query(verdicts, done)) >= MACHINES // 3)
+        until("the middle", lambda: len(query(verdicts, done)) >= MACHINES // 3, client)
         client.kill()
         client.wait()
     polls.check("a poll was killed in the middle", MACHINES // 3 <= len(query(verdicts, done)) < MACHINES, True)
@@ -348,7 +348,7 @@ def test_two_polls(polls, verdicts):
     before = query(verdicts, "SELECT max(number) FROM polls")[0][0]
     with polls.tools.gate(MACHINES // 2):
         client = polls.tools.client(*polls.words(verdicts))
-        until("a verdict", lambda: query(verdicts, "SELECT 1 FROM verdicts WHERE poll > ?", before))
+        until("a verdict", lambda: query(verdicts, "SELECT 1 FROM verdicts WHERE poll > ?", before), client)
         change(verdicts, "INSERT INTO polls (time) VALUES ('now')")
         recorded = query(verdicts, "SELECT machine FROM verdicts WHERE poll = ?", before + 1)
     client.communicate(timeout=SECONDS)
