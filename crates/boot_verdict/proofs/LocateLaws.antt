@@ -6,23 +6,22 @@ use Rattle.pcr_banks.specs.declared.sets.AlgSet.{AlgSet}
 use Rattle.boot_log.specs.declared.header.Row.{Row as TableRow}
 use Rattle.boot_log.specs.Spelling.{LogEvent, IsLog, algs_in}
 use Rattle.ima_list.specs.ListEntry.{ListEntry}
-use Rattle.ima_list.specs.Replaying.{AreGenuine}
 use Rattle.boot_verdict.specs.declared.expected.Expected.{Expected}
 use Rattle.boot_verdict.specs.declared.list_replay.ListReplay.{ListReplay}
 use Rattle.boot_verdict.specs.declared.places.Located.{Located}
 use Rattle.boot_verdict.specs.declared.places.Watch.{Watch}
-use Rattle.boot_verdict.specs.Places.{AreLocated, AreLocatedFrom, first_place, located_on}
+use Rattle.boot_verdict.specs.Places.{AreLocated, first_place, located_on}
 use Rattle.boot_verdict.specs.Steps.{OfEvent, events_as_steps, steps_of}
 use Rattle.boot_verdict.specs.parts.Following.{IsWatchAfter, located_after}
-use Rattle.boot_verdict.specs.parts.ListReplays.{AreFollowed, ReplaysAll, ReplaysSource}
+use Rattle.boot_verdict.specs.parts.ListReplays.{AreFollowed, ReplaysAll}
 use Rattle.boot_verdict.specs.parts.LogPlaces.{IsFollowed, row_at_reset}
 use Rattle.boot_verdict.proofs.PlaceLaws.{located}
 use Rattle.boot_verdict.proofs.StepLaws.{fun_same}
 
 -- The rows after the list.
-pub located_all : (algs : AlgSet) (events : List LogEvent) (entries : List ListEntry) (expected : List Expected) (start now : Watch)
+pub located_all : {algs : AlgSet} {events : List LogEvent} {expected : List Expected} {start now : Watch} (entries : List ListEntry)
     → IsFollowed algs events expected start → AreFollowed IsWatchAfter start entries now → now.rows.items ≡ located_on algs events entries expected
-located_all algs events entries expected start now log list =
+located_all {events = events} {expected = expected} entries log list =
     let steps = steps_of events entries in
     let count = length events in
     let after = list log.start count (events_as_steps events) (sym (length-map events (λ (event : LogEvent). OfEvent event))) log.after in
@@ -32,27 +31,15 @@ located_all algs events entries expected start now log list =
     ∙ ap (λ (f : Expected → Located). map f expected)
     (fun_same _ _ (λ e. ap (λ (v : Option (List ℕ)). located e (first_place count e v steps)) (log.reset.values e.alg e.register)))
 
-pub located_in : (log list : List ℕ) (table : List TableRow) (events : List LogEvent) (expected : List Expected)
-    (start now : Watch) (replay : ListReplay Watch) → IsLog log table events → IsFollowed (algs_in table) events expected start
-    → (all : ReplaysAll IsWatchAfter start list replay) → AreGenuine all.entries × AreFollowed IsWatchAfter start all.entries now
-    → AreLocated log list expected now.rows.items
-located_in log list table events expected start now replay is followed all both = record {
+pub located_in : {log list : List ℕ} {table : List TableRow} {events : List LogEvent} {expected : List Expected} {start : Watch} {replay : ListReplay Watch}
+    → IsLog log table events → IsFollowed (algs_in table) events expected start → ReplaysAll IsWatchAfter start list replay
+    → AreLocated log list expected replay.follower.rows.items
+located_in {table = table} {events = events} is followed all = record {
   table = table;
   events = events;
   entries = all.entries;
   log_is = is;
   list_is = all.reading;
-  genuine = both.0;
-  located_are = located_all (algs_in table) events all.entries expected start now followed both.1;
-}
-
-pub located_from : (log : List ℕ) (old new : Option (List ℕ)) (limit : ℕ) (table : List TableRow) (events : List LogEvent)
-    (expected : List Expected) (start now : Watch) (replay : ListReplay Watch) → IsLog log table events
-    → IsFollowed (algs_in table) events expected start → (source : ReplaysSource IsWatchAfter start old new limit replay)
-    → AreGenuine source.all.entries × AreFollowed IsWatchAfter start source.all.entries now
-    → AreLocatedFrom log old new limit expected now.rows.items
-located_from log old new limit table events expected start now replay is followed source both = record {
-  list = source.list;
-  came = source.came;
-  located_are = located_in log source.list table events expected start now replay is followed source.all both;
+  genuine = all.genuine;
+  located_are = located_all all.entries followed all.followed;
 }

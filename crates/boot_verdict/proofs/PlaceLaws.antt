@@ -21,13 +21,13 @@ use Rattle.boot_verdict.specs.declared.places.Watch.{Watch}
 use Rattle.boot_verdict.specs.declared.report.State.TheVariants as states
 use Rattle.boot_verdict.specs.Places.{first_place, is_found, is_reached, pcr_after, place_after, place_of_front, place_on, reached_after}
 use Rattle.boot_verdict.specs.Steps.{Step, OfEvent, OfEntry, entries_as_steps, events_as_steps, has_register, least_front, pcr_at_reset, stepped, steps_of, value_after}
-use Rattle.boot_verdict.specs.Verdicts.{is_value, pcr_after_log_and_list, row_state}
+use Rattle.boot_verdict.specs.Verdicts.{is_value, pcr_after_log_and_list, row_state, state_matches}
 use Rattle.boot_verdict.specs.parts.Following.{AreAfter, IsWatchAfter, located_after, register_of}
 use Rattle.boot_verdict.specs.parts.LogPlaces.{place_at_reset, row_at_reset}
 use Rattle.boot_verdict.specs.parts.Watches.{looked_at, place_with}
 use Rattle.boot_verdict.proofs.StepLaws.{TellsLeast, banks_more, fun_same, least_more, least_tells, none_taken, or_all, steps_value, value_quiet}
 
-two_ways : (b : Bool) → b ≡ true → b ≡ false → ⊥
+pub two_ways : (b : Bool) → b ≡ true → b ≡ false → ⊥
 two_ways b yes_is no_is = cc
 
 -- ---- places after steps
@@ -123,11 +123,12 @@ all_steps algs events entries alg register =
     ap (value_after alg register (pcr_at_reset algs events alg register)) (take_all (length events + length entries) steps size)
     ∙ whole_same algs events entries alg register
 
-match_reached : (e : Expected) (value : Option (List ℕ)) → row_state e value ≡ states.Match → is_reached e value ≡ true
-match_reached e None same = absurd cc
-match_reached e (Some bytes) same = elim (cases_Bool (is_value e bytes)) [
-  | inl reached ↦ reached
-  | inr other ↦ let differs = rw other at same in absurd cc
+-- A register that is reached matches.
+pub row_matches : (e : Expected) (value : Option (List ℕ)) → is_reached e value ≡ state_matches (row_state e value)
+row_matches e None = refl
+row_matches e (Some bytes) = elim (cases_Bool (is_value e bytes)) [
+  | inl same ↦ rw same refl
+  | inr other ↦ rw other refl
 ]
 
 found_by : (events : ℕ) (e : Expected) (start : Option (List ℕ)) (all : List Step) (steps : ℕ)
@@ -146,7 +147,7 @@ pub match_found : (algs : AlgSet) (events : List LogEvent) (entries : List ListE
 match_found algs events entries e same =
     found_by (length events) e (pcr_at_reset algs events e.alg e.register) (steps_of events entries) (length events + length entries)
     (ap (is_reached e) (all_steps algs events entries e.alg e.register)
-    ∙ match_reached e (pcr_after_log_and_list algs events entries e.alg e.register) same)
+    ∙ row_matches e (pcr_after_log_and_list algs events entries e.alg e.register) ∙ ap state_matches same)
 
 -- ---- one step of a row
 

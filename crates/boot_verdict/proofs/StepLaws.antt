@@ -226,15 +226,17 @@ pub events_joined : (events : List LogEvent) (event : LogEvent)
     → events_as_steps events ++ OfEvent event ∷ [] ≡ events_as_steps (events ++ event ∷ [])
 events_joined events event = sym (map-append (λ (event : LogEvent). OfEvent event) events (event ∷ []))
 
+pub place_of_entry : (events n last : ℕ) → n ≡ events + 1 + last → place_after events n ≡ Entry last
+place_of_entry events n last is = elim (leb_tells n events) [
+  | inl le ↦ let few = le.1 in absurd (omega (arith, few, is))
+  | inr gt ↦
+      let some : eqb n 0 ≡ false = ne_eqb n 0 (λ e. absurd (omega (arith, e, is))) in
+      let left : n - events - 1 ≡ last = omega (arith, is) in
+      rw (some, gt.0, left) refl
+]
+
 pub entry_place : (log : List Step) (entries : List ListEntry) (events j : ℕ) → events ≡ length log → j ≡ length entries
     → Entry j ≡ place_after events (length (log ++ entries_as_steps entries) + 1)
 entry_place log entries events j size at =
-    let many : length (log ++ entries_as_steps entries) + 1 ≡ events + j + 1 =
-    omega (arith, size, at, length-append log (entries_as_steps entries), length-map entries (λ (entry : ListEntry). OfEntry entry)) in
-    elim (leb_tells (events + j + 1) events) [
-      | inl le ↦ let few = le.1 in absurd (omega (arith, few))
-      | inr gt ↦
-          let some : eqb (events + j + 1) 0 ≡ false = ne_eqb (events + j + 1) 0 (λ e. absurd (omega (arith, e))) in
-          let left : events + j + 1 - events - 1 ≡ j = omega arith in
-          rw (many, some, gt.0, left) refl
-    ]
+    sym (place_of_entry events (length (log ++ entries_as_steps entries) + 1) j
+    (omega (arith, size, at, length-append log (entries_as_steps entries), length-map entries (λ (entry : ListEntry). OfEntry entry))))

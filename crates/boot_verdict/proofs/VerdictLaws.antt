@@ -69,25 +69,6 @@ rows_same algs events entries start banks expected firmware replayed =
     (fun_same (row_of banks) (row_on algs events entries) (λ e. ap (row_with e)
     (final_same algs events entries start banks e.alg e.register firmware replayed)))
 
--- ---- the verdict
-
--- The verdict, part by part.
-pub verdict_same : (algs : AlgSet) (events : List LogEvent) (entries : List ListEntry) (start banks : Banks) (expected : List Expected)
-    (event-count locality entry-count : ℕ) (aggregate : Aggregate) (rows : List Row)
-    → IsFirmware algs events start → IsReplayed start entries banks
-    → event-count ≡ length events → locality ≡ startup_locality events → entry-count ≡ length entries
-    → aggregate ≡ aggregate_of algs events (stated_aggregate entries) → rows ≡ map (row_of banks) expected
-    → ◌≡◌ {A = Verdict} (record { events = event-count; locality = locality; entries = entry-count; aggregate = aggregate; rows = rows })
-    (verdict_on algs events entries expected)
-verdict_same algs events entries start banks expected event-count locality entry-count aggregate rows firmware replayed a b c d e =
-    let f = e ∙ rows_same algs events entries start banks expected firmware replayed in
-    λ i. record { events = a i; locality = b i; entries = c i; aggregate = d i; rows = f i }
-
--- The verdict on the same parts.
-pub verdict_on_same : (algs other : AlgSet) (events more : List LogEvent) (entries others : List ListEntry) (expected : List Expected)
-    → algs ≡ other → events ≡ more → entries ≡ others → verdict_on algs events entries expected ≡ verdict_on other more others expected
-verdict_on_same algs other events more entries others expected a b c = λ i. verdict_on (a i) (b i) (c i) expected
-
 -- ---- results
 
 -- The value of a result, or `other` for a fault.
@@ -157,19 +138,3 @@ log_not_memory log fault has memory =
       | inl header ↦ header.fault_is
       | inr event ↦ event.fault_is
     ]
-
-pub list_memory : (fault : ListFault) → fault_of_list fault ≡ faults.Memory → fault ≡ lists.Memory
-list_memory lists.Memory e = refl
-list_memory (lists.Truncated entry) e = absurd cc
-list_memory (lists.BadRegister entry) e = absurd cc
-list_memory (lists.NameTooLong entry) e = absurd cc
-
-pub list_first : (log list : List ℕ) (fault : ListFault) → IsSomeLog log → (fault ≡ lists.Memory) ⊎ IsReading list (Err fault)
-    → IsVerifyFault log list (fault_of_list fault)
-list_first log list lists.Memory is cause = tt
-list_first log list (lists.Truncated entry) is (inr first) = (is, first)
-list_first log list (lists.Truncated entry) is (inl e) = absurd cc
-list_first log list (lists.BadRegister entry) is (inr first) = (is, first)
-list_first log list (lists.BadRegister entry) is (inl e) = absurd cc
-list_first log list (lists.NameTooLong entry) is (inr first) = (is, first)
-list_first log list (lists.NameTooLong entry) is (inl e) = absurd cc

@@ -55,7 +55,7 @@ pub fn locate(
     let firmware = LogView::new(log)?;
     let start = follow_log(alloc, &firmware, expected)?;
     let replay = ListReplay::of_list(start, list)?;
-    Ok(replay.genuine()?.rows)
+    Ok(replay.follower.rows)
 }
 
 /// As [`locate`], for a list of at most `limit` bytes that is read from a source, with the faults of [`crate::verify_from`]. Each
@@ -87,7 +87,7 @@ pub fn locate_from<R: Source>(
     let firmware = LogView::new(log)?;
     let start = follow_log(alloc, &firmware, expected)?;
     let replay = ListReplay::of_source(alloc, start, list, limit)?;
-    Ok(replay.genuine()?.rows)
+    Ok(replay.follower.rows)
 }
 
 // The registers after the log's events, and the places of the expected values among them.
