@@ -1,5 +1,5 @@
 -- What a session makes of a search for the confirmed front.
-use Rattle.std.proofs.Common.{◌≡◌, ℕ, List, ◌++◌, Option, Some, None, Result, Ok, Err, sym, ap, subst, ◌∙◌}
+use Rattle.std.proofs.Common.{◌≡◌, ℕ, List, ◌++◌, Option, Some, None, Result, Ok, Err, ap, subst, ◌∙◌}
 use Rattle.boot_log.specs.declared.header.Row.{Row as TableRow}
 use Rattle.boot_log.specs.LogViews.{log_bytes}
 use Rattle.boot_log.specs.Replaying.{IsFirmware}
@@ -14,26 +14,12 @@ use Rattle.boot_verdict.specs.declared.front_report.Unconfirmed.{Unconfirmed}
 use Rattle.boot_verdict.specs.declared.front_report.Unconfirmed.TheVariants as unconfirmed
 use Rattle.boot_verdict.specs.declared.report.Report.{Report}
 use Rattle.boot_verdict.specs.declared.session.Session.{Session}
-use Rattle.boot_verdict.specs.declared.verifier.VerifyFault.{VerifyFault}
-use Rattle.boot_verdict.specs.declared.verifier.VerifyFault.TheVariants as faults
 use Rattle.boot_verdict.specs.Checkpoints.{IsCheckpoint, IsMoreFault}
 use Rattle.boot_verdict.specs.Fronts.{AreUnconfirmed, IsFrontReport, IsUnconfirmedFault, IsWrongWith, TakesUnconfirmed}
 use Rattle.boot_verdict.specs.Sessions.{HasTaken}
 use Rattle.boot_verdict.specs.Verdicts.{verdict_of, verdict_on}
-use Rattle.boot_verdict.specs.parts.Searches.{FindsFront, IsConfirmedAt, IsNoListFault, IsWhole, Searches, fault_in, wrong_with}
-use Rattle.boot_verdict.proofs.SessionLaws.{log_viewed, takes_more}
-
--- ---- refusals
-
--- A fault of the source, or memory that ran out.
-pub not_of_list : (log list : List ℕ) (old new : Option (List ℕ)) (limit : ℕ) (expected : List Expected) (least : ℕ) (fault : VerifyFault)
-    → IsNoListFault fault → IsUnconfirmedFault log list old new limit expected least fault
-not_of_list log list old new limit expected least (faults.Log fault) is = tt
-not_of_list log list old new limit expected least (faults.List fault) is = absurd is
-not_of_list log list old new limit expected least (faults.Replay fault) is = absurd is
-not_of_list log list old new limit expected least faults.Source is = tt
-not_of_list log list old new limit expected least faults.TooLong is = tt
-not_of_list log list old new limit expected least faults.Memory is = tt
+use Rattle.boot_verdict.specs.parts.Searches.{FindsFront, IsConfirmedAt, IsWhole, Searches, fault_in, wrong_with}
+use Rattle.boot_verdict.proofs.SessionLaws.{log_viewed, taken_as}
 
 -- The same of any log that is this one.
 any_log : (log : List ℕ) (expected : List Expected) (least : ℕ) (entries : List ListEntry) (table : List TableRow) (events : List LogEvent)
@@ -90,7 +76,7 @@ module _ (session : Session) (log list : List ℕ) (has : HasTaken log list sess
       by : IsWhole session.known list old new limit searches.entries (Ok known)
           → TakesUnconfirmed log list old new limit expected session.known.entries (record { log = session.log; known = known })
       by (more, came, reading, checkpoint, before) = record {
-        takes = takes_more log list old new limit session known has (record { more = more; came = came; checkpoint = checkpoint }) before;
+        takes = record { more = more; came = came; taken = taken_as has checkpoint before };
         entries = searches.entries;
         list_is = reading;
         none = none_confirmed none;
@@ -123,13 +109,6 @@ module _ (session : Session) (log list : List ℕ) (has : HasTaken log list sess
           begins = here.begins;
           confirmed = here.confirmed;
           verdict_is = verdict ∙ ap (λ (entries : List ListEntry). verdict_on (algs_in has.table) has.events entries expected) here.same;
-          taken = record {
-            table = has.table;
-            events = has.events;
-            log_is = has.log_is;
-            same_log = has.same_log;
-            start = start;
-            checkpoint = here.checkpoint;
-          };
+          taken = taken_as has here.checkpoint here.before;
           wrong = searches.wrong;
         }

@@ -1,16 +1,14 @@
 -- The search for the confirmed front: one more step, and what is found at the end.
-use Rattle.std.proofs.Common.{◌≡◌, ℕ, zero, suc, ◌+◌, ◌-◌, ◌^◌, ◌<◌, ◌≤◌, min, Bool, true, false, cond, leb, List, [], ◌∷◌, ◌++◌, length, map, take, drop, Option, Some, None, option_map, Ok, Err, refl, sym, ap, subst, ◌∙◌, append_assoc, append-nil, arith, inl, inr}
+use Rattle.std.proofs.Common.{◌≡◌, ℕ, zero, suc, ◌+◌, ◌-◌, ◌^◌, ◌<◌, ◌≤◌, min, Bool, true, false, cond, leb, List, [], ◌∷◌, ◌++◌, length, take, drop, Option, Some, None, option_map, Ok, Err, refl, sym, ap, subst, ◌∙◌, append_assoc, append-nil, arith, inl, inr}
 use Rattle.std.specs.Prelude.{◌&&◌}
 use Rattle.std.specs.Borrow.{Bor}
 use Rattle.std.specs.List.{AllByRecursion, list_all}
 use Rattle.std.specs.Option.{option_or}
-use Rattle.std.proofs.lemmas.Bool.{cases_Bool}
 use Rattle.std.proofs.lemmas.Bool.Decides.{eqb_tells, leb_tells}
 use Rattle.std.proofs.lemmas.Grind.{flat_map-append}
 use Rattle.std.proofs.lemmas.List.{length-append, length-map, length-take, length-take-le, take-append-drop, take-append-le, take-map, take-take, take_all}
 use Rattle.std.proofs.lemmas.List.Folds.{list_all-map}
 use Rattle.std.proofs.lemmas.List.Sums.{fold-append}
-use Rattle.std.proofs.Math.Seq.{take-append-add}
 use Rattle.pcr_banks.specs.declared.alg.Alg.{Alg}
 use Rattle.pcr_banks.specs.declared.banks.Banks.{Banks}
 use Rattle.pcr_banks.specs.declared.sets.AlgSet.{AlgSet}
@@ -19,9 +17,10 @@ use Rattle.pcr_banks.specs.Registers.{extended_by_all, value_at}
 use Rattle.boot_log.specs.Replaying.{IsFirmware}
 use Rattle.boot_log.specs.Spelling.{LogEvent}
 use Rattle.ima_list.specs.ListEntry.{IsEntry, ListEntry}
-use Rattle.ima_list.specs.Spelling.{BeginsWith, IsReading, list_spelling, spelling}
+use Rattle.ima_list.specs.Spelling.{BeginsWith, list_spelling, spelling}
 use Rattle.ima_list.specs.Digesting.{IsGenuine}
 use Rattle.ima_list.specs.Replaying.{AreGenuine, digests_of}
+use Rattle.ima_list.proofs.PieceLaws.{reading_to_the_end}
 use Rattle.boot_verdict.specs.declared.checkpoint.Checkpoint.{Checkpoint}
 use Rattle.boot_verdict.specs.declared.expected.Expected.{Expected}
 use Rattle.boot_verdict.specs.declared.front_report.Unconfirmed.{Unconfirmed}
@@ -32,7 +31,6 @@ use Rattle.boot_verdict.specs.declared.list_replay.ListReplay.{ListReplay}
 use Rattle.boot_verdict.specs.declared.places.Place.{Place}
 use Rattle.boot_verdict.specs.declared.places.Place.TheVariants.{Reset, Event, Entry, Nowhere, Absent}
 use Rattle.boot_verdict.specs.Checkpoints.{IsCheckpoint, IsMoreFault}
-use Rattle.boot_verdict.specs.Fronts.{AreUnconfirmed}
 use Rattle.boot_verdict.specs.ListSources.{CameFrom}
 use Rattle.boot_verdict.specs.Places.{is_reached, place_after}
 use Rattle.boot_verdict.specs.Steps.{Step, OfEntry, entries_as_steps, least_front, value_after}
@@ -42,8 +40,7 @@ use Rattle.boot_verdict.specs.parts.Following.{AreAfter}
 use Rattle.boot_verdict.specs.parts.ListReplays.{IsReplayedOrForged, Replays, ReplaysAll, ReplaysMore, StopsAt}
 use Rattle.boot_verdict.specs.parts.Searches.{FindsFront, IsConfirmedAt, Searches, checkpoint_at, fault_in, front_after, front_with, whole_after}
 use Rattle.boot_verdict.proofs.PlaceLaws.{row_matches, steps_back, steps_to, two_ways}
-use Rattle.boot_verdict.proofs.ReplayLaws.{genuine_within}
-use Rattle.boot_verdict.proofs.StepLaws.{TellsLeast, banks_more, entries_value, followed_by, fun_same, least_more, least_tells, none_taken, or_all, place_of_entry, replayed_after}
+use Rattle.boot_verdict.proofs.StepLaws.{TellsLeast, banks_joined, entries_value, followed_by, fun_same, least_more, least_tells, none_taken, or_all, place_of_entry, replayed_after}
 
 -- ---- places
 
@@ -115,7 +112,7 @@ module _ (start : Confirming) (events : ℕ) (before : List Step) (step : Step) 
       → now.bytes ≡ size_more old.bytes step → now.first ≡ old.first → now.expected ≡ old.expected → place ≡ place_after events (length before + 1)
       → now.front ≡ option_or old.front (front_at now place) → IsConfirmingAfter start events all now
   search_more old now place earlier one bytes first expected at front =
-      let banks = banks_more start.banks old.banks now.banks before step earlier.banks one in
+      let banks = banks_joined start.banks old.banks now.banks before (step ∷ []) earlier.banks one in
       let size : now.bytes ≡ size_after start.bytes all =
       bytes ∙ ap (λ (n : ℕ). size_more n step) earlier.bytes ∙ sym (fold-append size_more start.bytes before (step ∷ [])) in
       let at_all : place_after events (length all) ≡ place = ap (place_after events) (length-append before (step ∷ [])) ∙ sym at in
@@ -181,13 +178,8 @@ module _ (list : List ℕ) (known : Checkpoint) (expected : Bor (List Expected))
 
   known_count : length steps ≡ events + known.entries
   known_count =
-      omega (
-        arith,
-        size,
-        is.count,
-        length-append log (entries_as_steps is.entries),
-        length-map is.entries (λ (entry : ListEntry). OfEntry entry),
-      )
+      let listed = length-map is.entries (λ (entry : ListEntry). OfEntry entry) in
+      omega (arith, size, is.count, listed, length-append log (entries_as_steps is.entries))
 
   known_front : FrontIs origin events (least_front (confirms origin events) steps) (search_after known expected).front
   known_front =
@@ -273,15 +265,10 @@ search_none known expected = record { banks = none_taken known.before; bytes = r
 -- No genuine front goes on beyond an entry that is not.
 within_genuine : (before after : List ListEntry) (forged : ListEntry) (n : ℕ) → (IsGenuine forged → ⊥) → AreGenuine (take n (before ++ forged ∷ after))
     → n ≤ length before
-within_genuine before after forged n is_forged are = elim (leb_tells n (length before)) [
-  | inl le ↦ le.1
-  | inr gt ↦
-      let more = gt.1 in
-      let size : n ≡ length before + suc (n - length before - 1) = omega (arith, more) in
-      let parts : take n (before ++ forged ∷ after) ≡ before ++ forged ∷ take (n - length before - 1) after =
-      ap (λ (m : ℕ). take m (before ++ forged ∷ after)) size ∙ take-append-add before (forged ∷ after) (suc (n - length before - 1)) in
-      absurd (is_forged (genuine_within before (take (n - length before - 1) after) forged (subst AreGenuine parts are)))
-]
+within_genuine before after forged zero no_is are = omega arith
+within_genuine [] after forged (suc n) no_is are = absurd (no_is are.0)
+within_genuine (first ∷ before) after forged (suc n) no_is are =
+    let within = within_genuine before after forged n no_is are.1 in omega (arith, within)
 
 searched : (known : Checkpoint) (expected : Bor (List Expected)) (entries : List ListEntry) (now : Confirming) (forged : Option ℕ)
     → IsReplayedOrForged IsConfirmingAfter (search_before known expected) entries now forged → IsSearched known expected entries now
@@ -307,7 +294,7 @@ searched known expected entries now (Some place) (first, followed) = record {
 
 module _ (known : Checkpoint) (expected : Bor (List Expected)) (bytes : List ℕ) (entries : List ListEntry) (rest : List ℕ) (replay : ListReplay Confirming)
     (begins : BeginsWith bytes entries rest) (replays : Replays IsConfirmingAfter (search_before known expected) entries replay)
-    (few : length bytes < 2 ^ 64) (counted : replay.entries < 2 ^ 64) (law : (bytes : List ℕ) (entries : List ListEntry) → BeginsWith bytes entries [] → IsReading bytes (Ok entries)) where
+    (few : length bytes < 2 ^ 64) (counted : replay.entries < 2 ^ 64) where
   abbrev found : IsSearched known expected entries replay.follower
   found = searched known expected entries replay.follower replay.forged replays.replayed
 
@@ -363,7 +350,7 @@ module _ (known : Checkpoint) (expected : Bor (List Expected)) (bytes : List ℕ
       let all = ap (λ (l : List ListEntry). length l) found.parts in
       record {
         entries = take n entries;
-        list_is = law (list_spelling (take n entries)) (take n entries)
+        list_is = reading_to_the_end (list_spelling (take n entries)) (take n entries)
             (record { are = all_take IsEntry n entries begins.are; parts = sym (append-nil (list_spelling (take n entries))) });
         genuine = front_genuine n within;
         replayed = replayed_after known.before front.registers (take n entries) at.registers;
@@ -447,7 +434,7 @@ GoodOf known replay front =
 
 module _ (known : Checkpoint) (expected : Bor (List Expected)) (list : List ℕ) (old new : Option (List ℕ)) (limit : ℕ) (replay : ListReplay Confirming)
     (front : Option Checkpoint) (is : IsCheckpoint list known) (room : known.bytes + limit < 2 ^ 64) (counted : replay.entries < 2 ^ 64)
-    (law : (bytes : List ℕ) (entries : List ListEntry) → BeginsWith bytes entries [] → IsReading bytes (Ok entries)) (good : GoodOf known replay front) where
+    (good : GoodOf known replay front) where
   few_bytes : (came over : List ℕ) → CameFrom old new limit came over → length (list ++ came) < 2 ^ 64
   few_bytes came over from = let within = from.within in omega (arith, room, is.size, within, length-append list came)
 
@@ -456,7 +443,7 @@ module _ (known : Checkpoint) (expected : Bor (List Expected)) (list : List ℕ)
       → (algs : AlgSet) (events : List LogEvent) → IsFirmware algs events known.before
       → FindsFront algs events expected.now known bytes entries front
   finds bytes entries rest begins replays few algs events firmware =
-      rw (good algs events firmware) (front_is known expected bytes entries rest replay begins replays few counted law algs events firmware _
+      rw (good algs events firmware) (front_is known expected bytes entries rest replay begins replays few counted algs events firmware _
       (ap (λ (stated : Option (Alg × List ℕ)). is_good (aggregate_of algs events stated)) replays.stated))
 
   -- All that came is a list of genuine entries.

@@ -1,15 +1,11 @@
 -- A list that goes on where a checkpoint is.
-use Rattle.std.proofs.Common.{◌≡◌, ℕ, ◌+◌, ◌<◌, ltb, List, [], length, Option, None, option_map, Result, Ok, Err, refl, sym, ap, subst, ◌∙◌, inl, inr, rules}
-use Rattle.std.specs.List.{AllByRecursion}
+use Rattle.std.proofs.Common.{◌≡◌, ℕ, ◌<◌, ltb, List, [], Option, option_map, refl, sym, ap, subst, ◌∙◌, inl, inr, rules}
 use Rattle.std.proofs.lemmas.Bool.{cases_Bool}
 use Rattle.pcr_banks.specs.declared.alg.Alg.{Alg}
 use Rattle.pcr_banks.specs.declared.banks.Banks.{Banks}
 use Rattle.pcr_banks.specs.Digests.{bytes_of, digest_of}
-use Rattle.pcr_banks.specs.Hashing.{all_algs}
-use Rattle.pcr_banks.specs.Registers.{is_active, register_count, value_at}
-use Rattle.pcr_banks.proofs.AlgLaws.{every_alg}
+use Rattle.pcr_banks.specs.Registers.{register_count, value_at}
 use Rattle.pcr_banks.proofs.SetLaws.{same_bytes}
-use Rattle.ima_list.specs.Spelling.{IsReading}
 use Rattle.boot_verdict.specs.declared.checkpoint.Checkpoint.{Checkpoint}
 use Rattle.boot_verdict.specs.declared.verifier.VerifyFault.{VerifyFault}
 use Rattle.boot_verdict.specs.declared.verifier.VerifyFault.TheVariants as faults
@@ -18,41 +14,22 @@ use Rattle.boot_log.specs.Replaying.{IsFirmware}
 use Rattle.boot_log.specs.Spelling.{LogEvent, IsLog, algs_in}
 use Rattle.boot_verdict.specs.declared.expected.Expected.{Expected}
 use Rattle.boot_verdict.specs.declared.session.Session.{Session}
-use Rattle.boot_verdict.specs.Checkpoints.{AreSameBanks, GoesOn, IsCheckpoint, IsMoreFault}
-use Rattle.boot_verdict.specs.Sessions.{HasTaken, IsOfBoot, TakesMore}
+use Rattle.boot_verdict.specs.Checkpoints.{AreSameBanks, IsCheckpoint, IsMoreFault}
+use Rattle.boot_verdict.specs.Sessions.{HasTaken, IsOfBoot}
 use Rattle.boot_verdict.specs.Verdicts.{IsSomeLog, IsVerdict, IsVerifyFaultFrom, Verdict, verdict_on}
-use Rattle.boot_verdict.proofs.StepLaws.{none_changes}
 
 -- ---- sessions
 
--- What a session knows after more of its list.
-abbrev pub takes_more : (log list : List ℕ) (old new : Option (List ℕ)) (limit : ℕ) (session : Session) (next : Checkpoint)
-    → HasTaken log list session → GoesOn list old new limit next → next.before ≡ session.known.before
-    → TakesMore log list old new limit (record { log = session.log; known = next })
-takes_more log list old new limit session next has goes same = record {
-  more = goes.more;
-  came = goes.came;
-  taken = record {
-    table = has.table;
-    events = has.events;
-    log_is = has.log_is;
-    same_log = has.same_log;
-    start = rw same has.start;
-    checkpoint = goes.checkpoint;
-  };
-}
-
--- The registers before a list are the checkpoint of no bytes.
-pub nothing_known : (registers : Banks) → IsReading [] (Ok [])
-    → IsCheckpoint [] (record { before = registers; after = registers; entries = 0; bytes = 0; stated = None })
-nothing_known registers empty = record {
-  entries = [];
-  list_is = empty;
-  genuine = tt;
-  replayed = record { active = λ a. refl; values = λ a r. none_changes a (value_at registers a r) };
-  count = refl;
-  size = refl;
-  stated = refl;
+-- What a session knows of another list of its boot.
+pub taken_as : {log list other : List ℕ} {session : Session} {next : Checkpoint} → HasTaken log list session → IsCheckpoint other next
+    → next.before ≡ session.known.before → HasTaken log other (record { log = session.log; known = next })
+taken_as has is same = record {
+  table = has.table;
+  events = has.events;
+  log_is = has.log_is;
+  same_log = has.same_log;
+  start = rw same has.start;
+  checkpoint = is;
 }
 
 -- ---- another boot
@@ -89,13 +66,6 @@ same_everywhere first second alg same r =
 -- Digests that are read tell the values.
 pub same_value : (alg : Alg) (first second : Option (List ℕ)) → option_map (digest_of alg) first ≡ option_map (digest_of alg) second → first ≡ second
 same_value alg first second same = sym (same_bytes alg first) ∙ ap (option_map bytes_of) same ∙ same_bytes alg second
-
-pub same_each : (first second : Banks)
-    → AllByRecursion (λ a. (is_active first a ≡ is_active second a) × ((r : ℕ) → value_at first a r ≡ value_at second a r)) all_algs
-    → AreSameBanks first second
-same_each first second each =
-    let every = every_alg (λ a. (is_active first a ≡ is_active second a) × ((r : ℕ) → value_at first a r ≡ value_at second a r)) each in
-    record { active = λ a. (every a).0; values = λ a r. (every a).1 r }
 
 -- ---- reports
 

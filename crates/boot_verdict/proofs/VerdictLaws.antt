@@ -1,5 +1,5 @@
 -- The verdict: registers of the log and of the list, and which fault comes first.
-use Rattle.std.proofs.Common.{◌≡◌, ◌⊎◌, ℕ, List, length, map, Option, Some, option_map, Result, Ok, Err, refl, ap, subst, ◌∙◌, inl, inr}
+use Rattle.std.proofs.Common.{◌≡◌, ◌⊎◌, ℕ, List, map, Option, Some, option_map, Result, Ok, Err, refl, ap, subst, ◌∙◌, inl, inr}
 use Rattle.pcr_banks.specs.declared.alg.Alg.{Alg}
 use Rattle.pcr_banks.specs.declared.banks.Banks.{Banks}
 use Rattle.pcr_banks.specs.declared.digest.Digest.{Digest}
@@ -12,19 +12,15 @@ use Rattle.boot_log.specs.declared.fault.LogFault.{LogFault}
 use Rattle.boot_log.specs.declared.fault.LogFault.TheVariants as logs
 use Rattle.boot_log.specs.Spelling.{LogEvent, HasLogFault}
 use Rattle.boot_log.specs.Reading.{log_fault}
-use Rattle.boot_log.specs.Replaying.{IsFirmware, startup_locality}
-use Rattle.ima_list.specs.declared.fault.ListFault.{ListFault}
-use Rattle.ima_list.specs.declared.fault.ListFault.TheVariants as lists
+use Rattle.boot_log.specs.Replaying.{IsFirmware}
 use Rattle.ima_list.specs.ListEntry.{ListEntry}
-use Rattle.ima_list.specs.Spelling.{IsReading}
 use Rattle.ima_list.specs.Aggregates.{aggregate_register_count, boot_aggregate_of, joined_values}
 use Rattle.ima_list.specs.Replaying.{IsReplayed, digests_of}
 use Rattle.boot_verdict.specs.declared.expected.Expected.{Expected}
-use Rattle.boot_verdict.specs.declared.report.Aggregate.{Aggregate}
 use Rattle.boot_verdict.specs.declared.report.Row.{Row}
 use Rattle.boot_verdict.specs.declared.verifier.VerifyFault.{VerifyFault}
 use Rattle.boot_verdict.specs.declared.verifier.VerifyFault.TheVariants as faults
-use Rattle.boot_verdict.specs.Verdicts.{Verdict, verdict_on, IsVerifyFault, IsVerifyFaultFrom, IsSomeLog, aggregate_of, aggregate_state, stated_aggregate, booted_aggregate, pcr_after_log, fault_of_list, fault_of_log, pcr_after_log_and_list, row_on, row_state}
+use Rattle.boot_verdict.specs.Verdicts.{IsVerifyFault, IsVerifyFaultFrom, aggregate_of, aggregate_state, booted_aggregate, pcr_after_log, fault_of_log, pcr_after_log_and_list, row_on, row_state}
 use Rattle.boot_verdict.specs.parts.Rows.{row_of}
 
 -- ---- registers

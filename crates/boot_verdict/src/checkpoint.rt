@@ -30,7 +30,6 @@ use crate::replaying::list_start;
 use crate::texts::write_checkpoint;
 use crate::verifier::VerifyFault;
 use byte_streams::Source;
-use ima_list::laws::entries_to_the_end_are_the_reading;
 use pcr_banks::laws::{digest_is_a_hash, registers_have_hashes};
 use pcr_banks::{Alg, Banks, Digest, REGISTERS};
 use std::alloc::{AllocError, Global};
@@ -62,14 +61,7 @@ impl Checkpoint {
         ensures entries { result.entries ≡ 0 }
         ensures bytes { result.bytes ≡ 0 }
     {
-        entries_to_the_end_are_the_reading();
-        Checkpoint {
-            before: registers,
-            after: registers,
-            entries: 0,
-            bytes: 0,
-            stated: None,
-        }
+        Checkpoint::after(registers, ListReplay::new(registers), 0)
     }
 
     /// The checkpoint after a whole list in memory, which begins with these registers. Fails with the fault of the list.
@@ -111,6 +103,8 @@ impl Checkpoint {
     fn after(before: Banks, replay: ListReplay<Banks>, bytes: u64) -> Checkpoint
         ensures known { (list : List ℕ) → ReplaysAll BanksAfter before list replay → bytes ≡ length list → IsCheckpoint list result }
         ensures before { result.before ≡ before }
+        ensures entries { result.entries ≡ replay.entries }
+        ensures bytes { result.bytes ≡ bytes }
     {
         Checkpoint {
             before,

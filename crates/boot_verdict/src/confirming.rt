@@ -23,7 +23,6 @@ use crate::report::Aggregate;
 use crate::session::Session;
 use crate::verifier::{VerifyFault, aggregate_of, report_on};
 use byte_streams::Source;
-use ima_list::laws::entries_to_the_end_are_the_reading;
 use std::alloc::Global;
 
 impl Session<'_> {
@@ -107,7 +106,6 @@ impl Checkpoint {
         ensures telling { is_some (R.state source.new).remaining ≡ is_some (R.state source.old).remaining }
         ensures counts { (R.state source.new).failures ≡ failures_after_list result (R.state source.old).failures }
     {
-        entries_to_the_end_are_the_reading();
         let mut replay = self.searching(expected);
         let whole = match replay.follow(alloc, source, self.room(limit)) {
             Ok(_count) => Ok(self.whole(&replay)),

@@ -15,7 +15,6 @@ use crate::report::{Row, all_match};
 use crate::requirement::Requirement;
 use crate::verifier::{VerifyFault, rows_on};
 use byte_streams::Source;
-use ima_list::laws::no_bytes_have_two_readings;
 use std::alloc::Global;
 
 /// The report on a measurement list alone and expected registers.
@@ -68,7 +67,6 @@ pub fn verify_list_from<R: Source>(
     ensures telling { is_some (R.state list.new).remaining ≡ is_some (R.state list.old).remaining }
     ensures counts { (R.state list.new).failures ≡ failures_after_list result (R.state list.old).failures }
 {
-    no_bytes_have_two_readings();
     let known = Checkpoint::before_list(list_start()).go_on(alloc, list, limit)?;
     Ok(ListReport {
         entries: known.entries,

@@ -23,7 +23,6 @@ use crate::expected::Expected;
 use crate::report::{Aggregate, Report, Row, State};
 use boot_log::{LogFault, LogView};
 use byte_streams::{ReadFault, Source};
-use ima_list::laws::{list_has_one_reading, no_bytes_have_two_readings};
 use ima_list::{ListFault, ReplayFault, boot_aggregate};
 use pcr_banks::{Banks, Digest};
 use std::alloc::{AllocError, Global};
@@ -122,7 +121,6 @@ pub fn verify(
     ensures fault { IfErr result (IsVerifyFault log.now list.now) }
     ensures memory { IsErrOf result VerifyFault.Memory → HasSomethingToKeep log.now list.now }
 {
-    list_has_one_reading(list);
     let log = LogView::new(log)?;
     let known = Checkpoint::of_list(log.registers(), list)?;
     Ok(report_on(alloc, &log, &known, expected)?)
@@ -157,7 +155,6 @@ pub fn verify_from<R: Source>(
     ensures telling { is_some (R.state list.new).remaining ≡ is_some (R.state list.old).remaining }
     ensures counts { (R.state list.new).failures ≡ failures_after_list result (R.state list.old).failures }
 {
-    no_bytes_have_two_readings();
     let firmware = LogView::new(log)?;
     let known = Checkpoint::before_list(firmware.registers()).go_on(alloc, list, limit)?;
     Ok(report_on(alloc, &firmware, &known, expected)?)

@@ -1,5 +1,5 @@
 -- What a search for the confirmed front found.
-use Rattle.std.specs.Prelude.{◌≡◌, ℕ, ◌+◌, ◌-◌, ◌^◌, min, Bool, if◌then◌else◌, List, ◌++◌, length, Option, Some, None, option_map, Result, Ok, Err}
+use Rattle.std.specs.Prelude.{◌≡◌, ℕ, ◌+◌, ◌-◌, ◌^◌, min, Bool, if◌then◌else◌, List, ◌++◌, length, Option, Some, None, Result, Ok, Err}
 use Rattle.pcr_banks.specs.declared.sets.AlgSet.{AlgSet}
 use Rattle.boot_log.specs.Replaying.{IsFirmware}
 use Rattle.boot_log.specs.Spelling.{LogEvent}
@@ -16,7 +16,7 @@ use Rattle.boot_verdict.specs.declared.list_replay.ListReplay.{ListReplay}
 use Rattle.boot_verdict.specs.declared.verifier.VerifyFault.{VerifyFault}
 use Rattle.boot_verdict.specs.declared.verifier.VerifyFault.TheVariants as faults
 use Rattle.boot_verdict.specs.Checkpoints.{IsCheckpoint}
-use Rattle.boot_verdict.specs.Fronts.{AreUnconfirmed, IsConfirmed, IsWrongWith}
+use Rattle.boot_verdict.specs.Fronts.{AreUnconfirmed, IsConfirmed, IsUnconfirmedFault, IsWrongWith}
 use Rattle.boot_verdict.specs.ListSources.{CameFrom, CameWhole}
 
 -- The checkpoint of a confirmed front of these bytes.
@@ -93,11 +93,7 @@ abbrev pub fault_in : Unconfirmed → VerifyFault
 fault_in (unconfirmed.List fault) = faults.List fault
 fault_in (unconfirmed.Replay fault) = faults.Replay fault
 
--- It is no fault of a list.
+-- It is no fault of a list, so it does not tell of a front.
 abbrev pub IsNoListFault : VerifyFault → Type 0
-IsNoListFault (faults.List fault) = ⊥
-IsNoListFault (faults.Replay fault) = ⊥
-IsNoListFault (faults.Log fault) = Unit {0}
-IsNoListFault faults.Source = Unit {0}
-IsNoListFault faults.TooLong = Unit {0}
-IsNoListFault faults.Memory = Unit {0}
+IsNoListFault fault = (log list : List ℕ) (old new : Option (List ℕ)) (limit : ℕ) (expected : List Expected) (least : ℕ)
+    → IsUnconfirmedFault log list old new limit expected least fault

@@ -15,7 +15,7 @@ pub returns-in_err-known-clause-only : goal.returns-in_err-known-clause-only
 returns-in_err-known-clause-only g c =
     let p = err_from_is_err_and c.from_residual.result c.from_residual.ensures.1 in
     λ entries holds.
-    rw (p.1, p.2) (elim (list_not_read _ c.no_bytes_have_two_readings.ensures holds c.in_err-known.field-0.0
+    rw (p.1, p.2) (elim (list_not_read _ holds c.in_err-known.field-0.0
     (c.in_err-known.ensures.fault [] c.before_list.ensures.checkpoint)) [
       | inl source ↦ inl (rw source refl)
       | inr memory ↦ inr (inl memory)
@@ -53,7 +53,7 @@ returns-clause-only g c =
     let is = goes.checkpoint in
     let start : IsListStart c.in_ok-known.known.before = rw (c.in_ok-known.ensures.before, c.before_list.ensures.before) c.list_start.ensures in
     λ entries holds.
-    let same = same_entries _ c.no_bytes_have_two_readings.ensures holds goes.more is.entries goes.came is.list_is in
+    let same = same_entries _ holds goes.more is.entries goes.came is.list_is in
     inr (ap Ok (ap (λ (l : List ListEntry). list_verdict_on l c.args.expected.now) same
     ∙ sym (list_verdict_same c.in_ok-known.known.before c.in_ok-known.known.after is.entries c.args.expected.now _ _ start is.replayed is.count
     c.in_ok-rows_on.ensures)))

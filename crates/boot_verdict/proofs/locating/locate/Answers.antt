@@ -3,9 +3,10 @@ use Rattle.std.proofs.lemmas.Result.{err_from_is_err_and}
 use Rattle.boot_log.specs.Spelling.{algs_in}
 use Rattle.ima_list.specs.ListEntry.{ListEntry}
 use Rattle.boot_verdict.specs.Places.{located_on}
-use Rattle.boot_verdict.proofs.LocateLaws.{located_all, located_in}
+use Rattle.boot_verdict.proofs.PlaceLaws.{located_all, located_in}
+use Rattle.boot_verdict.proofs.ReplayLaws.{one_list}
 use Rattle.boot_verdict.proofs.SessionLaws.{log_viewed}
-use Rattle.boot_verdict.proofs.VerdictLaws.{log_first, log_not_memory, ok_same}
+use Rattle.boot_verdict.proofs.VerdictLaws.{log_first, log_not_memory}
 use Rattle.boot_verdict.proofs.locating.locate.Goals as goal
 
 pub returns-in_err-firmware-clause-located : goal.returns-in_err-firmware-clause-located
@@ -57,6 +58,6 @@ pub returns-clause-only : goal.returns-clause-only
 returns-clause-only c =
     let all = c.in_ok-replay.ensures.replays in
     λ table events entries is list genuine.
-    let same = ok_same entries all.entries (c.list_has_one_reading.ensures.one (Ok entries) (Ok all.entries) list all.reading) in
+    let same = one_list list all.reading in
     let rows = located_all all.entries (c.in_ok-start.ensures table events (log_viewed c.in_ok-firmware.ensures.found is)) all.followed in
     ap Ok (ap (λ (those : List ListEntry). located_on (algs_in table) events those c.args.expected.now) same ∙ sym rows)

@@ -3,7 +3,7 @@ use Rattle.std.proofs.lemmas.Result.{err_from_is_err_and}
 use Rattle.boot_log.specs.Spelling.{algs_in}
 use Rattle.ima_list.specs.ListEntry.{ListEntry}
 use Rattle.boot_verdict.specs.Places.{located_on}
-use Rattle.boot_verdict.proofs.LocateLaws.{located_all, located_in}
+use Rattle.boot_verdict.proofs.PlaceLaws.{located_all, located_in}
 use Rattle.boot_verdict.proofs.ReplayLaws.{list_not_read, same_entries}
 use Rattle.boot_verdict.proofs.SessionLaws.{log_viewed, refused_from}
 use Rattle.boot_verdict.proofs.VerdictLaws.{log_first_from, log_not_memory}
@@ -41,7 +41,7 @@ pub returns-in_err-replay-clause-only : goal.returns-in_err-replay-clause-only
 returns-in_err-replay-clause-only g c =
     let p = err_from_is_err_and c.from_residual-in_err-replay.result c.from_residual-in_err-replay.ensures.1 in
     λ table events entries log holds.
-    rw (p.1, p.2) (elim (list_not_read _ c.no_bytes_have_two_readings.ensures holds c.in_err-replay.field-0.0 c.in_err-replay.ensures.fault) [
+    rw (p.1, p.2) (elim (list_not_read _ holds c.in_err-replay.field-0.0 c.in_err-replay.ensures.fault) [
       | inl source ↦ inl (rw source refl)
       | inr memory ↦ inr (inl memory)
     ])
@@ -66,6 +66,6 @@ pub returns-clause-only : goal.returns-clause-only
 returns-clause-only g c =
     let more = c.in_ok-replay.ensures.replays in
     λ table events entries is holds.
-    let same = same_entries _ c.no_bytes_have_two_readings.ensures holds more.more more.all.entries more.came more.all.reading in
+    let same = same_entries _ holds more.more more.all.entries more.came more.all.reading in
     let rows = located_all more.all.entries (c.in_ok-start.ensures table events (log_viewed c.in_ok-firmware.ensures.found is)) more.all.followed in
     inr (ap Ok (ap (λ (those : List ListEntry). located_on (algs_in table) events those c.args.expected.now) same ∙ sym rows))

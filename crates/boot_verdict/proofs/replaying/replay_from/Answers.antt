@@ -1,4 +1,4 @@
-use Rattle.std.proofs.Common.{[], refl, subst, inl, inr}
+use Rattle.std.proofs.Common.{[], refl, inl, inr}
 use Rattle.std.proofs.lemmas.Result.{err_from_is_err_and}
 use Rattle.boot_verdict.proofs.ReplayLaws.{list_not_read, same_entries}
 use Rattle.boot_verdict.proofs.replaying.replay_from.Goals as goal
@@ -7,7 +7,7 @@ pub returns-in_err-known-clause-only : goal.returns-in_err-known-clause-only
 returns-in_err-known-clause-only g c =
     let p = err_from_is_err_and c.from_residual.result c.from_residual.ensures.1 in
     λ entries holds.
-    rw (p.1, p.2) (elim (list_not_read _ c.no_bytes_have_two_readings.ensures holds c.in_err-known.field-0.0
+    rw (p.1, p.2) (elim (list_not_read _ holds c.in_err-known.field-0.0
     (c.in_err-known.ensures.fault [] c.before_list.ensures.checkpoint)) [
       | inl source ↦ inl (rw source refl)
       | inr memory ↦ inr (inl (rw memory refl))
@@ -40,7 +40,7 @@ returns-clause-only g c =
     let goes = c.in_ok-known.ensures.known [] c.before_list.ensures.checkpoint in
     let is = goes.checkpoint in
     λ entries holds.
-    let same = same_entries _ c.no_bytes_have_two_readings.ensures holds goes.more is.entries goes.came is.list_is in
+    let same = same_entries _ holds goes.more is.entries goes.came is.list_is in
     inr (inr (record {
       start = c.in_ok-known.known.before;
       reset = rw (c.in_ok-known.ensures.before, c.before_list.ensures.before) c.list_start.ensures;

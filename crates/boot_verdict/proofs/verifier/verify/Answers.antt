@@ -4,8 +4,9 @@ use Rattle.boot_log.specs.Spelling.{algs_in}
 use Rattle.ima_list.specs.ListEntry.{ListEntry}
 use Rattle.boot_verdict.specs.declared.verifier.VerifyFault.TheVariants.{Memory}
 use Rattle.boot_verdict.specs.Verdicts.{verdict_on}
+use Rattle.boot_verdict.proofs.ReplayLaws.{one_list}
 use Rattle.boot_verdict.proofs.SessionLaws.{log_viewed, verdict_by}
-use Rattle.boot_verdict.proofs.VerdictLaws.{log_first, log_not_memory, ok_same}
+use Rattle.boot_verdict.proofs.VerdictLaws.{log_first, log_not_memory}
 use Rattle.boot_verdict.proofs.verifier.verify.Goals as goal
 
 pub returns-in_err-log-clause-report : goal.returns-in_err-log-clause-report
@@ -86,7 +87,7 @@ pub returns-clause-only : goal.returns-clause-only
 returns-clause-only c =
     let is = c.in_ok-known.ensures.known in
     λ table events entries log list genuine.
-    let same = ok_same entries is.entries (c.list_has_one_reading.ensures.one (Ok entries) (Ok is.entries) list is.list_is) in
+    let same = one_list list is.list_is in
     let viewed = log_viewed c.in_ok-log.ensures.found log in
     ap Ok (ap (λ (those : List ListEntry). verdict_on (algs_in table) events those c.args.expected.now) same
     ∙ sym (c.in_ok-report_on.ensures table events _ viewed (rw c.in_ok-known.ensures.before (c.registers.ensures table events viewed)) is))

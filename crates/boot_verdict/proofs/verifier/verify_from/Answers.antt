@@ -36,7 +36,7 @@ pub returns-in_err-known-clause-only : goal.returns-in_err-known-clause-only
 returns-in_err-known-clause-only g c =
     let p = err_from_is_err_and c.from_residual-in_err-known.result c.from_residual-in_err-known.ensures.1 in
     λ table events entries log holds.
-    rw (p.1, p.2) (elim (list_not_read _ c.no_bytes_have_two_readings.ensures holds c.in_err-known.field-0.0
+    rw (p.1, p.2) (elim (list_not_read _ holds c.in_err-known.field-0.0
     (c.in_err-known.ensures.fault [] c.before_list.ensures.checkpoint)) [
       | inl source ↦ inl (rw source refl)
       | inr memory ↦ inr (inl memory)
@@ -85,7 +85,7 @@ returns-clause-only g c =
     let goes = c.in_ok-known.ensures.known [] c.before_list.ensures.checkpoint in
     let is = goes.checkpoint in
     λ table events entries log holds.
-    let same = same_entries _ c.no_bytes_have_two_readings.ensures holds goes.more is.entries goes.came is.list_is in
+    let same = same_entries _ holds goes.more is.entries goes.came is.list_is in
     let viewed = log_viewed c.in_ok-firmware.ensures.found log in
     inr (ap Ok (ap (λ (those : List ListEntry). verdict_on (algs_in table) events those c.args.expected.now) same
     ∙ sym (c.in_ok-report_on.ensures table events _ viewed

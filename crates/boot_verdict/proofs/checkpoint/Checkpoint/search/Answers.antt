@@ -1,4 +1,4 @@
-use Rattle.std.proofs.Common.{arith, sym, ap, Err, ◌∙◌}
+use Rattle.std.proofs.Common.{arith, ap, Err, ◌∙◌}
 use Rattle.std.proofs.lemmas.Result.{err_from_is_err_and}
 use Rattle.boot_verdict.specs.parts.Confirming.{search_before}
 use Rattle.boot_verdict.proofs.FrontLaws.{searches_part, searches_whole}
@@ -22,11 +22,11 @@ returns-clause-found g c =
     elim c.match-follow.branch [
       | in-Ok w ↦
           rw (w.whole-is, w.whole.ensures) (searches_whole known c.args.expected list _ _ c.room.result c.follow.new.self c.front_in.result is
-          c.room.ensures.bytes c.front_in.ensures.counted c.entries_to_the_end_are_the_reading.ensures c.front_in.ensures.front
+          c.room.ensures.bytes c.front_in.ensures.counted c.front_in.ensures.front
           ((rw w.in-Ok.is at c.follow.ensures.replays) start list all).0)
       | in-Err+in_ok-unconfirmed_of-in-Err w ↦
           let wrong = w.in_ok-unconfirmed_of-in-Err.ensures.wrong in
           let why = (rw (w.in-Err.is ∙ ap Err wrong) at c.follow.ensures.fault) start list all in
           rw w.whole-is (searches_part known c.args.expected list _ _ c.room.result c.follow.new.self c.front_in.result is
-          c.room.ensures.bytes c.front_in.ensures.counted c.entries_to_the_end_are_the_reading.ensures c.front_in.ensures.front _ why.0 why.1)
+          c.room.ensures.bytes c.front_in.ensures.counted c.front_in.ensures.front _ why.0 why.1)
     ])

@@ -1,5 +1,5 @@
 use Rattle.std.proofs.lemmas.Result.{err_from_is_err_and}
-use Rattle.boot_verdict.proofs.ConfirmLaws.{front_reported, not_of_list, refused_by, takes_unconfirmed}
+use Rattle.boot_verdict.proofs.ConfirmLaws.{front_reported, refused_by, takes_unconfirmed}
 use Rattle.boot_verdict.proofs.session.Session.confirm.Goals as goal
 
 pub returns-in_err-search-clause-fault : goal.returns-in_err-search-clause-fault
@@ -10,7 +10,7 @@ returns-in_err-search-clause-fault g c =
 pub returns-in_err-search-clause-unconfirmed : goal.returns-in_err-search-clause-unconfirmed
 returns-in_err-search-clause-unconfirmed g c =
     let p = err_from_is_err_and c.from_residual.result c.from_residual.ensures.1 in
-    rw (p.1, p.2) (λ log list has. not_of_list log list _ _ _ c.args.expected.now _ _ c.in_err-search.ensures.other)
+    rw (p.1, p.2) (λ log list has. c.in_err-search.ensures.other log list _ _ _ c.args.expected.now _)
 
 pub returns-in_err-self-clause-fault : goal.returns-in_err-self-clause-fault
 returns-in_err-self-clause-fault g c =

@@ -1,11 +1,12 @@
 use Rattle.std.proofs.lemmas.Result.{err_from_is_err_and}
-use Rattle.boot_verdict.proofs.SessionLaws.{takes_more}
+use Rattle.boot_verdict.proofs.SessionLaws.{taken_as}
 use Rattle.boot_verdict.proofs.session.Session.more.Goals as goal
 
 pub returns-clause-taken : goal.returns-clause-taken
 returns-clause-taken g c =
     rw (← c.room.ensures.room) (λ log list has.
-    takes_more log list _ _ _ c.args.self.now c.in_ok-next.next has (c.in_ok-next.ensures.known list has.checkpoint) c.in_ok-next.ensures.before)
+    let goes = c.in_ok-next.ensures.known list has.checkpoint in
+    record { more = goes.more; came = goes.came; taken = taken_as has goes.checkpoint c.in_ok-next.ensures.before })
 
 pub returns-in_err-next-clause-fault : goal.returns-in_err-next-clause-fault
 returns-in_err-next-clause-fault g c =
