@@ -4,6 +4,7 @@ use Rattle.std.specs.Prelude.{◌&&◌}
 use Rattle.std.specs.Borrow.{Bor}
 use Rattle.std.specs.List.{AllByRecursion, list_all}
 use Rattle.std.specs.Option.{option_or}
+use Rattle.std.proofs.Math.Bool.{and-false}
 use Rattle.std.proofs.lemmas.Bool.Decides.{eqb_tells, leb_tells}
 use Rattle.std.proofs.lemmas.Grind.{flat_map-append}
 use Rattle.std.proofs.lemmas.List.{length-append, length-map, length-take, length-take-le, take-append-drop, take-append-le, take-map, take-take, take_all}
@@ -229,10 +230,6 @@ stated_take zero entries some = absurd (omega (arith, some))
 stated_take (suc n) [] some = refl
 stated_take (suc n) (entry ∷ entries) some = refl
 
-and_false : (b : Bool) → (b && false) ≡ false
-and_false true = refl
-and_false false = refl
-
 module _ (algs : AlgSet) (events : List LogEvent) (start : Banks) (expected : List Expected) (firmware : IsFirmware algs events start) where
   value_reached : (entries : List ListEntry) (e : Expected)
       → value_after e.alg e.register (value_at start e.alg e.register) (entries_as_steps entries)
@@ -334,12 +331,8 @@ module _ (known : Checkpoint) (expected : Bor (List Expected)) (bytes : List ℕ
 
   front_few : (n : ℕ) → length (list_spelling (take n entries)) < 2 ^ 64
   front_few n =
-      omega (
-        arith,
-        few,
-        ap (λ (l : List ℕ). length l) (front_parts n).parts,
-        length-append (list_spelling (take n entries)) (list_spelling (drop n entries) ++ rest),
-      )
+      let size = ap (λ (l : List ℕ). length l) (front_parts n).parts in
+      omega (arith, few, size, length-append (list_spelling (take n entries)) (list_spelling (drop n entries) ++ rest))
 
   -- The checkpoint of a front that is found.
   abbrev front_checkpoint : (n : ℕ) (front : Front) → n ≤ length found.genuine → n ≡ 0 + 1 + front.last
@@ -364,7 +357,7 @@ module _ (known : Checkpoint) (expected : Bor (List Expected)) (bytes : List ℕ
     -- Whether the verdict on a front is 'match'.
     confirms_is : (n : ℕ) → known.entries ≤ n → n ≤ length found.genuine
         → matches (verdict_on algs events (take n entries) expected.now) ≡ (good && test (take n steps_found))
-    confirms_is zero enough le = sym (and_false good)
+    confirms_is zero enough le = sym (and-false good)
     confirms_is (suc k) enough le =
         let steps = entries_as_steps (take (suc k) entries) in
         let tested : test (take (suc k) steps_found) ≡ reached_after_steps known.before expected.now steps =
@@ -373,10 +366,6 @@ module _ (known : Checkpoint) (expected : Bor (List Expected)) (bytes : List ℕ
         ∙ ap (λ (stated : Option (Alg × List ℕ)). is_good (aggregate_of algs events stated) && reached_after_steps known.before expected.now steps)
         (stated_take (suc k) entries (omega arith))
         ∙ ap (λ (b : Bool). b && reached_after_steps known.before expected.now steps) (sym tells) ∙ ap (λ (b : Bool). good && b) (sym tested)
-
-    not_confirmed : (n : ℕ) → known.entries ≤ n → n ≤ length found.genuine → (good && test (take n steps_found)) ≡ false
-        → matches (verdict_on algs events (take n entries) expected.now) ≡ false
-    not_confirmed n enough le fails = confirms_is n enough le ∙ fails
 
     front_confirmed : (steps : List Step) (front : Front) → TellsLeast test steps_found (Some steps)
         → IsFrontAt (search_before known expected) 0 steps front → good ≡ true → IsConfirmedAt algs events expected.now known bytes (checkpoint_at known replay front)
@@ -400,7 +389,7 @@ module _ (known : Checkpoint) (expected : Bor (List Expected)) (bytes : List ℕ
             is_match = confirms_is n enough within ∙ ap (λ (l : List Step). good && test l) (sym least.0) ∙ (λ i. yes_is i && least.1 i);
             shortest = λ m more lt.
                 ap (λ (l : List ListEntry). matches (verdict_on algs events l expected.now)) (take-take m n entries (omega (arith, lt, listed)))
-                ∙ not_confirmed m more (omega (arith, lt, listed, within)) (ap (λ (b : Bool). good && b) (least.2 m (omega (arith, lt, listed))) ∙ and_false good);
+                ∙ confirms_is m more (omega (arith, lt, listed, within)) ∙ ap (λ (b : Bool). good && b) (least.2 m (omega (arith, lt, listed))) ∙ and-false good;
           };
           checkpoint = front_checkpoint n front within (sym (steps_back 0 n) ∙ ap (steps_to 0) at.place)
               (subst (λ (l : List Step). IsFrontAt (search_before known expected) 0 l front) (least.0 ∙ front_steps n within) at);
@@ -415,7 +404,7 @@ module _ (known : Checkpoint) (expected : Bor (List Expected)) (bytes : List ℕ
             → good ≡ b → FindsFront algs events expected.now known bytes entries (cond b (Some (checkpoint_at known replay front)) None)
         by_good true steps front least at is = front_confirmed steps front least at is
         by_good false steps front least at is = λ n enough le are.
-            not_confirmed n enough (found.most n le are) (ap (λ (b : Bool). b && test (take n steps_found)) is)
+            confirms_is n enough (found.most n le are) ∙ ap (λ (b : Bool). b && test (take n steps_found)) is
 
         by : (least : Option (List Step)) (front : Option Front) → TellsLeast test steps_found least → FrontIs (search_before known expected) 0 least front
             → FindsFront algs events expected.now known bytes entries (front_with good known replay front)
@@ -423,7 +412,7 @@ module _ (known : Checkpoint) (expected : Bor (List Expected)) (bytes : List ℕ
         by (Some steps) None least at = absurd at
         by None (Some front) none at = absurd at
         by None None none at = λ n enough le are.
-            not_confirmed n enough (found.most n le are) (ap (λ (b : Bool). good && b) (none n) ∙ and_false good)
+            confirms_is n enough (found.most n le are) ∙ ap (λ (b : Bool). good && b) (none n) ∙ and-false good
 
 -- ---- what a search found
 

@@ -34,7 +34,7 @@ pub returns-else-is_none : goal.returns-else-is_none
 returns-else-is_none c =
     let old = c.args.self.now in
     let now : Confirming =
-        record { banks = c.replay_into.new.banks; bytes = c.saturating_add-self.result; first = old.first; expected = old.expected; front = old.front } in
+    record { banks = c.replay_into.new.banks; bytes = c.saturating_add-self.result; first = old.first; expected = old.expected; front = old.front } in
     λ start events before at after.
     search_more start events before (step_of c.args.step.now) old now c.args.place after c.replay_into.ensures.banks
     (rw c.size.ensures at c.saturating_add-self.ensures) refl refl at (found_yet old.front _ (c.is_none.ensures ∙ ap not c.if-is_none.false))
