@@ -35,6 +35,6 @@ pub record IsListReplayFrom (old new : Option (List ℕ)) (limit : ℕ) (banks :
   pub genuine : AreGenuine entries
   pub replay : IsListReplay entries banks
 
--- Why there are no such registers: the list is none that goes on after no bytes. `Replay` comes only after all of it.
+-- Why there are no such registers: why the list is not read, or is not genuine. `Replay` comes only after all of it.
 abbrev pub IsListReplayFault : Option (List ℕ) → Option (List ℕ) → ℕ → VerifyFault → Type 0
 IsListReplayFault old new limit fault = IsMoreFault [] old new limit fault
