@@ -62,7 +62,7 @@ def verify(log: BytesLike, list: BytesLike, expected: Text, *, require: Union[Te
     `require` names the registers that must be among these, as `sha256:0-10` or `sha256:0-7,sha1:10`. Each that is not has a row whose
     state is MISSING, and then the verdict is no match. None is a TypeError. If it is not given, nothing is required; a verdict on no
     registers is no match."""
-    functions = _LIBRARY.ima_verify_json, _LIBRARY.ima_verify_required_json
+    functions = _LIBRARY.ima_verify_verdict_json, _LIBRARY.ima_verify_required_json
     return _answers.read_verdict(*_answer_on(expected, require, functions, (log, list)))
 
 
@@ -118,7 +118,7 @@ class Session:
 
 def locate(log: BytesLike, list: BytesLike, expected: Text, *, require: Union[Text, _Default] = _Default.NOTHING) -> Places:
     """Where each expected register first has its value. Inputs, `require` and refusals are those of `verify`."""
-    functions = _LIBRARY.ima_locate_json, _LIBRARY.ima_locate_required_json
+    functions = _LIBRARY.ima_verify_locate_json, _LIBRARY.ima_verify_locate_required_json
     return _answers.read_places(*_answer_on(expected, require, functions, (log, list)))
 
 
@@ -128,7 +128,7 @@ def replay(list: BytesLike, expected: Text, *, require: Text) -> ListVerdict:
     The list is replayed from the registers' reset values, so a register that the firmware extends too differs. `require` is as in
     `verify`, and has to be given. A list without entries is no match."""
     inputs = list, _bytes_of(expected), _bytes_of(require)
-    return _answers.read_list_verdict(*_answer_of(_LIBRARY.ima_replay_required_json, inputs, _ROOM, require))
+    return _answers.read_list_verdict(*_answer_of(_LIBRARY.ima_verify_replay_required_json, inputs, _ROOM, require))
 
 
 def expected(printed: Text, registers: Optional[Text] = None) -> bytes:
@@ -138,17 +138,17 @@ def expected(printed: Text, registers: Optional[Text] = None) -> bytes:
     the text nor whether a quote holds is known from it: take the values of a quote that was checked, or of a machine that is trusted."""
     range = b"" if registers is None else registers
     inputs = _bytes_of(printed), _bytes_of(range)
-    return _answers.read_lines(*_answer_of(_LIBRARY.ima_expected, inputs, _ROOM, range), False)
+    return _answers.read_lines(*_answer_of(_LIBRARY.ima_verify_expected, inputs, _ROOM, range), False)
 
 
 def registers(log: BytesLike) -> Tuple[Register, ...]:
     """The registers that differ from their reset values after a firmware event log."""
-    return _answers.read_registers(*_answer_of(_LIBRARY.ima_registers_json, (log,), _ROOM))
+    return _answers.read_registers(*_answer_of(_LIBRARY.ima_verify_registers_json, (log,), _ROOM))
 
 
 def list_registers(list: BytesLike) -> Tuple[Register, ...]:
     """The registers, in banks of all algorithms, that differ from their reset values after a measurement list without a log."""
-    return _answers.read_registers(*_answer_of(_LIBRARY.ima_replay_json, (list,), _ROOM))
+    return _answers.read_registers(*_answer_of(_LIBRARY.ima_verify_replay_json, (list,), _ROOM))
 
 
 def entries(list: BytesLike) -> Entries:
@@ -156,7 +156,7 @@ def entries(list: BytesLike) -> Entries:
 
     Of a damaged list the entries before the fault come, and then `Refused` is raised. If you stop before the end, look at `fault` of what
     this returns: it is None exactly if the list is whole."""
-    answer = _library.ask(_LIBRARY.ima_entries_json, (list,), _room_of_lines(list))
+    answer = _library.ask(_LIBRARY.ima_verify_entries_json, (list,), _room_of_lines(list))
     return _answers.read_entries(*answer, memoryview(list).nbytes == 0)
 
 
@@ -165,7 +165,7 @@ def events(log: BytesLike) -> Events:
 
     Of a damaged log the events before the fault come, and then `Refused` is raised, at once if the fault is in the header. If you stop
     before the end, look at `fault` of what this returns: it is None exactly if the log is whole."""
-    return _answers.read_events(*_library.ask(_LIBRARY.ima_events_json, (log,), _room_of_lines(log)))
+    return _answers.read_events(*_library.ask(_LIBRARY.ima_verify_events_json, (log,), _room_of_lines(log)))
 
 
 def show(list: BytesLike) -> bytes:
@@ -173,7 +173,7 @@ def show(list: BytesLike) -> bytes:
 
     Paths stand as they are: they may have line feeds and control bytes. `entries` gives each by itself."""
     size = memoryview(list).nbytes
-    return _answers.read_lines(*_answer_of(_LIBRARY.ima_show, (list,), _room_of_entries(size)), size == 0)
+    return _answers.read_lines(*_answer_of(_LIBRARY.ima_verify_show, (list,), _room_of_entries(size)), size == 0)
 
 
 def _room_of_entries(size: int) -> int:

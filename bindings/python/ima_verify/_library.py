@@ -18,9 +18,9 @@ SYSTEM_NAME = "libima_verify.so.1"
 VARIABLE = "IMA_VERIFY_LIBRARY"
 
 # How many inputs each function takes that is called here.
-INPUTS = {"ima_verify_json": 3, "ima_verify_required_json": 4, "ima_locate_json": 3, "ima_locate_required_json": 4,
-          "ima_replay_required_json": 3, "ima_replay_json": 1, "ima_registers_json": 1, "ima_events_json": 1, "ima_entries_json": 1,
-          "ima_expected": 2, "ima_show": 1}
+INPUTS = {"ima_verify_verdict_json": 3, "ima_verify_required_json": 4, "ima_verify_locate_json": 3, "ima_verify_locate_required_json": 4,
+          "ima_verify_replay_required_json": 3, "ima_verify_replay_json": 1, "ima_verify_registers_json": 1, "ima_verify_events_json": 1, "ima_verify_entries_json": 1,
+          "ima_verify_expected": 2, "ima_verify_show": 1}
 
 # Of this one a switch comes after the inputs, and two texts come back.
 MORE, INPUTS_OF_MORE = "ima_verify_more_json", 5

@@ -77,21 +77,21 @@ class Buffers(unittest.TestCase):
 
     def test_text_longer_than_the_buffer_takes_a_second_call(self):
         for room in (1, 2, len(ASCII) // 2, len(ASCII) - 1):
-            counted = Counted(ima_verify._LIBRARY.ima_show)
+            counted = Counted(ima_verify._LIBRARY.ima_verify_show)
             self.assertEqual(_library.ask(counted, (LIST,), room), (0, ASCII))
             self.assertEqual(counted.calls, 2)
 
     def test_text_of_mebibytes_that_does_not_fit_takes_a_second_call(self):
         for room in (1, len(ASCII), 1 << 20):
-            self.assertEqual(_library.ask(ima_verify._LIBRARY.ima_show, (200 * LIST,), room), (0, 200 * ASCII))
+            self.assertEqual(_library.ask(ima_verify._LIBRARY.ima_verify_show, (200 * LIST,), room), (0, 200 * ASCII))
 
     def test_text_as_long_as_the_buffer_takes_one_call(self):
-        counted = Counted(ima_verify._LIBRARY.ima_show)
+        counted = Counted(ima_verify._LIBRARY.ima_verify_show)
         self.assertEqual(_library.ask(counted, (LIST,), len(ASCII)), (0, ASCII))
         self.assertEqual(counted.calls, 1)
 
     def test_report_longer_than_the_buffer(self):
-        status, text = _library.ask(ima_verify._LIBRARY.ima_verify_json, (LOG, LIST, EXPECTED), 100)
+        status, text = _library.ask(ima_verify._LIBRARY.ima_verify_verdict_json, (LOG, LIST, EXPECTED), 100)
         self.assertEqual(_answers.read_verdict(status, text), ima_verify.verify(LOG, LIST, EXPECTED))
 
     def test_entries_longer_than_the_buffer(self):
@@ -102,7 +102,7 @@ class Buffers(unittest.TestCase):
 
     def test_line_of_a_fault_longer_than_the_buffer(self):
         line = b'{"fault":{"kind":"log","number":1,"event":0,"message":"refused: log fault 1 at event 0"}}\n'
-        self.assertEqual(_library.ask(ima_verify._LIBRARY.ima_registers_json, (b"",), 5), (2, line))
+        self.assertEqual(_library.ask(ima_verify._LIBRARY.ima_verify_registers_json, (b"",), 5), (2, line))
 
     def test_first_buffer_is_large_enough(self):
         # Each entry is the smallest of its template, so its text is the longest for its size; the last has a long payload.
@@ -110,12 +110,12 @@ class Buffers(unittest.TestCase):
         ima = bytes(4) + 20 * b"x" + b"\3\0\0\0ima" + bytes(20) + b"\0\0\0\0"
         long = bytes(4) + 20 * b"x" + bytes(4) + (4000).to_bytes(4, "little") + bytes(4000)
         for data in (b"", b"x", smallest, 900 * smallest, 900 * ima, 9 * long, LIST):
-            counted = Counted(ima_verify._LIBRARY.ima_show)
+            counted = Counted(ima_verify._LIBRARY.ima_verify_show)
             _library.ask(counted, (data,), ima_verify._room_of_entries(len(data)))
             self.assertEqual(counted.calls, 1)
         every_register = "".join(f"{name} {number} {digits * '1'}\n" for name, digits in
                                  (("sha1", 40), ("sha256", 64), ("sha384", 96), ("sha512", 128)) for number in range(24)).encode()
-        counted = Counted(ima_verify._LIBRARY.ima_verify_json)
+        counted = Counted(ima_verify._LIBRARY.ima_verify_verdict_json)
         status, text = _library.ask(counted, (LOG, LIST, every_register), ima_verify._ROOM)
         self.assertEqual((status, counted.calls, len(_answers.read_verdict(status, text).rows)), (1, 1, 96))
         row = '{"bank":"sha512","register":23,"state":"differ","value":"' + 128 * "0" + '"},'

@@ -60,17 +60,17 @@ mod c {
     }
 
     functions! {
-        ima_verify_json(log log_size, list list_size, expected expected_size);
+        ima_verify_verdict_json(log log_size, list list_size, expected expected_size);
         ima_verify_required_json(log log_size, list list_size, expected expected_size, require require_size);
-        ima_locate_json(log log_size, list list_size, expected expected_size);
-        ima_locate_required_json(log log_size, list list_size, expected expected_size, require require_size);
-        ima_replay_required_json(list list_size, expected expected_size, require require_size);
-        ima_replay_json(list list_size);
-        ima_registers_json(log log_size);
-        ima_events_json(log log_size);
-        ima_entries_json(list list_size);
-        ima_expected(printed printed_size, registers registers_size);
-        ima_show(list list_size);
+        ima_verify_locate_json(log log_size, list list_size, expected expected_size);
+        ima_verify_locate_required_json(log log_size, list list_size, expected expected_size, require require_size);
+        ima_verify_replay_required_json(list list_size, expected expected_size, require require_size);
+        ima_verify_replay_json(list list_size);
+        ima_verify_registers_json(log log_size);
+        ima_verify_events_json(log log_size);
+        ima_verify_entries_json(list list_size);
+        ima_verify_expected(printed printed_size, registers registers_size);
+        ima_verify_show(list list_size);
     }
 }
 
@@ -93,17 +93,17 @@ macro_rules! calls {
 }
 
 calls! {
-    verify = ima_verify_json(log, list, expected);
+    verify = ima_verify_verdict_json(log, list, expected);
     verify_required = ima_verify_required_json(log, list, expected, require);
-    locate = ima_locate_json(log, list, expected);
-    locate_required = ima_locate_required_json(log, list, expected, require);
-    replay = ima_replay_required_json(list, expected, require);
-    list_registers = ima_replay_json(list);
-    registers = ima_registers_json(log);
-    events = ima_events_json(log);
-    entries = ima_entries_json(list);
-    expected = ima_expected(printed, registers);
-    show = ima_show(list);
+    locate = ima_verify_locate_json(log, list, expected);
+    locate_required = ima_verify_locate_required_json(log, list, expected, require);
+    replay = ima_verify_replay_required_json(list, expected, require);
+    list_registers = ima_verify_replay_json(list);
+    registers = ima_verify_registers_json(log);
+    events = ima_verify_events_json(log);
+    entries = ima_verify_entries_json(list);
+    expected = ima_verify_expected(printed, registers);
+    show = ima_verify_show(list);
 }
 
 /// The inputs of a session's call.

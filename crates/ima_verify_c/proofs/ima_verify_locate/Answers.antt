@@ -4,7 +4,7 @@ use Rattle.std.proofs.Math.Facts.{to_z-of_z}
 use Rattle.ima_agent.specs.Locating.{ShowsPlacesOn}
 use Rattle.ima_agent.specs.Verifying.{IsNoReportOn}
 use Rattle.ima_verify_c.proofs.GivingLaws.{gives_output}
-use Rattle.ima_verify_c.proofs.ima_locate.Goals as goal
+use Rattle.ima_verify_c.proofs.ima_verify_locate.Goals as goal
 
 pub returns : goal.returns
 returns c =

@@ -3,7 +3,7 @@ use mir.Val.{SFits}
 use Rattle.std.proofs.Math.Facts.{to_z-of_z}
 use Rattle.ima_agent.specs.JsonShowing.{ShowsJsonEvents}
 use Rattle.ima_verify_c.proofs.GivingLaws.{gives_json_lines}
-use Rattle.ima_verify_c.proofs.ima_events_json.Goals as goal
+use Rattle.ima_verify_c.proofs.ima_verify_events_json.Goals as goal
 
 pub returns : goal.returns
 returns c =

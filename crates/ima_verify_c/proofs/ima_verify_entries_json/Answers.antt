@@ -2,7 +2,7 @@ use Rattle.std.proofs.Common.{rules, w32}
 use mir.Val.{SFits}
 use Rattle.std.proofs.Math.Facts.{to_z-of_z}
 use Rattle.ima_verify_c.proofs.GivingLaws.{gives_json_fitted}
-use Rattle.ima_verify_c.proofs.ima_entries_json.Goals as goal
+use Rattle.ima_verify_c.proofs.ima_verify_entries_json.Goals as goal
 
 pub returns : goal.returns
 returns c =

@@ -3,7 +3,7 @@ use mir.Val.{SFits}
 use Rattle.std.proofs.Math.Facts.{to_z-of_z}
 use Rattle.ima_agent.specs.Expecting.{IsNotExpectedOn, ShowsExpected, range_text}
 use Rattle.ima_verify_c.proofs.GivingLaws.{gives_text}
-use Rattle.ima_verify_c.proofs.ima_expected.Goals as goal
+use Rattle.ima_verify_c.proofs.ima_verify_expected.Goals as goal
 
 pub returns : goal.returns
 returns c =

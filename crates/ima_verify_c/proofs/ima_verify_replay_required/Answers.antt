@@ -5,7 +5,7 @@ use Rattle.std.proofs.Math.Facts.{to_z-of_z}
 use Rattle.ima_agent.specs.ListVerifying.{IsNoListReportOn, ShowsListReportOn}
 use Rattle.ima_agent.specs.Requiring.{IsFaultWith}
 use Rattle.ima_verify_c.proofs.GivingLaws.{gives_output}
-use Rattle.ima_verify_c.proofs.ima_replay_required.Goals as goal
+use Rattle.ima_verify_c.proofs.ima_verify_replay_required.Goals as goal
 
 pub returns : goal.returns
 returns c =

@@ -5,7 +5,7 @@ use Rattle.std.proofs.Math.Facts.{to_z-of_z}
 use Rattle.ima_agent.specs.JsonJudging.{IsFaultWhere, ShowsJsonListReportOn}
 use Rattle.ima_agent.specs.ListVerifying.{IsNoListReportOn}
 use Rattle.ima_verify_c.proofs.GivingLaws.{gives_json}
-use Rattle.ima_verify_c.proofs.ima_replay_required_json.Goals as goal
+use Rattle.ima_verify_c.proofs.ima_verify_replay_required_json.Goals as goal
 
 pub returns : goal.returns
 returns c =

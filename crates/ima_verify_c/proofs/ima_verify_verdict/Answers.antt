@@ -3,7 +3,7 @@ use mir.Val.{SFits}
 use Rattle.std.proofs.Math.Facts.{to_z-of_z}
 use Rattle.ima_agent.specs.Verifying.{IsNoReportOn, ShowsReportOn}
 use Rattle.ima_verify_c.proofs.GivingLaws.{gives_output}
-use Rattle.ima_verify_c.proofs.ima_verify.Goals as goal
+use Rattle.ima_verify_c.proofs.ima_verify_verdict.Goals as goal
 
 pub returns : goal.returns
 returns c =
