@@ -120,8 +120,8 @@ def check_faults(page, commands):
     yield from differences(page.name, list(wanted), list(found))
     for title, rows in wanted.items():
         yield from differences(f"{page.name}: {title}", list(rows.items()), list(found.get(title, {}).items()))
-    table = (ROOT / "docs/formats.md").read_text().split("\n### Fault lines\n")[1].split("\n\n")[2]
-    lines = re.findall(r"`(?:refused|failed): ([^`]*)`", table)
+    section = (ROOT / "docs/formats.md").read_text().split("\n### Fault lines\n")[1].split("\n###")[0]
+    lines = re.findall(r"`(?:refused|failed): ([^`]*)`", "\n".join(re.findall(r"^\| `.*", section, re.MULTILINE)))
     said = plain(page.part("DIAGNOSTICS")).lower()
     yield from (f"{page.name}: lacks the line of a fault: {line}" for line in lines if line.lower() not in said)
     if len(lines) < 10:
