@@ -88,9 +88,8 @@ def wanted_lines(shell):
 
 def asked_of_program():
     """The options of the program itself, by the pages."""
-    table = re.search(r"^\| `--help`.*", (ROOT / "docs/formats.md").read_text(), re.MULTILINE).group()
-    version = re.search(r"^\| `--version`", (ROOT / "docs/formats.md").read_text(), re.MULTILINE)
-    return ["-h", *re.findall(r"`(--[a-z]+)`", table.split("|")[1]), *(["--version", "-V"] if version else [])]
+    rows = re.findall(r"^\| `--.*", (ROOT / "docs/formats.md").read_text(), re.MULTILINE)
+    return ["-h", *(option for row in rows for option in ("--help", "--version") if f"`{option}`" in row.split("|")[1])]
 
 
 def try_shell(shell, share, folder):
