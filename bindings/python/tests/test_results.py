@@ -112,7 +112,8 @@ class Required(unittest.TestCase):
             self.assertTrue(function(LOG, LIST, text, require="sha256:0-22"))
             result = function(LOG, LIST, text, require="sha256:0-23,sha1:10")
             self.assertFalse(result)
-            missing = [(row.algorithm, row.register) for row in result.rows if kinds.MISSING in (getattr(row, "state", None), getattr(row, "place", None))]
+            missing = [(row.algorithm, row.register) for row in result.rows
+                       if kinds.MISSING in (getattr(row, "state", None), getattr(row, "place", None))]
             self.assertEqual(missing, [(Algorithm.SHA1, 10), (Algorithm.SHA256, 23)])
             self.assertEqual(result.rows[:23], function(LOG, LIST, text).rows)
         self.assertEqual(ima_verify.verify(LOG, LIST, text, require="sha256:0-23").compared, 23)
@@ -656,12 +657,12 @@ class Threads(unittest.TestCase):
 
     def test_another_thread_runs_during_a_call(self):
         log = inputs.made_log([SHA256], 24)
-        log, list = log.spelling(), list_spelling(inputs.made_entries(log, inputs.made_measurements(20_000)))
+        log, measurements = log.spelling(), list_spelling(inputs.made_entries(log, inputs.made_measurements(20_000)))
         began, ended = threading.Event(), threading.Event()
 
         def run():
             began.set()
-            ima_verify.verify(log, list, "")
+            ima_verify.verify(log, measurements, "")
             ended.set()
 
         def runs_meanwhile():

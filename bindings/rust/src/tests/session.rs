@@ -1,6 +1,6 @@
 //! Sessions on the sample's list as it grows.
 
-use ima_verify::{verify, verify_required, Algorithm, BootAggregate, Error, Kind, Row, Session, State, Unconfirmed, Verdict};
+use crate::{verify, verify_required, Algorithm, BootAggregate, Error, Kind, Row, Session, State, Unconfirmed, Verdict};
 
 /// Register 10 after so many entries of the list, by Python's hashlib.
 const TENTHS: [(usize, &str); 5] = [

@@ -1,9 +1,9 @@
 //! What the crate answers about the sample, one boot whose registers were read from the TPM after the list, and about changes
 //! of it.
 
-use ima_verify::{expected as expected_from, list_registers, locate, locate_required, registers, replay_required, show};
-use ima_verify::{verify, verify_required, version};
-use ima_verify::{Algorithm, BootAggregate, Error, Kind, Place, PlaceRow, Register, Row, State, Verdict};
+use crate::{expected as expected_from, list_registers, locate, locate_required, registers, replay_required, show};
+use crate::{verify, verify_required, version};
+use crate::{Algorithm, BootAggregate, Error, Kind, Place, PlaceRow, Register, Row, State, Verdict};
 use std::sync::Barrier;
 use std::thread;
 

@@ -1,6 +1,6 @@
 //! Entries and events of all kinds, with values by hand.
 
-use ima_verify::{entries, events, Algorithm, Content, Entry, Error, Event, File, Kind, LogAlgorithm};
+use crate::{entries, events, Algorithm, Content, Entry, Error, Event, File, Kind, LogAlgorithm};
 
 fn sample(name: &str) -> Vec<u8> {
     std::fs::read(format!("{}/../../samples/real-boot/{name}", env!("CARGO_MANIFEST_DIR"))).unwrap()
