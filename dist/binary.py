@@ -23,7 +23,7 @@ def least_glibc(files):
     return max(asked, key=lambda version: [int(part) for part in version.split(".")])
 
 
-def symbol_versions(file):
-    """The functions that a library exports, each with its version."""
-    rows = re.findall(r"^ +\d+: (?!0{16}).* FUNC +GLOBAL +DEFAULT +(?!UND)\w+ (\w+)@@(\w+)$", readelf("--dyn-syms", file), re.MULTILINE)
+def exported(file):
+    """The symbols that a shared library exports, each with its version; those that are the versions' names are left out."""
+    rows = re.findall(r"^ +\d+: .* (?:GLOBAL|WEAK) +DEFAULT +(?!UND|ABS)\w+ (\w+)(?:@@(\w+))?$", readelf("--dyn-syms", file), re.MULTILINE)
     return dict(rows)
