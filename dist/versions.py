@@ -16,6 +16,7 @@ PLACES = (
     ("CHANGELOG.md", rf"\A(?:(?!^## \[\d).*\n)*## \[{NUMBER}\] - \d{{4}}-\d\d-\d\d$", True),
     ("*.rt", rf"ima-agent {NUMBER}", True),
     ("*.case", rf"ima-agent {NUMBER}", True),
+    ("*.antt", rf"ima-agent {NUMBER}", False),
     ("*.py", rf"ima-agent {NUMBER}", False),
     ("*.md", rf"(?:ima-agent |ima-agent-|ima_verify-|bindings/go/v|\bgo get \S+@v){NUMBER}", False),
 )
