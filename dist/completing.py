@@ -101,9 +101,9 @@ def try_shell(shell, share, folder):
 
 def try_zsh(share, folder):
     said = zsh_specifications(share, folder, ["ima-agent", ""])
-    lacking = sorted(set(COMMANDS) - set(said))
-    if lacking:
-        yield f"zsh: does not describe {lacking}"
+    offered_first = {*(line for line in said if line in COMMANDS), *re.findall(r"^(?:\(.*\))?(-[a-z-]+)\[", "\n".join(said), re.MULTILINE)}
+    if offered_first != {*COMMANDS, *asked_of_program()}:
+        yield f"zsh: offers {sorted(offered_first)} at first"
     for name, command in COMMANDS.items():
         told = dict(re.match(r"(--[a-z-]+)=?\[.*\](?::[a-z-]+:(?:\((.*)\))?.*)?$", line).groups()
                     for line in zsh_specifications(share, folder, ["ima-agent", name, ""]) if line.startswith("--"))
