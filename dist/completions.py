@@ -163,7 +163,8 @@ def zsh(whole, commands):
     for command in commands:
         told = [zsh_option(option) for option in command.options] + [zsh_argument(name) for name in command.arguments]
         cases.append(f"        {command.name})\n            _arguments " + " \\\n                ".join(told) + "\n            ;;")
-    return ZSH.format(commands="\n".join(described), program=" ".join(zsh_option(option) for option in whole.options), cases="\n".join(cases))
+    program = " ".join(zsh_option(option) for option in whole.options)
+    return ZSH.format(commands="\n".join(described), program=program, cases="\n".join(cases))
 
 
 def fish_quoted(text):

@@ -155,7 +155,7 @@ def check_library():
         if name not in told and not (name.endswith("_json") and name[: -len("_json")] in told):
             yield f"{page.name}: says nothing of {name}"
     yield from (f"{page.name}: tells of {name}, which the header lacks" for name in sorted(told - set(wanted)))
-    statuses = {name: number for name, number in re.findall(r"^\.It Dv (\w+) No \((\d+)\)", "\n".join(page.part("RETURN VALUES")), re.MULTILINE)}
+    statuses = dict(re.findall(r"^\.It Dv (\w+) No \((\d+)\)", "\n".join(page.part("RETURN VALUES")), re.MULTILINE))
     yield from differences(page.name, list(constants_of(ROOT).items()), list(statuses.items()))
     first = re.findall(r"^\.Fn (\w+)", "\n".join(page.part("HISTORY")), re.MULTILINE)
     yield from differences(f"{page.name}: version 1", [name for name, version in versions_of(ROOT).items() if version == 1], first)

@@ -33,7 +33,8 @@ SCRIPTS = re.compile(r"(?<![\w/])\./(?:ima-agent|try|check|edits)\b")
 
 def anchors(text):
     """The anchors of a page's headings, as they are made of them."""
-    return {re.sub(r"[^\w\- ]", "", title.lower()).replace(" ", "-") for title in re.findall(r"^#+ (.*)$", without_code(text), re.MULTILINE)}
+    titles = re.findall(r"^#+ (.*)$", without_code(text), re.MULTILINE)
+    return {re.sub(r"[^\w\- ]", "", title.lower()).replace(" ", "-") for title in titles}
 
 
 def without_code(text):

@@ -107,7 +107,8 @@ def parts_of(version, kit):
 
 def links_of(release):
     """What the program and the shared library were made of, and what they are linked with when they are started."""
-    binaries = {"bin/ima-agent": PROGRAM, **{str(path.relative_to(release)): LIBRARY for path in sorted((release / "lib").glob("lib*.so.*"))}}
+    libraries = sorted((release / "lib").glob("lib*.so.*"))
+    binaries = {"bin/ima-agent": PROGRAM, **{str(path.relative_to(release)): LIBRARY for path in libraries}}
     for name, crate in binaries.items():
         yield relation(identifier("File", name), "GENERATED_FROM", identifier("Crate", crate))
         for library in needed_libraries(release / name):

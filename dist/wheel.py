@@ -33,8 +33,10 @@ def build(folder, module, member):
 
 def python_with(module):
     """A Python that has a module, or None."""
-    usable = (python for python in PYTHONS if os.access(python, os.X_OK))
-    return next((python for python in usable if subprocess.run([python, "-c", f"import {module}"], stderr=subprocess.DEVNULL).returncode == 0), None)
+    for python in PYTHONS:
+        if os.access(python, os.X_OK) and subprocess.run([python, "-c", f"import {module}"], stderr=subprocess.DEVNULL).returncode == 0:
+            return python
+    return None
 
 
 def main():
