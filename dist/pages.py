@@ -89,10 +89,12 @@ def check_pages(folder):
     texts = {page.resolve(): page.read_text() for page in pages}
     lacking = sorted(path.name for path in ROOT.iterdir() if path.is_dir() and not (folder / path.name).exists() and path.name[0] != ".")
     folders = re.compile(rf"(?<![\w./-])(?:{'|'.join(lacking)})/")
-    for page, text in texts.items():
+    others = {file: file.read_text() for file in (folder / "include/ima_verify.h", folder / "share/ima-agent/example.c") if file.exists()}
+    for page, text in (*texts.items(), *others.items()):
         for number, line in enumerate(text.splitlines(), 1):
             for pattern in (SCRIPTS, folders):
                 yield from (f"{page.name}:{number}: there is no {found[0]}" for found in pattern.finditer(line))
+    for page, text in texts.items():
         for found in LINK.finditer(without_code(text)):
             if not leads_somewhere(found[3], page, texts):
                 yield f"{page.name}: {found[3]} leads nowhere"
