@@ -9,7 +9,7 @@ last one may lack it. There are no empty lines, no comments, and no other form: 
 
 import re
 from pathlib import Path
-from typing import NamedTuple, Tuple
+from typing import Dict, List, NamedTuple, Tuple
 
 FILES = ("firmware.log", "ima.list", "expected.txt")
 MOST_CHARACTERS = 255
@@ -29,7 +29,7 @@ class Machine(NamedTuple):
     places: Tuple[str, ...]
 
     @property
-    def paths(self):
+    def paths(self) -> Tuple[str, ...]:
         """The paths of its log, its list and its expected registers."""
         if len(self.places) == len(FILES):
             return self.places
@@ -37,9 +37,10 @@ class Machine(NamedTuple):
         return tuple(f"{folder.rstrip('/')}/{file}" for file in FILES)
 
 
-def read_machines(path):
+def read_machines(path: str) -> List[Machine]:
     """The machines that the table names, in its order."""
-    machines, numbers = [], {}
+    machines: List[Machine] = []
+    numbers: Dict[str, int] = {}
     with open(Path(path), "rb") as file:
         for number, line in enumerate(file, 1):
             try:
@@ -55,7 +56,7 @@ def read_machines(path):
     return machines
 
 
-def _machine_of(line):
+def _machine_of(line: str) -> Machine:
     name, *places = line.split("\t")
     if not (1 <= len(name) <= MOST_CHARACTERS and name.isprintable() and name.strip() == name):
         raise ValueError(f"{name[:MOST_CHARACTERS]!r} is no name of a machine")

@@ -1,4 +1,4 @@
-"""Tests fleet/verify.py --poll, for fleet/test: machines whose lists grow from poll to poll.
+"""Tests of --poll, for fleet/test: machines whose lists grow from poll to poll.
 
 The lists are made. What must come of each machine is known from how its files and its checkpoint were changed before the third
 poll; one client is killed in the middle of that."""
@@ -24,7 +24,7 @@ MACHINES = 200
 MOST_ENTRIES = 80
 FORMS = ("{0}", "{0}/log\t{0}/list\t{0}/expected", "file://{0}/log\tfile://{0}/list\tfile://{0}/expected")
 FILES = (("firmware.log", "ima.list", "expected.txt"), ("log", "list", "expected"), ("log", "list", "expected"))
-GONE = "list: FileNotFoundError: [Errno 2] No such file or directory: '{}'"
+GONE = "list: FileNotFoundError: [Errno 2] No such file or directory"
 DAMAGED = "refused: checkpoint fault 1"
 NOTHING = "nothing to compare: no register is expected"
 ROWS = "SELECT machine, verdict, cause, list_from, list_sha256 FROM verdicts"
@@ -32,7 +32,8 @@ CHECKPOINTS = "SELECT machine, checkpoint FROM checkpoints"
 
 # Reads a list in an object store that is a class of fsspec, from some bytes on, and prints the ranges that it is asked for.
 RANGES = """
-import fsspec, verify
+import fsspec
+from fleet_verify.work import read_input
 from fsspec.spec import AbstractBufferedFile, AbstractFileSystem
 DATA = bytes(range(251)) * 80_000
 class Object(AbstractBufferedFile):
@@ -45,7 +46,7 @@ class Store(AbstractFileSystem):
 fsspec.register_implementation("store", Store)
 for start in (0, 1_000_003, len(DATA) - 1, len(DATA), len(DATA) + 1):
     asked = []
-    data = verify.read_input("store://list", start)
+    data = read_input("store://list", start)
     assert data == (None if start > len(DATA) else DATA[start:])
     print(*asked)
 """
@@ -163,7 +164,7 @@ class Growing:
             row = self.row("refused", cause, start)
             return (*row[:4], None) if self.kind == "damaged, shorter" else row
         if self.kind == "gone":
-            return self.row("unreadable", GONE.format(self.paths[1]), None)
+            return self.row("unreadable", GONE, None)
         if self.kind in ("emptied", "cut"):
             return self.row("differ")
         is_whole = self.kind.startswith("restarted") or self.kind in ("other version", "lost")
@@ -293,11 +294,12 @@ def test_third_poll(polls, verdicts):
 
 def test_killed_poll(polls, verdicts, undisturbed):
     """The client is killed in the middle of the third poll: the next gives what an undisturbed one gave, and changes are noted once."""
-    client = polls.tools.client(*polls.words(verdicts))
     done = "SELECT 1 FROM verdicts WHERE poll = 3"
-    until("the middle", lambda: len(query(verdicts, done)) >= MACHINES // 3)
-    client.kill()
-    client.wait()
+    with polls.tools.gate(MACHINES // 2):
+        client = polls.tools.client(*polls.words(verdicts))
+        until("the middle", lambda: len(query(verdicts, done)) >= MACHINES // 3, client)
+        client.kill()
+        client.wait()
     polls.check("a poll was killed in the middle", MACHINES // 3 <= len(query(verdicts, done)) < MACHINES, True)
     text = "SELECT machine, verdict, checkpoint FROM verdicts LEFT JOIN checkpoints USING (machine) WHERE poll = 3"
     done = query(verdicts, text)
@@ -343,11 +345,12 @@ def test_other_kind(polls, verdicts, without):
 
 def test_two_polls(polls, verdicts):
     """Another poll begins while one runs: that stops, and records nothing after it."""
-    client = polls.tools.client(*polls.words(verdicts))
     before = query(verdicts, "SELECT max(number) FROM polls")[0][0]
-    until("a verdict", lambda: query(verdicts, "SELECT 1 FROM verdicts WHERE poll > ?", before))
-    change(verdicts, "INSERT INTO polls (time) VALUES ('now')")
-    recorded = query(verdicts, "SELECT machine FROM verdicts WHERE poll = ?", before + 1)
+    with polls.tools.gate(MACHINES // 2):
+        client = polls.tools.client(*polls.words(verdicts))
+        until("a verdict", lambda: query(verdicts, "SELECT 1 FROM verdicts WHERE poll > ?", before), client)
+        change(verdicts, "INSERT INTO polls (time) VALUES ('now')")
+        recorded = query(verdicts, "SELECT machine FROM verdicts WHERE poll = ?", before + 1)
     client.communicate(timeout=SECONDS)
     polls.check("another poll: status", client.returncode, 3)
     polls.check("another poll came in the middle", 0 < len(recorded) < MACHINES, True)

@@ -2,11 +2,12 @@
 NOTED_CALLS, a line each.
 
 A machine is known by its number, that of the empty lines at the end of its expected registers. The machine DEADLY kills its
-worker, and the machine LARGE gets no memory."""
+worker, and the machine LARGE gets no memory. While there is a file GATE, the machines from the number that it has on wait."""
 
 import os
 import signal
 import time
+from pathlib import Path
 
 import ima_verify
 
@@ -38,11 +39,20 @@ def number_of(expected):
     return str(len(expected) - len(expected.rstrip(b"\n")) - 1)
 
 
+def is_open(number):
+    """Whether a machine of this number may go on."""
+    try:
+        return int(number) < int(Path(os.environ["GATE"]).read_text())
+    except FileNotFoundError:
+        return True
+
+
 def note(number):
     """Notes a call on the machine of this number."""
     with open(os.environ["NOTED_CALLS"], "a") as calls:
         calls.write(f"{number}\n")
-    time.sleep(SECONDS)  # (so that there is a middle of the run)
+    while not is_open(number):
+        time.sleep(SECONDS)
     if number == os.environ.get("DEADLY"):
         os.kill(os.getpid(), signal.SIGKILL)
     if number == os.environ.get("LARGE"):

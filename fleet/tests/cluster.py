@@ -1,4 +1,4 @@
-"""Starts clients, schedulers and workers as processes on 127.0.0.1, for fleet/test and fleet/measure.py."""
+"""Starts clients, schedulers and workers as processes on 127.0.0.1, for fleet/test and fleet/bench."""
 
 import os
 import shutil
@@ -10,8 +10,8 @@ from dataclasses import dataclass, field
 from pathlib import Path
 from typing import Optional, Tuple
 
-ROOT = Path(__file__).resolve().parent.parent
-SECONDS = 60
+ROOT = Path(__file__).resolve().parents[2]
+SECONDS = 240  # (a limit for what is to come: a machine may have much else to do)
 REQUIRE = "sha256:0-10"  # of all runs that ask for nothing else
 
 
@@ -23,12 +23,12 @@ def python_with_dask():
     return None
 
 
-def until(what, condition):
-    """Waits until the condition holds."""
+def until(what, condition, client=None):
+    """Waits until the condition holds, for as long as the client runs, if one is given."""
     limit = time.monotonic() + SECONDS
     while not condition():
-        if time.monotonic() > limit:
-            raise TimeoutError(f"{what} did not come in {SECONDS} seconds")
+        if time.monotonic() > limit or client is not None and client.poll() is not None:
+            raise TimeoutError(f"{what} did not come")
         time.sleep(0.02)
 
 
@@ -37,7 +37,16 @@ def environment_of(library, folder):
     return {
         **os.environ, "PYTHONPATH": str(ROOT / "bindings/python"), "IMA_VERIFY_LIBRARY": str(library / "libima_verify.so"),
         "DASK_CONFIG": str(folder / "dask"), "PYTHONDONTWRITEBYTECODE": "1",
+        "NOTED_CALLS": str(folder / "calls"), "GATE": str(folder / "gate"),
     }
+
+
+def children_of(process):
+    """The processes that a process started, by their numbers, of its main thread."""
+    try:
+        return [int(word) for word in Path(f"/proc/{process}/task/{process}/children").read_text().split()]
+    except FileNotFoundError:
+        return []
 
 
 @dataclass
@@ -49,9 +58,9 @@ class Processes:
     environment: dict
     started: list = field(default_factory=list)
 
-    def start(self, words, **given):
-        """Starts a process of this Python. What it writes to standard error goes to the file `errors`."""
-        with open(self.folder / "errors", "a") as errors:
+    def start(self, words, said="errors", **given):
+        """Starts a process of this Python. What it writes to standard error goes to the file of the name `said`."""
+        with open(self.folder / said, "a") as errors:
             process = subprocess.Popen(
                 [self.python, *map(str, words)], env={**self.environment, **given}, cwd=self.folder, text=True,
                 stdin=subprocess.DEVNULL, stdout=subprocess.PIPE, stderr=errors, start_new_session=True,
@@ -59,8 +68,16 @@ class Processes:
         self.started.append(process)
         return process
 
-    def client(self, *words):
-        return self.start([ROOT / "fleet/verify.py", "--require", REQUIRE, "--progress", "1", *words])
+    @contextmanager
+    def gate(self, number):
+        """Has the machines from this number on wait, where the workers note their calls."""
+        gate = Path(self.environment["GATE"])
+        gate.write_text(str(number))
+        yield
+        gate.unlink()
+
+    def client(self, *words, **given):
+        return self.start([ROOT / "fleet/verify.py", "--require", REQUIRE, "--progress", "1", *words], **given)
 
     def verify(self, *words, require: Optional[str] = REQUIRE, seconds: float = SECONDS, **given: str) -> Tuple[int, str, str]:
         """The status of a run, and what it printed on both streams. It has no `--require` if that is None."""

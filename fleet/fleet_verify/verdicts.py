@@ -4,13 +4,14 @@ checkpoint, and each change of a verdict."""
 import sqlite3
 from typing import Collection, Dict, Iterable, Optional, Sequence, Tuple
 
-from machines import Machine
+from .machines import Machine
+from .work import Fields
 
 VERDICTS = ("match", "differ", "refused", "unreadable", "failed")
 
 # Marks a file as a table of verdicts, and says which form its tables have.
 _APPLICATION = 0x494D4156
-_FORM = 3
+_FORM = 4
 _SECONDS = 60
 
 _TABLES = f"""
@@ -25,16 +26,12 @@ CREATE TABLE verdicts (
     log_sha256 TEXT, list_sha256 TEXT, expected_sha256 TEXT, -- of the bytes that were read
     list_from INTEGER, -- from which byte on the list was read: that of the checkpoint, or 0
     interface_version INTEGER, worker TEXT, time TEXT NOT NULL,
-    poll INTEGER REFERENCES polls -- which poll gave it; NULL if none did
+    poll INTEGER REFERENCES polls, -- which poll gave it; NULL if none did
+    report TEXT CHECK (report IS NULL OR json_valid(report)) -- as `ima-agent verify --json` prints it, if there is one
 ) WITHOUT ROWID;
-CREATE TABLE registers (
-    machine TEXT NOT NULL REFERENCES verdicts,
-    algorithm TEXT NOT NULL,
-    register INTEGER NOT NULL,
-    state TEXT NOT NULL CHECK (state IN ('match', 'differ', 'absent', 'missing')),
-    value TEXT, -- what the register has instead, if the state is `differ`
-    PRIMARY KEY (machine, algorithm, register)
-) WITHOUT ROWID;
+CREATE VIEW registers (machine, algorithm, register, state, value) AS
+    SELECT machine, json_extract(row.value, '$.bank'), json_extract(row.value, '$.register'), json_extract(row.value, '$.state'),
+        json_extract(row.value, '$.value') FROM verdicts, json_each(report, '$.registers') AS row;
 CREATE TABLE ends (time TEXT NOT NULL); -- when a run had given its counts, by the client's clock
 CREATE TABLE polls (number INTEGER PRIMARY KEY, time TEXT NOT NULL); -- when each poll began, by the client's clock
 CREATE TABLE checkpoints (machine TEXT NOT NULL PRIMARY KEY REFERENCES verdicts, checkpoint BLOB NOT NULL);
@@ -52,7 +49,7 @@ COMMIT;
 
 _FIELDS = (
     "verdict", "cause", "events", "locality", "entries", "boot_aggregate", "log_sha256", "list_sha256", "expected_sha256",
-    "list_from", "interface_version", "worker", "time",
+    "list_from", "interface_version", "worker", "time", "report",
 )
 _INSERT = (
     f"INSERT INTO verdicts (machine, required, log, list, expected, poll, {', '.join(_FIELDS)}) "
@@ -71,7 +68,7 @@ class Verdicts:
     def __init__(self, path: str, required: str):
         self.required = required
         self.poll: Optional[int] = None
-        self.connection = sqlite3.connect(path, timeout=_SECONDS)
+        self.connection = sqlite3.connect(path, timeout=_SECONDS, check_same_thread=False)
         application, form, tables = (
             self.connection.execute(query).fetchone()[0]
             for query in ("PRAGMA application_id", "PRAGMA user_version", "SELECT count(*) FROM sqlite_master")
@@ -122,7 +119,7 @@ class Verdicts:
         found = self.connection.execute(query, (machine.name,)).fetchone()
         return None if found is None else found[0]
 
-    def record(self, answers: Iterable[Tuple[Machine, dict]], again: Collection[str]) -> None:
+    def record(self, answers: Iterable[Tuple[Machine, Fields]], again: Collection[str]) -> None:
         """Records answers, each with its machine, in one transaction. What the machines of `again` had is replaced."""
         with self.connection:
             self.connection.execute("BEGIN IMMEDIATE")
@@ -132,11 +129,11 @@ class Verdicts:
                 if self.poll is not None:
                     self._record_change(machine.name, answer)
                 if machine.name in again:
-                    for table in ("checkpoints", "registers", "verdicts"):
+                    for table in ("checkpoints", "verdicts"):
                         self.connection.execute(f"DELETE FROM {table} WHERE machine = ?", (machine.name,))
                 self._record_verdict(machine, answer)
 
-    def _record_change(self, name: str, answer: dict) -> None:
+    def _record_change(self, name: str, answer: Fields) -> None:
         """Records that the machine had another verdict, or none."""
         self.connection.execute(
             "INSERT INTO changes (machine, poll, verdict, cause, time) SELECT :machine, :poll, :verdict, :cause, :time "
@@ -144,18 +141,17 @@ class Verdicts:
             {"machine": name, "poll": self.poll, **{field: answer.get(field) for field in ("verdict", "cause", "time")}},
         )
 
-    def _record_verdict(self, machine: Machine, answer: dict) -> None:
+    def _record_verdict(self, machine: Machine, answer: Fields) -> None:
         fields = (answer.get(field) for field in _FIELDS)
         self.connection.execute(_INSERT, (machine.name, self.required, *machine.paths, self.poll, *fields))
-        rows = ((machine.name, *row) for row in answer.get("rows", ()))
-        self.connection.executemany("INSERT INTO registers VALUES (?, ?, ?, ?, ?)", rows)
         if answer.get("checkpoint") is not None:
             self.connection.execute("INSERT INTO checkpoints VALUES (?, ?)", (machine.name, answer["checkpoint"].encode()))
 
     def standing(self, again: Sequence[str]) -> Tuple[int, Optional[str]]:
         """How many verdicts are of none of these kinds, and when the first of them was given."""
         query = f"SELECT count(*), min(time) FROM verdicts WHERE verdict NOT IN ({', '.join('?' * len(again))})"
-        return self.connection.execute(query, again).fetchone()
+        count, first = self.connection.execute(query, again).fetchone()
+        return count, first
 
     def require_no_end(self) -> None:
         """Refuses a table whose run has ended: none of its verdicts may pass for one of a later run unasked."""

@@ -3,13 +3,14 @@
 import os
 import time
 from collections import Counter
+from typing import Iterable, Optional, Sequence, TextIO
 
 BAR = 20
 BAR_SECONDS = 0.2
 COLUMNS = 80  # of a terminal that does not tell
 
 
-def clock(seconds):
+def clock(seconds: float) -> str:
     """A time as `1:02:03`."""
     minutes, seconds = divmod(round(seconds), 60)
     hours, minutes = divmod(minutes, 60)
@@ -19,7 +20,7 @@ def clock(seconds):
 class Progress:
     """What is done of `total` machines, those of `verdicts` (by earlier runs) included."""
 
-    def __init__(self, total, verdicts, kinds, stream, seconds):
+    def __init__(self, total: int, verdicts: Iterable[str], kinds: Sequence[str], stream: TextIO, seconds: float):
         self.total, self.kinds, self.stream = total, kinds, stream
         self.counts = Counter(verdicts)
         self.is_terminal = stream.isatty()
@@ -27,14 +28,14 @@ class Progress:
         self.started = self.shown = time.monotonic()
         self.done_now = 0
 
-    def count(self, verdict, before=None):
+    def count(self, verdict: str, before: Optional[str] = None) -> None:
         """Counts a verdict, in place of the one that the machine had before, if any."""
         self.counts[verdict] += 1
         if before is not None:
             self.counts[before] -= 1
         self.done_now += 1
 
-    def line(self, left, workers):
+    def line(self, left: int, workers: int) -> str:
         """The state as a line: `left` machines are still to be done by this run, and `workers` are connected."""
         seconds = time.monotonic() - self.started
         rate = self.done_now / seconds if seconds else 0
@@ -43,7 +44,7 @@ class Progress:
         done = f"{self.total - left} of {self.total} done"
         return f"{done}: {kinds}; workers {workers}, {rate:.1f} a second, time left {time_left}"
 
-    def show(self, left, workers, is_last=False):
+    def show(self, left: int, workers: int, is_last: bool = False) -> None:
         """Shows the state, if it was not shown within the last seconds."""
         now = time.monotonic()
         if now - self.shown < self.seconds and not is_last:
@@ -56,6 +57,6 @@ class Progress:
         end = "" if self.is_terminal and not is_last else "\n"
         print(line, end=end, file=self.stream, flush=True)
 
-    def _bar(self, left):
+    def _bar(self, left: int) -> str:
         full = BAR * (self.total - left) // self.total
         return f"[{'#' * full}{'.' * (BAR - full)}] "
