@@ -15,10 +15,10 @@ sys.path.insert(0, str(ROOT / "bindings/python"))
 MOST_BYTES = 64 << 20
 # The option of a command that a function takes as a text after the files.
 OPTIONS = {"verify": "--require", "locate": "--require", "replay": "--require", "expected": "--registers"}
-# For a command, with how many files and whether with its option, the function without `ima_`.
+# For a command, with how many files and whether with its option, the function without `ima_verify_`.
 FUNCTIONS = {
-    ("verify", 3, False): "verify",
-    ("verify", 3, True): "verify_required",
+    ("verify", 3, False): "verdict",
+    ("verify", 3, True): "required",
     ("locate", 3, False): "locate",
     ("locate", 3, True): "locate_required",
     ("replay", 2, True): "replay_required",
@@ -29,8 +29,8 @@ FUNCTIONS = {
 }
 # The same with `--json`.
 JSON_FUNCTIONS = {
-    ("verify", 3, False): "verify_json",
-    ("verify", 3, True): "verify_required_json",
+    ("verify", 3, False): "verdict_json",
+    ("verify", 3, True): "required_json",
     ("locate", 3, False): "locate_json",
     ("locate", 3, True): "locate_required_json",
     ("replay", 1, False): "replay_json",
@@ -40,7 +40,7 @@ JSON_FUNCTIONS = {
     ("show", 1, False): "entries_json",
 }
 # The function for `verify` of a list that grows, which takes this option and has a checkpoint too.
-MORE_FUNCTION = "verify_more"
+MORE_FUNCTION = "more"
 MORE_OPTIONS = ("--require", "--resume", "--save")
 ROOM = 16 * 1024
 # No checkpoint is longer.
@@ -55,10 +55,10 @@ class Library:
         self.package = importlib.import_module("ima_verify._library")
         # (the package types the functions that it calls itself, and not all are among them)
         for (name, files, has_option), function in [*FUNCTIONS.items(), *JSON_FUNCTIONS.items()]:
-            self.package.INPUTS.setdefault(f"ima_{function}", files + (has_option or name == "expected"))
+            self.package.INPUTS.setdefault(f"ima_verify_{function}", files + (has_option or name == "expected"))
         self.functions = self.package.load()
         for name in (MORE_FUNCTION, f"{MORE_FUNCTION}_json"):
-            function = getattr(self.functions, f"ima_{name}")
+            function = getattr(self.functions, f"ima_verify_{name}")
             size, sizes = ctypes.c_size_t, ctypes.POINTER(ctypes.c_size_t)
             given = [ctypes.c_void_p, size] * 5 + [ctypes.c_bool]
             function.argtypes, function.restype = given + [ctypes.c_void_p, size, sizes] * 2, ctypes.c_int32
@@ -79,7 +79,7 @@ class Library:
         call = call_of(words)
         data = [(folder / file).read_bytes() for file in call.files]
         texts = [text.encode("utf-8", "surrogateescape") for text in call.texts]
-        return self.package.ask(getattr(self.functions, f"ima_{call.function}"), [*data, *texts], ROOM + 2 * len(data[-1]))
+        return self.package.ask(getattr(self.functions, f"ima_verify_{call.function}"), [*data, *texts], ROOM + 2 * len(data[-1]))
 
     def answer_more(self, more, folder):
         log, listed, expected = ((folder / file).read_bytes() for file in more.files)
@@ -87,7 +87,7 @@ class Library:
         if more.resume is not None and not state:
             # (no bytes are no checkpoint for the command, and for the function the list's beginning)
             state = b"\n"
-        function = getattr(self.functions, f"ima_{more.function}")
+        function = getattr(self.functions, f"ima_verify_{more.function}")
         status, text, checkpoint = self.call_more(function, [log, state, listed, expected, more.require], more.prefix)
         if (status in (0, 1)) != bool(checkpoint):
             return None, f"status {status} and a checkpoint of {len(checkpoint)} bytes".encode()
@@ -112,7 +112,7 @@ class Library:
 
 @dataclass(frozen=True)
 class Call:
-    """A function of the library without `ima_`, its files, and the texts after them."""
+    """A function of the library without `ima_verify_`, its files, and the texts after them."""
 
     function: str
     files: list
@@ -171,7 +171,7 @@ def call_of(words):
     function = functions.get((name, len(files), bool(values)))
     if function is None or len(values) > 1 or "" in values or words.count("--json") > 1:
         return None
-    # (`ima_expected` takes a range each time, and an empty one is of all registers)
+    # (`ima_verify_expected` takes a range each time, and an empty one is of all registers)
     return Call(function, files, values or ([""] if function == "expected" else []))
 
 

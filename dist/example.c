@@ -19,7 +19,7 @@ struct file {
 
 static void fail(const char *what) {
     perror(what);
-    exit(IMA_OUT_OF_MEMORY);
+    exit(IMA_VERIFY_OUT_OF_MEMORY);
 }
 
 /* Files of securityfs do not tell their size, so the bytes are read until there are no more. */
@@ -45,7 +45,7 @@ static struct file read_file(const char *name) {
 int main(int count, char **words) {
     if (count != 5) {
         fprintf(stderr, "usage: %s LOG LIST EXPECTED REQUIRE\n", words[0]);
-        return IMA_REFUSED;
+        return IMA_VERIFY_REFUSED;
     }
     const uint8_t *require = (const uint8_t *)words[4];
     size_t require_size = strlen(words[4]);
@@ -61,7 +61,7 @@ int main(int count, char **words) {
             fail("the report");
         status = ima_verify_required(log.bytes, log.size, list.bytes, list.size, expected.bytes, expected.size, require,
                                      require_size, text, room, &needed);
-        if (status != IMA_TOO_SHORT)
+        if (status != IMA_VERIFY_TOO_SHORT)
             break;
         room = needed;
     }

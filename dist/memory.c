@@ -44,7 +44,7 @@ int main(int count, char **words) {
         return 3;
     size_t size = fread(log, 1, sizeof log, stream);
     fclose(stream);
-    int32_t status = ima_registers(log, size, text, sizeof text, &needed);
+    int32_t status = ima_verify_registers(log, size, text, sizeof text, &needed);
     fwrite(text, 1, needed, stdout);
-    return status != IMA_DONE || taken == 0 || taken != given_back;
+    return status != IMA_VERIFY_DONE || taken == 0 || taken != given_back;
 }

@@ -56,9 +56,9 @@ def shown(listed):
 # For each kind of input: the library's function, what else it is given, and the same of the reference.
 KINDS = {
     "registers after the log": (LOG, "registers", lambda log: [log], registers),
-    "verdict on the log and the first entry": (LOG, "verify", lambda log: [log, FIRST_ENTRY, b""], judged),
+    "verdict on the log and the first entry": (LOG, "verdict", lambda log: [log, FIRST_ENTRY, b""], judged),
     "entries of the list": (LIST, "show", lambda listed: [listed], shown),
-    "verdict on the log and the list": (LIST, "verify", lambda listed: [LOG, listed, TENTH], judged),
+    "verdict on the log and the list": (LIST, "verdict", lambda listed: [LOG, listed, TENTH], judged),
 }
 DAMAGES = {
     "fronts": (lambda data: range(len(data) + 1), lambda data, place: data[:place]),
@@ -70,7 +70,7 @@ def library_answer(library, function, inputs):
     """The status and the text that the library answers."""
     text, size = ctypes.create_string_buffer(ROOM), ctypes.c_size_t()
     words = [word for data in inputs for word in (ctypes.c_char_p(data), ctypes.c_size_t(len(data)))]
-    status = getattr(library, f"ima_{function}")(*words, text, ctypes.c_size_t(ROOM), ctypes.byref(size))
+    status = getattr(library, f"ima_verify_{function}")(*words, text, ctypes.c_size_t(ROOM), ctypes.byref(size))
     return status, text.raw[: size.value]
 
 

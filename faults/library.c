@@ -2,7 +2,7 @@
  *
  *     library FUNCTION STATUS TEXT ROOM NEXT NEXT_ROOM INPUT..
  *
- * FUNCTION is the name of a function without ima_, and ends in :prefix if it is to be asked for the confirmed front. INPUT are its
+ * FUNCTION is the name of a function without ima_verify_, and ends in :prefix if it is to be asked for the confirmed front. INPUT are its
  * files, and ROOM is the size of its buffer. STATUS and the file TEXT are the answer that it has with ample memory, and the file NEXT is
  * the checkpoint that it gives in a buffer of NEXT_ROOM bytes; a function that gives none has no such buffer. In the Nth turn the
  * Nth allocation is refused, until a turn ends with none refused. Each turn calls twice: the call whose allocation is refused has the
@@ -176,22 +176,22 @@ static int inputs_of(const char *function) {
         {"show", 1},
         {"registers", 1},
         {"expected", 2},
-        {"verify", 3},
+        {"verdict", 3},
         {"locate", 3},
-        {"verify_required", 4},
-        {"verify_more", 5},
-        {"verify_more:prefix", 5},
-        {"verify_more_json", 5},
-        {"verify_more_json:prefix", 5},
+        {"required", 4},
+        {"more", 5},
+        {"more:prefix", 5},
+        {"more_json", 5},
+        {"more_json:prefix", 5},
         {"locate_required", 4},
         {"replay_required", 3},
         {"entries_json", 1},
         {"registers_json", 1},
         {"replay_json", 1},
         {"events_json", 1},
-        {"verify_json", 3},
+        {"verdict_json", 3},
         {"locate_json", 3},
-        {"verify_required_json", 4},
+        {"required_json", 4},
         {"locate_required_json", 4},
         {"replay_required_json", 3},
     };
@@ -207,7 +207,7 @@ static int is_json(const char *function) {
 
 /* Whether a function gives a checkpoint too. */
 static int has_next(const char *function) {
-    return strncmp(function, "verify_more", 11) == 0;
+    return strncmp(function, "more", 4) == 0;
 }
 
 static int32_t call_more(const char *function, const struct bytes *in, struct room *next, struct room *out) {
@@ -223,44 +223,44 @@ static int32_t call_more(const char *function, const struct bytes *in, struct ro
 
 static int32_t call_json(const char *function, const struct bytes *in, uint8_t *out, size_t room, size_t *needed) {
     struct bytes a = in[0], b = in[1], c = in[2], d = in[3];
-    if (strcmp(function, "verify_json") == 0)
-        return ima_verify_json(a.at, a.size, b.at, b.size, c.at, c.size, out, room, needed);
-    if (strcmp(function, "verify_required_json") == 0)
+    if (strcmp(function, "verdict_json") == 0)
+        return ima_verify_verdict_json(a.at, a.size, b.at, b.size, c.at, c.size, out, room, needed);
+    if (strcmp(function, "required_json") == 0)
         return ima_verify_required_json(a.at, a.size, b.at, b.size, c.at, c.size, d.at, d.size, out, room, needed);
     if (strcmp(function, "locate_json") == 0)
-        return ima_locate_json(a.at, a.size, b.at, b.size, c.at, c.size, out, room, needed);
+        return ima_verify_locate_json(a.at, a.size, b.at, b.size, c.at, c.size, out, room, needed);
     if (strcmp(function, "locate_required_json") == 0)
-        return ima_locate_required_json(a.at, a.size, b.at, b.size, c.at, c.size, d.at, d.size, out, room, needed);
+        return ima_verify_locate_required_json(a.at, a.size, b.at, b.size, c.at, c.size, d.at, d.size, out, room, needed);
     if (strcmp(function, "replay_required_json") == 0)
-        return ima_replay_required_json(a.at, a.size, b.at, b.size, c.at, c.size, out, room, needed);
+        return ima_verify_replay_required_json(a.at, a.size, b.at, b.size, c.at, c.size, out, room, needed);
     if (strcmp(function, "replay_json") == 0)
-        return ima_replay_json(a.at, a.size, out, room, needed);
+        return ima_verify_replay_json(a.at, a.size, out, room, needed);
     if (strcmp(function, "registers_json") == 0)
-        return ima_registers_json(a.at, a.size, out, room, needed);
+        return ima_verify_registers_json(a.at, a.size, out, room, needed);
     if (strcmp(function, "events_json") == 0)
-        return ima_events_json(a.at, a.size, out, room, needed);
-    return ima_entries_json(a.at, a.size, out, room, needed);
+        return ima_verify_events_json(a.at, a.size, out, room, needed);
+    return ima_verify_entries_json(a.at, a.size, out, room, needed);
 }
 
 static int32_t call(const char *function, const struct bytes *in, uint8_t *out, size_t room, size_t *needed) {
     struct bytes a = in[0], b = in[1], c = in[2], d = in[3];
     if (is_json(function))
         return call_json(function, in, out, room, needed);
-    if (strcmp(function, "verify") == 0)
-        return ima_verify(a.at, a.size, b.at, b.size, c.at, c.size, out, room, needed);
-    if (strcmp(function, "verify_required") == 0)
+    if (strcmp(function, "verdict") == 0)
+        return ima_verify_verdict(a.at, a.size, b.at, b.size, c.at, c.size, out, room, needed);
+    if (strcmp(function, "required") == 0)
         return ima_verify_required(a.at, a.size, b.at, b.size, c.at, c.size, d.at, d.size, out, room, needed);
     if (strcmp(function, "locate") == 0)
-        return ima_locate(a.at, a.size, b.at, b.size, c.at, c.size, out, room, needed);
+        return ima_verify_locate(a.at, a.size, b.at, b.size, c.at, c.size, out, room, needed);
     if (strcmp(function, "locate_required") == 0)
-        return ima_locate_required(a.at, a.size, b.at, b.size, c.at, c.size, d.at, d.size, out, room, needed);
+        return ima_verify_locate_required(a.at, a.size, b.at, b.size, c.at, c.size, d.at, d.size, out, room, needed);
     if (strcmp(function, "replay_required") == 0)
-        return ima_replay_required(a.at, a.size, b.at, b.size, c.at, c.size, out, room, needed);
+        return ima_verify_replay_required(a.at, a.size, b.at, b.size, c.at, c.size, out, room, needed);
     if (strcmp(function, "expected") == 0)
-        return ima_expected(a.at, a.size, b.at, b.size, out, room, needed);
+        return ima_verify_expected(a.at, a.size, b.at, b.size, out, room, needed);
     if (strcmp(function, "registers") == 0)
-        return ima_registers(a.at, a.size, out, room, needed);
-    return ima_show(a.at, a.size, out, room, needed);
+        return ima_verify_registers(a.at, a.size, out, room, needed);
+    return ima_verify_show(a.at, a.size, out, room, needed);
 }
 
 /* What the byte at a place of the buffer is before a call. */
@@ -293,7 +293,7 @@ static int has_text(struct bytes text, const struct room *room, int written) {
  * buffer is too short for its text, all bytes as before. */
 static int is_given(const char *function, struct answer answer, int32_t status, const struct room *next, const struct room *out) {
     int fits = answer.text.size <= out->size && (!has_next(function) || answer.next.size <= next->size);
-    if (status != (fits ? answer.status : IMA_TOO_SHORT) || !has_text(answer.text, out, fits))
+    if (status != (fits ? answer.status : IMA_VERIFY_TOO_SHORT) || !has_text(answer.text, out, fits))
         return 0;
     return !has_next(function) || has_text(answer.next, next, fits);
 }
@@ -302,7 +302,7 @@ static int is_given(const char *function, struct answer answer, int32_t status, 
 static int turn(const char *function, const struct bytes *in, size_t size, size_t next_size, struct answer right) {
     static const char plain[] = "failed: memory\n", json[] = "{\"fault\":{\"kind\":\"memory\",\"message\":\"failed: memory\"}}\n";
     const char *line = is_json(function) ? json : plain;
-    struct answer memory = {IMA_OUT_OF_MEMORY, {(const uint8_t *)line, strlen(line)}, {&nothing, 0}};
+    struct answer memory = {IMA_VERIFY_OUT_OF_MEMORY, {(const uint8_t *)line, strlen(line)}, {&nothing, 0}};
     struct room out = room_of(size), next = room_of(next_size);
     allocations = 0;
     int32_t status = has_next(function) ? call_more(function, in, &next, &out)

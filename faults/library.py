@@ -26,7 +26,7 @@ SECONDS = 60
 MEMORY = b"failed: memory\n"
 JSON_MEMORY = b'{"fault":{"kind":"memory","message":"failed: memory"}}\n'
 # The command of each function whose name does not begin with it.
-COMMANDS = {"entries": "show"}
+COMMANDS = {"entries": "show", "verdict": "verify", "required": "verify"}
 # The first 97 entries of the sample's list.
 FRONT_BYTES = 11731
 REPLACED = {"rattle_alloc", "rattle_realloc", "rattle_dealloc"}
@@ -36,7 +36,7 @@ ELSEWHERE |= {"mmap", "munmap", "mremap", "brk", "sbrk", "strdup", "strndup"}
 
 @dataclass
 class Case:
-    """A function's name without `ima_`, what it is given, and the files of that, of which the last may have an option's value."""
+    """A function's name without `ima_verify_`, what it is given, and the files of that, of which the last may have an option's value."""
 
     function: str
     title: str
@@ -48,7 +48,7 @@ class Case:
 
     def is_more(self):
         """Whether the function gives a checkpoint too."""
-        return self.function.startswith("verify_more")
+        return self.function.startswith("more")
 
     def words(self, save):
         """What asks the program for the same, and to save a checkpoint, if there is one, in that file."""
@@ -87,7 +87,7 @@ class Run:
         room = f"{self.room} bytes of room for {self.text.stat().st_size}"
         if self.case.is_more():
             room += f", {self.next_room} for {self.next.stat().st_size}"
-        return f"ima_{self.case.function} of {self.case.title}, {room}"
+        return f"ima_verify_{self.case.function} of {self.case.title}, {room}"
 
 
 def made_files(folder, program):
@@ -134,7 +134,7 @@ def made_files(folder, program):
 
 def cases(files):
     """Every function, with inputs that it takes and inputs that it refuses."""
-    for function in ("verify", "locate", "verify_json", "locate_json"):
+    for function in ("verdict", "locate", "verdict_json", "locate_json"):
         for title, *names in (
             ("the real boot", "log", "list", "expected"),
             ("a longer list", "log", "longer list", "expected"),
@@ -148,7 +148,7 @@ def cases(files):
             ("expected registers of which one is wrong", "log", "list", "wrong line"),
         ):
             yield Case(function, title, [files[name] for name in names])
-    for function in ("verify_required", "locate_required", "verify_required_json", "locate_required_json"):
+    for function in ("required", "locate_required", "required_json", "locate_required_json"):
         for title, *names in (
             ("the real boot", "log", "list", "expected", "all"),
             ("a longer list", "log", "longer list", "expected", "all"),
@@ -159,7 +159,7 @@ def cases(files):
         ):
             yield Case(function, title, [files[name] for name in names], "--require")
     for function, (title, *names) in product(
-        ("verify_more", "verify_more:prefix", "verify_more_json", "verify_more_json:prefix"),
+        ("more", "more:prefix", "more_json", "more_json:prefix"),
         (
             ("the real boot", "log", "empty", "list", "expected", "empty"),
             ("a longer list", "log", "empty", "longer list", "expected", "all"),

@@ -135,8 +135,8 @@ func (a answer) verdict() (Verdict, error) {
 func (a answer) verdictIn(r *reader, o object) Verdict {
 	v := Verdict{Events: r.number(o, "events", math.MaxUint64), Locality: uint8(r.number(o, "locality", math.MaxUint8)),
 		Entries: r.number(o, "entries", math.MaxUint64), Rows: r.rows(o), JSON: a.line()}
-	v.BootAggregate = oneOf(r, o, "boot_aggregate", AggregateGood, AggregateWrong, AggregateNoBank, AggregateMissing)
-	v.Matches = r.matches(a.status, o, v.Rows, v.BootAggregate == AggregateGood)
+	v.BootAggregate = oneOf(r, o, "boot_aggregate", BootAggregateGood, BootAggregateWrong, BootAggregateNoBank, BootAggregateMissing)
+	v.Matches = r.matches(a.status, o, v.Rows, v.BootAggregate == BootAggregateGood)
 	v.Confirmed, v.Unconfirmed = r.front(o, v.Entries)
 	return v
 }

@@ -305,7 +305,7 @@ func TestEntriesAreRead(t *testing.T) {
 	digest := []byte(strings.Repeat("\xaa", 20))
 	equal(t, err, nil)
 	equal(t, found, []Entry{
-		{0, 10, "ima-sig", []byte(strings.Repeat("\x11", 20)), false, true, &File{SHA1, digest, "/a", []byte{}}, nil},
+		{0, 10, "ima-sig", []byte(strings.Repeat("\x11", 20)), false, true, &File{AlgorithmSHA1, digest, "/a", []byte{}}, nil},
 		{1, 10, "\xff\n", make([]byte, 20), true, true, nil, []byte{0}},
 	})
 	found, err = drained(of(done, "").entries(true))
@@ -318,7 +318,7 @@ func TestEventsAreRead(t *testing.T) {
 	equal(t, events.Algorithms, []LogAlgorithm{{"", 18, 1}, {"sha1", 4, 20}})
 	found, err := drained(&events.Listing, nil)
 	equal(t, err, nil)
-	digests := map[Algorithm][]byte{SHA1: []byte(strings.Repeat("\xaa", 20))}
+	digests := map[Algorithm][]byte{AlgorithmSHA1: []byte(strings.Repeat("\xaa", 20))}
 	equal(t, found, []Event{{1, 0, "EV_SEPARATOR", 4, digests, []byte{0}}})
 	found, err = drainedEvents(of(done, algorithms+strings.Replace(eventLine, `"type":"EV_SEPARATOR",`, "", 1)).events())
 	equal(t, []interface{}{found[0].Type, err}, []interface{}{"", nil})

@@ -1,7 +1,9 @@
 package imaverify_test
 
 import (
+	"bytes"
 	"encoding/hex"
+	"errors"
 	"fmt"
 	"io"
 	"log"
@@ -26,6 +28,85 @@ func ExampleVerifyRequired() {
 	}
 	fmt.Println(verdict.Matches, verdict.Entries, verdict.Compared())
 	// Output: true 99 24
+}
+
+func ExampleLocateRequired() {
+	places, err := imaverify.LocateRequired(read("firmware.log"), read("ima.list"), read("expected.txt"), "sha256:0-10")
+	if err != nil {
+		log.Fatal(err)
+	}
+	for _, row := range places.Rows[9:11] {
+		fmt.Println(row.Algorithm, row.Register, row.Place.Kind, row.Place.Number)
+	}
+	// Output:
+	// sha256 9 event 22
+	// sha256 10 entry 98
+}
+
+func ExampleReplayRequired() {
+	tenth := bytes.SplitAfter(read("expected.txt"), []byte("\n"))[10] // the list's register
+	verdict, err := imaverify.ReplayRequired(read("ima.list"), tenth, "sha256:10")
+	if err != nil {
+		log.Fatal(err)
+	}
+	fmt.Println(verdict.Matches, verdict.Entries)
+	// Output: true 99
+}
+
+func ExampleExpectedFrom() {
+	lines, err := imaverify.ExpectedFrom(read("tpm2_pcrread.txt"), "0-10")
+	if err != nil {
+		log.Fatal(err)
+	}
+	fmt.Println(bytes.Count(lines, []byte("\n")), bytes.HasPrefix(read("expected.txt"), lines))
+	// Output: 11 true
+}
+
+func ExampleRegisters() {
+	registers, err := imaverify.Registers(read("firmware.log"))
+	if err != nil {
+		log.Fatal(err)
+	}
+	first := registers[0]
+	fmt.Println(first.Algorithm, first.Register, hex.EncodeToString(first.Value[:4]))
+	// Output: sha256 0 177e29c4
+}
+
+func ExampleListRegisters() {
+	registers, err := imaverify.ListRegisters(read("ima.list"))
+	if err != nil {
+		log.Fatal(err)
+	}
+	for _, register := range registers {
+		fmt.Println(register.Algorithm, register.Register)
+	}
+	// Output:
+	// sha1 10
+	// sha256 10
+	// sha384 10
+	// sha512 10
+}
+
+func ExampleShow() {
+	text, err := imaverify.Show(read("ima.list"))
+	if err != nil {
+		log.Fatal(err)
+	}
+	fmt.Println(bytes.Equal(text, read("ima.ascii")))
+	// Output: true
+}
+
+func ExampleRefusedError() {
+	changed := bytes.Replace(read("ima.list"), []byte("/bin/helper"), []byte("/bin/helpex"), 1)
+	_, err := imaverify.VerifyRequired(read("firmware.log"), changed, read("expected.txt"), "sha256:0-10")
+	var refused *imaverify.RefusedError
+	if errors.As(err, &refused) {
+		fmt.Println(refused.Kind, refused.Number, refused.Place)
+	}
+	fmt.Println(err)
+	// Output:
+	// replay 1 5
+	// refused: replay fault 1 at entry 5
 }
 
 func ExampleEntries() {

@@ -24,20 +24,20 @@ import (
 type Algorithm string
 
 const (
-	SHA1   Algorithm = "sha1"
-	SHA256 Algorithm = "sha256"
-	SHA384 Algorithm = "sha384"
-	SHA512 Algorithm = "sha512"
+	AlgorithmSHA1   Algorithm = "sha1"
+	AlgorithmSHA256 Algorithm = "sha256"
+	AlgorithmSHA384 Algorithm = "sha384"
+	AlgorithmSHA512 Algorithm = "sha512"
 )
 
 // BootAggregate says how the list's first entry compares with the registers after the log.
 type BootAggregate string
 
 const (
-	AggregateGood    BootAggregate = "good"    // it is the boot aggregate of these registers
-	AggregateWrong   BootAggregate = "wrong"   // it is a boot aggregate, of other values
-	AggregateNoBank  BootAggregate = "nobank"  // it is one of a bank that the log lacks
-	AggregateMissing BootAggregate = "missing" // the list is empty, or its first entry is something else
+	BootAggregateGood    BootAggregate = "good"    // it is the boot aggregate of these registers
+	BootAggregateWrong   BootAggregate = "wrong"   // it is a boot aggregate, of other values
+	BootAggregateNoBank  BootAggregate = "nobank"  // it is one of a bank that the log lacks
+	BootAggregateMissing BootAggregate = "missing" // the list is empty, or its first entry is something else
 )
 
 // State says how a register compares with its expected value.

@@ -75,10 +75,10 @@ func locate(t *testing.T, log, list, expected []byte) Places {
 }
 
 func TestVerdictOnTheSampleIsAMatch(t *testing.T) {
-	wanted := Verdict{Events: 24, Entries: 99, BootAggregate: AggregateGood, Matches: true}
+	wanted := Verdict{Events: 24, Entries: 99, BootAggregate: BootAggregateGood, Matches: true}
 	var rows []string
 	for k := 0; k < 24; k++ {
-		wanted.Rows = append(wanted.Rows, Row{SHA256, k, StateMatch, nil})
+		wanted.Rows = append(wanted.Rows, Row{AlgorithmSHA256, k, StateMatch, nil})
 		rows = append(rows, fmt.Sprintf(`{"bank":"sha256","register":%d,"state":"match"}`, k))
 	}
 	wanted.JSON = `{"events":24,"locality":0,"entries":99,"boot_aggregate":"good","registers":[` + strings.Join(rows, ",") + `],"verdict":"match"}`
@@ -100,12 +100,12 @@ func TestEntriesAreTheKernelsText(t *testing.T) {
 func TestListThatWentOnDiffersInRegister10(t *testing.T) {
 	verdict := verify(t, bootLog, longer, bootTPM)
 	equal(t, []interface{}{verdict.Matches, verdict.Entries, verdict.BootAggregate, len(verdict.Rows)},
-		[]interface{}{false, uint64(100), AggregateGood, 24})
+		[]interface{}{false, uint64(100), BootAggregateGood, 24})
 	for k, row := range verdict.Rows {
 		if k == 10 {
 			equal(t, fmt.Sprintf("%s %d %s %x", row.Algorithm, row.Register, row.State, row.Value), "sha256 10 differ "+afterLonger)
 		} else {
-			equal(t, row, Row{SHA256, k, StateMatch, nil})
+			equal(t, row, Row{AlgorithmSHA256, k, StateMatch, nil})
 		}
 	}
 }
@@ -114,9 +114,9 @@ func TestListThatWentOnIsLocatedBeforeItsEnd(t *testing.T) {
 	places := locate(t, bootLog, longer, bootTPM)
 	equal(t, places.Located, true)
 	equal(t, len(places.Rows), 24)
-	equal(t, places.Rows[10], PlaceRow{SHA256, 10, Place{PlaceEntry, 98}})
+	equal(t, places.Rows[10], PlaceRow{AlgorithmSHA256, 10, Place{PlaceEntry, 98}})
 	for _, k := range []int{8, 11, 12, 13, 14, 15, 16, 17, 18, 19, 20, 21, 22, 23} {
-		equal(t, places.Rows[k], PlaceRow{SHA256, k, Place{Kind: PlaceReset}})
+		equal(t, places.Rows[k], PlaceRow{AlgorithmSHA256, k, Place{Kind: PlaceReset}})
 	}
 	for _, register := range registersIn(t, sample("registers.txt")) {
 		equal(t, places.Rows[register.Register].Place.Kind, PlaceEvent)
@@ -127,9 +127,9 @@ func TestExpectedRegistersMayBeAbsentOrReachedNowhere(t *testing.T) {
 	text := []byte("sha1 10 " + strings.Repeat("0", 40) + "\nsha256 10 " + strings.Repeat("1", 64))
 	verdict, places := verify(t, bootLog, longer, text), locate(t, bootLog, longer, text)
 	equal(t, verdict.Matches || places.Located, false)
-	equal(t, verdict.Rows[0], Row{SHA1, 10, StateAbsent, nil})
+	equal(t, verdict.Rows[0], Row{AlgorithmSHA1, 10, StateAbsent, nil})
 	equal(t, fmt.Sprintf("%s %x", verdict.Rows[1].State, verdict.Rows[1].Value), "differ "+afterLonger)
-	equal(t, places.Rows, []PlaceRow{{SHA1, 10, Place{Kind: PlaceAbsent}}, {SHA256, 10, Place{Kind: PlaceNowhere}}})
+	equal(t, places.Rows, []PlaceRow{{AlgorithmSHA1, 10, Place{Kind: PlaceAbsent}}, {AlgorithmSHA256, 10, Place{Kind: PlaceNowhere}}})
 }
 
 func verifyRequired(t *testing.T, log, list, expected []byte, require string) Verdict {
@@ -167,20 +167,20 @@ func TestRequiredRegisterThatIsNotExpectedIsMissing(t *testing.T) {
 	verdict := verifyRequired(t, bootLog, bootList, text, "sha256:0-23,sha1:10")
 	equal(t, []interface{}{verdict.Matches, verdict.Compared()}, []interface{}{false, 23})
 	equal(t, verdict.Rows[:23], verify(t, bootLog, bootList, text).Rows)
-	equal(t, verdict.Rows[23:], []Row{{SHA1, 10, StateMissing, nil}, {SHA256, 23, StateMissing, nil}})
+	equal(t, verdict.Rows[23:], []Row{{AlgorithmSHA1, 10, StateMissing, nil}, {AlgorithmSHA256, 23, StateMissing, nil}})
 	places := locateRequired(t, bootLog, bootList, text, "sha256:0-23,sha1:10")
 	equal(t, places.Located, false)
 	equal(t, places.Rows[:23], locate(t, bootLog, bootList, text).Rows)
-	equal(t, places.Rows[23:], []PlaceRow{{SHA1, 10, Place{Kind: PlaceMissing}}, {SHA256, 23, Place{Kind: PlaceMissing}}})
+	equal(t, places.Rows[23:], []PlaceRow{{AlgorithmSHA1, 10, Place{Kind: PlaceMissing}}, {AlgorithmSHA256, 23, Place{Kind: PlaceMissing}}})
 }
 
 func TestNothingExpectedNeverMatches(t *testing.T) {
 	for _, empty := range [][]byte{nil, {}, []byte("\n")} {
 		verdict := verifyRequired(t, bootLog, bootList, empty, "sha256:10")
 		equal(t, []interface{}{verdict.Matches, verdict.Compared()}, []interface{}{false, 0})
-		equal(t, verdict.Rows, []Row{{SHA256, 10, StateMissing, nil}})
+		equal(t, verdict.Rows, []Row{{AlgorithmSHA256, 10, StateMissing, nil}})
 		places := locateRequired(t, bootLog, bootList, empty, "sha256:10")
-		equal(t, []interface{}{places.Located, places.Rows}, []interface{}{false, []PlaceRow{{SHA256, 10, Place{Kind: PlaceMissing}}}})
+		equal(t, []interface{}{places.Located, places.Rows}, []interface{}{false, []PlaceRow{{AlgorithmSHA256, 10, Place{Kind: PlaceMissing}}}})
 	}
 }
 
@@ -197,7 +197,7 @@ func replayRequired(t *testing.T, list, expected []byte, require string) ListVer
 var tenth = bootTPM[bytes.Index(bootTPM, []byte("sha256 10 ")):bytes.Index(bootTPM, []byte("sha256 11 "))]
 
 func TestRegisterOfTheListAloneMatches(t *testing.T) {
-	rows := []Row{{SHA256, 10, StateMatch, nil}}
+	rows := []Row{{AlgorithmSHA256, 10, StateMatch, nil}}
 	equal(t, replayRequired(t, bootList, tenth, "sha256:10"),
 		ListVerdict{99, rows, true, `{"entries":99,"registers":[{"bank":"sha256","register":10,"state":"match"}],"verdict":"match"}`})
 	verdict := replayRequired(t, longer, tenth, "sha256:10")
@@ -209,7 +209,7 @@ func TestRegistersAfterTheListAlone(t *testing.T) {
 	found, err := ListRegisters(bootList)
 	equal(t, err, nil)
 	equal(t, len(found), 4)
-	for k, algorithm := range []Algorithm{SHA1, SHA256, SHA384, SHA512} {
+	for k, algorithm := range []Algorithm{AlgorithmSHA1, AlgorithmSHA256, AlgorithmSHA384, AlgorithmSHA512} {
 		equal(t, []interface{}{found[k].Algorithm, found[k].Register, len(found[k].Value)}, []interface{}{algorithm, 10, digestSizes[algorithm]})
 	}
 	equal(t, fmt.Sprintf("sha256 10 %x\n", found[1].Value), string(tenth))
@@ -221,7 +221,7 @@ func TestRegistersAfterTheListAlone(t *testing.T) {
 func TestRegistersThatAreExpectedHaveRows(t *testing.T) {
 	var all []Row
 	text := "\r\n"
-	for _, algorithm := range []Algorithm{SHA512, SHA1, SHA384, SHA256} {
+	for _, algorithm := range []Algorithm{AlgorithmSHA512, AlgorithmSHA1, AlgorithmSHA384, AlgorithmSHA256} {
 		for k := 0; k < 24; k++ {
 			all = append(all, Row{Algorithm: algorithm, Register: k})
 			text += fmt.Sprintf("%s %d %s\r\n", algorithm, k, strings.Repeat("0", 2*digestSizes[algorithm]))
@@ -238,7 +238,7 @@ func TestRegistersThatAreExpectedHaveRows(t *testing.T) {
 func TestRegistersOfTheFirmwareDifferAfterTheListAlone(t *testing.T) {
 	verdict := replayRequired(t, bootList, bootTPM, "sha256:0-23")
 	equal(t, []interface{}{verdict.Matches, verdict.Compared()}, []interface{}{false, 24})
-	equal(t, verdict.Rows[0], Row{SHA256, 0, StateDiffer, make([]byte, 32)})
+	equal(t, verdict.Rows[0], Row{AlgorithmSHA256, 0, StateDiffer, make([]byte, 32)})
 	differing := map[int]bool{}
 	for _, register := range registersIn(t, sample("registers.txt")) {
 		differing[register.Register] = true
@@ -251,12 +251,12 @@ func TestRegistersOfTheFirmwareDifferAfterTheListAlone(t *testing.T) {
 func TestListAloneNeverMatchesWithoutItsRegistersOrEntries(t *testing.T) {
 	verdict := replayRequired(t, bootList, tenth, "sha1:10,sha256:10")
 	equal(t, []interface{}{verdict.Matches, verdict.Compared()}, []interface{}{false, 1})
-	equal(t, verdict.Rows, []Row{{SHA256, 10, StateMatch, nil}, {SHA1, 10, StateMissing, nil}})
+	equal(t, verdict.Rows, []Row{{AlgorithmSHA256, 10, StateMatch, nil}, {AlgorithmSHA1, 10, StateMissing, nil}})
 	verdict = replayRequired(t, bootList, nil, "sha1:10")
-	equal(t, []interface{}{verdict.Matches, verdict.Rows}, []interface{}{false, []Row{{SHA1, 10, StateMissing, nil}}})
+	equal(t, []interface{}{verdict.Matches, verdict.Rows}, []interface{}{false, []Row{{AlgorithmSHA1, 10, StateMissing, nil}}})
 	verdict = replayRequired(t, nil, []byte("sha256 10 "+strings.Repeat("0", 64)), "sha256:10")
 	equal(t, []interface{}{verdict.Matches, verdict.Entries, verdict.Rows},
-		[]interface{}{false, uint64(0), []Row{{SHA256, 10, StateMatch, nil}}})
+		[]interface{}{false, uint64(0), []Row{{AlgorithmSHA256, 10, StateMatch, nil}}})
 }
 
 func TestListAloneIsRefused(t *testing.T) {
@@ -375,9 +375,9 @@ func TestInputsWithoutBytes(t *testing.T) {
 		equal(t, err, nil)
 		equal(t, len(shown), 0)
 		verdict := verify(t, bootLog, empty, bootTPM)
-		equal(t, []interface{}{verdict.Matches, verdict.Entries, verdict.BootAggregate}, []interface{}{false, uint64(0), AggregateMissing})
+		equal(t, []interface{}{verdict.Matches, verdict.Entries, verdict.BootAggregate}, []interface{}{false, uint64(0), BootAggregateMissing})
 		// (on nothing, there is no match)
-		equal(t, verify(t, bootLog, bootList, empty), Verdict{Events: 24, Entries: 99, BootAggregate: AggregateGood,
+		equal(t, verify(t, bootLog, bootList, empty), Verdict{Events: 24, Entries: 99, BootAggregate: BootAggregateGood,
 			JSON: `{"events":24,"locality":0,"entries":99,"boot_aggregate":"good","registers":[],"verdict":"match"}`})
 		equal(t, locate(t, bootLog, bootList, empty), Places{nil, false, `{"registers":[],"located":true}`})
 	}

@@ -10,7 +10,7 @@ import (
 
 const registersOfBank = 24
 
-var digestSizes = map[Algorithm]int{SHA1: 20, SHA256: 32, SHA384: 48, SHA512: 64}
+var digestSizes = map[Algorithm]int{AlgorithmSHA1: 20, AlgorithmSHA256: 32, AlgorithmSHA384: 48, AlgorithmSHA512: 64}
 
 // The members of faults that tell the place.
 var placeNames = map[Kind]string{KindLog: "event", KindList: "entry", KindReplay: "entry"}
@@ -71,7 +71,7 @@ func (r *reader) register(o object) int {
 }
 
 func (r *reader) algorithm(o object, name string) Algorithm {
-	return oneOf(r, o, name, SHA1, SHA256, SHA384, SHA512)
+	return oneOf(r, o, name, AlgorithmSHA1, AlgorithmSHA256, AlgorithmSHA384, AlgorithmSHA512)
 }
 
 func (r *reader) bytes(o object, name string) []byte {
@@ -133,10 +133,10 @@ func (r *reader) placeRow(o object) PlaceRow {
 
 func (r *reader) entry(o object, number uint64) Entry {
 	e := Entry{Number: number, Register: r.register(o), Template: string(r.name(o, "template")),
-		TemplateDigest: r.digest(o, "template_digest", SHA1),
+		TemplateDigest: r.digest(o, "template_digest", AlgorithmSHA1),
 		Violation:      member[bool](r, o, "violation"), Genuine: member[bool](r, o, "genuine")}
 	r.require(r.number(o, "entry", math.MaxUint64) == number)
-	r.require(e.Violation == bytes.Equal(e.TemplateDigest, make([]byte, digestSizes[SHA1])) && (e.Genuine || !e.Violation))
+	r.require(e.Violation == bytes.Equal(e.TemplateDigest, make([]byte, digestSizes[AlgorithmSHA1])) && (e.Genuine || !e.Violation))
 	if has(o, "payload") {
 		e.Payload = r.bytes(o, "payload")
 		return e

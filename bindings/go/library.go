@@ -17,11 +17,11 @@ import "C"
 import "unsafe"
 
 const (
-	done        = C.IMA_DONE
-	differs     = C.IMA_DIFFERS
-	refused     = C.IMA_REFUSED
-	outOfMemory = C.IMA_OUT_OF_MEMORY
-	tooShort    = C.IMA_TOO_SHORT
+	done        = C.IMA_VERIFY_DONE
+	differs     = C.IMA_VERIFY_DIFFERS
+	refused     = C.IMA_VERIFY_REFUSED
+	outOfMemory = C.IMA_VERIFY_OUT_OF_MEMORY
+	tooShort    = C.IMA_VERIFY_TOO_SHORT
 
 	headerVersion = C.IMA_VERIFY_VERSION
 )
@@ -49,7 +49,7 @@ func libraryVersion() uint32 {
 }
 
 func callVerify(log, list, expected, out []byte, needed *length) int32 {
-	return int32(C.ima_verify_json(start(log), size(log), start(list), size(list), start(expected), size(expected),
+	return int32(C.ima_verify_verdict_json(start(log), size(log), start(list), size(list), start(expected), size(expected),
 		start(out), size(out), needed))
 }
 
@@ -65,40 +65,40 @@ func callMore(log, state, more, expected, require []byte, prefix bool, next []by
 }
 
 func callLocate(log, list, expected, out []byte, needed *length) int32 {
-	return int32(C.ima_locate_json(start(log), size(log), start(list), size(list), start(expected), size(expected),
+	return int32(C.ima_verify_locate_json(start(log), size(log), start(list), size(list), start(expected), size(expected),
 		start(out), size(out), needed))
 }
 
 func callLocateRequired(log, list, expected, require, out []byte, needed *length) int32 {
-	return int32(C.ima_locate_required_json(start(log), size(log), start(list), size(list), start(expected), size(expected),
+	return int32(C.ima_verify_locate_required_json(start(log), size(log), start(list), size(list), start(expected), size(expected),
 		start(require), size(require), start(out), size(out), needed))
 }
 
 func callReplay(list, expected, require, out []byte, needed *length) int32 {
-	return int32(C.ima_replay_required_json(start(list), size(list), start(expected), size(expected),
+	return int32(C.ima_verify_replay_required_json(start(list), size(list), start(expected), size(expected),
 		start(require), size(require), start(out), size(out), needed))
 }
 
 func callExpected(printed, registers, out []byte, needed *length) int32 {
-	return int32(C.ima_expected(start(printed), size(printed), start(registers), size(registers), start(out), size(out), needed))
+	return int32(C.ima_verify_expected(start(printed), size(printed), start(registers), size(registers), start(out), size(out), needed))
 }
 
 func callRegisters(log, out []byte, needed *length) int32 {
-	return int32(C.ima_registers_json(start(log), size(log), start(out), size(out), needed))
+	return int32(C.ima_verify_registers_json(start(log), size(log), start(out), size(out), needed))
 }
 
 func callListRegisters(list, out []byte, needed *length) int32 {
-	return int32(C.ima_replay_json(start(list), size(list), start(out), size(out), needed))
+	return int32(C.ima_verify_replay_json(start(list), size(list), start(out), size(out), needed))
 }
 
 func callEvents(log, out []byte, needed *length) int32 {
-	return int32(C.ima_events_json(start(log), size(log), start(out), size(out), needed))
+	return int32(C.ima_verify_events_json(start(log), size(log), start(out), size(out), needed))
 }
 
 func callEntries(list, out []byte, needed *length) int32 {
-	return int32(C.ima_entries_json(start(list), size(list), start(out), size(out), needed))
+	return int32(C.ima_verify_entries_json(start(list), size(list), start(out), size(out), needed))
 }
 
 func callShow(list, out []byte, needed *length) int32 {
-	return int32(C.ima_show(start(list), size(list), start(out), size(out), needed))
+	return int32(C.ima_verify_show(start(list), size(list), start(out), size(out), needed))
 }

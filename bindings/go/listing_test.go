@@ -71,10 +71,10 @@ func TestTemplatesThatAreKnownHaveFiles(t *testing.T) {
 	list := joined(entryOf("ima-ng", first), entryOf("ima-sig", second), entryOf("ima-sig", third),
 		entryWith("ima", joined(ones, withLength([]byte("/w"))), covered))
 	equal(t, entriesIn(t, list), []Entry{
-		{0, 10, "ima-ng", digestOf(first), false, true, &File{SHA512, sha512, "/x", nil}, nil},
-		{1, 10, "ima-sig", digestOf(second), false, true, &File{SHA1, ones, "/y", []byte{3, 0, 0xff}}, nil},
-		{2, 10, "ima-sig", digestOf(third), false, true, &File{SHA1, ones, "/z", []byte{}}, nil},
-		{3, 10, "ima", covered, false, true, &File{SHA1, ones, "/w", nil}, nil},
+		{0, 10, "ima-ng", digestOf(first), false, true, &File{AlgorithmSHA512, sha512, "/x", nil}, nil},
+		{1, 10, "ima-sig", digestOf(second), false, true, &File{AlgorithmSHA1, ones, "/y", []byte{3, 0, 0xff}}, nil},
+		{2, 10, "ima-sig", digestOf(third), false, true, &File{AlgorithmSHA1, ones, "/z", []byte{}}, nil},
+		{3, 10, "ima", covered, false, true, &File{AlgorithmSHA1, ones, "/w", nil}, nil},
 	})
 }
 
@@ -94,7 +94,7 @@ func TestViolationMayHaveADigest(t *testing.T) {
 	known := sha256.Sum256([]byte("abc"))
 	list := joined(entryWith("ima-ng", ng("sha256", known[:], "/x"), zeros), entryWith("ima-new", []byte{1}, zeros))
 	equal(t, entriesIn(t, list), []Entry{
-		{0, 10, "ima-ng", zeros, true, true, &File{SHA256, known[:], "/x", nil}, nil},
+		{0, 10, "ima-ng", zeros, true, true, &File{AlgorithmSHA256, known[:], "/x", nil}, nil},
 		{1, 10, "ima-new", zeros, true, true, nil, []byte{1}},
 	})
 }
@@ -102,7 +102,7 @@ func TestViolationMayHaveADigest(t *testing.T) {
 func TestForgedEntriesAreNotGenuine(t *testing.T) {
 	forged := bytes.Repeat([]byte{5}, 20)
 	equal(t, entriesIn(t, entryWith("ima-ng", ng("sha1", ones, "/x"), forged)),
-		[]Entry{{0, 10, "ima-ng", forged, false, false, &File{SHA1, ones, "/x", nil}, nil}})
+		[]Entry{{0, 10, "ima-ng", forged, false, false, &File{AlgorithmSHA1, ones, "/x", nil}, nil}})
 	for k, e := range entriesIn(t, changed) {
 		equal(t, e.Genuine, k != 5)
 	}
@@ -163,16 +163,16 @@ func TestEventsOfTheSample(t *testing.T) {
 	equal(t, len(found), 24)
 	// (the first event of the file, after the header of 65 bytes: register 0, type 8, one digest of SHA-256, 2 bytes of data)
 	equal(t, bootLog[65:79], joined(number(0), number(8), number(1), []byte{0x0b, 0}))
-	equal(t, found[0], Event{1, 0, "EV_S_CRTM_VERSION", 8, map[Algorithm][]byte{SHA256: bootLog[79:111]}, bootLog[115:117]})
+	equal(t, found[0], Event{1, 0, "EV_S_CRTM_VERSION", 8, map[Algorithm][]byte{AlgorithmSHA256: bootLog[79:111]}, bootLog[115:117]})
 	fourth := make([]byte, 32)
 	for k, event := range found {
 		equal(t, event.Number, uint64(k+1))
 		if event.Register == 4 {
-			digest := sha256.Sum256(joined(fourth, event.Digests[SHA256]))
+			digest := sha256.Sum256(joined(fourth, event.Digests[AlgorithmSHA256]))
 			fourth = digest[:]
 		}
 	}
-	equal(t, registersIn(t, bootTPM)[4], Register{SHA256, 4, fourth})
+	equal(t, registersIn(t, bootTPM)[4], Register{AlgorithmSHA256, 4, fourth})
 }
 
 func TestEventsWithoutNamesOrDigests(t *testing.T) {
@@ -188,7 +188,7 @@ func TestEventsWithoutNamesOrDigests(t *testing.T) {
 	equal(t, err, nil)
 	equal(t, found, []Event{
 		{1, 0x01020304, "EV_NO_ACTION", 3, map[Algorithm][]byte{}, []byte{}},
-		{2, 0, "", 255, map[Algorithm][]byte{SHA1: ones}, []byte("\"\n")},
+		{2, 0, "", 255, map[Algorithm][]byte{AlgorithmSHA1: ones}, []byte("\"\n")},
 	})
 }
 

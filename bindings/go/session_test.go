@@ -148,7 +148,7 @@ func TestPartOfAListNeverMatchesWithoutTheState(t *testing.T) {
 	for _, cut := range cuts[1:] {
 		for _, options := range [][]Option{nil, {Prefix()}} {
 			verdict := more(t, session(t, bootLog, bootTPM, options...), bootList[ends[cut]:])
-			equal(t, []interface{}{verdict.Matches, verdict.BootAggregate, verdict.Confirmed}, []interface{}{false, AggregateMissing, uint64(0)})
+			equal(t, []interface{}{verdict.Matches, verdict.BootAggregate, verdict.Confirmed}, []interface{}{false, BootAggregateMissing, uint64(0)})
 		}
 		verdict := more(t, session(t, bootLog, bootTPM, resumed(t, cut)...), bootList)
 		equal(t, []interface{}{verdict.Matches, verdict.Entries}, []interface{}{false, uint64(cut + 99)})
@@ -211,7 +211,7 @@ func TestRequiredRegistersOfASession(t *testing.T) {
 	for _, options := range [][]Option{{Require("sha256:0-23,sha1:10")}, {Prefix(), Require("sha256:0-23,sha1:10")}} {
 		s := session(t, bootLog, text, options...)
 		verdict := more(t, s, bootList)
-		missing := []Row{{SHA1, 10, StateMissing, nil}, {SHA256, 23, StateMissing, nil}}
+		missing := []Row{{AlgorithmSHA1, 10, StateMissing, nil}, {AlgorithmSHA256, 23, StateMissing, nil}}
 		equal(t, []interface{}{verdict.Matches, verdict.Compared(), verdict.Rows[23:], verdict.Confirmed}, []interface{}{false, 23, missing, uint64(0)})
 	}
 	_, err := NewSession(bootLog, bootTPM, Require(""))

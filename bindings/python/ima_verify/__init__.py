@@ -5,9 +5,16 @@ are compared with expected ones. Each function takes bytes: what /sys/kernel/sec
 /sys/kernel/security/ima/binary_runtime_measurements, and lines as `sha256 10 <64 hexadecimal digits>` hold. Bytes may be of any
 bytes-like type; a bytearray, or other memory that can be written, may not change during a call.
 
-Say which registers a verdict must cover: `verify(log, list, expected, require="sha256:0-10")`. Without `require` only those count that
-`expected` names; a verdict on none is no match, whatever its `json` says. `entries(list)` and `events(log)` go through the inputs themselves.
-A `Session` is for a list that grows, and for one that went on after the expected registers were read.
+>>> import ima_verify
+>>> from pathlib import Path
+>>> log, measurements, expected = (Path(name).read_bytes() for name in ("firmware.log", "ima.list", "expected.txt"))
+>>> verdict = ima_verify.verify(log, measurements, expected, require="sha256:0-10")
+>>> verdict.matches, verdict.entries
+(True, 99)
+
+Say which registers a verdict must cover, as here. Without `require` only those count that `expected` names; a verdict on none is no match,
+whatever its `json` says. `entries(measurements)` and `events(log)` go through the inputs themselves. A `Session` is for a list that grows,
+and for one that went on after the expected registers were read.
 
 An input that is refused raises `Refused`, and a `require` or `registers` that is not of its form ValueError; if memory runs out, that
 is MemoryError; an answer that the library's header does not describe raises `LibraryError`. Nothing else that the library answers is
@@ -17,7 +24,8 @@ Calls from several threads run at once: ctypes releases the GIL during each, and
 call in the forked child of a process with threads.
 
 The shared library is the file that the environment variable IMA_VERIFY_LIBRARY names, else `libima_verify.so` in this package's
-folder, else what the system's loader finds as `libima_verify.so.1`. It is loaded when this module is imported."""
+folder, else what the system's loader finds as `libima_verify.so.1`. It is loaded by the first call, which raises ImportError if it cannot
+be used."""
 
 from enum import Enum
 from typing import Callable, Optional, Sequence, Tuple, Union
@@ -48,22 +56,32 @@ class _Default(Enum):
 # 4 banks have 96 registers, and no row of these has more than 256 bytes. (A checkpoint has each register twice, in at most 140 bytes.)
 _ROOM = 32 * 1024
 
-_LIBRARY = _library.load()
-
 
 def version() -> int:
-    """The version of the library's interface."""
-    return int(_LIBRARY.ima_verify_version())
+    """The version of the library's interface.
+
+    >>> ima_verify.version()
+    2
+    """
+    return int(_library.loaded().ima_verify_version())
 
 
-def verify(log: BytesLike, list: BytesLike, expected: Text, *, require: Union[Text, _Default] = _Default.NOTHING) -> Verdict:
+def verify(
+    log: BytesLike, measurements: BytesLike, expected: Text, *, require: Union[Text, _Default] = _Default.NOTHING
+) -> Verdict:
     """The verdict on a firmware event log, a measurement list and the expected registers that a text states.
 
     `require` names the registers that must be among these, as `sha256:0-10` or `sha256:0-7,sha1:10`. Each that is not has a row whose
     state is MISSING, and then the verdict is no match. None is a TypeError. If it is not given, nothing is required; a verdict on no
-    registers is no match."""
-    functions = _LIBRARY.ima_verify_json, _LIBRARY.ima_verify_required_json
-    return _answers.read_verdict(*_answer_on(expected, require, functions, (log, list)))
+    registers is no match.
+
+    >>> verdict = ima_verify.verify(log, measurements, expected, require="sha256:0-10,sha1:10")
+    >>> verdict.matches, [(row.algorithm.value, row.register) for row in verdict.rows if row.state is ima_verify.State.MISSING]
+    (False, [('sha1', 10)])
+    """
+    library = _library.loaded()
+    functions = library.ima_verify_verdict_json, library.ima_verify_required_json
+    return _answers.read_verdict(*_answer_on(expected, require, functions, (log, measurements)))
 
 
 class Session:
@@ -77,7 +95,16 @@ class Session:
     the list starts at its first entry. One that is not whole, and so an empty one, is refused with the kind CHECKPOINT, here or by `more`.
     A state is trusted: who can write it can choose the verdict. Never take it from the machine that is judged.
 
-    Use a session in one thread at a time."""
+    Use a session in one thread at a time.
+
+    >>> session = ima_verify.Session(log, expected, require="sha256:0-10", prefix=True)
+    >>> verdict = session.more(measurements + measurements[-95:])  # (an entry more than the registers confirm)
+    >>> verdict.matches, verdict.confirmed, verdict.entries
+    (True, 99, 100)
+    >>> later = ima_verify.Session(log, expected, state=session.state)
+    >>> later.more(measurements[later.offset:]).matches
+    True
+    """
 
     def __init__(
         self, log: BytesLike, expected: Text, *, require: Union[Text, _Default] = _Default.NOTHING, prefix: bool = False,
@@ -98,7 +125,7 @@ class Session:
         this verdict is on: the confirmed front, if there is one, else the whole list, whether it is a match or not.
 
         Numbers of entries, also of a refusal, are those of the whole list. If there is no verdict, the session stays as it was."""
-        start, function = self._reached, _LIBRARY.ima_verify_more_json
+        start, function = self._reached, _library.loaded().ima_verify_more_json
         inputs = self._log, start.text, data, self._expected, self._require
         status, (state, text) = _library.ask_for_texts(function, inputs, (self._prefix,), (_ROOM, _ROOM))
         _answers.raise_failure(status, text, self._request)
@@ -116,64 +143,106 @@ class Session:
         return self._reached.bytes
 
 
-def locate(log: BytesLike, list: BytesLike, expected: Text, *, require: Union[Text, _Default] = _Default.NOTHING) -> Places:
-    """Where each expected register first has its value. Inputs, `require` and refusals are those of `verify`."""
-    functions = _LIBRARY.ima_locate_json, _LIBRARY.ima_locate_required_json
-    return _answers.read_places(*_answer_on(expected, require, functions, (log, list)))
+def locate(
+    log: BytesLike, measurements: BytesLike, expected: Text, *, require: Union[Text, _Default] = _Default.NOTHING
+) -> Places:
+    """Where each expected register first has its value. Inputs, `require` and refusals are those of `verify`.
+
+    >>> for row in ima_verify.locate(log, measurements, expected, require="sha256:0-10").rows[9:11]:
+    ...     print(row.register, row.place.value, row.number)
+    9 event 22
+    10 entry 98
+    """
+    library = _library.loaded()
+    functions = library.ima_verify_locate_json, library.ima_verify_locate_required_json
+    return _answers.read_places(*_answer_on(expected, require, functions, (log, measurements)))
 
 
-def replay(list: BytesLike, expected: Text, *, require: Text) -> ListVerdict:
+def replay(measurements: BytesLike, expected: Text, *, require: Text) -> ListVerdict:
     """The verdict on a measurement list without a log, and the expected registers that a text states.
 
     The list is replayed from the registers' reset values, so a register that the firmware extends too differs. `require` is as in
-    `verify`, and has to be given. A list without entries is no match."""
-    inputs = list, _bytes_of(expected), _bytes_of(require)
-    return _answers.read_list_verdict(*_answer_of(_LIBRARY.ima_replay_required_json, inputs, _ROOM, require))
+    `verify`, and has to be given. A list without entries is no match.
+
+    >>> tenth = next(line for line in expected.splitlines() if line.startswith(b"sha256 10 "))
+    >>> ima_verify.replay(measurements, tenth, require="sha256:10").matches
+    True
+    """
+    inputs = measurements, _bytes_of(expected), _bytes_of(require)
+    return _answers.read_list_verdict(*_answer_of(_library.loaded().ima_verify_replay_required_json, inputs, _ROOM, require))
 
 
 def expected(printed: Text, registers: Optional[Text] = None) -> bytes:
     """The lines of expected registers, for `verify` and `locate`, of what tpm2_pcrread or tpm2_checkquote printed.
 
     `registers` is a range, as `0-10` or `4`, whose registers are written; else all are. A text without any is refused. Neither who wrote
-    the text nor whether a quote holds is known from it: take the values of a quote that was checked, or of a machine that is trusted."""
-    range = b"" if registers is None else registers
-    inputs = _bytes_of(printed), _bytes_of(range)
-    return _answers.read_lines(*_answer_of(_LIBRARY.ima_expected, inputs, _ROOM, range), False)
+    the text nor whether a quote holds is known from it: take the values of a quote that was checked, or of a machine that is trusted.
+
+    >>> printed = Path("tpm2_pcrread.txt").read_bytes()
+    >>> ima_verify.expected(printed, "0-10") == b"".join(expected.splitlines(True)[:11])
+    True
+    """
+    request = b"" if registers is None else registers
+    inputs = _bytes_of(printed), _bytes_of(request)
+    return _answers.read_lines(*_answer_of(_library.loaded().ima_verify_expected, inputs, _ROOM, request), False)
 
 
 def registers(log: BytesLike) -> Tuple[Register, ...]:
-    """The registers that differ from their reset values after a firmware event log."""
-    return _answers.read_registers(*_answer_of(_LIBRARY.ima_registers_json, (log,), _ROOM))
+    """The registers that differ from their reset values after a firmware event log.
+
+    >>> first = ima_verify.registers(log)[0]
+    >>> first.algorithm.value, first.register, first.value.hex()[:8]
+    ('sha256', 0, '177e29c4')
+    """
+    return _answers.read_registers(*_answer_of(_library.loaded().ima_verify_registers_json, (log,), _ROOM))
 
 
-def list_registers(list: BytesLike) -> Tuple[Register, ...]:
-    """The registers, in banks of all algorithms, that differ from their reset values after a measurement list without a log."""
-    return _answers.read_registers(*_answer_of(_LIBRARY.ima_replay_json, (list,), _ROOM))
+def list_registers(measurements: BytesLike) -> Tuple[Register, ...]:
+    """The registers, in banks of all algorithms, that differ from their reset values after a measurement list without a log.
+
+    >>> [(found.algorithm.value, found.register) for found in ima_verify.list_registers(measurements)]
+    [('sha1', 10), ('sha256', 10), ('sha384', 10), ('sha512', 10)]
+    """
+    return _answers.read_registers(*_answer_of(_library.loaded().ima_verify_replay_json, (measurements,), _ROOM))
 
 
-def entries(list: BytesLike) -> Entries:
+def entries(measurements: BytesLike) -> Entries:
     """The entries of a measurement list, one after another, each with whether it is genuine.
 
     Of a damaged list the entries before the fault come, and then `Refused` is raised. If you stop before the end, look at `fault` of what
-    this returns: it is None exactly if the list is whole."""
-    answer = _library.ask(_LIBRARY.ima_entries_json, (list,), _room_of_lines(list))
-    return _answers.read_entries(*answer, memoryview(list).nbytes == 0)
+    this returns: it is None exactly if the list is whole.
+
+    >>> found = ima_verify.entries(measurements)
+    >>> [entry.path for entry in found if not entry.violation][:2], found.fault
+    ([b'boot_aggregate', b'/init'], None)
+    """
+    answer = _library.ask(_library.loaded().ima_verify_entries_json, (measurements,), _room_of_lines(measurements))
+    return _answers.read_entries(*answer, memoryview(measurements).nbytes == 0)
 
 
 def events(log: BytesLike) -> Events:
     """The events of a firmware event log after its header, one after another; what this returns also has the header's `algorithms`.
 
     Of a damaged log the events before the fault come, and then `Refused` is raised, at once if the fault is in the header. If you stop
-    before the end, look at `fault` of what this returns: it is None exactly if the log is whole."""
-    return _answers.read_events(*_library.ask(_LIBRARY.ima_events_json, (log,), _room_of_lines(log)))
+    before the end, look at `fault` of what this returns: it is None exactly if the log is whole.
+
+    >>> events = ima_verify.events(log)
+    >>> [algorithm.name for algorithm in events.algorithms], next(events).type
+    (['sha256'], 'EV_S_CRTM_VERSION')
+    """
+    return _answers.read_events(*_library.ask(_library.loaded().ima_verify_events_json, (log,), _room_of_lines(log)))
 
 
-def show(list: BytesLike) -> bytes:
+def show(measurements: BytesLike) -> bytes:
     """The entries of a measurement list, each in the kernel's form.
 
-    Paths stand as they are: they may have line feeds and control bytes. `entries` gives each by itself."""
-    size = memoryview(list).nbytes
-    return _answers.read_lines(*_answer_of(_LIBRARY.ima_show, (list,), _room_of_entries(size)), size == 0)
+    Paths stand as they are: they may have line feeds and control bytes. `entries` gives each by itself.
+
+    >>> ima_verify.show(measurements).splitlines()[1][-14:]
+    b'51aabe89 /init'
+    """
+    size = memoryview(measurements).nbytes
+    return _answers.read_lines(*_answer_of(_library.loaded().ima_verify_show, (measurements,), _room_of_entries(size)), size == 0)
 
 
 def _room_of_entries(size: int) -> int:

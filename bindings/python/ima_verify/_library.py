@@ -1,6 +1,7 @@
 """Finds the shared library, and calls it."""
 
 import ctypes
+import functools
 import os
 from ctypes import c_bool, c_char, c_int32, c_size_t, c_uint32, c_void_p
 from pathlib import Path
@@ -18,9 +19,19 @@ SYSTEM_NAME = "libima_verify.so.1"
 VARIABLE = "IMA_VERIFY_LIBRARY"
 
 # How many inputs each function takes that is called here.
-INPUTS = {"ima_verify_json": 3, "ima_verify_required_json": 4, "ima_locate_json": 3, "ima_locate_required_json": 4,
-          "ima_replay_required_json": 3, "ima_replay_json": 1, "ima_registers_json": 1, "ima_events_json": 1, "ima_entries_json": 1,
-          "ima_expected": 2, "ima_show": 1}
+INPUTS = {
+    "ima_verify_verdict_json": 3,
+    "ima_verify_required_json": 4,
+    "ima_verify_locate_json": 3,
+    "ima_verify_locate_required_json": 4,
+    "ima_verify_replay_required_json": 3,
+    "ima_verify_replay_json": 1,
+    "ima_verify_registers_json": 1,
+    "ima_verify_events_json": 1,
+    "ima_verify_entries_json": 1,
+    "ima_verify_expected": 2,
+    "ima_verify_show": 1,
+}
 
 # Of this one a switch comes after the inputs, and two texts come back.
 MORE, INPUTS_OF_MORE = "ima_verify_more_json", 5
@@ -55,6 +66,12 @@ def load() -> ctypes.CDLL:
     except (OSError, AttributeError) as error:
         raise ImportError(f"{file} is not there, or not the library (name it in {VARIABLE}): {error}") from error
     return library
+
+
+@functools.lru_cache(maxsize=None)
+def loaded() -> ctypes.CDLL:
+    """The library, which the first call loads. One that fails is made again by the next."""
+    return load()
 
 
 def ask(function: Callable[..., int], inputs: Sequence[BytesLike], room: int) -> Tuple[int, bytes]:

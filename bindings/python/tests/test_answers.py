@@ -77,21 +77,21 @@ class Buffers(unittest.TestCase):
 
     def test_text_longer_than_the_buffer_takes_a_second_call(self):
         for room in (1, 2, len(ASCII) // 2, len(ASCII) - 1):
-            counted = Counted(ima_verify._LIBRARY.ima_show)
+            counted = Counted(_library.loaded().ima_verify_show)
             self.assertEqual(_library.ask(counted, (LIST,), room), (0, ASCII))
             self.assertEqual(counted.calls, 2)
 
     def test_text_of_mebibytes_that_does_not_fit_takes_a_second_call(self):
         for room in (1, len(ASCII), 1 << 20):
-            self.assertEqual(_library.ask(ima_verify._LIBRARY.ima_show, (200 * LIST,), room), (0, 200 * ASCII))
+            self.assertEqual(_library.ask(_library.loaded().ima_verify_show, (200 * LIST,), room), (0, 200 * ASCII))
 
     def test_text_as_long_as_the_buffer_takes_one_call(self):
-        counted = Counted(ima_verify._LIBRARY.ima_show)
+        counted = Counted(_library.loaded().ima_verify_show)
         self.assertEqual(_library.ask(counted, (LIST,), len(ASCII)), (0, ASCII))
         self.assertEqual(counted.calls, 1)
 
     def test_report_longer_than_the_buffer(self):
-        status, text = _library.ask(ima_verify._LIBRARY.ima_verify_json, (LOG, LIST, EXPECTED), 100)
+        status, text = _library.ask(_library.loaded().ima_verify_verdict_json, (LOG, LIST, EXPECTED), 100)
         self.assertEqual(_answers.read_verdict(status, text), ima_verify.verify(LOG, LIST, EXPECTED))
 
     def test_entries_longer_than_the_buffer(self):
@@ -102,7 +102,7 @@ class Buffers(unittest.TestCase):
 
     def test_line_of_a_fault_longer_than_the_buffer(self):
         line = b'{"fault":{"kind":"log","number":1,"event":0,"message":"refused: log fault 1 at event 0"}}\n'
-        self.assertEqual(_library.ask(ima_verify._LIBRARY.ima_registers_json, (b"",), 5), (2, line))
+        self.assertEqual(_library.ask(_library.loaded().ima_verify_registers_json, (b"",), 5), (2, line))
 
     def test_first_buffer_is_large_enough(self):
         # Each entry is the smallest of its template, so its text is the longest for its size; the last has a long payload.
@@ -110,12 +110,12 @@ class Buffers(unittest.TestCase):
         ima = bytes(4) + 20 * b"x" + b"\3\0\0\0ima" + bytes(20) + b"\0\0\0\0"
         long = bytes(4) + 20 * b"x" + bytes(4) + (4000).to_bytes(4, "little") + bytes(4000)
         for data in (b"", b"x", smallest, 900 * smallest, 900 * ima, 9 * long, LIST):
-            counted = Counted(ima_verify._LIBRARY.ima_show)
+            counted = Counted(_library.loaded().ima_verify_show)
             _library.ask(counted, (data,), ima_verify._room_of_entries(len(data)))
             self.assertEqual(counted.calls, 1)
         every_register = "".join(f"{name} {number} {digits * '1'}\n" for name, digits in
                                  (("sha1", 40), ("sha256", 64), ("sha384", 96), ("sha512", 128)) for number in range(24)).encode()
-        counted = Counted(ima_verify._LIBRARY.ima_verify_json)
+        counted = Counted(_library.loaded().ima_verify_verdict_json)
         status, text = _library.ask(counted, (LOG, LIST, every_register), ima_verify._ROOM)
         self.assertEqual((status, counted.calls, len(_answers.read_verdict(status, text).rows)), (1, 1, 96))
         row = '{"bank":"sha512","register":23,"state":"differ","value":"' + 128 * "0" + '"},'
@@ -238,7 +238,6 @@ class Answers(unittest.TestCase):
         for words in ((0, b"", False), (0, LINES[:-1], False), (1, LINES, False), (0, LINES, True), (0, b"x", True), (1, b"", True)):
             self.check_wrong(_answers.read_lines, *words)
         self.assertEqual(_answers.read_lines(0, b"", True), b"")
-
 
     def test_result_that_states_a_fault_is_none(self):
         for read, status, text in (
@@ -480,9 +479,10 @@ class Failures(unittest.TestCase):
 class Loading(unittest.TestCase):
     """Where the library is found, and libraries that cannot be used."""
 
-    def importing(self, library, **settings):
+    def calling(self, library, **settings):
         environment = {**os.environ, "PYTHONPATH": str(ROOT / "bindings/python"), "IMA_VERIFY_LIBRARY": library, **settings}
-        words = [sys.executable, "-B", "-c", "import ima_verify; print(ima_verify._LIBRARY._name, ima_verify.version())"]
+        program = "import ima_verify; from ima_verify import _library; print(ima_verify.version(), _library.loaded()._name)"
+        words = [sys.executable, "-B", "-c", program]
         return subprocess.run(words, env=environment, stdout=subprocess.PIPE, stderr=subprocess.PIPE, timeout=60)
 
     def test_library_of_the_system_is_found_by_its_loader(self):
@@ -490,29 +490,37 @@ class Loading(unittest.TestCase):
             Path(name, "libima_verify.so.1").symlink_to(Path(_library._file()).resolve())
             hidden = shutil.ignore_patterns("*.so", "__pycache__")
             shutil.copytree(ROOT / "bindings/python/ima_verify", Path(name, "ima_verify"), ignore=hidden)
-            ended = self.importing("", PYTHONPATH=name, LD_LIBRARY_PATH=name)
-        self.assertEqual(ended.stdout.decode(), f"libima_verify.so.1 {ima_verify.version()}\n")
+            ended = self.calling("", PYTHONPATH=name, LD_LIBRARY_PATH=name)
+        self.assertEqual(ended.stdout.decode(), f"{ima_verify.version()} libima_verify.so.1\n")
 
     def test_named_library_goes_first(self):
         with tempfile.TemporaryDirectory() as name:
             named = Path(name, "other.so")
             named.symlink_to(Path(_library._file()).resolve())
-            ended = self.importing(str(named))
-        self.assertEqual(ended.stdout.decode(), f"{named} {ima_verify.version()}\n")
+            ended = self.calling(str(named))
+        self.assertEqual(ended.stdout.decode(), f"{ima_verify.version()} {named}\n")
 
     def test_library_of_an_earlier_version(self):
         later = ima_verify.version() + 1
         with unittest.mock.patch.object(_library, "VERSION", later):
             self.assertRaisesRegex(ImportError, f"has version {later - 1} of the interface, and {later} or later", _library.load)
 
+    def test_library_is_loaded_at_the_first_call(self):
+        program = ("import ima_verify; session = ima_verify.Session(b'', b''); print('imported')\n"
+                   "try: session.more(b'')\n"
+                   "except ImportError: print('not loaded')")
+        environment = {**os.environ, "PYTHONPATH": str(ROOT / "bindings/python"), "IMA_VERIFY_LIBRARY": "/nowhere/libima_verify.so"}
+        ended = subprocess.run([sys.executable, "-B", "-c", program], env=environment, stdout=subprocess.PIPE, timeout=60)
+        self.assertEqual((ended.returncode, ended.stdout), (0, b"imported\nnot loaded\n"))
+
     def test_library_that_is_not_there(self):
-        ended = self.importing("/nowhere/libima_verify.so")
+        ended = self.calling("/nowhere/libima_verify.so")
         self.assertNotEqual(ended.returncode, 0)
         self.assertIn(b"ImportError: /nowhere/libima_verify.so is not there, or not the library", ended.stderr)
 
     def test_library_without_the_functions(self):
         maps = Path("/proc/self/maps").read_text().splitlines()
-        ended = self.importing(next(line.split()[-1] for line in maps if ".so" in line and "libima_verify" not in line))
+        ended = self.calling(next(line.split()[-1] for line in maps if ".so" in line and "libima_verify" not in line))
         self.assertNotEqual(ended.returncode, 0)
         self.assertIn(b"is not there, or not the library", ended.stderr)
 

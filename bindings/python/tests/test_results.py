@@ -112,7 +112,8 @@ class Required(unittest.TestCase):
             self.assertTrue(function(LOG, LIST, text, require="sha256:0-22"))
             result = function(LOG, LIST, text, require="sha256:0-23,sha1:10")
             self.assertFalse(result)
-            missing = [(row.algorithm, row.register) for row in result.rows if kinds.MISSING in (getattr(row, "state", None), getattr(row, "place", None))]
+            missing = [(row.algorithm, row.register) for row in result.rows
+                       if kinds.MISSING in (getattr(row, "state", None), getattr(row, "place", None))]
             self.assertEqual(missing, [(Algorithm.SHA1, 10), (Algorithm.SHA256, 23)])
             self.assertEqual(result.rows[:23], function(LOG, LIST, text).rows)
         self.assertEqual(ima_verify.verify(LOG, LIST, text, require="sha256:0-23").compared, 23)
@@ -272,9 +273,9 @@ class ExpectedRegisters(unittest.TestCase):
 
     def test_what_no_register_follows_from_is_refused(self):
         printed_by_quote = (ROOT / "samples/quoted/tpm2_quote.txt").read_bytes()
-        for text, range, number in ((printed_by_quote, None, 4), (QUOTED[:QUOTED.index(b"sig:")], None, 5), (b"", None, 6), (QUOTED, "11", 6)):
+        for text, registers, number in ((printed_by_quote, None, 4), (QUOTED[:QUOTED.index(b"sig:")], None, 5), (b"", None, 6), (QUOTED, "11", 6)):
             with self.assertRaises(ima_verify.Refused) as caught:
-                ima_verify.expected(text, range)
+                ima_verify.expected(text, registers)
             found = caught.exception
             self.assertEqual((found.line, found.number, found.place), (f"refused: expected fault {number}", number, None))
 
@@ -426,8 +427,8 @@ class LogEvents(unittest.TestCase):
     HEADER = (number(0) + number(3) + bytes(20) + with_length(
         b"Spec ID Event03\0" + number(0) + b"\0\2\0\2" + number(2) + b"\x12\0\1\0" + b"\4\0\x14\0" + b"\0"))
 
-    def event(self, register, type, data, digests=b"\4\0" + bytes(20), count=1):
-        return number(register) + number(type) + number(count) + digests + with_length(data)
+    def event(self, register, type_number, data, digests=b"\4\0" + bytes(20), count=1):
+        return number(register) + number(type_number) + number(count) + digests + with_length(data)
 
     def test_events_of_the_sample(self):
         events = ima_verify.events(LOG)
@@ -656,12 +657,12 @@ class Threads(unittest.TestCase):
 
     def test_another_thread_runs_during_a_call(self):
         log = inputs.made_log([SHA256], 24)
-        log, list = log.spelling(), list_spelling(inputs.made_entries(log, inputs.made_measurements(20_000)))
+        log, measurements = log.spelling(), list_spelling(inputs.made_entries(log, inputs.made_measurements(20_000)))
         began, ended = threading.Event(), threading.Event()
 
         def run():
             began.set()
-            ima_verify.verify(log, list, "")
+            ima_verify.verify(log, measurements, "")
             ended.set()
 
         def runs_meanwhile():

@@ -19,7 +19,7 @@ sys.path[:0] = [str(ROOT / "bindings/python"), str(ROOT / "bench")]
 
 import ima_verify
 import inputs
-from ima_verify import Algorithm, BootAggregate, Kind, Row, Session, State, Unconfirmed, _answers, _library
+from ima_verify import Algorithm, BootAggregate, Kind, Session, State, Unconfirmed, _answers, _library
 from reference.measurement_list import read_list
 from reference.registers import ALGORITHMS, SHA256
 
@@ -193,7 +193,6 @@ class Growing(Refusing):
             self.assertEqual((again.state, again.offset), (session.state, ENDS[50]))
             self.assertEqual(again.more(LIST[ENDS[50]:]).confirmed, 99)
         self.assertEqual(session.offset, ENDS[50])
-
 
     def test_sessions_at_once_give_what_they_give_alone(self):
         wanted, right = [ima_verify.verify(LOG, LIST[:ENDS[cut]], EXPECTED) for cut in CUTS], []
@@ -377,7 +376,7 @@ class Buffers(unittest.TestCase):
     INPUTS = LOG, b"", LIST, EXPECTED, b"sha256:10"
 
     def ask(self, rooms, switches=(False,), inputs=INPUTS):
-        function, sizes = ima_verify._LIBRARY.ima_verify_more_json, []
+        function, sizes = _library.loaded().ima_verify_more_json, []
 
         def called(*words):
             sizes.append((words[-5], words[-2]))
@@ -418,7 +417,7 @@ def answering(status, state, text, needed=None):
                 size._obj.value = told
         return status
 
-    return unittest.mock.patch.object(ima_verify._LIBRARY, "ima_verify_more_json", function)
+    return unittest.mock.patch.object(_library.loaded(), "ima_verify_more_json", function)
 
 
 class Answers(unittest.TestCase):
@@ -483,7 +482,8 @@ class Answers(unittest.TestCase):
             (FRONT_WITH_FAULT, b'"number":1', b'"number":2'), (FRONT_WITH_FAULT, b'"number":1', b'"number":"1"'),
             (FRONT_WITH_FAULT, b'"number":1,', b""), (FRONT_WITH_FAULT, b'"kind":"replay"', b'"kind":"list"'),
             (FRONT_WITH_FAULT, b'"kind":"replay",', b""), (FRONT_WITH_FAULT, b"unconfirmed: ", b"refused: "),
-            (FRONT_WITH_FAULT, b"unconfirmed: ", b""), (FRONT_WITH_FAULT, b"unconfirmed: ", b"Unconfirmed: "), (FRONT_WITH_FAULT, b" 1 at", b" 01 at"), (FRONT_WITH_FAULT, b'"message"', b'"line"'),
+            (FRONT_WITH_FAULT, b"unconfirmed: ", b""), (FRONT_WITH_FAULT, b"unconfirmed: ", b"Unconfirmed: "),
+            (FRONT_WITH_FAULT, b" 1 at", b" 01 at"), (FRONT_WITH_FAULT, b'"message"', b'"line"'),
             (FRONT_WITH_FAULT, b'"entries":5', b'"entries":4'), (FRONT_WITH_FAULT, b'"entry":4', b'"event":4'),
             (FRONT_OF_CUT_LIST, b'"entries":5', b'"entries":6'), (FRONT_OF_CUT_LIST, b'"entries":5', b'"entries":4'),
         ):

@@ -20,11 +20,16 @@
 //!
 //! Any number of threads may call at once.
 
+#![deny(missing_docs)]
+
 mod answers;
 mod library;
 mod session;
 
 pub use session::Session;
+
+#[cfg(test)]
+mod tests;
 
 /// The example of the page runs.
 #[cfg(doctest)]
@@ -41,9 +46,13 @@ use std::iter::FusedIterator;
 #[serde(rename_all = "lowercase")]
 #[non_exhaustive]
 pub enum Algorithm {
+    /// SHA-1.
     Sha1,
+    /// SHA-256.
     Sha256,
+    /// SHA-384.
     Sha384,
+    /// SHA-512.
     Sha512,
 }
 
@@ -72,6 +81,7 @@ impl Algorithm {
 /// How the list's first entry compares with the registers after the log.
 #[derive(Debug, Clone, Copy, PartialEq, Eq, Hash, Deserialize)]
 #[serde(rename_all = "lowercase")]
+#[non_exhaustive]
 pub enum BootAggregate {
     /// It is the boot aggregate of these registers.
     Good,
@@ -86,7 +96,9 @@ pub enum BootAggregate {
 /// How a register compares with its expected value.
 #[derive(Debug, Clone, PartialEq, Eq, Hash, Deserialize)]
 #[serde(tag = "state", content = "value", rename_all = "lowercase")]
+#[non_exhaustive]
 pub enum State {
+    /// The register has its expected value.
     Match,
     /// The register has this value instead.
     Differ(#[serde(deserialize_with = "answers::bytes")] Vec<u8>),
@@ -98,11 +110,15 @@ pub enum State {
 
 /// An expected register, compared, or a required one that is missing.
 #[derive(Debug, Clone, PartialEq, Eq, Hash, Deserialize)]
+#[non_exhaustive]
 pub struct Row {
+    /// That of the register's bank.
     #[serde(rename = "bank")]
     pub algorithm: Algorithm,
+    /// The register's number, from 0 to 23.
     #[serde(deserialize_with = "answers::register")]
     pub register: u8,
+    /// How it compares.
     #[serde(flatten)]
     pub state: State,
 }
@@ -110,10 +126,15 @@ pub struct Row {
 /// The verdict on a log, a list and expected registers.
 #[derive(Debug, Clone, PartialEq, Eq, Hash)]
 #[must_use]
+#[non_exhaustive]
 pub struct Verdict {
+    /// How many events the log has after its header.
     pub events: u64,
+    /// The startup locality, as the log states it, else 0.
     pub locality: u8,
+    /// How many entries the list has.
     pub entries: u64,
+    /// How its first entry compares with the registers after the log.
     pub boot_aggregate: BootAggregate,
     /// A row for each expected register, in their order, and then one for each that is missing.
     pub rows: Vec<Row>,
@@ -131,11 +152,13 @@ pub struct Verdict {
 
 /// A fault of a list after its confirmed front, for which the list is not refused.
 #[derive(Debug, Clone, PartialEq, Eq, Hash)]
+#[non_exhaustive]
 pub struct Unconfirmed {
     /// As `unconfirmed: replay fault 1 at entry 98`.
     pub line: String,
     /// [`Kind::List`] or [`Kind::Replay`].
     pub kind: Kind,
+    /// The number of the fault.
     pub number: u64,
     /// The number of the entry.
     pub entry: u64,
@@ -151,7 +174,9 @@ impl Verdict {
 /// The verdict on a list without a log, and expected registers.
 #[derive(Debug, Clone, PartialEq, Eq, Hash)]
 #[must_use]
+#[non_exhaustive]
 pub struct ListVerdict {
+    /// How many entries the list has.
     pub entries: u64,
     /// A row for each expected register, in their order, and then one for each that is missing.
     pub rows: Vec<Row>,
@@ -175,6 +200,7 @@ fn compared(rows: &[Row]) -> usize {
 /// The earliest point at which a register has its expected value.
 #[derive(Debug, Clone, Copy, PartialEq, Eq, Hash, Deserialize)]
 #[serde(tag = "place", content = "number", rename_all = "lowercase")]
+#[non_exhaustive]
 pub enum Place {
     /// Before the events.
     Reset,
@@ -182,6 +208,7 @@ pub enum Place {
     Event(u64),
     /// After this entry of the list; entries count from 0.
     Entry(u64),
+    /// At no point.
     Nowhere,
     /// The log has no such bank.
     Absent,
@@ -191,11 +218,15 @@ pub enum Place {
 
 /// Where an expected register first has its value, or that a required one is missing.
 #[derive(Debug, Clone, Copy, PartialEq, Eq, Hash, Deserialize)]
+#[non_exhaustive]
 pub struct PlaceRow {
+    /// That of the register's bank.
     #[serde(rename = "bank")]
     pub algorithm: Algorithm,
+    /// The register's number, from 0 to 23.
     #[serde(deserialize_with = "answers::register")]
     pub register: u8,
+    /// Where it has its value.
     #[serde(flatten)]
     pub place: Place,
 }
@@ -203,6 +234,7 @@ pub struct PlaceRow {
 /// Where each expected register first has its value.
 #[derive(Debug, Clone, PartialEq, Eq, Hash)]
 #[must_use]
+#[non_exhaustive]
 pub struct Places {
     /// A row for each expected register, in their order, and then one for each that is missing.
     pub rows: Vec<PlaceRow>,
@@ -214,27 +246,36 @@ pub struct Places {
 
 /// A register and its value.
 #[derive(Debug, Clone, PartialEq, Eq, Hash, Deserialize)]
+#[non_exhaustive]
 pub struct Register {
+    /// That of the register's bank.
     #[serde(rename = "bank")]
     pub algorithm: Algorithm,
+    /// The register's number, from 0 to 23.
     #[serde(deserialize_with = "answers::register")]
     pub register: u8,
+    /// As many bytes as a digest of the algorithm.
     #[serde(deserialize_with = "answers::bytes")]
     pub value: Vec<u8>,
 }
 
 /// An entry of a measurement list; entries count from 0.
 #[derive(Debug, Clone, PartialEq, Eq, Hash)]
+#[non_exhaustive]
 pub struct Entry {
+    /// The entry's number.
     pub number: u64,
+    /// The register that it extends.
     pub register: u8,
     /// The template's name, which may be any bytes.
     pub template: Vec<u8>,
+    /// As the entry states it.
     pub template_digest: Vec<u8>,
     /// The template digest is all zeros: the file's digest may be anything.
     pub violation: bool,
     /// The template digest is that of what it covers, or the entry is a violation.
     pub genuine: bool,
+    /// What its payload is.
     pub content: Content,
 }
 
@@ -250,6 +291,7 @@ impl Entry {
 
 /// What an entry's payload is.
 #[derive(Debug, Clone, PartialEq, Eq, Hash)]
+#[non_exhaustive]
 pub enum Content {
     /// It has the fields of its template.
     File(File),
@@ -259,8 +301,11 @@ pub enum Content {
 
 /// What an entry says of a file.
 #[derive(Debug, Clone, PartialEq, Eq, Hash)]
+#[non_exhaustive]
 pub struct File {
+    /// That of the digest.
     pub algorithm: Algorithm,
+    /// The hash of the file's content.
     pub digest: Vec<u8>,
     /// Any bytes without a NUL.
     pub path: Vec<u8>,
@@ -270,22 +315,29 @@ pub struct File {
 
 /// An event of a firmware event log; events count from 1.
 #[derive(Debug, Clone, PartialEq, Eq, Hash)]
+#[non_exhaustive]
 pub struct Event {
+    /// The event's number.
     pub number: u64,
+    /// The register that it names.
     pub register: u32,
     /// The name of the type, if it has one.
     pub name: Option<String>,
+    /// The number of the type.
     pub type_number: u32,
     /// Those of the log's banks.
     pub digests: BTreeMap<Algorithm, Vec<u8>>,
+    /// What the firmware says of the event; nothing vouches for it.
     pub data: Vec<u8>,
 }
 
 /// An algorithm of a log's header.
 #[derive(Debug, Clone, PartialEq, Eq, Hash, Deserialize)]
+#[non_exhaustive]
 pub struct LogAlgorithm {
     /// The name, if the algorithm is known here.
     pub name: Option<String>,
+    /// Its number in TCG's registry.
     pub id: u16,
     /// The size of its digests in bytes.
     pub size: u16,
@@ -350,10 +402,13 @@ impl FusedIterator for Events {}
 #[derive(Debug, Clone, Copy, PartialEq, Eq, Hash)]
 #[non_exhaustive]
 pub enum Kind {
+    /// The firmware event log.
     Log,
+    /// The measurement list.
     List,
     /// An entry of the list is not genuine.
     Replay,
+    /// The text of expected registers, or what tpm2-tools printed.
     Expected,
     /// The state of a session: it is damaged (1), of another version (2), or of another boot (3).
     Checkpoint,
@@ -364,10 +419,13 @@ pub enum Kind {
 #[non_exhaustive]
 pub enum Error {
     /// An input is refused: `docs/formats.md` says what each fault means.
+    #[non_exhaustive]
     Refused {
         /// As `refused: replay fault 1 at entry 5`.
         line: String,
+        /// What is refused.
         kind: Kind,
+        /// The number of the fault.
         number: u64,
         /// The number of the event, the entry or the line, if the fault names one.
         place: Option<u64>,
@@ -377,7 +435,15 @@ pub enum Error {
     /// There is no memory for the call.
     OutOfMemory,
     /// The library answered what its header does not describe, so nothing is known of the inputs.
-    Unexpected { status: i32, needed: usize, text: Vec<u8> },
+    #[non_exhaustive]
+    Unexpected {
+        /// What the function returned.
+        status: i32,
+        /// The size that it told.
+        needed: usize,
+        /// The text that it gave.
+        text: Vec<u8>,
+    },
     /// The library has this version of the interface, which is too old.
     Version(u32),
 }

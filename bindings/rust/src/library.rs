@@ -2,13 +2,12 @@
 
 use crate::answers::Answer;
 use crate::Error;
+use ima_verify_sys as c;
 
-const VERSION: u32 = 2;
-pub(crate) const DONE: i32 = 0;
-pub(crate) const DIFFERS: i32 = 1;
-pub(crate) const REFUSED: i32 = 2;
-pub(crate) const OUT_OF_MEMORY: i32 = 3;
-pub(crate) const TOO_SHORT: i32 = 4;
+pub(crate) use c::{
+    IMA_VERIFY_DIFFERS as DIFFERS, IMA_VERIFY_DONE as DONE, IMA_VERIFY_OUT_OF_MEMORY as OUT_OF_MEMORY,
+    IMA_VERIFY_REFUSED as REFUSED, IMA_VERIFY_TOO_SHORT as TOO_SHORT,
+};
 
 /// Room for what is not made of each entry or event: four banks have 96 registers, and no row of these has more than 256 bytes. (A
 /// checkpoint has each register twice, in at most 140 bytes.)
@@ -22,56 +21,6 @@ pub(crate) fn room_of_entries(size: usize) -> usize {
 /// Room for most entries or events as JSON. (A control byte of a path takes six; then a second call is needed.)
 pub(crate) fn room_of_lines(size: usize) -> usize {
     size.saturating_mul(4).saturating_add(1024)
-}
-
-mod c {
-    /// The functions of one shape: inputs, each a pointer and a size, and then the output.
-    macro_rules! functions {
-        ($($name:ident($($input:ident $size:ident),*);)*) => {
-            extern "C" {
-                $(pub(super) fn $name($($input: *const u8, $size: usize,)* out: *mut u8, out_size: usize, needed: *mut usize) -> i32;)*
-            }
-        };
-    }
-
-    extern "C" {
-        pub(super) fn ima_verify_version() -> u32;
-
-        #[rustfmt::skip]
-        pub(super) fn ima_verify_more_json(
-            log: *const u8,
-            log_size: usize,
-            state: *const u8,
-            state_size: usize,
-            more: *const u8,
-            more_size: usize,
-            expected: *const u8,
-            expected_size: usize,
-            require: *const u8,
-            require_size: usize,
-            prefix: bool,
-            next: *mut u8,
-            next_size: usize,
-            next_needed: *mut usize,
-            out: *mut u8,
-            out_size: usize,
-            needed: *mut usize,
-        ) -> i32;
-    }
-
-    functions! {
-        ima_verify_json(log log_size, list list_size, expected expected_size);
-        ima_verify_required_json(log log_size, list list_size, expected expected_size, require require_size);
-        ima_locate_json(log log_size, list list_size, expected expected_size);
-        ima_locate_required_json(log log_size, list list_size, expected expected_size, require require_size);
-        ima_replay_required_json(list list_size, expected expected_size, require require_size);
-        ima_replay_json(list list_size);
-        ima_registers_json(log log_size);
-        ima_events_json(log log_size);
-        ima_entries_json(list list_size);
-        ima_expected(printed printed_size, registers registers_size);
-        ima_show(list list_size);
-    }
 }
 
 pub(crate) fn version() -> u32 {
@@ -93,17 +42,17 @@ macro_rules! calls {
 }
 
 calls! {
-    verify = ima_verify_json(log, list, expected);
+    verify = ima_verify_verdict_json(log, list, expected);
     verify_required = ima_verify_required_json(log, list, expected, require);
-    locate = ima_locate_json(log, list, expected);
-    locate_required = ima_locate_required_json(log, list, expected, require);
-    replay = ima_replay_required_json(list, expected, require);
-    list_registers = ima_replay_json(list);
-    registers = ima_registers_json(log);
-    events = ima_events_json(log);
-    entries = ima_entries_json(list);
-    expected = ima_expected(printed, registers);
-    show = ima_show(list);
+    locate = ima_verify_locate_json(log, list, expected);
+    locate_required = ima_verify_locate_required_json(log, list, expected, require);
+    replay = ima_verify_replay_required_json(list, expected, require);
+    list_registers = ima_verify_replay_json(list);
+    registers = ima_verify_registers_json(log);
+    events = ima_verify_events_json(log);
+    entries = ima_verify_entries_json(list);
+    expected = ima_verify_expected(printed, registers);
+    show = ima_verify_show(list);
 }
 
 /// The inputs of a session's call.
@@ -146,7 +95,7 @@ pub(crate) fn ask_for_texts<const N: usize>(
     rooms: [usize; N],
     mut call: impl FnMut(&mut [Vec<u8>; N]) -> (i32, [usize; N]),
 ) -> Result<(i32, [Vec<u8>; N]), Error> {
-    if version() < VERSION {
+    if version() < c::IMA_VERIFY_VERSION {
         return Err(Error::Version(version()));
     }
     let mut outs = buffers(rooms)?;

@@ -35,7 +35,7 @@ pub extern "C" fn ima_verify_version() -> u32
 /// The verdict on a firmware event log, a measurement list and expected registers, as `verify` writes it: 0 if it is `match`, 1 if it
 /// is `differ`.
 #[unsafe(no_mangle)]
-pub extern "C" fn ima_verify(
+pub extern "C" fn ima_verify_verdict(
     alloc: Global,
     log: &[u8],
     list: &[u8],
@@ -69,7 +69,7 @@ pub extern "C" fn ima_verify_required(
 /// Where expected registers first have their values in a firmware event log and a measurement list, as `locate` writes it: 0 if each
 /// was reached, else 1.
 #[unsafe(no_mangle)]
-pub extern "C" fn ima_locate(
+pub extern "C" fn ima_verify_locate(
     alloc: Global,
     log: &[u8],
     list: &[u8],
@@ -84,7 +84,7 @@ pub extern "C" fn ima_locate(
 
 /// The same, where `require` names registers that must be among the expected ones: 0 also needs that none is missing.
 #[unsafe(no_mangle)]
-pub extern "C" fn ima_locate_required(
+pub extern "C" fn ima_verify_locate_required(
     alloc: Global,
     log: &[u8],
     list: &[u8],
@@ -102,7 +102,7 @@ pub extern "C" fn ima_locate_required(
 /// The verdict on a measurement list without a log and expected registers, as `replay` writes it, where `require` is as in
 /// [`ima_verify_required`]: 0 if it is `match`, 1 if it is `differ`.
 #[unsafe(no_mangle)]
-pub extern "C" fn ima_replay_required(
+pub extern "C" fn ima_verify_replay_required(
     alloc: Global,
     list: &[u8],
     expected: &[u8],
@@ -119,7 +119,7 @@ pub extern "C" fn ima_replay_required(
 /// The expected registers that a text which tpm2_pcrread or tpm2_checkquote printed states within a range, as `0-10`, or all if that is
 /// empty, as `expected` writes them.
 #[unsafe(no_mangle)]
-pub extern "C" fn ima_expected(
+pub extern "C" fn ima_verify_expected(
     alloc: Global,
     printed: &[u8],
     registers: &[u8],
@@ -133,7 +133,7 @@ pub extern "C" fn ima_expected(
 
 /// The registers that differ from their reset values after a firmware event log, as `registers` writes them.
 #[unsafe(no_mangle)]
-pub extern "C" fn ima_registers(
+pub extern "C" fn ima_verify_registers(
     alloc: Global,
     log: &[u8],
     out: &mut [u8],
@@ -146,16 +146,16 @@ pub extern "C" fn ima_registers(
 
 /// The entries of a measurement list, as `show` writes them. A text that is longer than the buffer is counted, and never whole in memory.
 #[unsafe(no_mangle)]
-pub extern "C" fn ima_show(alloc: Global, list: &[u8], out: &mut [u8], needed: &mut usize) -> i32
+pub extern "C" fn ima_verify_show(alloc: Global, list: &[u8], out: &mut [u8], needed: &mut usize) -> i32
     ensures { Answers (IsEntriesAnswer list.now) result needed.new out.old out.new }
 {
     let asked = entries_within(alloc, list, out.len());
     give_fitted(alloc, asked, out, needed)
 }
 
-/// The verdict of [`ima_verify`] as `verify --json` writes it.
+/// The verdict of [`ima_verify_verdict`] as `verify --json` writes it.
 #[unsafe(no_mangle)]
-pub extern "C" fn ima_verify_json(
+pub extern "C" fn ima_verify_verdict_json(
     alloc: Global,
     log: &[u8],
     list: &[u8],
@@ -186,9 +186,9 @@ pub extern "C" fn ima_verify_required_json(
     give_json(alloc, asked, out, needed)
 }
 
-/// The places of [`ima_locate`] as `locate --json` writes them.
+/// The places of [`ima_verify_locate`] as `locate --json` writes them.
 #[unsafe(no_mangle)]
-pub extern "C" fn ima_locate_json(
+pub extern "C" fn ima_verify_locate_json(
     alloc: Global,
     log: &[u8],
     list: &[u8],
@@ -202,9 +202,9 @@ pub extern "C" fn ima_locate_json(
     give_json(alloc, asked, out, needed)
 }
 
-/// The places of [`ima_locate_required`] as `locate --json` writes them.
+/// The places of [`ima_verify_locate_required`] as `locate --json` writes them.
 #[unsafe(no_mangle)]
-pub extern "C" fn ima_locate_required_json(
+pub extern "C" fn ima_verify_locate_required_json(
     alloc: Global,
     log: &[u8],
     list: &[u8],
@@ -219,9 +219,9 @@ pub extern "C" fn ima_locate_required_json(
     give_json(alloc, asked, out, needed)
 }
 
-/// The verdict of [`ima_replay_required`] as `replay --json` writes it.
+/// The verdict of [`ima_verify_replay_required`] as `replay --json` writes it.
 #[unsafe(no_mangle)]
-pub extern "C" fn ima_replay_required_json(
+pub extern "C" fn ima_verify_replay_required_json(
     alloc: Global,
     list: &[u8],
     expected: &[u8],
@@ -237,7 +237,7 @@ pub extern "C" fn ima_replay_required_json(
 
 /// The registers that differ from their reset values after a measurement list without a log, as `replay --json` writes them.
 #[unsafe(no_mangle)]
-pub extern "C" fn ima_replay_json(
+pub extern "C" fn ima_verify_replay_json(
     alloc: Global,
     list: &[u8],
     out: &mut [u8],
@@ -338,7 +338,7 @@ fn extent_by(prefix: bool) -> Extent
 
 /// The registers that differ from their reset values after a firmware event log, as `registers --json` writes them.
 #[unsafe(no_mangle)]
-pub extern "C" fn ima_registers_json(
+pub extern "C" fn ima_verify_registers_json(
     alloc: Global,
     log: &[u8],
     out: &mut [u8],
@@ -352,7 +352,7 @@ pub extern "C" fn ima_registers_json(
 /// The algorithms and the events of a firmware event log, as `events --json` writes them: of a damaged one those before its fault, and
 /// then the fault, with status 2.
 #[unsafe(no_mangle)]
-pub extern "C" fn ima_events_json(
+pub extern "C" fn ima_verify_events_json(
     alloc: Global,
     log: &[u8],
     out: &mut [u8],
@@ -366,7 +366,7 @@ pub extern "C" fn ima_events_json(
 /// The entries of a measurement list, as `show --json` writes them: of a damaged one those before its fault, and then the fault, with
 /// status 2. A text that is longer than the buffer is counted, and never whole in memory.
 #[unsafe(no_mangle)]
-pub extern "C" fn ima_entries_json(
+pub extern "C" fn ima_verify_entries_json(
     alloc: Global,
     list: &[u8],
     out: &mut [u8],

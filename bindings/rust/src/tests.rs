@@ -1,0 +1,5 @@
+//! What the crate answers, by the library.
+
+mod listing;
+mod sample;
+mod session;

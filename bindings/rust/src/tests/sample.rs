@@ -1,0 +1,393 @@
+//! What the crate answers about the sample, one boot whose registers were read from the TPM after the list, and about changes
+//! of it.
+
+use crate::{expected as expected_from, list_registers, locate, locate_required, registers, replay_required, show};
+use crate::{verify, verify_required, version};
+use crate::{Algorithm, BootAggregate, Error, Kind, Place, PlaceRow, Register, Row, State, Verdict};
+use std::sync::Barrier;
+use std::thread;
+
+/// What README gives for register 10 after the list that went on.
+const AFTER_LONGER: &str = "a2bcf779880ae33077f9e7992851299f30cea5f6cffc6512de6cd10aa457a7f3";
+const LAST_ENTRY_SIZE: usize = 95;
+
+fn sample(name: &str) -> Vec<u8> {
+    std::fs::read(format!("{}/../../samples/real-boot/{name}", env!("CARGO_MANIFEST_DIR"))).unwrap()
+}
+
+fn log() -> Vec<u8> {
+    sample("firmware.log")
+}
+
+fn list() -> Vec<u8> {
+    sample("ima.list")
+}
+
+fn expected() -> Vec<u8> {
+    sample("expected.txt")
+}
+
+/// The list, with its last entry once more.
+fn longer() -> Vec<u8> {
+    let list = list();
+    [&list[..], &list[list.len() - LAST_ENTRY_SIZE..]].concat()
+}
+
+/// The list, with a byte of entry 5 changed.
+fn changed() -> Vec<u8> {
+    let mut list = list();
+    let name = b"/bin/helper";
+    let at = list.windows(name.len()).position(|bytes| bytes == name).unwrap();
+    list[at + name.len() - 1] = b'x';
+    list
+}
+
+fn from_hex(digits: &str) -> Vec<u8> {
+    (0..digits.len()).step_by(2).map(|at| u8::from_str_radix(&digits[at..at + 2], 16).unwrap()).collect()
+}
+
+/// The registers of lines as `sha256 10 <value>`; all samples are of this bank.
+fn registers_in(text: &[u8]) -> Vec<Register> {
+    let register_of = |line: &str| {
+        let (register, digits) = line.strip_prefix("sha256 ").unwrap().split_once(' ').unwrap();
+        Register { algorithm: Algorithm::Sha256, register: register.parse().unwrap(), value: from_hex(digits) }
+    };
+    std::str::from_utf8(text).unwrap().lines().map(register_of).collect()
+}
+
+fn matching(register: u8) -> Row {
+    Row { algorithm: Algorithm::Sha256, register, state: State::Match }
+}
+
+fn refused(line: &str, kind: Kind, number: u64, place: Option<u64>) -> Error {
+    Error::Refused { line: line.to_owned(), kind, number, place }
+}
+
+#[test]
+fn verdict_on_the_sample_is_a_match() {
+    let rows: Vec<_> = (0..24).map(matching).collect();
+    let row = |register| format!(r#"{{"bank":"sha256","register":{register},"state":"match"}}"#);
+    let lines = (0..24).map(row).collect::<Vec<_>>().join(",");
+    let front = r#"{"events":24,"locality":0,"entries":99,"boot_aggregate":"good","registers":["#;
+    let json = format!("{front}{lines}],\"verdict\":\"match\"}}");
+    let wanted = Verdict {
+        events: 24,
+        locality: 0,
+        entries: 99,
+        boot_aggregate: BootAggregate::Good,
+        rows,
+        matches: true,
+        json,
+        confirmed: None,
+        unconfirmed: None,
+    };
+    assert_eq!(verify(&log(), &list(), &expected()).unwrap(), wanted);
+}
+
+#[test]
+fn registers_are_those_of_the_sample() {
+    assert_eq!(registers(&log()).unwrap(), registers_in(&sample("registers.txt")));
+}
+
+#[test]
+fn entries_are_the_kernels_text() {
+    assert_eq!(show(&list()).unwrap(), sample("ima.ascii"));
+}
+
+#[test]
+fn list_that_went_on_differs_in_register_10() {
+    let verdict = verify(&log(), &longer(), &expected()).unwrap();
+    assert_eq!((verdict.matches, verdict.entries, verdict.boot_aggregate), (false, 100, BootAggregate::Good));
+    let mut wanted: Vec<_> = (0..24).map(matching).collect();
+    wanted[10].state = State::Differ(from_hex(AFTER_LONGER));
+    assert_eq!(verdict.rows, wanted);
+}
+
+#[test]
+fn list_that_went_on_is_located_before_its_end() {
+    let places = locate(&log(), &longer(), &expected()).unwrap();
+    assert!(places.located);
+    assert_eq!(places.rows.len(), 24);
+    assert_eq!(places.rows[10], PlaceRow { algorithm: Algorithm::Sha256, register: 10, place: Place::Entry(98) });
+    let after_log: Vec<_> = registers_in(&sample("registers.txt")).iter().map(|register| register.register).collect();
+    for row in &places.rows {
+        match row.place {
+            Place::Event(event) => assert!((1..=24).contains(&event) && after_log.contains(&row.register)),
+            Place::Entry(_) => assert_eq!(row.register, 10),
+            place => assert!(place == Place::Reset && !after_log.contains(&row.register)),
+        }
+    }
+}
+
+#[test]
+fn expected_registers_may_be_absent_or_reached_nowhere() {
+    let text = format!("sha1 10 {}\nsha256 10 {}", "0".repeat(40), "1".repeat(64));
+    let verdict = verify(&log(), &longer(), text.as_bytes()).unwrap();
+    let places = locate(&log(), &longer(), text.as_bytes()).unwrap();
+    assert!(!verdict.matches && !places.located);
+    let absent = Row { algorithm: Algorithm::Sha1, register: 10, state: State::Absent };
+    let differing = Row { algorithm: Algorithm::Sha256, register: 10, state: State::Differ(from_hex(AFTER_LONGER)) };
+    assert_eq!(verdict.rows, [absent, differing]);
+    let found: Vec<_> = places.rows.iter().map(|row| (row.algorithm, row.register, row.place)).collect();
+    assert_eq!(found, [(Algorithm::Sha1, 10, Place::Absent), (Algorithm::Sha256, 10, Place::Nowhere)]);
+}
+
+#[test]
+fn all_required_registers_are_expected() {
+    for require in ["sha256:0-10", "sha256:0-23", "sha256:10,sha256:0-7"] {
+        let verdict = verify_required(&log(), &list(), &expected(), require).unwrap();
+        assert_eq!((verdict.matches, verdict.compared(), verdict.entries), (true, 24, 99));
+        assert_eq!(verdict.rows, verify(&log(), &list(), &expected()).unwrap().rows);
+        assert_eq!(locate_required(&log(), &list(), &expected(), require), locate(&log(), &list(), &expected()));
+    }
+    let verdict = verify_required(&log(), &longer(), &expected(), "sha256:10").unwrap();
+    assert!(!verdict.matches && matches!(verdict.rows[10].state, State::Differ(_)));
+}
+
+#[test]
+fn required_register_that_is_not_expected_is_missing() {
+    let all = expected();
+    let text = &all[..all.len() - "sha256 23 \n".len() - 64];
+    assert!(verify_required(&log(), &list(), text, "sha256:0-22").unwrap().matches);
+    let missing = [(Algorithm::Sha1, 10), (Algorithm::Sha256, 23)];
+    let verdict = verify_required(&log(), &list(), text, "sha256:0-23,sha1:10").unwrap();
+    assert_eq!((verdict.matches, verdict.compared()), (false, 23));
+    assert_eq!(verdict.rows[..23], verify(&log(), &list(), text).unwrap().rows);
+    assert_eq!(verdict.rows[23..], missing.map(|(algorithm, register)| Row { algorithm, register, state: State::Missing }));
+    let places = locate_required(&log(), &list(), text, "sha256:0-23,sha1:10").unwrap();
+    assert!(!places.located);
+    assert_eq!(places.rows[..23], locate(&log(), &list(), text).unwrap().rows);
+    assert_eq!(places.rows[23..], missing.map(|(algorithm, register)| PlaceRow { algorithm, register, place: Place::Missing }));
+}
+
+#[test]
+fn nothing_expected_never_matches() {
+    for empty in [b"".as_slice(), b"\n"] {
+        let verdict = verify_required(&log(), &list(), empty, "sha256:10").unwrap();
+        assert_eq!((verdict.matches, verdict.compared(), verdict.rows.len()), (false, 0, 1));
+        let places = locate_required(&log(), &list(), empty, "sha256:10").unwrap();
+        assert_eq!((places.located, places.rows[0].place), (false, Place::Missing));
+    }
+}
+
+/// The line of register 10, which the sample's list alone extends.
+fn tenth() -> Vec<u8> {
+    expected().split_inclusive(|byte| *byte == b'\n').nth(10).unwrap().to_vec()
+}
+
+#[test]
+fn register_of_the_list_alone_matches() {
+    let verdict = replay_required(&list(), &tenth(), "sha256:10").unwrap();
+    assert_eq!((verdict.matches, verdict.entries, verdict.compared()), (true, 99, 1));
+    let json = r#"{"entries":99,"registers":[{"bank":"sha256","register":10,"state":"match"}],"verdict":"match"}"#;
+    assert_eq!((verdict.rows, verdict.json.as_str()), (vec![matching(10)], json));
+    let verdict = replay_required(&longer(), &tenth(), "sha256:10").unwrap();
+    assert_eq!((verdict.matches, verdict.entries, &verdict.rows[0].state), (false, 100, &State::Differ(from_hex(AFTER_LONGER))));
+}
+
+#[test]
+fn registers_of_the_firmware_differ_after_the_list_alone() {
+    let verdict = replay_required(&list(), &expected(), "sha256:0-23").unwrap();
+    assert_eq!((verdict.matches, verdict.compared()), (false, 24));
+    assert_eq!(verdict.rows[0].state, State::Differ(vec![0; 32]));
+    let differing: Vec<_> = verdict.rows.iter().filter(|row| row.state != State::Match).map(|row| row.register).collect();
+    let after_log: Vec<_> = registers_in(&sample("registers.txt")).iter().map(|register| register.register).collect();
+    assert_eq!(differing, after_log);
+}
+
+#[test]
+fn list_alone_never_matches_without_its_registers_or_entries() {
+    let missing = Row { algorithm: Algorithm::Sha1, register: 10, state: State::Missing };
+    let verdict = replay_required(&list(), &tenth(), "sha1:10,sha256:10").unwrap();
+    assert_eq!((verdict.matches, verdict.compared(), verdict.rows), (false, 1, vec![matching(10), missing.clone()]));
+    let verdict = replay_required(&list(), &[], "sha1:10").unwrap();
+    assert_eq!((verdict.matches, verdict.compared(), verdict.rows), (false, 0, vec![missing]));
+    let verdict = replay_required(&[], format!("sha256 10 {}", "0".repeat(64)).as_bytes(), "sha256:10").unwrap();
+    assert_eq!((verdict.matches, verdict.entries, verdict.rows), (false, 0, vec![matching(10)]));
+}
+
+#[test]
+fn list_alone_is_refused() {
+    let list = list();
+    let wanted = refused("refused: replay fault 1 at entry 5", Kind::Replay, 1, Some(5));
+    assert_eq!(replay_required(&changed(), &tenth(), "sha256:10").unwrap_err(), wanted);
+    let wanted = refused("refused: list fault 1 at entry 98", Kind::List, 1, Some(98));
+    assert_eq!(replay_required(&list[..list.len() - 1], &tenth(), "sha256:10").unwrap_err(), wanted);
+    let wanted = refused("refused: expected fault 1 at line 1", Kind::Expected, 1, Some(1));
+    assert_eq!(replay_required(&list[..1], b"x", "sha256:10").unwrap_err(), wanted);
+}
+
+#[test]
+fn wrong_requirement_or_range_is_malformed() {
+    for require in ["", "sha256", "sha256:24", "sha256:10-0", "sha256:0-10,", "sha256: 0", "none", "0-10", "\u{e4}"] {
+        assert_eq!(verify_required(&[], &[], &[], require).unwrap_err(), Error::Malformed, "{require:?}");
+        assert_eq!(locate_required(&[], &[], &[], require).unwrap_err(), Error::Malformed, "{require:?}");
+        assert_eq!(replay_required(&[], &[], require).unwrap_err(), Error::Malformed, "{require:?}");
+    }
+    for range in ["24", "10-0", "0-", "-", " ", "sha256:0"] {
+        assert_eq!(expected_from(&sample("tpm2_pcrread.txt"), Some(range)).unwrap_err(), Error::Malformed, "{range:?}");
+    }
+}
+
+#[test]
+fn inputs_are_refused_as_without_a_requirement() {
+    let (log, list, expected) = (log(), list(), expected());
+    for (log, list, expected) in [(&log[..], &changed()[..], &expected[..]), (&log[..31], &list, &expected), (&log, &list, b"x")]
+    {
+        assert_eq!(verify_required(log, list, expected, "sha256:0"), verify(log, list, expected));
+        assert_eq!(locate_required(log, list, expected, "sha256:0"), locate(log, list, expected));
+    }
+}
+
+#[test]
+fn expected_registers_are_those_that_were_printed() {
+    let printed = sample("tpm2_pcrread.txt");
+    assert_eq!(expected_from(&printed, None).unwrap(), expected());
+    let some = expected_from(&printed, Some("0-10")).unwrap();
+    assert_eq!(registers_in(&some), registers_in(&expected())[..11]);
+    assert!(verify_required(&log(), &list(), &some, "sha256:0-10").unwrap().matches);
+    assert!(!verify_required(&log(), &list(), &some, "sha256:0-11").unwrap().matches);
+    let wanted = refused("refused: expected fault 1 at line 1", Kind::Expected, 1, Some(1));
+    assert_eq!(expected_from(&expected(), None).unwrap_err(), wanted);
+    let wanted = refused("refused: expected fault 6", Kind::Expected, 6, None);
+    assert_eq!(expected_from(b"", None).unwrap_err(), wanted);
+}
+
+#[test]
+fn version_is_that_of_the_header() {
+    let header = std::fs::read_to_string(format!("{}/../../include/ima_verify.h", env!("CARGO_MANIFEST_DIR"))).unwrap();
+    let (_, rest) = header.split_once("#define IMA_VERIFY_VERSION ").unwrap();
+    assert!(version() >= rest.lines().next().unwrap().parse().unwrap());
+}
+
+#[test]
+fn changed_entry_is_not_genuine() {
+    let wanted = refused("refused: replay fault 1 at entry 5", Kind::Replay, 1, Some(5));
+    assert_eq!(verify(&log(), &changed(), &expected()).unwrap_err(), wanted);
+    assert_eq!(locate(&log(), &changed(), &expected()).unwrap_err(), wanted);
+    assert_eq!(wanted.to_string(), "refused: replay fault 1 at entry 5");
+}
+
+#[test]
+fn log_that_is_cut_is_refused() {
+    let log = log();
+    let header = refused("refused: log fault 1 at event 0", Kind::Log, 1, Some(0));
+    assert_eq!(verify(&log[..31], &list(), &expected()).unwrap_err(), header);
+    let last = refused("refused: log fault 1 at event 24", Kind::Log, 1, Some(24));
+    assert_eq!(registers(&log[..log.len() - 1]).unwrap_err(), last);
+}
+
+#[test]
+fn log_of_another_form_has_no_place() {
+    assert_eq!(registers(&[0; 32]).unwrap_err(), refused("refused: log fault 2", Kind::Log, 2, None));
+}
+
+#[test]
+fn list_that_is_cut_is_refused() {
+    let list = list();
+    let wanted = refused("refused: list fault 1 at entry 98", Kind::List, 1, Some(98));
+    assert_eq!(show(&list[..list.len() - 1]).unwrap_err(), wanted);
+}
+
+#[test]
+fn expected_registers_of_another_form_are_refused() {
+    let text = [expected(), format!("sha256 24 {}", "0".repeat(64)).into_bytes()].concat();
+    let wanted = refused("refused: expected fault 1 at line 25", Kind::Expected, 1, Some(25));
+    assert_eq!(verify(&log(), &list(), &text).unwrap_err(), wanted);
+    let twice = [expected(), expected()].concat();
+    let wanted = refused("refused: expected fault 2 at line 25", Kind::Expected, 2, Some(25));
+    assert_eq!(locate(&log(), &list(), &twice).unwrap_err(), wanted);
+}
+
+#[test]
+fn errors_say_what_is_wrong() {
+    for (error, text) in [
+        (Error::Malformed, "the text names no registers in its form, as sha256:0-10 or 0-10"),
+        (Error::OutOfMemory, "no memory for libima_verify"),
+        (Error::Unexpected { status: 5, needed: 10, text: Vec::new() }, "libima_verify answered status 5 and size 10"),
+        (Error::Version(1), "libima_verify has version 1 of the interface"),
+    ] {
+        assert_eq!(error.to_string(), text);
+    }
+}
+
+#[test]
+fn input_is_taken_whole() {
+    let text = ["\n".repeat(1 << 24).as_bytes(), b"x"].concat();
+    let wanted = refused("refused: expected fault 1 at line 16777217", Kind::Expected, 1, Some((1 << 24) + 1));
+    assert_eq!(verify(&log(), &list(), &text).unwrap_err(), wanted);
+}
+
+#[test]
+fn inputs_without_bytes() {
+    let cut = refused("refused: log fault 1 at event 0", Kind::Log, 1, Some(0));
+    assert_eq!(registers(&[]).unwrap_err(), cut);
+    assert_eq!(verify(&[], &[], &[]).unwrap_err(), cut);
+    assert_eq!(show(&[]).unwrap(), b"");
+    let verdict = verify(&log(), &[], &expected()).unwrap();
+    assert_eq!((verdict.matches, verdict.entries, verdict.boot_aggregate), (false, 0, BootAggregate::Missing));
+    for empty in ["", "\n", "\r\n\n"] {
+        let verdict = verify(&log(), &list(), empty.as_bytes()).unwrap();
+        assert_eq!((verdict.matches, verdict.compared(), verdict.boot_aggregate), (false, 0, BootAggregate::Good));
+        assert_eq!(verdict.rows, []);
+        let places = locate(&log(), &list(), empty.as_bytes()).unwrap();
+        let json = r#"{"registers":[],"located":true}"#;
+        assert_eq!((places.located, places.rows.len(), places.json.as_str()), (false, 0, json));
+    }
+}
+
+#[test]
+fn registers_that_are_expected_have_rows() {
+    let all: Vec<_> = [Algorithm::Sha512, Algorithm::Sha1, Algorithm::Sha384, Algorithm::Sha256]
+        .into_iter()
+        .flat_map(|algorithm| (0..24).map(move |register| (algorithm, register)))
+        .collect();
+    let line = |(algorithm, register): &(Algorithm, u8)| {
+        format!("{} {register} {}\r\n", algorithm.name(), "0".repeat(2 * algorithm.digest_size()))
+    };
+    let text: String = all.iter().map(line).collect();
+    let verdict = verify(&log(), &list(), text.as_bytes()).unwrap();
+    assert_eq!(verdict.rows.iter().map(|row| (row.algorithm, row.register)).collect::<Vec<_>>(), all);
+    assert_eq!(verdict.compared(), 96);
+    let places = locate(&log(), &list(), text.as_bytes()).unwrap();
+    assert_eq!(places.rows.iter().map(|row| (row.algorithm, row.register)).collect::<Vec<_>>(), all);
+}
+
+#[test]
+fn registers_after_the_list_alone() {
+    let found = list_registers(&list()).unwrap();
+    let names: Vec<_> = found.iter().map(|register| (register.algorithm.name(), register.register)).collect();
+    assert_eq!(names, [("sha1", 10), ("sha256", 10), ("sha384", 10), ("sha512", 10)]);
+    assert_eq!(found[1], registers_in(&tenth())[0]);
+    assert_eq!(list_registers(&[]).unwrap(), []);
+    let wanted = refused("refused: replay fault 1 at entry 5", Kind::Replay, 1, Some(5));
+    assert_eq!(list_registers(&changed()).unwrap_err(), wanted);
+}
+
+#[test]
+fn calls_at_once_give_what_they_give_alone() {
+    const THREADS: usize = 8;
+    let (log, list, longer, changed, expected) = (log(), list(), longer(), changed(), expected());
+    let (verdict, differing) = (verify(&log, &list, &expected), verify(&log, &longer, &expected));
+    let places = locate(&log, &longer, &expected);
+    assert!(verdict.is_ok() && differing.is_ok() && places.is_ok());
+    let (after_log, ascii) = (registers_in(&sample("registers.txt")), sample("ima.ascii"));
+    let start = Barrier::new(THREADS);
+    let run = || {
+        start.wait();
+        for _ in 0..100 {
+            assert_eq!(verify(&log, &list, &expected), verdict);
+            assert_eq!(verify(&log, &longer, &expected), differing);
+            assert_eq!(locate(&log, &longer, &expected), places);
+            assert_eq!(registers(&log).as_ref(), Ok(&after_log));
+            assert_eq!(show(&list).as_ref(), Ok(&ascii));
+            let wanted = refused("refused: replay fault 1 at entry 5", Kind::Replay, 1, Some(5));
+            assert_eq!(verify(&log, &changed, &expected), Err(wanted));
+        }
+    };
+    thread::scope(|scope| {
+        for _ in 0..THREADS {
+            scope.spawn(run);
+        }
+    });
+}
