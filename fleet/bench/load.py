@@ -8,7 +8,7 @@ the registers that these make; a worker is killed every SECONDS (10). Scheduler,
 their own, which listen on 127.0.0.1 alone. It ends by itself, after half an hour at the latest.
 
 It prints how much memory client and scheduler have from tenth to tenth of the machines, and at the end what was killed and what was verified
-twice. The status is 0 if workers were killed, every machine has its verdict, a match, and the client wrote no traceback."""
+twice. The status is 0 if workers were killed and others took their places, every machine has its verdict, a match, and the client wrote no traceback."""
 
 import os
 import signal
@@ -88,11 +88,11 @@ def run(processes, count, entries, seconds):
     calls = len((processes.folder / "calls").read_text().split())
     ((workers,),) = query(verdicts, "SELECT count(DISTINCT worker) FROM verdicts")
     print(f"\n{count:,} machines of {entries:,} entries in {took:.0f} seconds: status {load.client.returncode}, {rows}; {load.kills} workers "
-          f"killed, {workers} workers in all, {calls - count} machines verified twice")
+          f"killed, {workers} workers gave verdicts, {calls - count} machines were verified twice")
     said = (processes.folder / "clients").read_text()
     if "Traceback" in said:
         print(said[-3000:])
-    return load.client.returncode == 0 and rows == {"match": count} and 0 < load.kills and "Traceback" not in said
+    return load.client.returncode == 0 and rows == {"match": count} and workers > WORKERS and "Traceback" not in said
 
 
 def main():

@@ -28,7 +28,7 @@ CREATE TABLE verdicts (
     interface_version INTEGER, worker TEXT, time TEXT NOT NULL,
     poll INTEGER REFERENCES polls, -- which poll gave it; NULL if none did
     report TEXT CHECK (report IS NULL OR json_valid(report)) -- as `ima-agent verify --json` prints it, if there is one
-) WITHOUT ROWID;
+);
 CREATE VIEW registers (machine, algorithm, register, state, value) AS
     SELECT machine, json_extract(row.value, '$.bank'), json_extract(row.value, '$.register'), json_extract(row.value, '$.state'),
         json_extract(row.value, '$.value') FROM verdicts, json_each(report, '$.registers') AS row;

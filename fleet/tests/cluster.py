@@ -5,7 +5,7 @@ import shutil
 import subprocess
 import sys
 import time
-from contextlib import contextmanager
+from contextlib import contextmanager, suppress
 from dataclasses import dataclass, field
 from pathlib import Path
 from typing import Optional, Tuple
@@ -42,11 +42,20 @@ def environment_of(library, folder):
 
 
 def children_of(process):
-    """The processes that a process started, by their numbers, of its main thread."""
+    """The processes that a process started, by their numbers, but for the one by which Python's `multiprocessing` cleans up."""
+    found = []
+    with suppress(FileNotFoundError):
+        for thread in Path(f"/proc/{process}/task").iterdir():
+            found += map(int, (thread / "children").read_text().split())
+    return [child for child in found if b"resource_tracker" not in command_of(child)]
+
+
+def command_of(process):
+    """The arguments of a process, of which one that has ended has none."""
     try:
-        return [int(word) for word in Path(f"/proc/{process}/task/{process}/children").read_text().split()]
+        return Path(f"/proc/{process}/cmdline").read_bytes()
     except FileNotFoundError:
-        return []
+        return b""
 
 
 @dataclass
