@@ -89,9 +89,10 @@ async def connect(scheduler: Optional[str], workers: Optional[int]) -> AsyncIter
         return
     assert workers is not None
     with nursery(workers) as own:
-        from distributed import Client, Scheduler
+        from distributed import Client, Scheduler, versions
 
         _quiet()
+        versions.optional_packages = []
         async with Scheduler(host=LOCAL, port=0, dashboard=False, dashboard_address=f"{LOCAL}:0") as started:
             assert own.stdin is not None
             with suppress(OSError):  # (that it is gone is found when workers are looked for)

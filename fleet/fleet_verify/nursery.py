@@ -25,12 +25,11 @@ def load() -> None:
     import logging
 
     import dask
-    import distributed  # noqa: F401
-    from distributed.versions import get_versions
+    from distributed import versions
 
     dask.config.set(SETTINGS)
     logging.disable(logging.CRITICAL)
-    get_versions()  # (which loads what it tells of)
+    versions.optional_packages = []  # (as in the client: to tell of them Dask would load pandas)
 
 
 def work(address: str, folder: str) -> None:
@@ -91,14 +90,14 @@ def keep(count: int, address: str, folder: str) -> None:
         print(f"{failed_starts} workers ended in their first second", flush=True)
 
 
-def main() -> int:
+def main() -> None:
     count, folder = int(sys.argv[1]), sys.argv[2]
     load()
     address = sys.stdin.readline().strip()
     if address:
         keep(count, address, folder)
-    return 0
+    os._exit(0)  # (nothing is left to do, and the client waits)
 
 
 if __name__ == "__main__":
-    sys.exit(main())
+    main()
