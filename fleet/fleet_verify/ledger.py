@@ -6,6 +6,7 @@ from collections import deque
 from concurrent.futures import ThreadPoolExecutor
 from typing import Callable, Deque, Dict, List, Optional, Sequence, Tuple
 
+from .ending import CannotGoOn
 from .machines import Machine
 from .verdicts import BadVerdicts, Verdicts
 from .work import Fields
@@ -13,10 +14,6 @@ from .work import Fields
 # A machine with its checkpoint, and with what a worker answers.
 Task = Tuple[Machine, Optional[bytes]]
 Answer = Tuple[Machine, Fields]
-
-
-class CannotGoOn(Exception):
-    """The run cannot go on; the text says why."""
 
 
 class Ledger:

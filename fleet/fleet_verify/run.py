@@ -12,7 +12,8 @@ from dataclasses import dataclass, field
 from typing import Any, Dict, Iterator, List, Optional, Set
 
 from .connection import Connection
-from .ledger import CannotGoOn, Ledger, Task
+from .ending import CannotGoOn
+from .ledger import Ledger, Task
 from .progress import Progress
 from .verdicts import VERDICTS
 from .work import TROUBLED, UNFIT, Fields, cause_of, now, verify_batch

@@ -11,7 +11,7 @@ from pathlib import Path
 from typing import Optional, Tuple
 
 ROOT = Path(__file__).resolve().parents[2]
-SECONDS = 240  # (a limit for what is to come: a machine may have much else to do)
+SECONDS = 240  # (a limit for what is to come: the computer may have much else to do)
 REQUIRE = "sha256:0-10"  # of all runs that ask for nothing else
 
 
@@ -76,8 +76,8 @@ class Processes:
         yield
         gate.unlink()
 
-    def client(self, *words, **given):
-        return self.start([ROOT / "fleet/verify.py", "--require", REQUIRE, "--progress", "1", *words], **given)
+    def client(self, *words, said="clients", **given):
+        return self.start([ROOT / "fleet/verify.py", "--require", REQUIRE, "--progress", "1", *words], said, **given)
 
     def verify(self, *words, require: Optional[str] = REQUIRE, seconds: float = SECONDS, **given: str) -> Tuple[int, str, str]:
         """The status of a run, and what it printed on both streams. It has no `--require` if that is None."""
@@ -86,6 +86,8 @@ class Processes:
             [self.python, ROOT / "fleet/verify.py", "--progress", "1", *map(str, words)],
             env={**self.environment, **given}, cwd=self.folder, text=True, capture_output=True, timeout=seconds,
         )
+        with open(self.folder / "clients", "a") as clients:
+            clients.write(ended.stderr)
         return ended.returncode, ended.stdout, ended.stderr
 
     @contextmanager

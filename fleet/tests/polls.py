@@ -4,6 +4,7 @@ The lists are made. What must come of each machine is known from how its files a
 poll; one client is killed in the middle of that."""
 
 import hashlib
+import re
 import shutil
 import sys
 from collections import Counter
@@ -251,6 +252,7 @@ def test_polls(tools, check, noted):
         test_third_poll(polls, undisturbed)
         test_killed_poll(polls, verdicts, undisturbed)
         test_whole(polls, verdicts)
+        test_stale(polls, verdicts)
         test_two_polls(polls, verdicts)
         test_damaged_table(polls, verdicts)
 
@@ -329,6 +331,23 @@ def test_whole(polls, verdicts):
     polls.tools.verify(*polls.words(verdicts))
     polls.check("tampered before the checkpoint: a poll after --whole", query(verdicts, text), [("refused", cause)])
     test_other_kind(polls, verdicts, without)
+
+
+def test_stale(polls, verdicts):
+    """The query of docs/fleet.md for what is not well: also what is not of the last poll, and everything if none has ended of late."""
+    text = re.findall(r"```sql\n(.*?)```", (ROOT / "docs/fleet.md").read_text(), re.DOTALL)[2]
+    bad = set(query(verdicts, "SELECT machine FROM verdicts WHERE verdict <> 'match'"))
+    found = {row[:1] for row in query(verdicts, text)}
+    polls.check("the query of what is not well", (found, 0 < len(bad) < MACHINES), (bad, True))
+    for title, script, wanted in (
+        ("a machine that the last poll lacks", "UPDATE verdicts SET poll = 1 WHERE machine = 'machine 0'", {*bad, ("machine 0",)}),
+        ("the last poll ended long ago", "UPDATE ends SET time = '2020-01-01T00:00:00.000+00:00'", None),
+        ("no poll ended", "DELETE FROM ends", None),
+    ):
+        table = shutil.copyfile(verdicts, polls.tools.folder / f"{title}.db")
+        change(table, script)
+        found = {row[:1] for row in query(table, text)}
+        polls.check(f"the query of what is not well: {title}", found, wanted or {(machine.name,) for machine in polls.machines})
 
 
 def test_other_kind(polls, verdicts, without):
