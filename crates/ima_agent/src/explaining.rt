@@ -103,10 +103,12 @@ fn of_argument(alloc: Global, words: &[String]) -> Result<String, AllocError>
     match &plan {
         Plan::VerifyRequired { required, .. }
         | Plan::LocateRequired { required, .. }
-        | Plan::VerifyGrowing(Growing {
-            required: Some(required),
-            ..
-        })
+        | Plan::VerifyGrowing(
+            Growing {
+                required: Some(required),
+                ..
+            },
+        )
         | Plan::ReplayExpected {
             required: Some(required),
             ..
