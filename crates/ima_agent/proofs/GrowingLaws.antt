@@ -1,5 +1,5 @@
 -- A list that grows: what its source says of its input, whatever list was taken before.
-use Rattle.std.proofs.Common.{◌≡◌, ℕ, ◌<◌, List, [], ◌++◌, length, Option, None, Some, Ok, Err, Bool, true, refl, sym, ap, subst, ◌∙◌, append_assoc, inl, inr}
+use Rattle.std.proofs.Common.{◌≡◌, ℕ, ◌<◌, List, ◌++◌, length, Option, None, Some, Ok, Err, refl, sym, subst, append_assoc, inl, inr}
 use Rattle.std.specs.Prelude.{◌⊎◌, IfSome, IfOk, IfErr, IsTrue, Result}
 use Rattle.byte_streams.specs.Streams.{SourceState}
 use Rattle.ima_list.specs.declared.fault.ListFault.{ListFault}

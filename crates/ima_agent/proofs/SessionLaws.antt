@@ -19,6 +19,7 @@ pub no_entries : (log : List ℕ) (session : Session) → HasTaken log [] sessio
     → ((bytes : List ℕ) (entries : List ListEntry) → BeginsWith bytes entries [] → IsReading bytes (Ok entries))
     → ((bytes : List ℕ) (reading other : Result (List ListEntry) ListFault) → IsReading bytes reading → IsReading bytes other → reading ≡ other)
     → session.known.entries ≡ 0
+unfolding count_in
 no_entries log session taken whole once =
     let none = whole [] [] (record { are = tt; parts = refl }) in
     taken.checkpoint.count ∙ ap count_in (once [] (Ok taken.checkpoint.entries) (Ok []) taken.checkpoint.list_is none)

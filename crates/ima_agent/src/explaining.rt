@@ -100,7 +100,16 @@ fn of_argument(alloc: Global, words: &[String]) -> Result<String, AllocError>
     ensures { IfOk result (λ text. list_all is_shown (string_bytes text) ≡ true) }
 {
     let plan = plan_of(alloc, words)?;
-    match &plan {
+    let told = of_plan(alloc, &plan);
+    drop(plan);
+    told
+}
+
+// Why what arguments request is refused, which `clap` takes.
+fn of_plan(alloc: Global, plan: &Plan) -> Result<String, AllocError>
+    ensures { IfOk result (λ text. list_all is_shown (string_bytes text) ≡ true) }
+{
+    match plan {
         Plan::VerifyRequired { required, .. }
         | Plan::LocateRequired { required, .. }
         | Plan::VerifyGrowing(
@@ -201,7 +210,16 @@ fn of_input(alloc: Global, fault: &RunFault, words: &[String]) -> Result<String,
     ensures { IfOk result (λ text. list_all is_shown (string_bytes text) ≡ true) }
 {
     let plan = plan_of(alloc, words)?;
-    match input_of(&plan, fault) {
+    let told = of_content(alloc, input_of(&plan, fault), fault);
+    drop(plan);
+    told
+}
+
+// What is wrong with this input, or with none that is known.
+fn of_content(alloc: Global, input: Option<&str>, fault: &RunFault) -> Result<String, AllocError>
+    ensures { IfOk result (λ text. list_all is_shown (string_bytes text) ≡ true) }
+{
+    match input {
         Some(input) => shown_line(alloc, &format!(in alloc; "{input}: {fault}")?),
         None => shown_line(alloc, &format!(in alloc; "{fault}")?),
     }

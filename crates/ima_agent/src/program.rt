@@ -129,7 +129,9 @@ fn run_plan<R: Threads + Wait + Sync, F: Files, S: Sink, P: Progress>(
     ensures { Answers (IsOutcome (F.told files.old) plan) result (S.state sink.old) (S.state sink.new) }
 {
     if is_streamed(&plan) {
-        run_streamed(alloc, &plan, words, files, sink, progress)
+        let status = run_streamed(alloc, &plan, words, files, sink, progress);
+        drop(plan);
+        status
     } else {
         run_whole(rt, alloc, plan, words, files, sink, progress)
     }
@@ -271,7 +273,11 @@ fn output_for<R: Threads + Wait + Sync, F: Files, P: Progress>(
 {
     match help_of(plan) {
         Ok(text) => Ok(Output::done(text.into_bytes())),
-        Err(plan) => shown_for(rt, alloc, &plan, files, progress),
+        Err(plan) => {
+            let output = shown_for(rt, alloc, &plan, files, progress);
+            drop(plan);
+            output
+        }
     }
 }
 

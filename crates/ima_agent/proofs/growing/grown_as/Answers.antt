@@ -1,8 +1,4 @@
-use Rattle.std.proofs.Common.{ℕ, List, Some, None}
-use Rattle.std.specs.Borrow.{Bor}
-use Rattle.std.specs.Prelude.{option_map}
-use Rattle.boot_verdict.specs.declared.requirement.BankRange.{BankRange}
-use Rattle.ima_agent.specs.JsonJudging.{IsRequired}
+use Rattle.std.proofs.Common.{None}
 use Rattle.ima_agent.specs.parts.Growing.{growth_of}
 use Rattle.ima_agent.proofs.GrowingLaws.{fault_where, saves_where, shows_where}
 use Rattle.ima_agent.proofs.growing.grown_as.Goals as goal
