@@ -1,5 +1,6 @@
 #!/usr/bin/env python3
-"""Requires that the pages quote proved callers, and the tables of faults in the program's help, to the letter.
+"""Requires that the pages quote proved callers, and the tables of faults in the program's help, to the letter, that their links lead to
+what is there, and that the picture is what its script makes.
 
 docs/quotes.py [ROOT]: the tree whose README.md and docs/*.md are read, or else the one that this file is in.
 
@@ -11,11 +12,16 @@ with `///`. At least one block must be there.
 Each block that begins with ```text faults must be one of the tables of crates/command_line/src/fault_tables.rt, and each of these must
 be quoted once.
 
+Each link to a file of the tree must lead to one, and if it names a heading of a page, to that; so must those of the README of cases/ and
+of each folder of bindings/. docs/trust.svg must be what docs/picture.py prints.
+
 For a block that is not found, the lines are printed in which it differs from what is nearest to it. The last line is 'N passed, M failed'."""
 
 import difflib
 import re
+import subprocess
 import sys
+from collections import Counter
 from pathlib import Path
 
 BLOCK = re.compile(r"^```rust\n(.*?)^```$", re.MULTILINE | re.DOTALL)
@@ -23,6 +29,9 @@ FAULTS = re.compile(r"^```text faults\n(.*?)^```$", re.MULTILINE | re.DOTALL)
 TABLE = re.compile(r'"\\\n(.*?\n)" "\\n"', re.DOTALL)
 CONTRACT = re.compile(r"\n(?:    (?:requires|ensures|//) ?.*\n(?:        .*\n)*)+\{\n")
 DOC_COMMENT = re.compile(r"^ *///.*\n", re.MULTILINE)
+FENCED = re.compile(r"^```.*?^```$", re.MULTILINE | re.DOTALL)
+HEADING = re.compile(r"^#{1,6} (.*)$", re.MULTILINE)
+LINK = re.compile(r"\]\((?!https?://)([^)#\s]*)(?:#([^)\s]*))?\)")
 
 
 def without_contracts(text):
@@ -92,6 +101,38 @@ def check_tables(root, pages):
     return passed, failed
 
 
+def headings(page):
+    """What a link may name of a page: its headings in lower case, spaces as dashes, without other marks, and numbered if one comes again."""
+    seen = Counter()
+    for title in HEADING.findall(FENCED.sub("", page.read_text())):
+        name = re.sub(r"[^\w\- ]", "", title.strip().lower()).replace(" ", "-")
+        yield f"{name}-{seen[name]}" if seen[name] else name
+        seen[name] += 1
+
+
+def check_links(root, pages):
+    """How many links lead to a file and a heading that are there, and how many do not."""
+    passed = failed = 0
+    for page in pages:
+        for name, heading in LINK.findall(FENCED.sub("", page.read_text())):
+            target = page.parent / name if name else page
+            if target.exists() and (not heading or heading in headings(target)):
+                passed += 1
+                continue
+            failed += 1
+            print(f"{page.relative_to(root)}: no {name}{heading and '#' + heading}")
+    return passed, failed
+
+
+def check_picture(root):
+    """Whether the picture is what its script makes."""
+    made = subprocess.run([sys.executable, root / "docs/picture.py"], stdout=subprocess.PIPE, check=True).stdout
+    if made == (root / "docs/trust.svg").read_bytes():
+        return 1, 0
+    print("docs/trust.svg is not what docs/picture.py makes")
+    return 0, 1
+
+
 def blocks(root, pages, pattern):
     """The blocks of the pages that match: the page, the line and the text of each."""
     for page in pages:
@@ -108,7 +149,8 @@ def print_differences(block, source):
 def main():
     root = Path(sys.argv[1]) if len(sys.argv) > 1 else Path(__file__).resolve().parent.parent
     pages = [root / "README.md", *sorted((root / "docs").glob("*.md"))]
-    counts = [check_callers(root, pages), check_tables(root, pages)]
+    linking = [*pages, root / "cases/README.md", *sorted((root / "bindings").glob("*/README.md"))]
+    counts = [check_callers(root, pages), check_tables(root, pages), check_links(root, linking), check_picture(root)]
     passed, failed = (sum(column) for column in zip(*counts))
     print(f"{passed} passed, {failed} failed")
     return failed != 0

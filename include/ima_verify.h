@@ -7,8 +7,8 @@
  *
  * What a function gives is the text that the program `ima-agent` prints for the command of the same name, except
  * that inputs may also be longer than 64 MiB. A function whose name ends in _json gives the lines that the
- * command prints with --json, each a JSON text and a line feed. docs/formats.md has the formats, and what each
- * fault number means.
+ * command prints with --json, each a JSON text and a line feed. The page formats.md has the formats, and what each
+ * fault number means; ima-agent(1) has the faults, too.
  *
  * A verdict speaks of the registers that are expected, and of no others: ima_verify_verdict says `match` of none
  * at all. So say which registers a verdict must cover, and call ima_verify_required.

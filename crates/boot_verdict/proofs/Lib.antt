@@ -2,10 +2,8 @@ pub mod RegisterLaws
 pub mod StatedLaws
 pub mod ExpectedLaws
 pub mod VerdictLaws
-pub mod WatchLaws
 pub mod StepLaws
 pub mod PlaceLaws
-pub mod LocateLaws
 pub mod ReplayLaws
 pub mod ListVerdictLaws
 pub mod EventTextLaws

@@ -1,16 +1,18 @@
 -- The places of expected registers: the least front of the steps after which a value is reached.
-use Rattle.std.proofs.Common.{◌≡◌, ℕ, ◌+◌, ◌<◌, ◌≤◌, Bool, true, false, eqb, leb, List, [], ◌∷◌, ◌++◌, length, map, take, Option, Some, None, refl, sym, ap, subst, ◌∙◌, arith, inl, inr}
+use Rattle.std.proofs.Common.{◌≡◌, ℕ, ◌+◌, ◌<◌, Bool, true, false, eqb, leb, List, [], ◌∷◌, ◌++◌, length, map, take, drop, Option, Some, None, refl, sym, ap, subst, ◌∙◌, arith, inl, inr}
 use Rattle.std.specs.Prelude.{fold}
 use Rattle.std.specs.Global.{Vec}
 use Rattle.std.proofs.lemmas.Bool.{cases_Bool}
 use Rattle.std.proofs.lemmas.Bool.Decides.{eqb_tells, leb_tells}
-use Rattle.std.proofs.lemmas.List.{length-append, length-map, take_all}
+use Rattle.std.proofs.lemmas.List.{append-nil, length-append, length-map, take_all}
 use Rattle.std.proofs.lemmas.Simd.{map-map}
+use Rattle.std.proofs.Math.Seq.{drop-length}
 use Rattle.pcr_banks.specs.declared.alg.Alg.{Alg}
 use Rattle.pcr_banks.specs.declared.banks.Banks.{Banks}
 use Rattle.pcr_banks.specs.declared.sets.AlgSet.{AlgSet}
 use Rattle.pcr_banks.specs.Registers.{reset_value, value_at}
-use Rattle.boot_log.specs.Spelling.{LogEvent}
+use Rattle.boot_log.specs.declared.header.Row.{Row as TableRow}
+use Rattle.boot_log.specs.Spelling.{LogEvent, IsLog, algs_in}
 use Rattle.boot_log.specs.Replaying.{startup_locality}
 use Rattle.ima_list.specs.ListEntry.{ListEntry}
 use Rattle.boot_verdict.specs.declared.expected.Expected.{Expected}
@@ -19,15 +21,17 @@ use Rattle.boot_verdict.specs.declared.places.Place.{Place}
 use Rattle.boot_verdict.specs.declared.places.Place.TheVariants.{Reset, Event, Entry, Nowhere, Absent}
 use Rattle.boot_verdict.specs.declared.places.Watch.{Watch}
 use Rattle.boot_verdict.specs.declared.report.State.TheVariants as states
-use Rattle.boot_verdict.specs.Places.{first_place, is_found, is_reached, pcr_after, place_after, place_of_front, place_on, reached_after}
+use Rattle.boot_verdict.specs.declared.list_replay.ListReplay.{ListReplay}
+use Rattle.boot_verdict.specs.Places.{AreLocated, first_place, is_found, is_reached, located_on, pcr_after, place_after, place_of_front, place_on, reached_after}
 use Rattle.boot_verdict.specs.Steps.{Step, OfEvent, OfEntry, entries_as_steps, events_as_steps, has_register, least_front, pcr_at_reset, stepped, steps_of, value_after}
-use Rattle.boot_verdict.specs.Verdicts.{is_value, pcr_after_log_and_list, row_state}
+use Rattle.boot_verdict.specs.Verdicts.{is_value, pcr_after_log_and_list, row_state, state_matches}
 use Rattle.boot_verdict.specs.parts.Following.{AreAfter, IsWatchAfter, located_after, register_of}
-use Rattle.boot_verdict.specs.parts.LogPlaces.{place_at_reset, row_at_reset}
+use Rattle.boot_verdict.specs.parts.ListReplays.{AreFollowed, ReplaysAll}
+use Rattle.boot_verdict.specs.parts.LogPlaces.{IsFollowed, place_at_reset, row_at_reset}
 use Rattle.boot_verdict.specs.parts.Watches.{looked_at, place_with}
-use Rattle.boot_verdict.proofs.StepLaws.{TellsLeast, banks_more, fun_same, least_more, least_tells, none_taken, or_all, steps_value, value_quiet}
+use Rattle.boot_verdict.proofs.StepLaws.{TellsLeast, banks_joined, fun_same, least_more, least_tells, none_taken, or_all, steps_value, value_quiet}
 
-two_ways : (b : Bool) → b ≡ true → b ≡ false → ⊥
+pub two_ways : (b : Bool) → b ≡ true → b ≡ false → ⊥
 two_ways b yes_is no_is = cc
 
 -- ---- places after steps
@@ -58,95 +62,69 @@ steps_back events steps = elim (eqb_tells steps 0) [
   ]
 ]
 
-same_steps : (events steps others : ℕ) → place_after events steps ≡ place_after events others → steps ≡ others
-same_steps events steps others same = sym (steps_back events steps) ∙ ap (steps_to events) same ∙ steps_back events others
-
 -- ---- what a place says
 
 abbrev reaches : Expected → List ℕ → List Step → Bool
 reaches e v front = is_value e (fold (stepped e.alg e.register) v front)
 
--- The place is that of the least steps after which the register has the value.
-first_by : (events : ℕ) (e : Expected) (start : Option (List ℕ)) (all : List Step) (steps : ℕ) → first_place events e start all ≡ place_after events steps
-    → (is_reached e (value_after e.alg e.register start (take steps all)) ≡ true)
-    × ((fewer : ℕ) → fewer < steps → is_reached e (value_after e.alg e.register start (take fewer all)) ≡ false)
-first_by events e None all steps same = absurd (two_ways (is_found (place_after events steps)) (is_place events steps) (sym (ap is_found same)))
-first_by events e (Some v) all steps same = by (least_front (reaches e v) all) (least_tells (reaches e v) all) same
+-- The place is that of the least number of steps after which the value is reached; after none it is, if the place is not found.
+abbrev TellsPlace : ℕ → (ℕ → Bool) → Place → Type 0
+TellsPlace events reached place =
+    ((steps : ℕ) → place ≡ place_after events steps → (reached steps ≡ true) × ((fewer : ℕ) → fewer < steps → reached fewer ≡ false))
+    × (is_found place ≡ false → (steps : ℕ) → reached steps ≡ false)
+
+pub place_tells : (events : ℕ) (e : Expected) (start : Option (List ℕ)) (all : List Step)
+    → TellsPlace events (λ n. is_reached e (value_after e.alg e.register start (take n all))) (first_place events e start all)
+place_tells events e None all =
+    (λ steps same. absurd (two_ways (is_found (place_after events steps)) (is_place events steps) (sym (ap is_found same))), λ none steps. refl)
+place_tells events e (Some v) all = by (least_front (reaches e v) all) (least_tells (reaches e v) all)
   where
-    by : (found : Option (List Step)) → TellsLeast (reaches e v) all found → place_of_front events found ≡ place_after events steps
-        → (reaches e v (take steps all) ≡ true) × ((fewer : ℕ) → fewer < steps → reaches e v (take fewer all) ≡ false)
-    by None tells same = absurd (two_ways (is_found (place_after events steps)) (is_place events steps) (sym (ap is_found same)))
-    by (Some front) tells same =
-        let many = same_steps events (length front) steps same in
-        let taken : front ≡ take steps all = tells.0 ∙ ap (λ (n : ℕ). take n all) many in
-        (subst (λ (l : List Step). reaches e v l ≡ true) taken tells.1, λ fewer lt. tells.2 fewer (omega (arith, many, lt)))
-
-pub first_reached : (algs : AlgSet) (events : List LogEvent) (entries : List ListEntry) (e : Expected) (steps : ℕ)
-    → place_on algs events entries e ≡ place_after (length events) steps
-    → (reached_after algs events entries e steps ≡ true) × ((k : ℕ) → k < steps → reached_after algs events entries e k ≡ false)
-first_reached algs events entries e steps same =
-    first_by (length events) e (pcr_at_reset algs events e.alg e.register) (steps_of events entries) steps same
-
-nowhere_by : (events : ℕ) (e : Expected) (start : Option (List ℕ)) (all : List Step) → first_place events e start all ≡ Nowhere → (steps : ℕ)
-    → is_reached e (value_after e.alg e.register start (take steps all)) ≡ false
-nowhere_by events e None all same = λ steps. refl
-nowhere_by events e (Some v) all same = by (least_front (reaches e v) all) (least_tells (reaches e v) all) same
-  where
-    by : (found : Option (List Step)) → TellsLeast (reaches e v) all found → place_of_front events found ≡ Nowhere → (steps : ℕ)
-        → reaches e v (take steps all) ≡ false
-    by None tells same = tells
-    by (Some front) tells same =
-        absurd (two_ways (is_found (place_after events (length front))) (is_place events (length front)) (ap is_found same))
-
--- A value whose place is nowhere was not reached.
-pub nowhere_reached : (algs : AlgSet) (events : List LogEvent) (entries : List ListEntry) (e : Expected) (steps : ℕ)
-    → place_on algs events entries e ≡ Nowhere → reached_after algs events entries e steps ≡ false
-nowhere_reached algs events entries e steps same =
-    nowhere_by (length events) e (pcr_at_reset algs events e.alg e.register) (steps_of events entries) same steps
-
--- The register of the verdict is that after all steps.
-pub whole_same : (algs : AlgSet) (events : List LogEvent) (entries : List ListEntry) (alg : Alg) (register : ℕ)
-    → value_after alg register (pcr_at_reset algs events alg register) (steps_of events entries)
-    ≡ pcr_after_log_and_list algs events entries alg register
-whole_same algs events entries alg register = elim (cases_Bool (has_register algs alg register)) [
-  | inl here ↦ rw here (ap (λ (v : List ℕ). Some v) (steps_value alg register (reset_value alg register (startup_locality events)) events entries))
-  | inr none ↦ rw none refl
-]
+    by : (found : Option (List Step)) → TellsLeast (reaches e v) all found → TellsPlace events (λ n. reaches e v (take n all)) (place_of_front events found)
+    by None tells =
+        (λ steps same. absurd (two_ways (is_found (place_after events steps)) (is_place events steps) (sym (ap is_found same))), λ none. tells)
+    by (Some front) tells = (
+      λ steps same.
+          let many : length front ≡ steps = sym (steps_back events (length front)) ∙ ap (steps_to events) same ∙ steps_back events steps in
+          let taken : front ≡ take steps all = tells.0 ∙ ap (λ (n : ℕ). take n all) many in
+          (subst (λ (l : List Step). reaches e v l ≡ true) taken tells.1, λ fewer lt. tells.2 fewer (omega (arith, many, lt))),
+      λ none. absurd (two_ways (is_found (place_after events (length front))) (is_place events (length front)) none),
+    )
 
 -- After all steps the register is that of the log and the list.
 pub all_steps : (algs : AlgSet) (events : List LogEvent) (entries : List ListEntry) (alg : Alg) (register : ℕ)
     → pcr_after algs events entries alg register (length events + length entries) ≡ pcr_after_log_and_list algs events entries alg register
 all_steps algs events entries alg register =
-    let steps = steps_of events entries in
-    let size : length steps ≤ length events + length entries =
-    omega (arith, length-append (events_as_steps events) (entries_as_steps entries), length-map events (λ (event : LogEvent). OfEvent event), length-map entries (λ (entry : ListEntry). OfEntry entry)) in
-    ap (value_after alg register (pcr_at_reset algs events alg register)) (take_all (length events + length entries) steps size)
-    ∙ whole_same algs events entries alg register
+    let size = length-append (events_as_steps events) (entries_as_steps entries) in
+    let log = length-map events (λ (event : LogEvent). OfEvent event) in
+    let list = length-map entries (λ (entry : ListEntry). OfEntry entry) in
+    ap (value_after alg register (pcr_at_reset algs events alg register))
+    (take_all (length events + length entries) (steps_of events entries) (omega (arith, size, log, list)))
+    ∙ elim (cases_Bool (has_register algs alg register)) [
+      | inl here ↦ rw here (ap (λ (v : List ℕ). Some v) (steps_value alg register (reset_value alg register (startup_locality events)) events entries))
+      | inr none ↦ rw none refl
+    ]
 
-match_reached : (e : Expected) (value : Option (List ℕ)) → row_state e value ≡ states.Match → is_reached e value ≡ true
-match_reached e None same = absurd cc
-match_reached e (Some bytes) same = elim (cases_Bool (is_value e bytes)) [
-  | inl reached ↦ reached
-  | inr other ↦ let differs = rw other at same in absurd cc
+-- A register that is reached matches.
+pub row_matches : (e : Expected) (value : Option (List ℕ)) → is_reached e value ≡ state_matches (row_state e value)
+row_matches e None = refl
+row_matches e (Some bytes) = elim (cases_Bool (is_value e bytes)) [
+  | inl same ↦ rw same refl
+  | inr other ↦ rw other refl
 ]
-
-found_by : (events : ℕ) (e : Expected) (start : Option (List ℕ)) (all : List Step) (steps : ℕ)
-    → is_reached e (value_after e.alg e.register start (take steps all)) ≡ true → is_found (first_place events e start all) ≡ true
-found_by events e None all steps passes = absurd cc
-found_by events e (Some v) all steps passes = by (least_front (reaches e v) all) (least_tells (reaches e v) all)
-  where
-    by : (found : Option (List Step)) → TellsLeast (reaches e v) all found → is_found (place_of_front events found) ≡ true
-    by None tells = absurd (two_ways (reaches e v (take steps all)) passes (tells steps))
-    by (Some front) tells = is_place events (length front)
 
 -- A register that has its value in the end was found.
 pub match_found : (algs : AlgSet) (events : List LogEvent) (entries : List ListEntry) (e : Expected)
     → row_state e (pcr_after_log_and_list algs events entries e.alg e.register) ≡ states.Match
     → is_found (place_on algs events entries e) ≡ true
-match_found algs events entries e same =
-    found_by (length events) e (pcr_at_reset algs events e.alg e.register) (steps_of events entries) (length events + length entries)
-    (ap (is_reached e) (all_steps algs events entries e.alg e.register)
-    ∙ match_reached e (pcr_after_log_and_list algs events entries e.alg e.register) same)
+match_found algs events entries e same = elim (cases_Bool (is_found (place_on algs events entries e))) [
+  | inl found ↦ found
+  | inr none ↦
+      let steps = length events + length entries in
+      let tells = place_tells (length events) e (pcr_at_reset algs events e.alg e.register) (steps_of events entries) in
+      absurd (two_ways (reached_after algs events entries e steps)
+      (ap (is_reached e) (all_steps algs events entries e.alg e.register)
+      ∙ row_matches e (pcr_after_log_and_list algs events entries e.alg e.register) ∙ ap state_matches same) (tells.1 none steps))
+]
 
 -- ---- one step of a row
 
@@ -212,7 +190,7 @@ pub watch_more : (start : Watch) (events : ℕ) (before : List Step) (step : Ste
     → new.rows.items ≡ map (looked_at new.banks register place) old.rows.items
     → IsWatchAfter start events before old → IsWatchAfter start events (before ++ step ∷ []) new
 watch_more start events before step old new register place of at one look after =
-    let banks = banks_more start.banks old.banks new.banks before step after.banks one in
+    let banks = banks_joined start.banks old.banks new.banks before (step ∷ []) after.banks one in
     let at_all : place ≡ place_after events (length (before ++ step ∷ [])) = at ∙ ap (place_after events) (sym (length-append before (step ∷ []))) in
     record {
       banks = banks;
@@ -222,6 +200,15 @@ watch_more start events before step old new register place of at one look after 
           (fun_same _ _ (λ row. row_more events start.banks new.banks before step row.expected register place of at_all
           (banks.values row.expected.alg row.expected.register)));
     }
+
+-- A vector whose elements were written.
+pub rows_written : (f : Located → Located) (old new : List Located) (size : ℕ) → size ≡ length old → new ≡ map f old
+    → take size (new ++ drop (length new) old) ≡ map f old
+rows_written f old new size is same =
+    let long : length new ≡ length old = ap (λ (l : List Located). length l) same ∙ length-map old f in
+    let none : drop (length new) old ≡ [] = ap (λ (n : ℕ). drop n old) long ∙ drop-length old in
+    ap (λ (l : List Located). take size (new ++ l)) none ∙ ap (take size) (append-nil new)
+    ∙ take_all size new (omega (arith, is, long)) ∙ same
 
 -- ---- before the first step
 
@@ -240,4 +227,32 @@ watch_none start events expected rows are = record {
       (fun_same _ _ (λ e. ap (located e) (at_reset events e (value_at start e.alg e.register))))
       ∙ sym (ap (map (λ (row : Located). located_after events start [] row.expected)) are
       ∙ map-map (λ (row : Located). located_after events start [] row.expected) (row_at_reset start) expected);
+}
+
+-- ---- a log and a list
+
+-- The rows after the list.
+pub located_all : {algs : AlgSet} {events : List LogEvent} {expected : List Expected} {start now : Watch} (entries : List ListEntry)
+    → IsFollowed algs events expected start → AreFollowed IsWatchAfter start entries now → now.rows.items ≡ located_on algs events entries expected
+located_all {events = events} {expected = expected} entries log list =
+    let steps = steps_of events entries in
+    let count = length events in
+    let after = list log.start count (events_as_steps events) (sym (length-map events (λ (event : LogEvent). OfEvent event))) log.after in
+    after.rows
+    ∙ ap (map (λ (row : Located). located_after count log.start.banks steps row.expected)) log.rows
+    ∙ map-map (λ (row : Located). located_after count log.start.banks steps row.expected) (row_at_reset log.start.banks) expected
+    ∙ ap (λ (f : Expected → Located). map f expected)
+    (fun_same _ _ (λ e. ap (λ (v : Option (List ℕ)). located e (first_place count e v steps)) (log.reset.values e.alg e.register)))
+
+pub located_in : {log list : List ℕ} {table : List TableRow} {events : List LogEvent} {expected : List Expected} {start : Watch} {replay : ListReplay Watch}
+    → IsLog log table events → IsFollowed (algs_in table) events expected start → ReplaysAll IsWatchAfter start list replay
+    → AreLocated log list expected replay.follower.rows.items
+located_in {table = table} {events = events} is followed all = record {
+  table = table;
+  events = events;
+  entries = all.entries;
+  log_is = is;
+  list_is = all.reading;
+  genuine = all.genuine;
+  located_are = located_all all.entries followed all.followed;
 }

@@ -96,63 +96,51 @@ fun_same f g same = λ i x. same x i
 
 -- ---- banks
 
-pub none_changes : (alg : Alg) (value : Option (List ℕ)) → value ≡ option_map (λ bytes. extended_by_all alg bytes []) value
-none_changes alg None = refl
-none_changes alg (Some bytes) = refl
+pub none_taken : (banks : Banks) → AreAfter banks [] banks
+none_taken banks = record { active = λ a. refl; values = λ a r. value_same (value_at banks a r) }
+
+pub banks_joined : (start old new : Banks) (before after : List Step) → AreAfter start before old → AreAfter old after new → AreAfter start (before ++ after) new
+banks_joined start old new before after earlier more = record {
+  active = λ a. more.active a ∙ earlier.active a;
+  values = λ a r. more.values a r ∙ ap (λ (v : Option (List ℕ)). value_after a r v after) (earlier.values a r)
+      ∙ value_joined a r (value_at start a r) before after;
+}
+
+events_after : (start now : Banks) (events : List LogEvent) → IsExtended start events now → AreAfter start (events_as_steps events) now
+events_after start now events extended = record {
+  active = extended.active;
+  values = λ a r. extended.values a r ∙ ap (λ (f : List ℕ → List ℕ). option_map f (value_at start a r)) (fun_same _ _ (λ v. sym (events_value a r v events)));
+}
+
+entries_after : (start now : Banks) (entries : List ListEntry) → IsReplayed start entries now → AreAfter start (entries_as_steps entries) now
+entries_after start now entries replayed = record {
+  active = replayed.active;
+  values = λ a r. replayed.values a r ∙ ap (λ (f : List ℕ → List ℕ). option_map f (value_at start a r)) (fun_same _ _ (λ v. sym (entries_value a r v entries)));
+}
 
 pub event_taken : (old new : Banks) (event : LogEvent)
     → ((start : Banks) (events : List LogEvent) → IsExtended start events old → IsExtended start (events ++ event ∷ []) new)
     → AreAfter old (OfEvent event ∷ []) new
 event_taken old new event replays =
-    let more = replays old [] (record { active = λ a. refl; values = λ a r. none_changes a (value_at old a r) }) in
-    record {
-      active = more.active;
-      values = λ a r. more.values a r ∙ ap (λ (f : List ℕ → List ℕ). option_map f (value_at old a r))
-          (fun_same _ _ (λ v. sym (events_value a r v (event ∷ []))));
-    }
+    events_after old new (event ∷ []) (replays old [] (record { active = λ a. refl; values = λ a r. value_same (value_at old a r) }))
 
 pub entry_taken : (old new : Banks) (entry : ListEntry)
     → ((start : Banks) (entries : List ListEntry) → IsReplayed start entries old → IsReplayed start (entries ++ entry ∷ []) new)
     → AreAfter old (OfEntry entry ∷ []) new
 entry_taken old new entry replays =
-    let more = replays old [] (record { active = λ a. refl; values = λ a r. none_changes a (value_at old a r) }) in
-    record {
-      active = more.active;
-      values = λ a r. more.values a r ∙ ap (λ (f : List ℕ → List ℕ). option_map f (value_at old a r))
-          (fun_same _ _ (λ v. sym (entries_value a r v (entry ∷ []))));
-    }
-
-pub none_taken : (banks : Banks) → AreAfter banks [] banks
-none_taken banks = record { active = λ a. refl; values = λ a r. value_same (value_at banks a r) }
-
-pub banks_more : (start old new : Banks) (before : List Step) (step : Step) → AreAfter start before old → AreAfter old (step ∷ []) new
-    → AreAfter start (before ++ step ∷ []) new
-banks_more start old new before step earlier one = record {
-  active = λ a. one.active a ∙ earlier.active a;
-  values = λ a r. one.values a r ∙ ap (λ (v : Option (List ℕ)). value_after a r v (step ∷ [])) (earlier.values a r)
-      ∙ value_joined a r (value_at start a r) before (step ∷ []);
-}
+    entries_after old new (entry ∷ []) (replays old [] (record { active = λ a. refl; values = λ a r. value_same (value_at old a r) }))
 
 -- Banks after the entries of a list are its replay.
 pub replayed_after : (start now : Banks) (entries : List ListEntry) → AreAfter start (entries_as_steps entries) now → IsReplayed start entries now
 replayed_after start now entries after = record {
   active = after.active;
-  values = λ a r. after.values a r ∙ ap (λ (f : List ℕ → List ℕ). option_map f (value_at start a r))
-      (fun_same _ _ (λ v. entries_value a r v entries));
+  values = λ a r. after.values a r ∙ ap (λ (f : List ℕ → List ℕ). option_map f (value_at start a r)) (fun_same _ _ (λ v. entries_value a r v entries));
 }
-
-pub replayed_by : (start now : Banks) (entries : List ListEntry) → AreFollowed BanksAfter start entries now → IsReplayed start entries now
-replayed_by start now entries followed = replayed_after start now entries (followed start 0 [] refl (none_taken start))
 
 -- The replay of a list follows it.
 pub followed_by : (start now : Banks) (entries : List ListEntry) → IsReplayed start entries now → AreFollowed BanksAfter start entries now
-followed_by start now entries replayed = λ origin events log size after. record {
-  active = λ a. replayed.active a ∙ after.active a;
-  values = λ a r. replayed.values a r
-      ∙ ap (λ (f : List ℕ → List ℕ). option_map f (value_at start a r)) (fun_same _ _ (λ v. sym (entries_value a r v entries)))
-      ∙ ap (λ (v : Option (List ℕ)). value_after a r v (entries_as_steps entries)) (after.values a r)
-      ∙ value_joined a r (value_at origin a r) log (entries_as_steps entries);
-}
+followed_by start now entries replayed = λ origin events log size after.
+    banks_joined origin start now log (entries_as_steps entries) after (entries_after start now entries replayed)
 
 -- ---- fronts
 
@@ -226,15 +214,17 @@ pub events_joined : (events : List LogEvent) (event : LogEvent)
     → events_as_steps events ++ OfEvent event ∷ [] ≡ events_as_steps (events ++ event ∷ [])
 events_joined events event = sym (map-append (λ (event : LogEvent). OfEvent event) events (event ∷ []))
 
+pub place_of_entry : (events n last : ℕ) → n ≡ events + 1 + last → place_after events n ≡ Entry last
+place_of_entry events n last is = elim (leb_tells n events) [
+  | inl le ↦ let few = le.1 in absurd (omega (arith, few, is))
+  | inr gt ↦
+      let some : eqb n 0 ≡ false = ne_eqb n 0 (λ e. absurd (omega (arith, e, is))) in
+      let left : n - events - 1 ≡ last = omega (arith, is) in
+      rw (some, gt.0, left) refl
+]
+
 pub entry_place : (log : List Step) (entries : List ListEntry) (events j : ℕ) → events ≡ length log → j ≡ length entries
     → Entry j ≡ place_after events (length (log ++ entries_as_steps entries) + 1)
 entry_place log entries events j size at =
-    let many : length (log ++ entries_as_steps entries) + 1 ≡ events + j + 1 =
-    omega (arith, size, at, length-append log (entries_as_steps entries), length-map entries (λ (entry : ListEntry). OfEntry entry)) in
-    elim (leb_tells (events + j + 1) events) [
-      | inl le ↦ let few = le.1 in absurd (omega (arith, few))
-      | inr gt ↦
-          let some : eqb (events + j + 1) 0 ≡ false = ne_eqb (events + j + 1) 0 (λ e. absurd (omega (arith, e))) in
-          let left : events + j + 1 - events - 1 ≡ j = omega arith in
-          rw (many, some, gt.0, left) refl
-    ]
+    sym (place_of_entry events (length (log ++ entries_as_steps entries) + 1) j
+    (omega (arith, size, at, length-append log (entries_as_steps entries), length-map entries (λ (entry : ListEntry). OfEntry entry))))

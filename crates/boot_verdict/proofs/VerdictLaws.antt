@@ -1,5 +1,5 @@
 -- The verdict: registers of the log and of the list, and which fault comes first.
-use Rattle.std.proofs.Common.{◌≡◌, ◌⊎◌, ℕ, List, length, map, Option, Some, option_map, Result, Ok, Err, refl, ap, subst, ◌∙◌, inl, inr}
+use Rattle.std.proofs.Common.{◌≡◌, ◌⊎◌, ℕ, List, map, Option, Some, option_map, Result, Ok, Err, refl, ap, subst, ◌∙◌, inl, inr}
 use Rattle.pcr_banks.specs.declared.alg.Alg.{Alg}
 use Rattle.pcr_banks.specs.declared.banks.Banks.{Banks}
 use Rattle.pcr_banks.specs.declared.digest.Digest.{Digest}
@@ -12,19 +12,15 @@ use Rattle.boot_log.specs.declared.fault.LogFault.{LogFault}
 use Rattle.boot_log.specs.declared.fault.LogFault.TheVariants as logs
 use Rattle.boot_log.specs.Spelling.{LogEvent, HasLogFault}
 use Rattle.boot_log.specs.Reading.{log_fault}
-use Rattle.boot_log.specs.Replaying.{IsFirmware, startup_locality}
-use Rattle.ima_list.specs.declared.fault.ListFault.{ListFault}
-use Rattle.ima_list.specs.declared.fault.ListFault.TheVariants as lists
+use Rattle.boot_log.specs.Replaying.{IsFirmware}
 use Rattle.ima_list.specs.ListEntry.{ListEntry}
-use Rattle.ima_list.specs.Spelling.{IsReading}
 use Rattle.ima_list.specs.Aggregates.{aggregate_register_count, boot_aggregate_of, joined_values}
 use Rattle.ima_list.specs.Replaying.{IsReplayed, digests_of}
 use Rattle.boot_verdict.specs.declared.expected.Expected.{Expected}
-use Rattle.boot_verdict.specs.declared.report.Aggregate.{Aggregate}
 use Rattle.boot_verdict.specs.declared.report.Row.{Row}
 use Rattle.boot_verdict.specs.declared.verifier.VerifyFault.{VerifyFault}
 use Rattle.boot_verdict.specs.declared.verifier.VerifyFault.TheVariants as faults
-use Rattle.boot_verdict.specs.Verdicts.{Verdict, verdict_on, IsVerifyFault, IsVerifyFaultFrom, IsSomeLog, aggregate_of, aggregate_state, stated_aggregate, booted_aggregate, pcr_after_log, fault_of_list, fault_of_log, pcr_after_log_and_list, row_on, row_state}
+use Rattle.boot_verdict.specs.Verdicts.{IsVerifyFault, IsVerifyFaultFrom, aggregate_of, aggregate_state, booted_aggregate, pcr_after_log, fault_of_log, pcr_after_log_and_list, row_on, row_state}
 use Rattle.boot_verdict.specs.parts.Rows.{row_of}
 
 -- ---- registers
@@ -68,25 +64,6 @@ rows_same algs events entries start banks expected firmware replayed =
     ap (λ (f : Expected → Row). map f expected)
     (fun_same (row_of banks) (row_on algs events entries) (λ e. ap (row_with e)
     (final_same algs events entries start banks e.alg e.register firmware replayed)))
-
--- ---- the verdict
-
--- The verdict, part by part.
-pub verdict_same : (algs : AlgSet) (events : List LogEvent) (entries : List ListEntry) (start banks : Banks) (expected : List Expected)
-    (event-count locality entry-count : ℕ) (aggregate : Aggregate) (rows : List Row)
-    → IsFirmware algs events start → IsReplayed start entries banks
-    → event-count ≡ length events → locality ≡ startup_locality events → entry-count ≡ length entries
-    → aggregate ≡ aggregate_of algs events (stated_aggregate entries) → rows ≡ map (row_of banks) expected
-    → ◌≡◌ {A = Verdict} (record { events = event-count; locality = locality; entries = entry-count; aggregate = aggregate; rows = rows })
-    (verdict_on algs events entries expected)
-verdict_same algs events entries start banks expected event-count locality entry-count aggregate rows firmware replayed a b c d e =
-    let f = e ∙ rows_same algs events entries start banks expected firmware replayed in
-    λ i. record { events = a i; locality = b i; entries = c i; aggregate = d i; rows = f i }
-
--- The verdict on the same parts.
-pub verdict_on_same : (algs other : AlgSet) (events more : List LogEvent) (entries others : List ListEntry) (expected : List Expected)
-    → algs ≡ other → events ≡ more → entries ≡ others → verdict_on algs events entries expected ≡ verdict_on other more others expected
-verdict_on_same algs other events more entries others expected a b c = λ i. verdict_on (a i) (b i) (c i) expected
 
 -- ---- results
 
@@ -157,19 +134,3 @@ log_not_memory log fault has memory =
       | inl header ↦ header.fault_is
       | inr event ↦ event.fault_is
     ]
-
-pub list_memory : (fault : ListFault) → fault_of_list fault ≡ faults.Memory → fault ≡ lists.Memory
-list_memory lists.Memory e = refl
-list_memory (lists.Truncated entry) e = absurd cc
-list_memory (lists.BadRegister entry) e = absurd cc
-list_memory (lists.NameTooLong entry) e = absurd cc
-
-pub list_first : (log list : List ℕ) (fault : ListFault) → IsSomeLog log → (fault ≡ lists.Memory) ⊎ IsReading list (Err fault)
-    → IsVerifyFault log list (fault_of_list fault)
-list_first log list lists.Memory is cause = tt
-list_first log list (lists.Truncated entry) is (inr first) = (is, first)
-list_first log list (lists.Truncated entry) is (inl e) = absurd cc
-list_first log list (lists.BadRegister entry) is (inr first) = (is, first)
-list_first log list (lists.BadRegister entry) is (inl e) = absurd cc
-list_first log list (lists.NameTooLong entry) is (inr first) = (is, first)
-list_first log list (lists.NameTooLong entry) is (inl e) = absurd cc

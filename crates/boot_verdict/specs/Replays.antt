@@ -1,6 +1,6 @@
 -- The registers that a list alone makes. All of this is this project's choice. How entries change the registers is defined in
 -- ima_list.
-use Rattle.std.specs.Prelude.{ℕ, true, List, Option, Ok}
+use Rattle.std.specs.Prelude.{ℕ, true, List, [], Option, Ok}
 use Rattle.pcr_banks.specs.declared.banks.Banks.{Banks}
 use Rattle.pcr_banks.specs.declared.sets.AlgSet.{AlgSet}
 use Rattle.pcr_banks.specs.Sets.{algs_where}
@@ -9,9 +9,8 @@ use Rattle.ima_list.specs.ListEntry.{ListEntry}
 use Rattle.ima_list.specs.Spelling.{IsReading}
 use Rattle.ima_list.specs.Replaying.{AreGenuine, IsReplayed}
 use Rattle.boot_verdict.specs.declared.verifier.VerifyFault.{VerifyFault}
-use Rattle.boot_verdict.specs.declared.verifier.VerifyFault.TheVariants as faults
-use Rattle.boot_verdict.specs.ListSources.{CameWhole, IsListFault}
-use Rattle.boot_verdict.specs.Verdicts.{IsForged}
+use Rattle.boot_verdict.specs.Checkpoints.{IsMoreFault}
+use Rattle.boot_verdict.specs.ListSources.{CameWhole}
 
 -- All known algorithms.
 abbrev pub every_alg : AlgSet
@@ -36,7 +35,6 @@ pub record IsListReplayFrom (old new : Option (List ℕ)) (limit : ℕ) (banks :
   pub genuine : AreGenuine entries
   pub replay : IsListReplay entries banks
 
--- Why there are no such registers. `Replay` comes only after all of the list.
+-- Why there are no such registers: why the list is not read, or is not genuine. `Replay` comes only after all of it.
 abbrev pub IsListReplayFault : Option (List ℕ) → Option (List ℕ) → ℕ → VerifyFault → Type 0
-IsListReplayFault old new limit (faults.Replay fault) = (list : List ℕ) × CameWhole old new limit list × IsForged list fault
-IsListReplayFault old new limit fault = IsListFault old new limit fault
+IsListReplayFault old new limit fault = IsMoreFault [] old new limit fault

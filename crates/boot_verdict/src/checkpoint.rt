@@ -1,6 +1,6 @@
 //! Where a verification stopped, and its text read back.
 
-ghost use Rattle.std.specs.Prelude.{◌≡◌, ◌↔◌, ◌+◌, ◌^◌, ◌<◌, ◌≤◌, ℕ, true, is_some, List, ◌++◌, [], codes, decimal, flat_map, IfOk, IfErr, IfSome, IfNone, IsErrOf, IsTrue, Option, None};
+ghost use Rattle.std.specs.Prelude.{◌≡◌, ◌↔◌, ◌+◌, ◌^◌, ◌<◌, ◌≤◌, ℕ, true, is_some, List, ◌++◌, [], codes, decimal, flat_map, length, Ok, IsOk, IfOk, IfErr, IfSome, IfNone, IsErrOf, IsTrue, Option};
 ghost use Rattle.std.specs.Option.{IsSomeAnd};
 ghost use Rattle.pcr_banks.specs.declared.alg.Alg.{Alg};
 ghost use Rattle.pcr_banks.specs.declared.banks.Banks.{Banks};
@@ -12,9 +12,13 @@ ghost use Rattle.boot_verdict.specs.declared.checkpoint.Checkpoint.{Checkpoint};
 ghost use Rattle.boot_verdict.specs.declared.checkpoint.CheckpointFault.TheVariants.{Memory};
 ghost use Rattle.boot_verdict.specs.RegisterTexts.{all_registers, register_line};
 ghost use Rattle.byte_streams.specs.Streams.{LosesFront};
+ghost use Rattle.ima_list.specs.ListEntry.{ListEntry};
+ghost use Rattle.ima_list.specs.Spelling.{IsReading};
+ghost use Rattle.ima_list.specs.Replaying.{AreGenuine};
 ghost use Rattle.boot_verdict.specs.ListSources.{failures_after_list};
 ghost use Rattle.boot_verdict.specs.parts.Following.{BanksAfter};
-ghost use Rattle.boot_verdict.specs.parts.ListReplays.{Replays, ReplaysAll};
+ghost use Rattle.boot_verdict.specs.parts.ListReplays.{ReplaysAll};
+ghost use Rattle.boot_verdict.specs.Verdicts.{IsSomeLog, IsVerifyFault};
 ghost use Rattle.boot_verdict.specs.Checkpoints.{GoesOn, HaveValues, IsCheckpoint, IsCounted, IsHash, IsMoreFault, IsPossible, SameData, SameValues, most_after};
 ghost use Rattle.boot_verdict.specs.CheckpointTexts.{IsOfOtherVersion, bank_lines, banks_lines, checkpoint_text, data_lines, number_line, stated_line, stated_words, value_line};
 ghost use Rattle.boot_verdict.specs.parts.CheckpointParts.{HasBank, Sets, TakesBank};
@@ -26,7 +30,6 @@ use crate::replaying::list_start;
 use crate::texts::write_checkpoint;
 use crate::verifier::VerifyFault;
 use byte_streams::Source;
-use ima_list::laws::entries_to_the_end_are_the_reading;
 use pcr_banks::laws::{digest_is_a_hash, registers_have_hashes};
 use pcr_banks::{Alg, Banks, Digest, REGISTERS};
 use std::alloc::{AllocError, Global};
@@ -55,52 +58,67 @@ impl Checkpoint {
     pub(crate) fn before_list(registers: Banks) -> Self
         ensures checkpoint { IsCheckpoint [] result }
         ensures before { result.before ≡ registers }
+        ensures entries { result.entries ≡ 0 }
+        ensures bytes { result.bytes ≡ 0 }
     {
-        entries_to_the_end_are_the_reading();
-        Checkpoint {
-            before: registers,
-            after: registers,
-            entries: 0,
-            bytes: 0,
-            stated: None,
-        }
+        Checkpoint::after(registers, ListReplay::new(registers), 0)
     }
 
-    /// The checkpoint after all that the source has left, at most `limit` bytes, and no more than make a list of 2^63 - 1.
+    /// The checkpoint after a whole list in memory, which begins with these registers. Fails with the fault of the list.
+    pub(crate) fn of_list(registers: Banks, list: &[u8]) -> Result<Checkpoint, VerifyFault>
+        ensures known { IfOk result (IsCheckpoint list.now) }
+        ensures before { IfOk result (λ known. known.before ≡ registers) }
+        ensures only { (entries : List ListEntry) → IsReading list.now (Ok entries) → AreGenuine entries → IsOk result }
+        ensures fault { IfErr result (λ fault. (log : List ℕ) → IsSomeLog log → IsVerifyFault log list.now fault) }
+        ensures memory { IsErrOf result VerifyFault.Memory → ⊥ }
+    {
+        let replay = ListReplay::of_list(registers, list)?;
+        Ok(Checkpoint::after(registers, replay, list.len() as u64))
+    }
+
+    /// The checkpoint after all that the source has left, at most `limit` bytes.
     pub(crate) fn go_on<R: Source>(
         &self,
         alloc: Global,
         source: &mut R,
         limit: u64,
     ) -> Result<Checkpoint, VerifyFault>
+        requires entries { self.now.entries + limit < 2 ^ 64 }
+        requires bytes { self.now.bytes + limit < 2 ^ 64 }
         ensures known { IfOk result (λ next. (list : List ℕ) → IsCheckpoint list self.now
-            → GoesOn list (R.state source.old).remaining (R.state source.new).remaining (most_after self.now limit) next) }
+            → GoesOn list (R.state source.old).remaining (R.state source.new).remaining limit next) }
         ensures before { IfOk result (λ next. next.before ≡ self.now.before) }
         ensures fault { IfErr result (λ fault. (list : List ℕ) → IsCheckpoint list self.now
-            → IsMoreFault list (R.state source.old).remaining (R.state source.new).remaining (most_after self.now limit) fault) }
+            → IsMoreFault list (R.state source.old).remaining (R.state source.new).remaining limit fault) }
         ensures front { LosesFront (R.state source.old).remaining (R.state source.new).remaining }
         ensures telling { is_some (R.state source.new).remaining ≡ is_some (R.state source.old).remaining }
         ensures counts { (R.state source.new).failures ≡ failures_after_list result (R.state source.old).failures }
     {
         let mut replay = self.replay();
-        let count = replay.follow(alloc, source, self.room(limit))?;
-        let entries = replay.entries;
-        let stated = replay.stated;
-        Ok(Checkpoint {
-            before: self.before,
-            after: replay.genuine()?,
-            entries,
-            bytes: self.bytes + count,
-            stated,
-        })
+        let count = replay.follow(alloc, source, limit)?;
+        Ok(Checkpoint::after(self.before, replay, self.bytes + count))
+    }
+
+    // The checkpoint after a list of so many bytes, which was replayed from these registers.
+    fn after(before: Banks, replay: ListReplay<Banks>, bytes: u64) -> Checkpoint
+        ensures known { (list : List ℕ) → ReplaysAll BanksAfter before list replay → bytes ≡ length list → IsCheckpoint list result }
+        ensures before { result.before ≡ before }
+        ensures entries { result.entries ≡ replay.entries }
+        ensures bytes { result.bytes ≡ bytes }
+    {
+        Checkpoint {
+            before,
+            after: replay.follower,
+            entries: replay.entries,
+            bytes,
+            stated: replay.stated,
+        }
     }
 
     /// The replay of the list.
     pub(crate) fn replay(&self) -> ListReplay<Banks>
         ensures replays { (list : List ℕ) → IsCheckpoint list self.now → ReplaysAll BanksAfter self.now.before list result }
-        ensures known { (list : List ℕ) (is : IsCheckpoint list self.now) → Replays BanksAfter self.now.before is.entries result }
         ensures entries { result.entries ≡ self.now.entries }
-        ensures forged { result.forged ≡ None }
     {
         ListReplay {
             follower: self.after,
@@ -141,7 +159,7 @@ pub fn counted_checkpoint_is_possible(checkpoint: &Checkpoint)
 }
 
 /// Why a text is not read as a checkpoint.
-#[derive(Clone, Copy, Debug, PartialEq, Eq, Error)]
+#[derive(Clone, Copy, Debug, Error)]
 pub enum CheckpointFault {
     /// The text begins as that of a checkpoint does, but has another version.
     #[error("a checkpoint of another version")]

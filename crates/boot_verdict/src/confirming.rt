@@ -1,17 +1,18 @@
 //! The confirmed front of a list that grows: the shortest with which the verdict is `match`.
 
-ghost use Rattle.std.specs.Prelude.{◌≡◌, ◌<◌, ◌^◌, List, ℕ, is_some, option_map, IfOk, IfErr, IfSome, IfNone, OnErr};
+ghost use Rattle.std.specs.Prelude.{◌≡◌, ◌<◌, ◌^◌, List, ℕ, Ok, Err, is_some, option_map, IfOk, IfErr, IfSome, IfNone, OnErr};
 ghost use Rattle.byte_streams.specs.Streams.{LosesFront};
 ghost use Rattle.pcr_banks.specs.declared.sets.AlgSet.{AlgSet};
 ghost use Rattle.pcr_banks.specs.Digests.{alg_of, bytes_of};
 ghost use Rattle.boot_log.specs.Replaying.{IsFirmware};
 ghost use Rattle.boot_log.specs.Spelling.{LogEvent};
+ghost use Rattle.boot_verdict.specs.declared.front_report.Unconfirmed.{Unconfirmed};
 ghost use Rattle.boot_verdict.specs.Checkpoints.{IsCheckpoint, IsMoreFault, most_after};
-ghost use Rattle.boot_verdict.specs.ListSources.{IsListFaultAfter, failures_after_list};
+ghost use Rattle.boot_verdict.specs.ListSources.{failures_after_list};
 ghost use Rattle.boot_verdict.specs.Verdicts.{aggregate_of, is_good};
 ghost use Rattle.boot_verdict.specs.parts.Confirming.{IsConfirmingAfter, search_before};
 ghost use Rattle.boot_verdict.specs.parts.ListReplays.{ReplaysAll};
-ghost use Rattle.boot_verdict.specs.parts.Searches.{IsNoListFault, Searches, front_after, unconfirmed_of, whole_after, whole_of, wrong_with};
+ghost use Rattle.boot_verdict.specs.parts.Searches.{IsNoListFault, Searches, fault_in, front_after, whole_after, wrong_with};
 
 use crate::checkpoint::Checkpoint;
 use crate::expected::Expected;
@@ -22,8 +23,6 @@ use crate::report::Aggregate;
 use crate::session::Session;
 use crate::verifier::{VerifyFault, aggregate_of, report_on};
 use byte_streams::Source;
-use ima_list::ReplayFault;
-use ima_list::laws::entries_to_the_end_are_the_reading;
 use std::alloc::Global;
 
 impl Session<'_> {
@@ -68,7 +67,7 @@ impl Session<'_> {
             self.known = whole_of(search.whole)?;
             return Ok(None);
         };
-        let report = report_on(alloc, &self.log, &front.before, front.replay(), expected)?;
+        let report = report_on(alloc, &self.log, &front, expected)?;
         self.known = front;
         Ok(Some(FrontReport {
             report,
@@ -101,16 +100,15 @@ impl Checkpoint {
         ensures found { IfOk result (λ search. (list : List ℕ) → IsCheckpoint list self.now
             → Searches self.now list (R.state source.old).remaining (R.state source.new).remaining (most_after self.now limit) expected.now search) }
         ensures fault { IfErr result (λ fault. (list : List ℕ) → IsCheckpoint list self.now
-            → IsListFaultAfter list (R.state source.old).remaining (R.state source.new).remaining (most_after self.now limit) fault) }
+            → IsMoreFault list (R.state source.old).remaining (R.state source.new).remaining (most_after self.now limit) fault) }
         ensures other { IfErr result IsNoListFault }
         ensures source { LosesFront (R.state source.old).remaining (R.state source.new).remaining }
         ensures telling { is_some (R.state source.new).remaining ≡ is_some (R.state source.old).remaining }
         ensures counts { (R.state source.new).failures ≡ failures_after_list result (R.state source.old).failures }
     {
-        entries_to_the_end_are_the_reading();
         let mut replay = self.searching(expected);
         let whole = match replay.follow(alloc, source, self.room(limit)) {
-            Ok(_count) => self.whole(&replay),
+            Ok(_count) => Ok(self.whole(&replay)),
             Err(fault) => Err(unconfirmed_of(fault)?),
         };
         Ok(Search {
@@ -134,19 +132,16 @@ impl Checkpoint {
         }
     }
 
-    // The checkpoint of the whole list, if its entries are genuine.
-    fn whole(&self, replay: &ListReplay<Confirming<'_>>) -> Result<Checkpoint, Unconfirmed>
+    // The checkpoint of the whole list.
+    fn whole(&self, replay: &ListReplay<Confirming<'_>>) -> Checkpoint
         ensures { result ≡ whole_after self.now replay.now }
     {
-        match replay.forged {
-            Some(entry) => Err(Unconfirmed::Replay(ReplayFault::BadTemplateDigest { entry })),
-            None => Ok(Checkpoint {
-                before: self.before,
-                after: replay.follower.banks,
-                entries: replay.entries,
-                bytes: replay.follower.bytes,
-                stated: replay.stated,
-            }),
+        Checkpoint {
+            before: self.before,
+            after: replay.follower.banks,
+            entries: replay.entries,
+            bytes: replay.follower.bytes,
+            stated: replay.stated,
         }
     }
 
@@ -179,12 +174,15 @@ fn is_good(aggregate: Aggregate) -> bool
     matches!(aggregate, Aggregate::Good)
 }
 
-// What is wrong with a list whose bytes have this fault; any other fault is returned as it is.
+// What is wrong with a list that has this fault; any other fault is returned as it is.
 fn unconfirmed_of(fault: VerifyFault) -> Result<Unconfirmed, VerifyFault>
-    ensures { result ≡ unconfirmed_of fault }
+    ensures wrong { IfOk result (λ wrong. fault ≡ fault_in wrong) }
+    ensures same { IfErr result (λ other. fault ≡ other) }
+    ensures other { IfErr result IsNoListFault }
 {
     match fault {
         VerifyFault::List(fault) => Ok(Unconfirmed::List(fault)),
+        VerifyFault::Replay(fault) => Ok(Unconfirmed::Replay(fault)),
         other => Err(other),
     }
 }
@@ -198,7 +196,8 @@ fn wrong_with(whole: Result<Checkpoint, Unconfirmed>) -> Option<Unconfirmed>
 
 // The checkpoint of the whole list, or the fault with which it is refused.
 fn whole_of(whole: Result<Checkpoint, Unconfirmed>) -> Result<Checkpoint, VerifyFault>
-    ensures { result ≡ whole_of whole }
+    ensures whole { IfOk result (λ known. whole ≡ Ok known) }
+    ensures fault { IfErr result (λ fault. (wrong : Unconfirmed) × (whole ≡ Err wrong) × (fault ≡ fault_in wrong)) }
 {
     match whole {
         Ok(whole) => Ok(whole),

@@ -1,7 +1,7 @@
 //! The search for the shortest front of a list after which each expected register has its value.
 
 ghost use Rattle.std.specs.Prelude.{◌≡◌};
-ghost use Rattle.boot_verdict.specs.parts.Confirming.{IsConfirmingAfter, are_reached, front_with, search_after};
+ghost use Rattle.boot_verdict.specs.parts.Confirming.{IsConfirmingAfter, are_reached, front_at, search_after};
 
 use crate::checkpoint::Checkpoint;
 use crate::expected::Expected;
@@ -51,15 +51,18 @@ impl<'a> Confirming<'a> {
             return search;
         }
         Confirming {
-            front: search.front_with(search.first),
+            front: search.front_at(Place::Entry(search.first)),
             ..search
         }
     }
 
-    // The front, if the entry with this number is the last so far, and each expected register has its value now.
-    fn front_with(&self, last: usize) -> Option<Front>
-        ensures { result ≡ front_with self.now last }
+    // The front that ends at this place, if it is that of an entry that may be the last, and each expected register has its value now.
+    fn front_at(&self, place: Place) -> Option<Front>
+        ensures { result ≡ front_at self.now place }
     {
+        let Place::Entry(last) = place else {
+            return None;
+        };
         if last >= self.first && are_reached(self.expected, &self.banks) {
             Some(Front {
                 registers: self.banks,
@@ -75,12 +78,12 @@ impl<'a> Confirming<'a> {
 impl Follow for Confirming<'_> {
     ghost is_after = { IsConfirmingAfter };
 
-    // Replays the step, and looks at the registers, if it is an entry and there is no front yet.
+    // Replays the step, and looks at the registers, if there is no front yet.
     fn step(&mut self, step: &Step<'_>, place: Place) {
         step.replay_into(&mut self.banks);
         self.bytes = self.bytes.saturating_add(step.size());
-        if let (None, Place::Entry(last)) = (self.front, place) {
-            self.front = self.front_with(last);
+        if self.front.is_none() {
+            self.front = self.front_at(place);
         }
     }
 }

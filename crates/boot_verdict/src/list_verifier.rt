@@ -4,23 +4,17 @@ ghost use Rattle.std.specs.Prelude.{◌≡◌, ◌⊎◌, List, is_some, Ok, IfO
 ghost use Rattle.byte_fields.specs.Reading.{ReadsInMemory};
 ghost use Rattle.byte_streams.specs.Streams.{LosesFront};
 ghost use Rattle.ima_list.specs.ListEntry.{ListEntry};
-ghost use Rattle.ima_list.specs.Replaying.{AreGenuine};
-ghost use Rattle.pcr_banks.specs.declared.banks.Banks.{Banks};
 ghost use Rattle.boot_verdict.specs.ListSources.{HoldsGenuineList, failures_after_list};
 ghost use Rattle.boot_verdict.specs.ListVerdicts.{IsListVerdictFrom, list_matches, list_verdict_of, list_verdict_on, required_list_matches};
-ghost use Rattle.boot_verdict.specs.Replays.{IsListReplayFault, IsListStart};
-ghost use Rattle.boot_verdict.specs.parts.Following.{BanksAfter};
-ghost use Rattle.boot_verdict.specs.parts.ListReplays.{IsFaultOfEntries, Replays};
+ghost use Rattle.boot_verdict.specs.Replays.{IsListReplayFault};
 
+use crate::checkpoint::Checkpoint;
 use crate::expected::Expected;
-use crate::list_replay::ListReplay;
 use crate::replaying::list_start;
 use crate::report::{Row, all_match};
 use crate::requirement::Requirement;
 use crate::verifier::{VerifyFault, rows_on};
 use byte_streams::Source;
-use ima_list::laws::no_bytes_have_two_readings;
-use pcr_banks::Banks;
 use std::alloc::Global;
 
 /// The report on a measurement list alone and expected registers.
@@ -73,26 +67,9 @@ pub fn verify_list_from<R: Source>(
     ensures telling { is_some (R.state list.new).remaining ≡ is_some (R.state list.old).remaining }
     ensures counts { (R.state list.new).failures ≡ failures_after_list result (R.state list.old).failures }
 {
-    no_bytes_have_two_readings();
-    let replay = ListReplay::of_source(alloc, list_start(), list, limit)?;
-    report_on(alloc, replay, expected)
-}
-
-// The report on a list that was replayed from the registers before it, and expected registers.
-fn report_on(
-    alloc: Global,
-    replay: ListReplay<Banks>,
-    expected: &[Expected],
-) -> Result<ListReport, VerifyFault>
-    ensures report { IfOk result (λ report. (start : Banks) (entries : List ListEntry) → IsListStart start → Replays BanksAfter start entries replay
-        → AreGenuine entries × (list_verdict_of report ≡ list_verdict_on entries expected.now)) }
-    ensures fault { IfErr result (λ fault. (start : Banks) (entries : List ListEntry) → Replays BanksAfter start entries replay
-        → IsFaultOfEntries entries fault) }
-{
-    let entries = replay.entries;
-    let now = replay.genuine()?;
+    let known = Checkpoint::before_list(list_start()).go_on(alloc, list, limit)?;
     Ok(ListReport {
-        entries,
-        rows: rows_on(alloc, &now, expected)?,
+        entries: known.entries,
+        rows: rows_on(alloc, &known.after, expected)?,
     })
 }

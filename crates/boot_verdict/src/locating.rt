@@ -26,7 +26,6 @@ use crate::steps::{Follow, Step};
 use crate::verifier::VerifyFault;
 use boot_log::{LogEvents, LogView};
 use byte_streams::Source;
-use ima_list::laws::{list_has_one_reading, no_bytes_have_two_readings};
 use pcr_banks::{Banks, Digest};
 use std::alloc::{AllocError, Global};
 
@@ -51,11 +50,10 @@ pub fn locate(
     ensures fault { IfErr result (IsVerifyFault log.now list.now) }
     ensures memory { IsErrOf result VerifyFault.Memory → IsSomeLog log.now }
 {
-    list_has_one_reading(list);
     let firmware = LogView::new(log)?;
     let start = follow_log(alloc, &firmware, expected)?;
     let replay = ListReplay::of_list(start, list)?;
-    Ok(replay.genuine()?.rows)
+    Ok(replay.follower.rows)
 }
 
 /// As [`locate`], for a list of at most `limit` bytes that is read from a source, with the faults of [`crate::verify_from`]. Each
@@ -83,11 +81,10 @@ pub fn locate_from<R: Source>(
     ensures telling { is_some (R.state list.new).remaining ≡ is_some (R.state list.old).remaining }
     ensures counts { (R.state list.new).failures ≡ failures_after_list result (R.state list.old).failures }
 {
-    no_bytes_have_two_readings();
     let firmware = LogView::new(log)?;
     let start = follow_log(alloc, &firmware, expected)?;
     let replay = ListReplay::of_source(alloc, start, list, limit)?;
-    Ok(replay.genuine()?.rows)
+    Ok(replay.follower.rows)
 }
 
 // The registers after the log's events, and the places of the expected values among them.

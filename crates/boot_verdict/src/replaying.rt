@@ -8,10 +8,9 @@ ghost use Rattle.ima_list.specs.ListEntry.{ListEntry};
 ghost use Rattle.boot_verdict.specs.ListSources.{HoldsGenuineList, failures_after_list};
 ghost use Rattle.boot_verdict.specs.Replays.{IsListReplay, IsListReplayFault, IsListReplayFrom, IsListStart, every_alg};
 
-use crate::list_replay::ListReplay;
+use crate::checkpoint::Checkpoint;
 use crate::verifier::VerifyFault;
 use byte_streams::Source;
-use ima_list::laws::no_bytes_have_two_readings;
 use pcr_banks::{Alg, AlgSet, Banks};
 use std::alloc::Global;
 
@@ -54,7 +53,6 @@ pub fn replay_from<R: Source>(alloc: Global, list: &mut R, limit: u64) -> Result
     ensures telling { is_some (R.state list.new).remaining ≡ is_some (R.state list.old).remaining }
     ensures counts { (R.state list.new).failures ≡ failures_after_list result (R.state list.old).failures }
 {
-    no_bytes_have_two_readings();
-    let replay = ListReplay::of_source(alloc, list_start(), list, limit)?;
-    Ok(replay.genuine()?)
+    let known = Checkpoint::before_list(list_start()).go_on(alloc, list, limit)?;
+    Ok(known.after)
 }

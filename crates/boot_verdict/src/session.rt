@@ -12,7 +12,6 @@ ghost use Rattle.boot_verdict.specs.Verdicts.{IsSomeLog, IsVerdict, verdict_of};
 
 use crate::checkpoint::Checkpoint;
 use crate::expected::Expected;
-use crate::list_replay::ListReplay;
 use crate::report::Report;
 use crate::same_banks::are_same_banks;
 use crate::verifier::{VerifyFault, report_on};
@@ -22,7 +21,7 @@ use std::alloc::Global;
 use thiserror::Error;
 
 /// Why a session does not go on from a checkpoint.
-#[derive(Clone, Copy, Debug, PartialEq, Eq, Error)]
+#[derive(Clone, Copy, Debug, Error)]
 pub enum ResumeFault {
     /// The log is invalid.
     #[error("the log is invalid: {0}")]
@@ -108,7 +107,7 @@ impl<'a> Session<'a> {
         ensures telling { is_some (R.state source.new).remaining ≡ is_some (R.state source.old).remaining }
         ensures counts { (R.state source.new).failures ≡ failures_after_list result (R.state source.old).failures }
     {
-        let next = self.known.go_on(alloc, source, limit)?;
+        let next = self.known.go_on(alloc, source, self.known.room(limit))?;
         self.known = next;
         Ok(())
     }
@@ -119,12 +118,6 @@ impl<'a> Session<'a> {
         ensures report { IfOk result (λ report. (log list : List ℕ) → HasTaken log list self.now → IsVerdict log list expected.now (verdict_of report)) }
         ensures fault { (log list : List ℕ) → HasTaken log list self.now → IfErr result (λ fault. fault ≡ VerifyFault.Memory) }
     {
-        report_on(
-            alloc,
-            &self.log,
-            &self.known.before,
-            self.known.replay(),
-            expected,
-        )
+        Ok(report_on(alloc, &self.log, &self.known, expected)?)
     }
 }

@@ -16,15 +16,13 @@ ghost use Rattle.boot_verdict.specs.declared.verifier.VerifyFault.TheVariants.{M
 ghost use Rattle.boot_verdict.specs.Verdicts.{HasSomethingToKeep, IsSomeLog, IsVerdict, IsVerdictFrom, IsVerifyFault, IsVerifyFaultFrom, aggregate_of, aggregate_state, fault_of_list, fault_of_log, fault_of_reading, row_state, verdict_of, verdict_on};
 ghost use Rattle.boot_verdict.specs.parts.Rows.{row_of};
 ghost use Rattle.boot_verdict.specs.ListSources.{HoldsGenuineList, failures_after_list};
-ghost use Rattle.boot_verdict.specs.parts.Following.{BanksAfter};
-ghost use Rattle.boot_verdict.specs.parts.ListReplays.{IsFaultOfEntries, Replays};
+ghost use Rattle.boot_verdict.specs.Checkpoints.{IsCheckpoint};
 
+use crate::checkpoint::Checkpoint;
 use crate::expected::Expected;
-use crate::list_replay::ListReplay;
 use crate::report::{Aggregate, Report, Row, State};
 use boot_log::{LogFault, LogView};
 use byte_streams::{ReadFault, Source};
-use ima_list::laws::{list_has_one_reading, no_bytes_have_two_readings};
 use ima_list::{ListFault, ReplayFault, boot_aggregate};
 use pcr_banks::{Banks, Digest};
 use std::alloc::{AllocError, Global};
@@ -123,11 +121,10 @@ pub fn verify(
     ensures fault { IfErr result (IsVerifyFault log.now list.now) }
     ensures memory { IsErrOf result VerifyFault.Memory → HasSomethingToKeep log.now list.now }
 {
-    list_has_one_reading(list);
     let log = LogView::new(log)?;
     let start = log.registers();
-    let replay = ListReplay::of_list(start, list)?;
-    report_on(alloc, &log, &start, replay, expected)
+    let known = Checkpoint::of_list(start, list)?;
+    Ok(report_on(alloc, &log, &known, expected)?)
 }
 
 /// As [`verify`], for a list of at most `limit` bytes that is read from a source. Each entry is replayed as its bytes arrive;
@@ -159,36 +156,28 @@ pub fn verify_from<R: Source>(
     ensures telling { is_some (R.state list.new).remaining ≡ is_some (R.state list.old).remaining }
     ensures counts { (R.state list.new).failures ≡ failures_after_list result (R.state list.old).failures }
 {
-    no_bytes_have_two_readings();
     let firmware = LogView::new(log)?;
-    let start = firmware.registers();
-    let replay = ListReplay::of_source(alloc, start, list, limit)?;
-    report_on(alloc, &firmware, &start, replay, expected)
+    let known = Checkpoint::before_list(firmware.registers()).go_on(alloc, list, limit)?;
+    Ok(report_on(alloc, &firmware, &known, expected)?)
 }
 
-/// The report on a log that leaves the registers `start`, a list replayed from them, and expected registers.
+/// The report on a log and the list of a checkpoint, whose registers before the list are those that the log leaves.
 pub(crate) fn report_on(
     alloc: Global,
     log: &LogView<'_>,
-    start: &Banks,
-    replay: ListReplay<Banks>,
+    known: &Checkpoint,
     expected: &[Expected],
-) -> Result<Report, VerifyFault>
-    ensures report { (table : List TableRow) (events : List LogEvent) → IsLog (log_bytes log.now) table events
-        → IsFirmware (algs_in table) events start.now → IfOk result (λ report. (entries : List ListEntry) → Replays BanksAfter start.now entries replay
-        → AreGenuine entries × (verdict_of report ≡ verdict_on (algs_in table) events entries expected.now)) }
-    ensures fault { IfErr result (λ fault. (entries : List ListEntry) → Replays BanksAfter start.now entries replay → IsFaultOfEntries entries fault) }
-    ensures source { IsErrOf result VerifyFault.Source → ⊥ }
+) -> Result<Report, AllocError>
+    ensures { IfOk result (λ report. (table : List TableRow) (events : List LogEvent) (list : List ℕ) → IsLog (log_bytes log.now) table events
+        → IsFirmware (algs_in table) events known.now.before → (is : IsCheckpoint list known.now)
+        → verdict_of report ≡ verdict_on (algs_in table) events is.entries expected.now) }
 {
-    let entries = replay.entries;
-    let stated = replay.stated;
-    let now = replay.genuine()?;
     Ok(Report {
         events: log.count(),
         locality: log.locality(),
-        entries,
-        aggregate: aggregate_of(start, stated),
-        rows: rows_on(alloc, &now, expected)?,
+        entries: known.entries,
+        aggregate: aggregate_of(&known.before, known.stated),
+        rows: rows_on(alloc, &known.after, expected)?,
     })
 }
 

@@ -23,8 +23,8 @@ use Rattle.boot_verdict.specs.Verdicts.{IsSomeLog, Verdict}
 use Rattle.ima_agent.specs.declared.fault.NotResumed.TheVariants.{OtherBoot}
 use Rattle.ima_agent.specs.declared.fault.RunFault.{RunFault}
 use Rattle.ima_agent.specs.declared.fault.RunFault.TheVariants as runs
-use Rattle.ima_agent.specs.declared.growing.Judged.{Judged}
-use Rattle.ima_agent.specs.declared.growing.Judged.TheVariants as judged
+use Rattle.ima_agent.specs.declared.grown_reports.Judged.{Judged}
+use Rattle.ima_agent.specs.declared.grown_reports.Judged.TheVariants as judged
 use Rattle.ima_agent.specs.declared.output.Form.{Form}
 use Rattle.ima_agent.specs.declared.output.Output.{Output}
 use Rattle.ima_agent.specs.Growing.{AreGrounds, Growth, HasSaved, IsFaultAfter, IsFrontAfter, IsGrownFault, IsGrownFaultWith, IsNotTaken, IsOfOtherBoot, IsRefusedUnconfirmed, IsTaken, IsUnconfirmed, IsUnconfirmedBefore, IsVerdictAfter, IsWrongAfter, ShowsAndSaves, ShowsGrownWith, ShowsGrowth, entries_taken, most_more, seeks_front}

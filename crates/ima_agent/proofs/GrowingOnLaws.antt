@@ -25,8 +25,8 @@ use Rattle.boot_verdict.specs.Verdicts.{IsForged, verdict_of}
 use Rattle.ima_agent.specs.declared.fault.NotResumed.TheVariants.{OtherBoot}
 use Rattle.ima_agent.specs.declared.fault.RunFault.{RunFault}
 use Rattle.ima_agent.specs.declared.fault.RunFault.TheVariants as runs
-use Rattle.ima_agent.specs.declared.growing.Judged.{Judged}
-use Rattle.ima_agent.specs.declared.growing.Judged.TheVariants as judged
+use Rattle.ima_agent.specs.declared.grown_reports.Judged.{Judged}
+use Rattle.ima_agent.specs.declared.grown_reports.Judged.TheVariants as judged
 use Rattle.ima_agent.specs.declared.output.Form.{Form}
 use Rattle.ima_agent.specs.Growing.{IsOfOtherBoot, IsTaken, entries_taken, seeks_front}
 use Rattle.ima_agent.specs.GrowingOn.{BeginsUnconfirmed, GrowthOn, HasNoFront, IsFaultIn, IsFrontOf, IsKnownIn, IsNotGrownOnWith, IsNotTakenOn, IsUnconfirmedIn, IsWrongIn, ShowsFrontOn, ShowsGrownOnWith, ShowsWholeOn}

@@ -1,5 +1,5 @@
 -- What a search for the confirmed front found.
-use Rattle.std.specs.Prelude.{◌≡◌, ℕ, ◌+◌, ◌-◌, ◌^◌, min, Bool, if◌then◌else◌, List, ◌++◌, length, Option, Some, None, option_map, Result, Ok, Err}
+use Rattle.std.specs.Prelude.{◌≡◌, ℕ, ◌+◌, ◌-◌, ◌^◌, min, Bool, if◌then◌else◌, List, ◌++◌, length, Option, Some, None, Result, Ok, Err}
 use Rattle.pcr_banks.specs.declared.sets.AlgSet.{AlgSet}
 use Rattle.boot_log.specs.Replaying.{IsFirmware}
 use Rattle.boot_log.specs.Spelling.{LogEvent}
@@ -8,7 +8,6 @@ use Rattle.ima_list.specs.Spelling.{BeginsWith, IsReading, list_spelling}
 use Rattle.boot_verdict.specs.declared.checkpoint.Checkpoint.{Checkpoint}
 use Rattle.boot_verdict.specs.declared.confirming.Search.{Search}
 use Rattle.boot_verdict.specs.declared.expected.Expected.{Expected}
-use Rattle.ima_list.specs.declared.replaying.ReplayFault.TheVariants as replays
 use Rattle.boot_verdict.specs.declared.front_report.Unconfirmed.{Unconfirmed}
 use Rattle.boot_verdict.specs.declared.front_report.Unconfirmed.TheVariants as unconfirmed
 use Rattle.boot_verdict.specs.declared.fronts.Confirming.{Confirming}
@@ -17,7 +16,7 @@ use Rattle.boot_verdict.specs.declared.list_replay.ListReplay.{ListReplay}
 use Rattle.boot_verdict.specs.declared.verifier.VerifyFault.{VerifyFault}
 use Rattle.boot_verdict.specs.declared.verifier.VerifyFault.TheVariants as faults
 use Rattle.boot_verdict.specs.Checkpoints.{IsCheckpoint}
-use Rattle.boot_verdict.specs.Fronts.{AreUnconfirmed, IsConfirmed, IsWrongWith}
+use Rattle.boot_verdict.specs.Fronts.{AreUnconfirmed, IsConfirmed, IsUnconfirmedFault, IsWrongWith}
 use Rattle.boot_verdict.specs.ListSources.{CameFrom, CameWhole}
 
 -- The checkpoint of a confirmed front of these bytes.
@@ -63,18 +62,14 @@ pub record Searches (known : Checkpoint) (list : List ℕ) (old new : Option (Li
 
 -- ---- what the code makes of the replay
 
-abbrev pub whole_with : Checkpoint → ListReplay Confirming → Option ℕ → Result Checkpoint Unconfirmed
-whole_with known replay (Some entry) = Err (unconfirmed.Replay (replays.BadTemplateDigest entry))
-whole_with known replay None = Ok (record {
+abbrev pub whole_after : Checkpoint → ListReplay Confirming → Checkpoint
+whole_after known replay = record {
   before = known.before;
   after = replay.follower.banks;
   entries = replay.entries;
   bytes = replay.follower.bytes;
   stated = replay.stated;
-})
-
-abbrev pub whole_after : Checkpoint → ListReplay Confirming → Result Checkpoint Unconfirmed
-whole_after known replay = whole_with known replay replay.forged
+}
 
 abbrev pub checkpoint_at : Checkpoint → ListReplay Confirming → Front → Checkpoint
 checkpoint_at known replay front = record {
@@ -86,25 +81,19 @@ checkpoint_at known replay front = record {
 }
 
 -- The front of the search, if the boot aggregate is good.
+abbrev pub front_with : Bool → Checkpoint → ListReplay Confirming → Option Front → Option Checkpoint
+front_with good known replay None = None
+front_with good known replay (Some front) = if good then Some (checkpoint_at known replay front) else None
+
 abbrev pub front_after : Bool → Checkpoint → ListReplay Confirming → Option Checkpoint
-front_after good known replay = if good then option_map (checkpoint_at known replay) replay.follower.front else None
+front_after good known replay = front_with good known replay replay.follower.front
 
--- The fault of a whole list.
-abbrev pub whole_of : Result Checkpoint Unconfirmed → Result Checkpoint VerifyFault
-whole_of (Ok whole) = Ok whole
-whole_of (Err (unconfirmed.List fault)) = Err (faults.List fault)
-whole_of (Err (unconfirmed.Replay fault)) = Err (faults.Replay fault)
+-- The fault of a list with which this is wrong.
+abbrev pub fault_in : Unconfirmed → VerifyFault
+fault_in (unconfirmed.List fault) = faults.List fault
+fault_in (unconfirmed.Replay fault) = faults.Replay fault
 
--- What is wrong with a list, by the fault of its bytes; any other fault is as it is.
-abbrev pub unconfirmed_of : VerifyFault → Result Unconfirmed VerifyFault
-unconfirmed_of (faults.List fault) = Ok (unconfirmed.List fault)
-unconfirmed_of (faults.Log fault) = Err (faults.Log fault)
-unconfirmed_of (faults.Replay fault) = Err (faults.Replay fault)
-unconfirmed_of faults.Source = Err faults.Source
-unconfirmed_of faults.TooLong = Err faults.TooLong
-unconfirmed_of faults.Memory = Err faults.Memory
-
--- It is no fault of a list.
+-- It is no fault of a list, so it does not tell of a front.
 abbrev pub IsNoListFault : VerifyFault → Type 0
-IsNoListFault (faults.List fault) = ⊥
-IsNoListFault fault = Unit {0}
+IsNoListFault fault = (log list : List ℕ) (old new : Option (List ℕ)) (limit : ℕ) (expected : List Expected) (least : ℕ)
+    → IsUnconfirmedFault log list old new limit expected least fault

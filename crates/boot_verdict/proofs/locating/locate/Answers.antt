@@ -1,11 +1,12 @@
-use Rattle.std.proofs.Common.{ℕ, List, Ok, Err, ap, subst, sym, ◌∙◌, inr}
+use Rattle.std.proofs.Common.{List, Ok, ap, sym, ◌∙◌, inr}
 use Rattle.std.proofs.lemmas.Result.{err_from_is_err_and}
-use Rattle.boot_log.specs.Spelling.{IsLog, algs_in}
+use Rattle.boot_log.specs.Spelling.{algs_in}
 use Rattle.ima_list.specs.ListEntry.{ListEntry}
 use Rattle.boot_verdict.specs.Places.{located_on}
-use Rattle.boot_verdict.proofs.LocateLaws.{located_all, located_in}
-use Rattle.boot_verdict.proofs.ReplayLaws.{not_forged}
-use Rattle.boot_verdict.proofs.VerdictLaws.{log_first, log_not_memory, ok_same}
+use Rattle.boot_verdict.proofs.PlaceLaws.{located_all, located_in}
+use Rattle.boot_verdict.proofs.ReplayLaws.{one_list}
+use Rattle.boot_verdict.proofs.SessionLaws.{log_viewed}
+use Rattle.boot_verdict.proofs.VerdictLaws.{log_first, log_not_memory}
 use Rattle.boot_verdict.proofs.locating.locate.Goals as goal
 
 pub returns-in_err-firmware-clause-located : goal.returns-in_err-firmware-clause-located
@@ -19,10 +20,6 @@ returns-in_err-start-clause-located c =
 pub returns-in_err-replay-clause-located : goal.returns-in_err-replay-clause-located
 returns-in_err-replay-clause-located c =
     let p = err_from_is_err_and c.from_residual-in_err-replay.result c.from_residual-in_err-replay.ensures.1 in rw p.1 tt
-
-pub returns-in_err-genuine-clause-located : goal.returns-in_err-genuine-clause-located
-returns-in_err-genuine-clause-located c =
-    let p = err_from_is_err_and c.from_residual-in_err-genuine.result c.from_residual-in_err-genuine.ensures.1 in rw p.1 tt
 
 pub returns-in_err-firmware-clause-only : goal.returns-in_err-firmware-clause-only
 returns-in_err-firmware-clause-only c =
@@ -43,40 +40,24 @@ returns-in_err-firmware-clause-memory c =
 pub returns-in_err-replay-clause-only : goal.returns-in_err-replay-clause-only
 returns-in_err-replay-clause-only c =
     λ table events entries log list genuine.
-    let same = c.list_has_one_reading.ensures.one (Ok entries) (Err c.in_err-replay.field-0.0) list c.in_err-replay.ensures.fault in
+    let there = c.in_err-replay.ensures.only entries list genuine in
     absurd cc
 
-pub returns-in_err-genuine-clause-only : goal.returns-in_err-genuine-clause-only
-returns-in_err-genuine-clause-only c =
-    let all = c.in_ok-replay.ensures.replays in
-    λ table events entries log list genuine.
-    let same = ok_same entries all.entries (c.list_has_one_reading.ensures.one (Ok entries) (Ok all.entries) list all.reading) in
-    absurd (not_forged all.entries _ (rw same at genuine) (c.in_err-genuine.ensures.fault c.in_ok-start.start all.entries all.replays))
-
-pub returns-in_err-genuine-clause-fault : goal.returns-in_err-genuine-clause-fault
-returns-in_err-genuine-clause-fault c =
-    let p = err_from_is_err_and c.from_residual-in_err-genuine.result c.from_residual-in_err-genuine.ensures.1 in
+pub returns-in_err-replay-clause-fault : goal.returns-in_err-replay-clause-fault
+returns-in_err-replay-clause-fault c =
+    let p = err_from_is_err_and c.from_residual-in_err-replay.result c.from_residual-in_err-replay.ensures.1 in
     let sound = c.in_ok-firmware.ensures.sound in
-    let all = c.in_ok-replay.ensures.replays in
-    rw (p.1, p.2) (
-      record { table = sound.0; events = sound.1; log_is = sound.2 },
-      record { entries = all.entries; list_is = all.reading; first = c.in_err-genuine.ensures.fault c.in_ok-start.start all.entries all.replays },
-    )
+    rw (p.1, p.2) (c.in_err-replay.ensures.fault _ (record { table = sound.0; events = sound.1; log_is = sound.2 }))
 
 pub returns-clause-located : goal.returns-clause-located
 returns-clause-located c =
     let sound = c.in_ok-firmware.ensures.sound in
-    let viewed = subst (λ (bytes : List ℕ). IsLog bytes sound.0 sound.1) (sym c.in_ok-firmware.ensures.found) sound.2 in
-    let all = c.in_ok-replay.ensures.replays in
-    located_in _ c.args.list.now sound.0 sound.1 c.args.expected.now c.in_ok-start.start _ c.in_ok-replay.replay
-    sound.2 (c.in_ok-start.ensures sound.0 sound.1 viewed) all (c.in_ok-genuine.ensures.followed c.in_ok-start.start all.entries all.replays)
+    located_in sound.2 (c.in_ok-start.ensures sound.0 sound.1 (log_viewed c.in_ok-firmware.ensures.found sound.2)) c.in_ok-replay.ensures.replays
 
 pub returns-clause-only : goal.returns-clause-only
 returns-clause-only c =
     let all = c.in_ok-replay.ensures.replays in
     λ table events entries is list genuine.
-    let same = ok_same entries all.entries (c.list_has_one_reading.ensures.one (Ok entries) (Ok all.entries) list all.reading) in
-    let viewed = subst (λ (bytes : List ℕ). IsLog bytes table events) (sym c.in_ok-firmware.ensures.found) is in
-    let rows = located_all (algs_in table) events all.entries c.args.expected.now c.in_ok-start.start _ (c.in_ok-start.ensures table events viewed)
-    (c.in_ok-genuine.ensures.followed c.in_ok-start.start all.entries all.replays).1 in
+    let same = one_list list all.reading in
+    let rows = located_all all.entries (c.in_ok-start.ensures table events (log_viewed c.in_ok-firmware.ensures.found is)) all.followed in
     ap Ok (ap (λ (those : List ListEntry). located_on (algs_in table) events those c.args.expected.now) same ∙ sym rows)

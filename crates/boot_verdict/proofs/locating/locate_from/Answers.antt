@@ -1,11 +1,11 @@
-use Rattle.std.proofs.Common.{ℕ, List, Ok, ap, refl, subst, sym, ◌∙◌, inl, inr}
+use Rattle.std.proofs.Common.{List, Ok, ap, refl, sym, ◌∙◌, inl, inr}
 use Rattle.std.proofs.lemmas.Result.{err_from_is_err_and}
-use Rattle.boot_log.specs.Spelling.{IsLog, algs_in}
+use Rattle.boot_log.specs.Spelling.{algs_in}
 use Rattle.ima_list.specs.ListEntry.{ListEntry}
 use Rattle.boot_verdict.specs.Places.{located_on}
-use Rattle.boot_verdict.specs.parts.Following.{IsWatchAfter}
-use Rattle.boot_verdict.proofs.LocateLaws.{located_all, located_from}
-use Rattle.boot_verdict.proofs.ReplayLaws.{forged_from, list_not_read, not_forged, same_list}
+use Rattle.boot_verdict.proofs.PlaceLaws.{located_all, located_in}
+use Rattle.boot_verdict.proofs.ReplayLaws.{list_not_read, same_entries}
+use Rattle.boot_verdict.proofs.SessionLaws.{log_viewed, refused_from}
 use Rattle.boot_verdict.proofs.VerdictLaws.{log_first_from, log_not_memory}
 use Rattle.boot_verdict.proofs.locating.locate_from.Goals as goal
 
@@ -20,10 +20,6 @@ returns-in_err-start-clause-located g c =
 pub returns-in_err-replay-clause-located : goal.returns-in_err-replay-clause-located
 returns-in_err-replay-clause-located g c =
     let p = err_from_is_err_and c.from_residual-in_err-replay.result c.from_residual-in_err-replay.ensures.1 in rw p.1 tt
-
-pub returns-in_err-genuine-clause-located : goal.returns-in_err-genuine-clause-located
-returns-in_err-genuine-clause-located g c =
-    let p = err_from_is_err_and c.from_residual-in_err-genuine.result c.from_residual-in_err-genuine.ensures.1 in rw p.1 tt
 
 pub returns-in_err-firmware-clause-only : goal.returns-in_err-firmware-clause-only
 returns-in_err-firmware-clause-only g c =
@@ -45,45 +41,31 @@ pub returns-in_err-replay-clause-only : goal.returns-in_err-replay-clause-only
 returns-in_err-replay-clause-only g c =
     let p = err_from_is_err_and c.from_residual-in_err-replay.result c.from_residual-in_err-replay.ensures.1 in
     λ table events entries log holds.
-    rw (p.1, p.2) (elim (list_not_read _ _ c.args.limit entries c.in_err-replay.field-0.0 c.no_bytes_have_two_readings.ensures holds c.in_err-replay.ensures.fault) [
+    rw (p.1, p.2) (elim (list_not_read _ holds c.in_err-replay.field-0.0 c.in_err-replay.ensures.fault) [
       | inl source ↦ inl (rw source refl)
       | inr memory ↦ inr (inl memory)
     ])
 
-pub returns-in_err-genuine-clause-only : goal.returns-in_err-genuine-clause-only
-returns-in_err-genuine-clause-only g c =
-    let source = c.in_ok-replay.ensures.replays in
-    λ table events entries log holds.
-    let same = same_list IsWatchAfter _ _ _ c.args.limit entries c.in_ok-replay.replay c.no_bytes_have_two_readings.ensures holds source in
-    absurd (not_forged source.all.entries _ (rw same at holds.genuine)
-    (c.in_err-genuine.ensures.fault c.in_ok-start.start source.all.entries source.all.replays))
-
-pub returns-in_err-genuine-clause-fault : goal.returns-in_err-genuine-clause-fault
-returns-in_err-genuine-clause-fault g c =
-    let p = err_from_is_err_and c.from_residual-in_err-genuine.result c.from_residual-in_err-genuine.ensures.1 in
+pub returns-in_err-replay-clause-fault : goal.returns-in_err-replay-clause-fault
+returns-in_err-replay-clause-fault g c =
+    let p = err_from_is_err_and c.from_residual-in_err-replay.result c.from_residual-in_err-replay.ensures.1 in
     let sound = c.in_ok-firmware.ensures.sound in
-    let source = c.in_ok-replay.ensures.replays in
-    rw (p.1, p.2) (
-      record { table = sound.0; events = sound.1; log_is = sound.2 },
-      forged_from IsWatchAfter c.in_ok-start.start c.in_ok-replay.replay _ _ c.args.limit _ source
-          (c.in_err-genuine.ensures.fault c.in_ok-start.start source.all.entries source.all.replays),
-    )
+    rw (p.1, p.2) (refused_from _ _ c.args.limit c.in_err-replay.field-0.0 (record { table = sound.0; events = sound.1; log_is = sound.2 }) c.in_err-replay.ensures.fault)
 
 pub returns-clause-located : goal.returns-clause-located
 returns-clause-located g c =
     let sound = c.in_ok-firmware.ensures.sound in
-    let viewed = subst (λ (bytes : List ℕ). IsLog bytes sound.0 sound.1) (sym c.in_ok-firmware.ensures.found) sound.2 in
-    let source = c.in_ok-replay.ensures.replays in
-    located_from c.args.log.now _ _ c.args.limit sound.0 sound.1 c.args.expected.now c.in_ok-start.start _
-    c.in_ok-replay.replay sound.2 (c.in_ok-start.ensures sound.0 sound.1 viewed) source
-    (c.in_ok-genuine.ensures.followed c.in_ok-start.start source.all.entries source.all.replays)
+    let more = c.in_ok-replay.ensures.replays in
+    record {
+      list = more.more;
+      came = more.came;
+      located_are = located_in sound.2 (c.in_ok-start.ensures sound.0 sound.1 (log_viewed c.in_ok-firmware.ensures.found sound.2)) more.all;
+    }
 
 pub returns-clause-only : goal.returns-clause-only
 returns-clause-only g c =
-    let source = c.in_ok-replay.ensures.replays in
+    let more = c.in_ok-replay.ensures.replays in
     λ table events entries is holds.
-    let same = same_list IsWatchAfter _ _ _ c.args.limit entries c.in_ok-replay.replay c.no_bytes_have_two_readings.ensures holds source in
-    let viewed = subst (λ (bytes : List ℕ). IsLog bytes table events) (sym c.in_ok-firmware.ensures.found) is in
-    let rows = located_all (algs_in table) events source.all.entries c.args.expected.now c.in_ok-start.start _
-    (c.in_ok-start.ensures table events viewed) (c.in_ok-genuine.ensures.followed c.in_ok-start.start source.all.entries source.all.replays).1 in
+    let same = same_entries _ holds more.more more.all.entries more.came more.all.reading in
+    let rows = located_all more.all.entries (c.in_ok-start.ensures table events (log_viewed c.in_ok-firmware.ensures.found is)) more.all.followed in
     inr (ap Ok (ap (λ (those : List ListEntry). located_on (algs_in table) events those c.args.expected.now) same ∙ sym rows))

@@ -1,16 +1,19 @@
-use Rattle.std.proofs.Common.{◌∙◌}
+use Rattle.std.proofs.Common.{◌<◌, List, ap, arith, drop, length, map, take, ◌∙◌}
+use Rattle.std.specs.Prelude.{slice_set}
+use Rattle.std.proofs.lemmas.List.{get_or_default, length-append, length-drop, length-map, length-take}
+use Rattle.std.proofs.lemmas.List.Edits.{map_over_more}
+use Rattle.boot_verdict.specs.declared.places.Located.{Located}
 use Rattle.boot_verdict.specs.parts.Watches.{looked_at}
-use Rattle.boot_verdict.proofs.WatchLaws.{changed_more, looked_here, looked_past}
 use Rattle.boot_verdict.proofs.places.look_at.Goals as goal
-use Rattle.boot_verdict.proofs.places.look_at.Goals.{then-row-register, else-row-register}
 
 pub loop-row-preserved : goal.loop-row-preserved
 loop-row-preserved c =
     let f = looked_at c.args.banks.now c.args.register c.args.place in
+    let rows = c.args.rows.now in
     let now = c.loop-row.rows in
-    elim c.if-row-register.branch [
-      | then-row-register w ↦ changed_more f c.args.rows.now now c.if-row-register.rows c.loop-row.row-index _ w.look.new.row c.loop-row-test.true
-          c.loop-row.invariant w.rows-is (w.look.ensures ∙ looked_here c.args.banks.now c.args.register c.args.place _ w.if-row-register.true)
-      | else-row-register w ↦ changed_more f c.args.rows.now now c.if-row-register.rows c.loop-row.row-index _ _ c.loop-row-test.true
-          c.loop-row.invariant w.rows-is (looked_past c.args.banks.now c.args.register c.args.place _ w.if-row-register.false)
-    ]
+    let i = c.loop-row.row-index in
+    let size = ap (λ (l : List Located). length l) c.loop-row.invariant in
+    let within : i < length now =
+    omega (arith, c.loop-row-test.true, size, length-append (map f (take i rows)) (drop i rows), length-map (take i rows) f, length-take i rows, length-drop i rows) in
+    ap (λ (row : Located). slice_set now i row) c.look.ensures
+    ∙ map_over_more f rows now i _ c.loop-row-test.true c.loop-row.invariant (get_or_default now i _ _ within)

@@ -1,8 +1,14 @@
-use Rattle.boot_verdict.proofs.SessionLaws.{known_replay}
+use Rattle.boot_verdict.proofs.StepLaws.{followed_by}
 use Rattle.boot_verdict.proofs.checkpoint.Checkpoint.replay.Goals as goal
 
 pub returns-clause-replays : goal.returns-clause-replays
-returns-clause-replays c = λ list is. known_replay list c.args.self.now is
-
-pub returns-clause-known : goal.returns-clause-known
-returns-clause-known c = λ list is. (known_replay list c.args.self.now is).replays
+returns-clause-replays c =
+    λ list is.
+    let followed = followed_by c.args.self.now.before c.args.self.now.after is.entries is.replayed in
+    record {
+      entries = is.entries;
+      reading = is.list_is;
+      replays = record { count = is.count; stated = is.stated; replayed = (is.genuine, followed) };
+      genuine = is.genuine;
+      followed = followed;
+    }

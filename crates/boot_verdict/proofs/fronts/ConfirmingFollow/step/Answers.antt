@@ -1,30 +1,40 @@
-use Rattle.std.proofs.Common.{sym, ◌∙◌, refl}
-use Rattle.boot_verdict.specs.parts.Following.{step_of}
+use Rattle.std.proofs.Common.{◌≡◌, true, false, Option, Some, None, refl, ap, ◌∙◌}
+use Rattle.std.specs.Prelude.{is_some, not}
+use Rattle.std.specs.Option.{option_or}
 use Rattle.boot_verdict.specs.declared.fronts.Confirming.{Confirming}
-use Rattle.boot_verdict.proofs.FrontLaws.{front_next, search_more}
+use Rattle.boot_verdict.specs.declared.fronts.Front.{Front}
+use Rattle.boot_verdict.specs.parts.Following.{step_of}
+use Rattle.boot_verdict.proofs.FrontLaws.{search_more}
 use Rattle.boot_verdict.proofs.fronts.ConfirmingFollow.step.Goals as goal
 
-pub returns-in-None-Entry : goal.returns-in-None-Entry
-returns-in-None-Entry c =
+none_yet : (old next : Option Front) → is_some old ≡ false → next ≡ option_or old next
+none_yet None next is = refl
+none_yet (Some front) next is = absurd cc
+
+found_yet : (old next : Option Front) → is_some old ≡ true → old ≡ option_or old next
+found_yet None next is = absurd cc
+found_yet (Some front) next is = refl
+
+pub returns-then-is_none : goal.returns-then-is_none
+returns-then-is_none c =
     let old = c.args.self.now in
-    let step = step_of c.args.step.now in
     let now : Confirming = record {
       banks = c.replay_into.new.banks;
       bytes = c.saturating_add-self.result;
       first = old.first;
       expected = old.expected;
-      front = c.front_with-self.result;
-    } in
-    let mid : Confirming = record {
-      banks = c.replay_into.new.banks;
-      bytes = c.saturating_add-self.result;
-      first = old.first;
-      expected = old.expected;
-      front = old.front;
+      front = c.front_at-self.result;
     } in
     λ start events before at after.
-    search_more start events before step old now after c.replay_into.ensures.banks
-    (rw c.size.ensures at c.saturating_add-self.ensures) refl refl
-    (λ banks bytes is.
-    rw c.front_with-self.ensures (front_next start events before step mid c.in-None-Entry.last (rw c.in-None-Entry.is-0 at is) banks bytes
-    (sym c.in-None-Entry.is-1 ∙ at) after.first after.expected))
+    search_more start events before (step_of c.args.step.now) old now c.args.place after c.replay_into.ensures.banks
+    (rw c.size.ensures at c.saturating_add-self.ensures) refl refl at
+    (none_yet old.front c.front_at-self.result (c.is_none.ensures ∙ ap not c.if-is_none.true) ∙ ap (option_or old.front) c.front_at-self.ensures)
+
+pub returns-else-is_none : goal.returns-else-is_none
+returns-else-is_none c =
+    let old = c.args.self.now in
+    let now : Confirming =
+    record { banks = c.replay_into.new.banks; bytes = c.saturating_add-self.result; first = old.first; expected = old.expected; front = old.front } in
+    λ start events before at after.
+    search_more start events before (step_of c.args.step.now) old now c.args.place after c.replay_into.ensures.banks
+    (rw c.size.ensures at c.saturating_add-self.ensures) refl refl at (found_yet old.front _ (c.is_none.ensures ∙ ap not c.if-is_none.false))

@@ -1,6 +1,5 @@
-use Rattle.std.proofs.Common.{ℕ, List, subst, sym, ◌∙◌}
-use Rattle.boot_log.specs.Spelling.{IsLog}
-use Rattle.boot_verdict.proofs.SessionLaws.{of_boot, same_of_boot}
+use Rattle.std.proofs.Common.{sym, ◌∙◌}
+use Rattle.boot_verdict.proofs.SessionLaws.{log_viewed, of_boot, same_of_boot}
 use Rattle.boot_verdict.proofs.session.Session.resumed.Goals as goal
 
 pub returns-in-Err-clause-only : goal.returns-in-Err-clause-only
@@ -10,7 +9,7 @@ pub returns-then-not-are_same_banks-clause-only : goal.returns-then-not-are_same
 returns-then-not-are_same_banks-clause-only c =
     λ boot.
     let found = rw c.in-Ok.is at c.new.ensures.found in
-    let viewed = subst (λ (bytes : List ℕ). IsLog bytes boot.table boot.events) (sym found) boot.log_is in
+    let viewed = log_viewed found boot.log_is in
     sym c.if-not-are_same_banks.true
     ∙ c.are_same_banks.ensures.only (same_of_boot c.args.log.now c.args.known c.registers.result boot (c.registers.ensures boot.table boot.events viewed))
 
@@ -18,7 +17,7 @@ pub returns-clause-boot : goal.returns-clause-boot
 returns-clause-boot c =
     let found = rw c.in-Ok.is at c.new.ensures.found in
     let sound = rw c.in-Ok.is at c.new.ensures.sound in
-    let viewed = subst (λ (bytes : List ℕ). IsLog bytes sound.0 sound.1) (sym found) sound.2 in
+    let viewed = log_viewed found sound.2 in
     of_boot c.args.log.now c.args.known c.registers.result sound.0 sound.1 sound.2 (c.registers.ensures sound.0 sound.1 viewed)
     (c.are_same_banks.ensures.same c.if-not-are_same_banks.false)
 
@@ -26,7 +25,7 @@ pub returns-clause-taken : goal.returns-clause-taken
 returns-clause-taken c =
     let found = rw c.in-Ok.is at c.new.ensures.found in
     let sound = rw c.in-Ok.is at c.new.ensures.sound in
-    let viewed = subst (λ (bytes : List ℕ). IsLog bytes sound.0 sound.1) (sym found) sound.2 in
+    let viewed = log_viewed found sound.2 in
     let boot = of_boot c.args.log.now c.args.known c.registers.result sound.0 sound.1 sound.2 (c.registers.ensures sound.0 sound.1 viewed)
     (c.are_same_banks.ensures.same c.if-not-are_same_banks.false) in
     λ list is. record {

@@ -1,0 +1,10 @@
+use Rattle.std.proofs.lemmas.Result.{err_from_is_err_and}
+use Rattle.boot_verdict.proofs.checkpoint.Checkpoint.of_list.Goals as goal
+
+pub returns-in_err-replay-clause-known : goal.returns-in_err-replay-clause-known
+returns-in_err-replay-clause-known c =
+    let p = err_from_is_err_and c.from_residual.result c.from_residual.ensures.1 in rw p.1 tt
+
+pub returns-in_err-replay-clause-fault : goal.returns-in_err-replay-clause-fault
+returns-in_err-replay-clause-fault c =
+    let p = err_from_is_err_and c.from_residual.result c.from_residual.ensures.1 in rw (p.1, p.2) c.in_err-replay.ensures.fault

@@ -1,0 +1,112 @@
+#!/usr/bin/env python3
+"""Loads fleet-verify: many machines by four workers, of which one is killed every ten seconds.
+
+fleet/bench/load.py LIBRARY_DIR [MACHINES] [ENTRIES] [SECONDS]
+
+LIBRARY_DIR has libima_verify.so. There are MACHINES machines (by default 20000), links to a made log, a list of ENTRIES entries (5000) and
+the registers that these make; a worker is killed every SECONDS (10). Scheduler, client and workers with their nannies are processes of
+their own, which listen on 127.0.0.1 alone. It ends by itself, after half an hour at the latest.
+
+It prints how much memory client and scheduler have from tenth to tenth of the machines, and at the end what was killed and what was verified
+twice. The status is 0 if workers were killed, and every machine has its verdict, a match."""
+
+import os
+import signal
+import sys
+import tempfile
+import time
+from pathlib import Path
+
+sys.dont_write_bytecode = True  # (beside the programs nothing is written)
+sys.path[:0] = [str(Path(__file__).resolve().parents[1] / "tests")]
+
+from cluster import Processes, children_of, environment_of, python_with_dask, until  # noqa: E402
+from measure import large_files, make_table  # noqa: E402
+from tables import query  # noqa: E402
+
+WORKERS = 4
+LOOK_SECONDS = 0.2
+MOST_SECONDS = 1800
+NOTED = ("--preload", Path(__file__).resolve().parents[1] / "tests/noted_calls.py")
+PARTS = 10
+
+
+def memory(process, what="VmRSS"):
+    """How many MiB a process has in memory."""
+    try:
+        lines = Path(f"/proc/{process.pid}/status").read_text().splitlines()
+    except FileNotFoundError:
+        return None
+    return next((int(line.split()[1]) / 1024 for line in lines if line.startswith(f"{what}:")), None)
+
+
+class Load:
+    """A run under load: which workers were killed, and what memory was taken when."""
+
+    def __init__(self, client, scheduler, nannies, table, count, seconds):
+        self.client, self.scheduler, self.nannies, self.table = client, scheduler, nannies, table
+        self.count, self.seconds, self.kills, self.shown = count, seconds, 0, 0
+
+    def watch(self):
+        """Until the client ends: shows the memory, and kills."""
+        start = killed = time.monotonic()
+        while self.client.poll() is None:
+            time.sleep(LOOK_SECONDS)
+            now = time.monotonic()
+            self.show(now - start)
+            if now - killed > self.seconds:
+                self.kill()
+                killed = now
+            if now - start > MOST_SECONDS:
+                self.client.kill()
+        return time.monotonic() - start
+
+    def show(self, seconds):
+        """Shows the memory when another part of the machines is done."""
+        ((done,),) = query(self.table, "SELECT count(*) FROM verdicts") or [(0,)]
+        sizes = memory(self.client), memory(self.scheduler)
+        if done * PARTS // self.count > self.shown and None not in sizes:
+            self.shown = done * PARTS // self.count
+            print(f"| {done:,} | {seconds:.0f} | {sizes[0]:.0f} | {sizes[1]:.0f} | {self.kills} |", flush=True)
+
+    def kill(self):
+        """Kills a worker, the next nanny's."""
+        for worker in children_of(self.nannies[self.kills % WORKERS].pid):
+            os.kill(worker, signal.SIGKILL)
+            self.kills += 1
+            return
+
+
+def run(processes, count, entries, seconds):
+    """Whether a run under load ends as it should."""
+    table = make_table(processes.folder / "machines", count, large_files(entries), is_linked=True)
+    verdicts = processes.folder / "verdicts.db"
+    with processes.cluster("load", WORKERS, "--nanny", *NOTED) as (address, started):
+        *nannies, scheduler = started
+        until("the workers", lambda: all(children_of(nanny.pid) for nanny in nannies))
+        print("| Done | Seconds | Client, MiB | Scheduler, MiB | Killed |\n|---:|---:|---:|---:|---:|", flush=True)
+        load = Load(processes.client("--scheduler", address, table, verdicts), scheduler, nannies, verdicts, count, seconds)
+        took = load.watch()
+    rows = dict(query(verdicts, "SELECT verdict, count(*) FROM verdicts GROUP BY verdict"))
+    calls = len((processes.folder / "calls").read_text().split())
+    ((workers,),) = query(verdicts, "SELECT count(DISTINCT worker) FROM verdicts")
+    print(f"\n{count:,} machines of {entries:,} entries in {took:.0f} seconds: status {load.client.returncode}, {rows}; {load.kills} workers "
+          f"killed, {workers} workers in all, {calls - count} machines verified twice")
+    return load.client.returncode == 0 and rows == {"match": count} and 0 < load.kills
+
+
+def main():
+    library = Path(sys.argv[1]).resolve()
+    count, entries, seconds = (int(word) for word in (*sys.argv[2:5], *("20000", "5000", "10")[len(sys.argv) - 2 :]))
+    with tempfile.TemporaryDirectory() as name:
+        processes = Processes(python_with_dask(), Path(name), environment_of(library, Path(name)))
+        try:
+            return 0 if run(processes, count, entries, seconds) else 1
+        finally:
+            processes.end()
+            if "Traceback" in (Path(name) / "errors").read_text():
+                print((Path(name) / "errors").read_text()[-3000:], file=sys.stderr)
+
+
+if __name__ == "__main__":
+    sys.exit(main())

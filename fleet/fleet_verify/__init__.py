@@ -1,0 +1,1 @@
+"""Verifies the boot logs and measurement lists of many machines on many computers, by Dask's `distributed`."""

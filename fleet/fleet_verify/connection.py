@@ -1,0 +1,102 @@
+"""The client of Dask: of a scheduler that is there, or of one in this process, with workers of its own."""
+
+import asyncio
+import logging
+import os
+import subprocess
+import sys
+from contextlib import asynccontextmanager, contextmanager, suppress
+from pathlib import Path
+from tempfile import TemporaryDirectory
+from typing import Any, AsyncIterator, Iterator, Optional
+
+NURSERY = Path(__file__).with_name("nursery.py")
+LOCAL = "127.0.0.1"
+# Threads of libraries for numbers, of which no worker has a use, and none may be there at a fork.
+ALONE = dict.fromkeys(("OMP_NUM_THREADS", "MKL_NUM_THREADS", "OPENBLAS_NUM_THREADS"), "1")
+
+
+@contextmanager
+def nursery(workers: int) -> "Iterator[subprocess.Popen[str]]":
+    """The process that starts workers of this computer. It loads what they need while this one does, and is told the address later."""
+    with TemporaryDirectory() as folder:
+        environment = {**os.environ, **ALONE, "PYTHONPATH": os.pathsep.join(filter(None, sys.path))}
+        process = subprocess.Popen(
+            [sys.executable, "-B", str(NURSERY), str(workers), folder], env=environment, text=True, start_new_session=True,
+            stdin=subprocess.PIPE, stdout=subprocess.PIPE, stderr=subprocess.DEVNULL,
+        )
+        try:
+            yield process
+        finally:
+            end(process)
+
+
+def end(process: "subprocess.Popen[str]") -> None:
+    """Ends the input of a nursery, and so its workers, and waits until they are gone."""
+    with suppress(OSError):
+        if process.stdin is not None:
+            process.stdin.close()
+    process.wait()
+
+
+class Connection:
+    """A client, and the workers that it has, as the scheduler told last."""
+
+    def __init__(self, client: Any, own: "Optional[subprocess.Popen[str]]"):
+        self.client, self.own = client, own
+        self.threads: "dict[str, int]" = {}
+
+    async def look(self) -> None:
+        """Asks which workers are there, and how many threads each has."""
+        self.threads = dict(await self.client.nthreads())
+
+    def lost(self) -> Optional[str]:
+        """Why there are no workers of its own any longer, if there should be."""
+        if self.own is None or self.own.poll() is None:
+            return None
+        told = self.own.stdout.read().strip() if self.own.stdout else ""
+        return told or f"the process that starts workers ended with status {self.own.returncode}"
+
+
+def _quiet() -> None:
+    """Keeps Dask from writing what it meets to standard error: a run says itself why it stops."""
+    import dask
+
+    for name in ("distributed", "tornado", "asyncio"):
+        logging.getLogger(name).setLevel(logging.CRITICAL + 1)
+    # (for each submission Dask would look up the text of the code that called it, which takes longer than the rest)
+    dask.config.set({"distributed.diagnostics.computations.ignore-modules": [".*"]})
+
+
+@asynccontextmanager
+async def opened(client: Any) -> AsyncIterator[Any]:
+    """A client, which is closed in the end, also if a signal comes before it has reached its scheduler."""
+    try:
+        yield await client
+    finally:
+        await client.close()
+
+
+@asynccontextmanager
+async def connect(scheduler: Optional[str], workers: Optional[int]) -> AsyncIterator[Connection]:
+    """A client of the scheduler at this address, or of one with so many workers on this computer."""
+    if scheduler is not None:
+        from distributed import Client
+
+        _quiet()
+        async with opened(Client(scheduler, asynchronous=True)) as client:
+            yield Connection(client, None)
+        return
+    assert workers is not None
+    with nursery(workers) as own:
+        from distributed import Client, Scheduler
+
+        _quiet()
+        async with Scheduler(host=LOCAL, port=0, dashboard=False, dashboard_address=f"{LOCAL}:0") as started:
+            assert own.stdin is not None
+            with suppress(OSError):  # (that it is gone is found when workers are looked for)
+                own.stdin.write(f"{started.address}\n")
+                own.stdin.flush()
+            async with opened(Client(started.address, asynchronous=True)) as client:
+                yield Connection(client, own)
+            await asyncio.get_running_loop().run_in_executor(None, end, own)  # (the workers before their scheduler)

@@ -1,0 +1,36 @@
+"""How a call ends that has no verdicts to give: why, in a line on standard error, and its status. (It loads little: signals come early.)"""
+
+import os
+import signal
+import sys
+from typing import Any
+
+SIGNALS = (signal.SIGINT, signal.SIGTERM)
+STOPPED = "stopped: {}; the same command goes on"
+SIGNALLED = "a signal came"
+
+
+class CannotGoOn(Exception):
+    """The run cannot go on; the text says why."""
+
+
+class NotStarted(Exception):
+    """What is required, or one of the tables, is refused; the text says why."""
+
+
+def complain(text: str, status: int) -> int:
+    shown = "".join(letter if letter.isprintable() else "?" for letter in text)
+    print(f"fleet-verify: {shown}", file=sys.stderr, flush=True)
+    return status
+
+
+def stop_at_once(*_: Any) -> None:
+    """What a signal does where nothing is in flight: all that is recorded is so by transactions, which are whole."""
+    os.write(sys.stderr.fileno(), f"fleet-verify: {STOPPED.format(SIGNALLED)}\n".encode())  # (another line may be half written)
+    os._exit(3)
+
+
+def stop_simply() -> None:
+    """Has the signals do so."""
+    for number in SIGNALS:
+        signal.signal(number, stop_at_once)

@@ -1,0 +1,211 @@
+"""A run: batches of machines go to the workers, and their answers to the table of verdicts."""
+
+import argparse
+import asyncio
+import itertools
+import json
+import math
+import time
+import uuid
+from collections import Counter
+from dataclasses import dataclass, field
+from typing import Any, Dict, Iterator, List, Optional, Set
+
+from .connection import Connection
+from .ending import CannotGoOn
+from .ledger import Ledger, Task
+from .progress import Progress
+from .verdicts import VERDICTS
+from .work import TROUBLED, UNFIT, Fields, cause_of, now, verify_batch
+
+# A batch is as many machines as a worker is expected to verify in this time, and a quarter more: what it does not do comes back.
+BATCH_SECONDS = 0.2
+SPARE = 1.25
+FIRST_BATCH = 64
+MOST_BATCH = 2000
+# The least part of a batch that is given at the end of a run, when what is left is shared among the workers.
+LEAST_PART = 8
+MOST_UNRECORDED = 4000
+TRIES = 3
+TICK_SECONDS = 0.2
+LOOK_SECONDS = 1.0
+
+# Why a machine failed that was verified with no other in flight.
+KILLED = "KilledWorker: each worker that verified it died"
+
+
+@dataclass(eq=False)
+class Batch:
+    """Machines that one worker verifies, and what came of it: answers on the first of them, or why there are none."""
+
+    tasks: List[Task]
+    is_alone: bool
+    answers: List[Fields] = field(default_factory=list)
+    seconds: float = 0
+    is_killed: bool = False
+    fault: str = ""
+
+
+@dataclass
+class Run:
+    """A run: its batches are in flight, one for each thread of the workers. `ledger` has the machines and the table, and `sizes` by the
+    workers' addresses how many machines each may do in a batch."""
+
+    connection: Connection
+    ledger: Ledger
+    progress: Progress
+    options: argparse.Namespace
+    suspects: List[Task] = field(default_factory=list)
+    tries: "Counter[str]" = field(default_factory=Counter)
+    in_flight: List[Batch] = field(default_factory=list)
+    ended: List[Batch] = field(default_factory=list)
+    sizes: Dict[str, int] = field(default_factory=dict)
+    following: "Set[asyncio.Task[None]]" = field(default_factory=set)
+    arrived: asyncio.Event = field(default_factory=asyncio.Event)
+    heard: float = field(default_factory=time.monotonic)
+    looked: float = -LOOK_SECONDS
+    looking: "Optional[asyncio.Task[None]]" = None
+    keys: Iterator[str] = field(default_factory=lambda: (f"verify-{uuid.uuid4().hex}-{number}" for number in itertools.count()))
+
+    async def verify(self) -> None:
+        """Verifies the machines. Those of a batch whose workers died again and again are tried once more at the end, each with no other
+        in flight: so none is called failed because of another that ran beside it."""
+        try:
+            await self._verify(is_alone=False)
+            self.ledger.give_back(self.suspects)
+            await self._verify(is_alone=True)
+        finally:
+            await self.ledger.close()
+            for task in (*self.following, *filter(None, [self.looking])):
+                task.cancel()
+
+    async def _verify(self, is_alone: bool) -> None:
+        while True:
+            self._look()
+            self.ledger.take_turn(self._most * self._threads, self.arrived)
+            self._submit(is_alone)
+            if self.ledger.is_done and not self.in_flight:
+                return
+            await self._hear()
+            self._take()
+            self.progress.show(self.ledger.left, len(self.connection.threads))
+
+    def _look(self) -> None:
+        """Looks now and then which workers are there, beside all else: the scheduler may be slow to tell."""
+        if self.looking is not None and self.looking.done():
+            self.looking.result()
+            self.looking = None
+        if self.looking is None and time.monotonic() - self.looked > LOOK_SECONDS:
+            self.looking, self.looked = asyncio.create_task(self.connection.look()), time.monotonic()
+
+    @property
+    def _threads(self) -> int:
+        return sum(self.connection.threads.values())
+
+    @property
+    def _most(self) -> int:
+        """How many machines the fastest worker may do in a batch."""
+        return max((self.sizes.get(address, 0) for address in self.connection.threads), default=0) or FIRST_BATCH
+
+    def _submit(self, is_alone: bool) -> None:
+        """Gives a batch for each thread that has none. (None waits behind another, and so a worker that dies had one for each thread.)"""
+        while len(self.in_flight) < (1 if is_alone else self._threads):
+            size = 1 if is_alone else self._size()
+            tasks = [self.ledger.next.popleft() for _ in range(min(size, len(self.ledger.next)))]
+            if not tasks:
+                return
+            self._send(Batch(tasks, is_alone))
+
+    def _size(self) -> int:
+        """How many machines to give to a worker."""
+        if self.ledger.unrecorded > MOST_UNRECORDED:
+            return 0
+        share, least = math.ceil(self.ledger.remaining / self._threads), math.ceil(self._most / LEAST_PART)
+        size = min(self._most, max(share, least))
+        most: Optional[int] = self.options.in_flight
+        if most is None:
+            return size
+        given = sum(len(batch.tasks) for batch in self.in_flight) + self.ledger.unrecorded
+        return min(size, max(most // self._threads, 1), most - given)
+
+    def _send(self, batch: Batch) -> None:
+        machines = [
+            (machine.paths, None if checkpoint is None else checkpoint.decode("latin-1")) for machine, checkpoint in batch.tasks
+        ]
+        request = {"machines": machines, "require": self.options.require, "is_poll": self.options.poll, "seconds": BATCH_SECONDS}
+        future = self.connection.client.submit(
+            verify_batch, json.dumps(request), key=next(self.keys), retries=TRIES - 1, pure=False,
+        )
+        self.in_flight.append(batch)
+        following = asyncio.create_task(self._follow(batch, future))
+        self.following.add(following)
+        following.add_done_callback(self.following.discard)
+
+    async def _follow(self, batch: Batch, future: Any) -> None:
+        """Waits for a batch's answers, and keeps them."""
+        from distributed import KilledWorker
+
+        try:
+            answered = json.loads(await future)
+            batch.answers, batch.seconds = answered["answers"], answered["seconds"]
+        except Exception as fault:
+            batch.is_killed = future.status == "error" and isinstance(fault, KilledWorker)
+            batch.fault = cause_of(fault)
+        self.ended.append(batch)
+        self.arrived.set()
+
+    async def _hear(self) -> None:
+        """Waits until a batch or a turn of the table ends, but not long."""
+        # (`asyncio.wait_for` may swallow that the task is cancelled)
+        timer = asyncio.get_running_loop().call_later(TICK_SECONDS, self.arrived.set)
+        await self.arrived.wait()
+        timer.cancel()
+        self.arrived.clear()
+        if self.ended:
+            self.heard = time.monotonic()
+        elif time.monotonic() - self.heard > self.options.patience:
+            workers = len(self.connection.threads)
+            raise CannotGoOn(f"no machine is done since {self.options.patience} seconds, by {workers} workers")
+        lost = self.connection.lost()
+        if lost is not None:
+            raise CannotGoOn(lost)
+
+    def _take(self) -> None:
+        """Sorts what came of the batches that ended. What is no verdict stops the run, unless the machine is tried again."""
+        ended, self.ended = self.ended, []
+        for batch in ended:
+            self.in_flight.remove(batch)
+            if batch.answers:
+                self._take_answers(batch)
+            elif not batch.is_killed:
+                raise CannotGoOn(f"no answer came on {batch.tasks[0][0].name} and {len(batch.tasks) - 1} more: {batch.fault}")
+            elif batch.is_alone:
+                self._fail(batch.tasks[0], KILLED)
+            else:
+                self.suspects.extend(batch.tasks)
+
+    def _take_answers(self, batch: Batch) -> None:
+        for task, answer in zip(batch.tasks, batch.answers):
+            machine, _ = task
+            if answer["verdict"] in VERDICTS:
+                self.ledger.answers.append((machine, answer))
+            elif answer["verdict"] == UNFIT:
+                raise CannotGoOn(f"worker {answer['worker']} cannot verify: {answer['cause']}")
+            else:
+                self._try_again(task, answer)
+        done = len(batch.answers)
+        self.ledger.give_back(batch.tasks[done:])
+        size = math.ceil(SPARE * BATCH_SECONDS * done / max(batch.seconds, BATCH_SECONDS / MOST_BATCH))
+        self.sizes[batch.answers[0]["worker"]] = min(size, MOST_BATCH)
+
+    def _try_again(self, task: Task, answer: Fields) -> None:
+        """A machine on which a worker met an error is tried twice more."""
+        assert answer["verdict"] == TROUBLED
+        self.tries[task[0].name] += 1
+        if self.tries[task[0].name] < TRIES:
+            self.ledger.give_back([task])
+        else:
+            self._fail(task, answer["cause"], answer["worker"])
+
+    def _fail(self, task: Task, cause: str, worker: Optional[str] = None) -> None:
+        self.ledger.answers.append((task[0], {"verdict": "failed", "cause": cause, "worker": worker, "time": now()}))

@@ -1,0 +1,133 @@
+"""What a call of `fleet-verify` does, from its options to its exit status."""
+
+import argparse
+import asyncio
+import signal
+import sqlite3
+import sys
+from typing import Dict, List, Sequence, Tuple
+
+from .connection import Connection, connect
+from .ending import SIGNALLED, SIGNALS, CannotGoOn, NotStarted, complain, stop_simply
+from .ledger import Ledger
+from .machines import BadTable, Machine, read_machines
+from .progress import Progress
+from .run import Run
+from .verdicts import VERDICTS, BadVerdicts, Verdicts
+from .work import cause_of, now, require_fitness
+
+
+def stop_at_signals() -> None:
+    """The first SIGINT or SIGTERM cancels this task, which then closes what is open. The next one ends the process at once."""
+    task, loop = asyncio.current_task(), asyncio.get_running_loop()
+
+    def stop() -> None:
+        for number in SIGNALS:
+            loop.remove_signal_handler(number)
+            signal.signal(number, signal.SIG_DFL)
+        if task is not None:
+            task.cancel()
+
+    for number in SIGNALS:
+        loop.add_signal_handler(number, stop)
+
+
+async def wait_for_workers(connection: Connection, patience: float) -> None:
+    """Waits until a worker is there."""
+    await connection.look()
+    if not connection.threads and connection.own is None:
+        print("waiting for a worker", file=sys.stderr, flush=True)
+    loop = asyncio.get_running_loop()
+    limit = loop.time() + patience
+    while not connection.threads:
+        lost = connection.lost()
+        if lost is not None or loop.time() > limit:
+            raise CannotGoOn(lost or f"no worker came in {patience} seconds")
+        await asyncio.sleep(0.05)
+        await connection.look()
+
+
+async def require_fit_workers(connection: Connection, options: argparse.Namespace) -> None:
+    """Waits for a worker, and makes sure that those that are there can verify, and take what is required."""
+    while True:
+        await wait_for_workers(connection, options.patience)
+        faults = await connection.client.run(require_fitness, options.require, options.poll, on_error="return")
+        await connection.look()
+        for worker, fault in faults.items():
+            if isinstance(fault, ValueError):
+                raise NotStarted(fault)
+            if fault is not None and (worker in connection.threads or not isinstance(fault, OSError)):  # of the worker, or of Dask
+                raise CannotGoOn(f"worker {worker} cannot verify: {cause_of(fault)}")
+        if any(fault is None for fault in faults.values()):
+            return
+
+
+async def run(
+    options: argparse.Namespace, table: Verdicts, machines: Sequence[Machine], recorded: Dict[str, str]
+) -> None:
+    """Verifies the machines that the table lacks, and those that are to be verified anew."""
+    before = {name: verdict for name, verdict in recorded.items() if verdict in (options.again or ())}
+    missing = [machine for machine in machines if machine.name not in recorded or machine.name in before]
+    if not missing:
+        return
+    stop_at_signals()
+    try:
+        async with connect(options.scheduler, options.workers) as connection:
+            await require_fit_workers(connection, options)
+            if options.poll:
+                table.begin_poll(now())
+            progress = Progress(len(machines), recorded.values(), VERDICTS, sys.stderr, options.progress)
+            ledger = Ledger(table, missing, before, options.poll and not options.whole, progress.count)
+            try:
+                await Run(connection, ledger, progress, options).verify()
+            finally:
+                progress.show(ledger.left, len(connection.threads), is_last=True)
+    except asyncio.CancelledError:
+        raise CannotGoOn(SIGNALLED) from None
+
+
+def judge(options: argparse.Namespace) -> None:
+    """Refuses a wrong `--require`. Where this computer lacks the library, the workers do, by theirs."""
+    try:
+        require_fitness(options.require, options.poll)
+    except ImportError:
+        pass
+    except ValueError as fault:
+        raise NotStarted(fault) from None
+
+
+def open_tables(options: argparse.Namespace) -> Tuple[List[Machine], Verdicts, Dict[str, str]]:
+    """The machines, the table of verdicts, and by name the verdict of each machine that has one."""
+    try:
+        machines = read_machines(options.machines)
+    except (OSError, BadTable) as fault:
+        raise NotStarted(f"{options.machines}: {fault}") from None
+    try:
+        table = Verdicts(options.table, options.require)
+        if options.poll:
+            table.require_whole()
+        recorded = table.recorded(machines, options.poll)
+        if options.again is None:
+            table.require_no_end()
+    except (sqlite3.Error, BadVerdicts) as fault:
+        raise NotStarted(f"{options.table}: {fault}") from None
+    return machines, table, recorded
+
+
+def verify_fleet(options: argparse.Namespace) -> int:
+    """Verifies what is to be verified, prints how many machines have each verdict, and gives the exit status."""
+    judge(options)
+    machines, table, recorded = open_tables(options)
+    standing, since = table.standing(options.again or [])
+    if standing:
+        complain(f"verdicts that stand from earlier runs: {standing}, the oldest since {since}; --again gives new ones", 0)
+    try:
+        asyncio.run(run(options, table, machines, recorded))
+    finally:
+        stop_simply()
+    counts = table.counts()
+    if sum(counts.values()) != len(machines):
+        raise CannotGoOn("another run records in this table")
+    print("".join(f"{kind} {counts[kind]}\n" for kind in VERDICTS), end="", flush=True)
+    table.end(now())  # (not before, so that the same command goes on until the counts are told)
+    return 0 if counts["match"] == len(machines) else 1

@@ -1,0 +1,228 @@
+"""What the workers do. Dask sends them these functions whole: they need no file of this folder, but the package `ima_verify`."""
+
+import hashlib
+import json
+import os
+import time
+from datetime import datetime, timezone
+from types import FunctionType
+from typing import Any, Dict, List, Optional, Sequence, Tuple
+
+PARTS = ("log", "list", "expected")
+MOST_BYTES = 64 * 1024 * 1024
+MOST_CAUSE = 1000
+
+# What `--require` says if it names nothing.
+NONE = "none"
+
+# Why a machine is refused whose inputs the library takes. Its own lines begin with `refused:`.
+NOTHING_EXPECTED = "nothing to compare: no register is expected"
+
+# The library's line on a checkpoint that is not as it was made, and why no verdict goes on from one of a longer list.
+DAMAGED = "refused: checkpoint fault 1"
+SHORTER = "list: it is shorter than at the checkpoint"
+
+# What may come of a machine besides a verdict: the worker lacks the library or a driver, or an error that none foresaw.
+UNFIT, TROUBLED = "unfit", "troubled"
+
+Fields = Dict[str, Any]
+
+
+def now() -> str:
+    return datetime.now(timezone.utc).isoformat(timespec="milliseconds")
+
+
+def cause_of(fault: BaseException, path: Optional[str] = None) -> str:
+    """An exception as text that SQLite takes. The path stands in the machine's row: without it, one cause reads the same everywhere."""
+    text = str(fault)
+    if isinstance(fault, OSError) and fault.errno is not None and fault.strerror:
+        text = f"[Errno {fault.errno}] {fault.strerror}"
+    elif path:
+        place = path.split("://", 1)[-1]
+        for written in (path, place, place.strip("/")):
+            text = text.replace(written, "..")
+    named = f"{type(fault).__name__}: {text}" if text else type(fault).__name__
+    return named.encode(errors="replace").decode()[:MOST_CAUSE]
+
+
+def required_verdict(log: bytes, measurements: bytes, expected: bytes, require: str) -> Any:
+    """The library's verdict where these registers are required."""
+    import ima_verify
+
+    if require == NONE:
+        return ima_verify.verify(log, measurements, expected)
+    return ima_verify.verify(log, measurements, expected, require=require)
+
+
+def session_on(log: bytes, expected: bytes, require: str, checkpoint: Optional[bytes]) -> Any:
+    """The library's session on a list, from a checkpoint on, where these registers are required."""
+    from ima_verify import Session
+
+    if require == NONE:
+        return Session(log, expected, state=checkpoint)
+    return Session(log, expected, require=require, state=checkpoint)
+
+
+def require_fitness(require: str, is_poll: bool) -> None:
+    """Makes sure that this process has the library, with sessions for a poll, and that it takes this text for what is required.
+
+    Else there is an ImportError, or a ValueError. The library reads that text before the inputs."""
+    import ima_verify
+
+    if is_poll:
+        from ima_verify import Session  # noqa: F401
+    try:
+        required_verdict(b"", b"", b"", require)
+    except ValueError:
+        raise ValueError(f"--require {require!r} is neither BANK:A-B[,BANK:C-D..], as sha256:0-10, nor {NONE}") from None
+    except ima_verify.Refused:  # (no log is empty)
+        pass
+
+
+def list_start(checkpoint: Optional[bytes]) -> int:
+    """How many bytes the list had at the checkpoint; 0 without one, and of what is none, which the verdict then refuses."""
+    if checkpoint is None:
+        return 0
+    import ima_verify
+
+    try:
+        return int(ima_verify.Session(b"", b"", state=checkpoint).offset)
+    except ima_verify.Refused:
+        return 0
+
+
+def read_input(path: str, start: int = 0) -> Optional[bytes]:
+    """The bytes of an input from this one on, but at most one more than are allowed; None if there are fewer before."""
+    if path.startswith("/"):
+        return read_file(path, start)
+    import fsspec
+
+    with fsspec.open(path, "rb") as file:
+        if start:
+            file.seek(0, os.SEEK_END)
+            if file.tell() < start:
+                return None
+            file.seek(start)
+        data: bytes = file.read(MOST_BYTES + 1)
+        return data
+
+
+def read_file(path: str, start: int) -> Optional[bytes]:
+    """The same of a file. (Memory is asked for by its size: to ask for the most takes longer than to read a short one.)"""
+    with open(path, "rb") as file:
+        rest = os.fstat(file.fileno()).st_size - start
+        if start:
+            if rest < 0:
+                return None
+            file.seek(start)
+        data = file.read(min(max(rest, 0), MOST_BYTES) + 1)
+        if max(rest, 0) < len(data) <= MOST_BYTES:  # it grew, or has no size
+            data += file.read(MOST_BYTES + 1 - len(data))
+        return data
+
+
+def verdict_fields(verdict: Any) -> Fields:
+    return {
+        "verdict": "match" if verdict.matches else "differ",
+        "events": verdict.events,
+        "locality": verdict.locality,
+        "entries": verdict.entries,
+        "boot_aggregate": verdict.boot_aggregate.value,
+        "report": verdict.json,
+    }
+
+
+def read_inputs(paths: Sequence[str], start: int) -> Tuple[Fields, List[Optional[bytes]]]:
+    """What a machine's row says of its inputs, of the list from this byte on, and the bytes of each; or a row that says which is none.
+
+    There is None in place of a list that has fewer bytes before."""
+    fields: Fields = {"list_from": start}
+    inputs: List[Optional[bytes]] = []
+    for part, path in zip(PARTS, paths):
+        try:
+            data = read_input(path, start if part == "list" else 0)
+        except (MemoryError, ImportError):
+            raise
+        except Exception as fault:  # whatever the driver of an object store raises
+            return {**fields, "verdict": "unreadable", "cause": f"{part}: {cause_of(fault, path)}"}, []
+        if data is not None and len(data) > MOST_BYTES:
+            return {**fields, "verdict": "refused", "cause": f"refused: too long {part}"}, []
+        fields[f"{part}_sha256"] = None if data is None else hashlib.sha256(data).hexdigest()
+        inputs.append(data)
+    return fields, inputs
+
+
+def verdict_on(paths: Sequence[str], require: str, is_poll: bool = False, checkpoint: Optional[bytes] = None) -> Fields:
+    """The fields of the row of a machine with these paths, in a poll with the next checkpoint. Of the list only what follows the
+    checkpoint is read, if there is one."""
+    import ima_verify
+
+    read, inputs = read_inputs(paths, list_start(checkpoint))
+    fields = {**read, "interface_version": ima_verify.version()}
+    if not inputs:
+        return fields
+    log, measurements, expected = inputs
+    assert log is not None and expected is not None
+    next_checkpoint = {}
+    try:
+        if is_poll:
+            session = session_on(log, expected, require, checkpoint)
+            verdict = session.more(measurements or b"")
+            next_checkpoint["checkpoint"] = session.state.decode()
+        else:
+            assert measurements is not None
+            verdict = required_verdict(log, measurements, expected, require)
+    except ima_verify.Refused as fault:
+        # (an empty checkpoint is a damaged one: the machine is refused until --whole)
+        kept = {"checkpoint": ""} if fault.line == DAMAGED else {}
+        return {**fields, "verdict": "refused", "cause": fault.line, **kept}
+    if measurements is None:
+        return {**fields, "verdict": "unreadable", "cause": SHORTER}
+    if not verdict.compared:
+        return {**fields, "verdict": "refused", "cause": NOTHING_EXPECTED}
+    return {**fields, **verdict_fields(verdict), **next_checkpoint}
+
+
+def polled_verdict(paths: Sequence[str], require: str, checkpoint: Optional[bytes]) -> Fields:
+    """The fields of the row of a machine in a poll, from the checkpoint on only if that gives a match.
+
+    Else the verdict is that on the whole list, which may be of another boot. No damaged checkpoint is passed over."""
+    if checkpoint is not None:
+        fields = verdict_on(paths, require, True, checkpoint)
+        if fields["verdict"] == "match" or fields.get("cause") == DAMAGED:
+            return fields
+    return verdict_on(paths, require, True)
+
+
+def answer_on(paths: Sequence[str], checkpoint: Optional[str], require: str, is_poll: bool) -> Fields:
+    """The fields of the row of a machine; or UNFIT or TROUBLED in place of a verdict, and why."""
+    try:
+        if is_poll:
+            return polled_verdict(paths, require, None if checkpoint is None else checkpoint.encode("latin-1"))
+        return verdict_on(paths, require)
+    except ImportError as fault:  # of the package, the library, or the driver of an object store: no verdict on the machine
+        return {"verdict": UNFIT, "cause": cause_of(fault)}
+    except Exception as fault:
+        return {"verdict": TROUBLED, "cause": cause_of(fault)}
+
+
+def verify_batch(request: str) -> str:
+    """A worker's answers, in JSON, on the first machines of a batch: on one at least, and on no other after the time that the request
+    gives. `seconds` is what they took."""
+    from distributed import get_worker
+
+    asked = json.loads(request)
+    answers: List[Fields] = []
+    worker, start = get_worker().address, time.monotonic()
+    for paths, checkpoint in asked["machines"]:
+        answer = answer_on(paths, checkpoint, asked["require"], asked["is_poll"])
+        answers.append({**answer, "worker": worker, "time": now()})
+        if answer["verdict"] == UNFIT or time.monotonic() - start > asked["seconds"]:
+            break
+    return json.dumps({"answers": answers, "seconds": time.monotonic() - start})
+
+
+# Dask sends a function of `__main__` whole, and of any other module only the name.
+for each in list(globals().values()):
+    if isinstance(each, FunctionType) and each.__module__ == __name__:
+        each.__module__ = "__main__"

@@ -1,0 +1,114 @@
+"""Starts clients, schedulers and workers as processes on 127.0.0.1, for fleet/test and fleet/bench."""
+
+import os
+import shutil
+import subprocess
+import sys
+import time
+from contextlib import contextmanager
+from dataclasses import dataclass, field
+from pathlib import Path
+from typing import Optional, Tuple
+
+ROOT = Path(__file__).resolve().parents[2]
+SECONDS = 240  # (a limit for what is to come: the computer may have much else to do)
+REQUIRE = "sha256:0-10"  # of all runs that ask for nothing else
+
+
+def python_with_dask():
+    """A Python that has `distributed`, or None."""
+    for python in (sys.executable, shutil.which("python3"), "/usr/bin/python3"):
+        if python and not subprocess.run([python, "-c", "import distributed"], capture_output=True, timeout=SECONDS).returncode:
+            return python
+    return None
+
+
+def until(what, condition, client=None):
+    """Waits until the condition holds, for as long as the client runs, if one is given."""
+    limit = time.monotonic() + SECONDS
+    while not condition():
+        if time.monotonic() > limit or client is not None and client.poll() is not None:
+            raise TimeoutError(f"{what} did not come")
+        time.sleep(0.02)
+
+
+def environment_of(library, folder):
+    """The environment of all processes: the binding, the library in this folder, and no settings of Dask from elsewhere."""
+    return {
+        **os.environ, "PYTHONPATH": str(ROOT / "bindings/python"), "IMA_VERIFY_LIBRARY": str(library / "libima_verify.so"),
+        "DASK_CONFIG": str(folder / "dask"), "PYTHONDONTWRITEBYTECODE": "1",
+        "NOTED_CALLS": str(folder / "calls"), "GATE": str(folder / "gate"),
+    }
+
+
+def children_of(process):
+    """The processes that a process started, by their numbers, of its main thread."""
+    try:
+        return [int(word) for word in Path(f"/proc/{process}/task/{process}/children").read_text().split()]
+    except FileNotFoundError:
+        return []
+
+
+@dataclass
+class Processes:
+    """The Python to run, the environment of the processes, and a folder for all that they write."""
+
+    python: str
+    folder: Path
+    environment: dict
+    started: list = field(default_factory=list)
+
+    def start(self, words, said="errors", **given):
+        """Starts a process of this Python. What it writes to standard error goes to the file of the name `said`."""
+        with open(self.folder / said, "a") as errors:
+            process = subprocess.Popen(
+                [self.python, *map(str, words)], env={**self.environment, **given}, cwd=self.folder, text=True,
+                stdin=subprocess.DEVNULL, stdout=subprocess.PIPE, stderr=errors, start_new_session=True,
+            )
+        self.started.append(process)
+        return process
+
+    @contextmanager
+    def gate(self, number):
+        """Has the machines from this number on wait, where the workers note their calls."""
+        gate = Path(self.environment["GATE"])
+        gate.write_text(str(number))
+        yield
+        gate.unlink()
+
+    def client(self, *words, said="clients", **given):
+        return self.start([ROOT / "fleet/verify.py", "--require", REQUIRE, "--progress", "1", *words], said, **given)
+
+    def verify(self, *words, require: Optional[str] = REQUIRE, seconds: float = SECONDS, **given: str) -> Tuple[int, str, str]:
+        """The status of a run, and what it printed on both streams. It has no `--require` if that is None."""
+        words = [*words, *([] if require is None else [f"--require={require}"])]
+        ended = subprocess.run(
+            [self.python, ROOT / "fleet/verify.py", "--progress", "1", *map(str, words)],
+            env={**self.environment, **given}, cwd=self.folder, text=True, capture_output=True, timeout=seconds,
+        )
+        with open(self.folder / "clients", "a") as clients:
+            clients.write(ended.stderr)
+        return ended.returncode, ended.stdout, ended.stderr
+
+    @contextmanager
+    def cluster(self, name, workers, *words, **given):
+        """A scheduler and workers. Gives the scheduler's address, and the processes, of which the scheduler's is the last."""
+        file = self.folder / f"{name}.json"
+        common = ["--host", "127.0.0.1", "--no-dashboard"]
+        scheduler = ["-m", "distributed.cli.dask_scheduler", *common, "--port", "0", "--scheduler-file", file]
+        worker = ["-m", "distributed.cli.dask_worker", *common, "--scheduler-file", file, "--nthreads", "1"]
+        worker += ["--local-directory", self.folder / name, *words]
+        last = self.start(scheduler, **given)
+        processes = [self.start(worker, **given) for _ in range(workers)] + [last]
+        until("a scheduler", file.exists)
+        until("its address", lambda: file.read_text().endswith("}"))
+        yield next(word for word in file.read_text().split('"') if word.startswith("tcp://")), processes
+        for process in processes:
+            process.terminate()
+
+    def end(self):
+        """Ends what is still running."""
+        for process in self.started:
+            if process.poll() is None:
+                process.kill()
+            process.wait()
