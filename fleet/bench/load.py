@@ -8,7 +8,7 @@ the registers that these make; a worker is killed every SECONDS (10). Scheduler,
 their own, which listen on 127.0.0.1 alone. It ends by itself, after half an hour at the latest.
 
 It prints how much memory client and scheduler have from tenth to tenth of the machines, and at the end what was killed and what was verified
-twice. The status is 0 if workers were killed, and every machine has its verdict, a match."""
+twice. The status is 0 if workers were killed, every machine has its verdict, a match, and the client wrote no traceback."""
 
 import os
 import signal
@@ -31,13 +31,10 @@ NOTED = ("--preload", Path(__file__).resolve().parents[1] / "tests/noted_calls.p
 PARTS = 10
 
 
-def memory(process, what="VmRSS"):
-    """How many MiB a process has in memory."""
-    try:
-        lines = Path(f"/proc/{process.pid}/status").read_text().splitlines()
-    except FileNotFoundError:
-        return None
-    return next((int(line.split()[1]) / 1024 for line in lines if line.startswith(f"{what}:")), None)
+def memory(process):
+    """How many MiB a process has in memory; None if it has ended."""
+    lines = Path(f"/proc/{process.pid}/status").read_text().splitlines()
+    return next((int(line.split()[1]) / 1024 for line in lines if line.startswith("VmRSS:")), None)
 
 
 class Load:
@@ -92,7 +89,10 @@ def run(processes, count, entries, seconds):
     ((workers,),) = query(verdicts, "SELECT count(DISTINCT worker) FROM verdicts")
     print(f"\n{count:,} machines of {entries:,} entries in {took:.0f} seconds: status {load.client.returncode}, {rows}; {load.kills} workers "
           f"killed, {workers} workers in all, {calls - count} machines verified twice")
-    return load.client.returncode == 0 and rows == {"match": count} and 0 < load.kills
+    said = (processes.folder / "clients").read_text()
+    if "Traceback" in said:
+        print(said[-3000:])
+    return load.client.returncode == 0 and rows == {"match": count} and 0 < load.kills and "Traceback" not in said
 
 
 def main():
@@ -104,8 +104,6 @@ def main():
             return 0 if run(processes, count, entries, seconds) else 1
         finally:
             processes.end()
-            if "Traceback" in (Path(name) / "errors").read_text():
-                print((Path(name) / "errors").read_text()[-3000:], file=sys.stderr)
 
 
 if __name__ == "__main__":

@@ -31,6 +31,7 @@ class Ledger:
         self.left = len(machines)
         self._recording: List[Answer] = []
         self._turn: Optional[asyncio.Future[List[Task]]] = None
+        self._is_broken = False
         self._thread = ThreadPoolExecutor(max_workers=1)
 
     @property
@@ -63,15 +64,20 @@ class Ledger:
             self._turn.add_done_callback(lambda _: arrived.set())
 
     def _end_turn(self) -> None:
+        """Counts what the turn that is done recorded. If it failed, no other is taken."""
         assert self._turn is not None
+        turn, self._turn = self._turn, None
         try:
-            self.next.extend(self._turn.result())
-        except (sqlite3.IntegrityError, BadVerdicts) as fault:
-            raise CannotGoOn(f"another run records in this table: {fault}") from None
+            self.next.extend(turn.result())
+        except Exception as fault:
+            self._is_broken = True
+            if isinstance(fault, (sqlite3.IntegrityError, BadVerdicts)):
+                raise CannotGoOn(f"another run records in this table: {fault}") from None
+            raise
         for machine, answer in self._recording:
             self.count(answer["verdict"], self.before.get(machine.name))
         self.left -= len(self._recording)
-        self._recording, self._turn = [], None
+        self._recording = []
 
     def _use_table(self, machines: Sequence[Machine]) -> List[Task]:
         if self._recording:
@@ -80,10 +86,10 @@ class Ledger:
 
     async def close(self) -> None:
         """Records what is answered, unless the table could not be written before."""
-        is_broken = False
-        while not is_broken and (self._turn is not None or self.answers):
-            self.take_turn(0, asyncio.Event())
-            if self._turn is not None:
-                await asyncio.wait([self._turn])
-                is_broken = self._turn.exception() is not None
-        self._thread.shutdown()
+        try:
+            while not self._is_broken and (self._turn is not None or self.answers):
+                self.take_turn(0, asyncio.Event())
+                if self._turn is not None:
+                    await asyncio.wait([self._turn])
+        finally:
+            self._thread.shutdown()

@@ -5,6 +5,7 @@ import asyncio
 import signal
 import sqlite3
 import sys
+import time
 from typing import Dict, List, Sequence, Tuple
 
 from .connection import Connection, connect
@@ -15,6 +16,9 @@ from .progress import Progress
 from .run import Run
 from .verdicts import VERDICTS, BadVerdicts, Verdicts
 from .work import cause_of, now, require_fitness
+
+LOOK_SECONDS = 0.05
+START_SECONDS = 1.0
 
 
 def stop_at_signals() -> None:
@@ -32,25 +36,30 @@ def stop_at_signals() -> None:
         loop.add_signal_handler(number, stop)
 
 
-async def wait_for_workers(connection: Connection, patience: float) -> None:
-    """Waits until a worker is there."""
+async def wait_for_workers(connection: Connection, options: argparse.Namespace) -> None:
+    """Waits until a worker is there, and a moment more until all are that this process has started."""
     await connection.look()
     if not connection.threads and connection.own is None:
         print("waiting for a worker", file=sys.stderr, flush=True)
-    loop = asyncio.get_running_loop()
-    limit = loop.time() + patience
-    while not connection.threads:
+    begun, first = time.monotonic(), None
+    while True:
+        if connection.threads:
+            first = first or time.monotonic()
+            if len(connection.threads) >= (options.workers or 1) or time.monotonic() - first > START_SECONDS:
+                return
+        elif time.monotonic() - begun > options.patience:
+            raise CannotGoOn(f"no worker came in {options.patience} seconds")
         lost = connection.lost()
-        if lost is not None or loop.time() > limit:
-            raise CannotGoOn(lost or f"no worker came in {patience} seconds")
-        await asyncio.sleep(0.05)
+        if lost is not None:
+            raise CannotGoOn(lost)
+        await asyncio.sleep(LOOK_SECONDS)
         await connection.look()
 
 
 async def require_fit_workers(connection: Connection, options: argparse.Namespace) -> None:
     """Waits for a worker, and makes sure that those that are there can verify, and take what is required."""
     while True:
-        await wait_for_workers(connection, options.patience)
+        await wait_for_workers(connection, options)
         faults = await connection.client.run(require_fitness, options.require, options.poll, on_error="return")
         await connection.look()
         for worker, fault in faults.items():

@@ -4,7 +4,6 @@ import shutil
 import subprocess
 import sys
 import zipfile
-from pathlib import Path
 
 from cluster import REQUIRE, ROOT, SECONDS
 
@@ -56,18 +55,18 @@ def lacking(tool, what):
 
 
 def test_units(tools, check):
-    """The units of systemd, with the program where they look for it."""
+    """The units of systemd, with a program that is there; it says of what it does not know."""
     if not shutil.which("systemd-analyze"):
         return lacking("systemd-analyze", "the units of fleet/systemd")
     folder = tools.folder / "units"
-    folder.mkdir()
-    for unit in (ROOT / "fleet/systemd").glob("*.*"):
-        text = unit.read_text().replace("ExecStart=fleet-verify ", "ExecStart=/bin/true ")
-        (folder / unit.name).write_text(text)
-    units = sorted(map(str, folder.glob("*.timer")))
-    done = subprocess.run(["systemd-analyze", "verify", "--man=no", *units], capture_output=True, text=True, timeout=SECONDS)
-    said = [line for line in (done.stdout + done.stderr).splitlines() if str(folder) in line or "fleet-" in line]
-    check("systemd-analyze verify", (done.returncode, said, len(units)), (0, [], 1))
+    shutil.copytree(ROOT / "fleet/systemd", folder)
+    service, timer = folder / "fleet-poll.service", folder / "fleet-poll.timer"
+    service.write_text(service.read_text().replace("ExecStart=fleet-verify ", "ExecStart=/bin/true "))
+    for title, is_right in (("its units", True), ("an unknown setting", False)):
+        words = ["systemd-analyze", "verify", "--man=no", service, timer]
+        done = subprocess.run(words, capture_output=True, text=True, timeout=SECONDS)
+        check(f"systemd-analyze verify: {title}", (done.returncode, "fleet-poll" in done.stdout + done.stderr), (0, not is_right))
+        service.write_text(service.read_text().replace("PrivateNetwork=", "PrivateNetwork2="))
 
 
 def test_types(check):
