@@ -7,7 +7,8 @@ looked at.
 Of ima-agent.1 the commands with their synopses, the options with their values and defaults, the statuses and the tables of faults must
 be those of the help, and the lines of faults those of docs/formats.md. Of ima_verify.3 the functions must be those of the header, to
 the type, with its constants, and the functions of version 1 those of dist/libima_verify.map. Of ima-attest.1 and fleet-verify.1 the
-options must be those of the usage. Each difference is printed, and the status is 1 if there is one."""
+options must be those of the usage, and of the second the statuses those of docs/fleet.md. Each difference is printed, and the status is 1
+if there is one."""
 
 import re
 import subprocess
@@ -170,6 +171,12 @@ def check_usage(name, usage):
         yield f"{name}: there is no usage to compare it with"
 
 
+def check_statuses(name, page):
+    """A page's statuses are those of a table of docs/."""
+    wanted = re.findall(r"^\| ([0-9]+) \|", (ROOT / "docs" / page).read_text(), re.MULTILINE)
+    yield from differences(f"{name}: statuses", wanted, [head for head, _ in Page(name).items("EXIT STATUS")])
+
+
 def said_by(*words):
     return subprocess.run(words, stdin=subprocess.DEVNULL, stdout=subprocess.PIPE, stderr=subprocess.STDOUT).stdout.decode()
 
@@ -179,6 +186,7 @@ def main():
     found = [*check_program(program), *check_library(), *check_usage("ima-attest.1", said_by(ROOT / "attest/verify"))]
     if fleet:
         found += check_usage("fleet-verify.1", said_by(*fleet, "--help"))
+        found += check_statuses("fleet-verify.1", "fleet.md")
     print("\n".join(found), end="\n" if found else "")
     return bool(found)
 

@@ -13,6 +13,7 @@ from pathlib import Path
 ROOT = Path(__file__).resolve().parent.parent
 DOCS, SAMPLES = "share/doc/ima-agent", "share/ima-agent/samples"
 PAGES = ("guide.md", "formats.md", "trust.md", "trust.svg")
+FLEET_PAGE, FLEET = "fleet.md", "share/ima-agent/python/fleet_verify-*.whl"
 
 LINK = re.compile(r"(!?)\[((?:[^][]|\[[^][]*\])*)\]\(([^()\s]+)\)")
 BRACKETED = re.compile(rf" \((?:in |by )?{LINK.pattern}\)")
@@ -24,7 +25,16 @@ RULES = (
     (re.compile(r"`ima_agent_program` there \(\[README\]\(\.\./README\.md\) says from where\), and call it in place of `ima-agent`"),
      "`ima-agent` there"),
     (re.compile(r", as the\s+definitions in `crates/\*/specs/` do(?: \(\[definitions\.md\]\(definitions\.md\)\))?"), ""),
-    (re.compile(r"(?<![\w/])samples/"), f"{SAMPLES}/"),
+    (re.compile(r"(?:(?<=\$PWD/)|(?<![\w/]))samples/"), f"{SAMPLES}/"),
+    # of the page of the fleet
+    (re.compile(r"`fleet/verify\.py`, installed as `fleet-verify`,"), "`fleet-verify`"),
+    (re.compile(r"(?:/usr/bin/python3 )?(?<![\w/])fleet/verify\.py"), "fleet-verify"),
+    (re.compile(r" \(`bindings/python`\)"), ""),
+    (re.compile(r", which `dist/library FOLDER` makes"), ""),
+    (re.compile(r"the folder `fleet/`, or its wheel"), "the package `fleet_verify`"),
+    (re.compile(r"^(?:dist/library|export IMA_VERIFY_LIBRARY=/tmp/|export PYTHONPATH=\S*bindings).*\n", re.MULTILINE), ""),
+    (re.compile(r"(?<![\w/])fleet/systemd/"), "share/ima-agent/systemd/"),
+    (re.compile(r" `fleet/test \[LIBRARY_DIR\]` tests all this.*"), ""),
 )
 
 # What only the repository has: its scripts, and its folders.
@@ -73,7 +83,8 @@ def put_pages(release):
     folder = release.resolve() / DOCS
     folder.mkdir(parents=True, exist_ok=True)
     (folder / "CHANGELOG.md").write_text((ROOT / "CHANGELOG.md").read_text())
-    texts = {folder / name: (ROOT / "docs" / name).read_text() for name in PAGES if (ROOT / "docs" / name).exists()}
+    pages = [*PAGES, FLEET_PAGE] if list(release.glob(FLEET)) else PAGES
+    texts = {folder / name: (ROOT / "docs" / name).read_text() for name in pages if (ROOT / "docs" / name).exists()}
     texts[release.resolve() / "README.md"] = filled((ROOT / "dist/release.md").read_text(), release)
     for page, text in texts.items():
         if page.parent == folder:

@@ -14,8 +14,8 @@ Each crate of crates.txt that has such tests in its sources must have its binary
 of each command must be among the commands, with a file of its case that it has to be, and so must each command with `--json`.
 
 Commands are of one kind if they have the same word, options and status, as many names (three or more are alike), the same fault where
-they are refused, and both or neither ask for help, name a sample, or have a text with more names. Of each kind the first runs, in the
-order of the cases, that names no file of the system, in a case whose files have at most 64 KiB.
+they are refused, and both or neither ask for help or the version, name a sample, or have a text with more names. Of each kind the first
+runs, in the order of the cases, that names no file of the system, in a case whose files have at most 64 KiB.
 
 Before that, the program measures 50 files of 40 MiB within 64 MiB of address space, and shows a list of 64 MiB as JSON, with a peak of
 memory at most 8 MiB above that of an empty one; and it replays a log of 64 MiB, of events of 16 bytes, and shows its events, with a peak
@@ -38,7 +38,7 @@ sys.path[:0] = [str(HERE.parent), str(HERE.parent / "cases")]
 import form  # noqa: E402
 import reference  # noqa: E402
 from answers import answer_of, fault_of  # noqa: E402
-from reference.command_line import COMMANDS, HelpAsked, asks_for_help, read_arguments  # noqa: E402
+from reference.command_line import COMMANDS, HelpAsked, asks_for_help, asks_for_version, read_arguments  # noqa: E402
 from reference.faults import Fault  # noqa: E402
 from reference.log import EV_NO_ACTION, Event, Log, read_log  # noqa: E402
 from reference.measurement_list import BOOT_AGGREGATE, IMA_NG, entry_of, list_text  # noqa: E402
@@ -137,7 +137,7 @@ def kind_of(command, folder):
     word = command.words[0] if command.words else ""
     names_sample = any(it and it.startswith(form.SAMPLES) for it in (*command.words, command.input))
     try:
-        request = request_of(command, folder) if word in COMMANDS else asks_for_help(word)
+        request = request_of(command, folder) if word in COMMANDS else (asks_for_help(word), asks_for_version(word))
     except (Fault, HelpAsked) as cause:
         request = type(cause)
     fault = FAULT.search(command.wanted[-1]) if command.status > 1 and command.wanted else None

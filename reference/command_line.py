@@ -13,6 +13,10 @@ class HelpAsked(Exception):
     """The arguments ask for help."""
 
 
+class VersionAsked(Exception):
+    """The arguments ask for the version."""
+
+
 class Option(NamedTuple):
     """An option: what its value is read as, where None is a wrong value, and the value without it."""
 
@@ -77,11 +81,17 @@ def asks_for_help(word):
     return word == "--help" or word.startswith("-h")
 
 
+def asks_for_version(word):
+    return word == "--version"
+
+
 def read_words(words):
-    """What arguments ask for, of which there is at least one; or the fault, or `HelpAsked`."""
+    """What arguments ask for, of which there is at least one; or the fault, `HelpAsked` or `VersionAsked`."""
     name, *rest = words
     if asks_for_help(name):
         raise HelpAsked
+    if asks_for_version(name):
+        raise VersionAsked
     if name not in COMMANDS:
         raise USAGE
     command = COMMANDS[name]

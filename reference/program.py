@@ -2,10 +2,14 @@
 
 import json
 import os
+import re
+import shutil
+import subprocess
+from pathlib import Path
 from typing import Callable, NamedTuple
 
 from .checkpoint import before_a_list, read_checkpoint
-from .command_line import HelpAsked, read_words
+from .command_line import HelpAsked, VersionAsked, read_words
 from .faults import (
     NO_ARGUMENTS,
     USAGE,
@@ -40,7 +44,7 @@ LONGEST_PATH = 4095
 
 
 class Unanswered(Exception):
-    """What the reference leaves to the program: help, and workers whose order may show."""
+    """What the reference leaves to the program: help, workers whose order may show, and without a kit the version."""
 
 
 class Inputs:
@@ -300,9 +304,24 @@ def answer(words, folder=".", standard_input=b"", most_bytes=MOST_BYTES):
         text, status = json_lines([fault.as_json()]) if as_json else f"{fault.line}\n", fault.status
     except HelpAsked:
         raise Unanswered("help") from None
+    except VersionAsked:
+        text, status = version_lines(), 0
     finally:
         inputs.close()
     return status, text if isinstance(text, bytes) else text.encode()
+
+
+def version_lines():
+    """The version of the file VERSION, and the logic that the kit names."""
+    version = (Path(__file__).resolve().parent.parent / "VERSION").read_text().strip()
+    try:
+        kit = subprocess.run([shutil.which("rt") or "/opt/rattle/bin/rt", "version"], stdout=subprocess.PIPE, check=True).stdout.decode()
+    except (OSError, subprocess.CalledProcessError) as cause:
+        raise Unanswered(f"the logic of the kit: {cause}") from None
+    logic = re.search(r"\blogic [0-9a-f]{16}\b", kit)
+    if logic is None:
+        raise Unanswered("the logic: the kit names none")
+    return f"ima-agent {version}\n{logic[0]}\n"
 
 
 def json_lines(values):

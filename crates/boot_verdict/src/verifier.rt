@@ -122,7 +122,8 @@ pub fn verify(
     ensures memory { IsErrOf result VerifyFault.Memory → HasSomethingToKeep log.now list.now }
 {
     let log = LogView::new(log)?;
-    let known = Checkpoint::of_list(log.registers(), list)?;
+    let start = log.registers();
+    let known = Checkpoint::of_list(start, list)?;
     Ok(report_on(alloc, &log, &known, expected)?)
 }
 

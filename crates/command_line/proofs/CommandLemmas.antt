@@ -20,6 +20,13 @@ pub one_argument_more : (known : KnownNames) (row : ArgumentRow) (old new : Comm
     → AddsArg old arg new → app_of new ≡ with_argument_row known (app_of old) row
 one_argument_more known row old new arg argument adds = adds.shape argument.local ∙ ap (with_rule (app_of old)) argument.rule_is
 
+pub one_rule_more : (app : App) (rule : Rule) (old new : Command) (arg : Arg) → IsCommand app old → IsArgument rule arg → AddsArg old arg new
+    → IsCommand (with_rule app rule) new
+one_rule_more app rule old new arg command argument adds = record {
+  app_is =
+      adds.shape argument.local ∙ ap (with_rule (app_of old)) argument.rule_is ∙ ap (λ (more : App). with_rule more rule) command.app_is;
+}
+
 -- Arguments leave a command plain.
 stays_plain : (known : KnownNames) (app : App) (rows : List ArgumentRow) → (fold (with_argument_row known) app rows).top.is_plain ≡ app.top.is_plain
 stays_plain known app [] = refl

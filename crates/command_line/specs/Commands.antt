@@ -6,7 +6,7 @@ use Rattle.std.specs.List.{fold}
 use Rattle.std.specs.Str.Parse.{digits_value, without_leading_plus}
 use Rattle.clap.specs.Words.{App, Row, Rule, Text, all_of, first_of, new_app, new_rule, one_of, subcommand_of, with_rule, with_subcommand}
 use Rattle.clap.specs.Lexer.{usize_max}
-use Rattle.clap.specs.declared.builder.ArgAction.TheVariants.{Append, SetTrue}
+use Rattle.clap.specs.declared.builder.ArgAction.TheVariants.{Append, SetTrue, Version as show_version}
 use Rattle.clap.specs.declared.builder.ValueParser.{ValueParser}
 use Rattle.pcr_banks.specs.Hashing.{name_of}
 use Rattle.ima_list.specs.Templates.{template_name}
@@ -18,10 +18,11 @@ use Rattle.command_line.specs.declared.plan.DataShown.{DataShown}
 use Rattle.command_line.specs.declared.plan.DataShown.TheVariants.{Size, Bytes}
 use Rattle.command_line.specs.declared.plan.Extent.{Extent}
 use Rattle.command_line.specs.declared.plan.Extent.TheVariants.{Whole, Front}
+use Rattle.command_line.specs.declared.plan.Growing.{Growing}
 use Rattle.command_line.specs.declared.plan.NameEnd.{NameEnd}
 use Rattle.command_line.specs.declared.plan.NameEnd.TheVariants.{LineFeed, Nul}
 use Rattle.command_line.specs.declared.plan.Plan.{Plan}
-use Rattle.command_line.specs.declared.plan.Plan.TheVariants.{Registers, Measure, MeasureListed, Verify, VerifyRequired, VerifyGrowing, Locate, LocateRequired, Expected, RegistersAfter, Events, Show, Replay, ReplayExpected, Json, Help}
+use Rattle.command_line.specs.declared.plan.Plan.TheVariants.{Registers, Measure, MeasureListed, Verify, VerifyRequired, VerifyGrowing, Locate, LocateRequired, Expected, RegistersAfter, Events, Show, Replay, ReplayExpected, Json, Help, Version}
 use Rattle.command_line.specs.declared.plan.Print.{Print}
 use Rattle.command_line.specs.declared.plan.Print.TheVariants as prints
 
@@ -115,12 +116,20 @@ table parsers = (
 abbrev pub with_command : App → Text × List Rule → App
 with_command app row = with_subcommand app (fold with_rule (new_app row.0) row.1).top
 
--- The program, whose first argument is a command's name.
-abbrev pub program_app : App
-program_app = record {
+-- The flag that asks for the version.
+abbrev pub version_flag : Rule
+version_flag = record (new_rule (codes "version")) { long = Some (codes "version"); action = Some show_version }
+
+-- The program without arguments.
+abbrev pub bare_program : App
+bare_program = record {
   top = record (new_app (codes "ima-agent")).top { no_binary_name = true; disable_help_subcommand = true; subcommand_required = true };
   subs = [];
 }
+
+-- The program, whose first argument is a command's name or asks for the version.
+abbrev pub program_app : App
+program_app = with_rule bare_program version_flag
 
 -- The program with all commands.
 abbrev pub commands : Parsers → App
@@ -201,6 +210,14 @@ abbrev pub has_growth : Extent → Option (String Global) → Option (String Glo
 has_growth Whole None None = false
 has_growth extent resume save = true
 
+-- The matches have these options and names of a list that grows, at least one of which goes beyond those of a whole list.
+abbrev pub HasGrowing : List Row → Growing → Type 0
+HasGrowing rows asked =
+    HasEvidence rows (string_bytes asked.log) (string_bytes asked.list) (string_bytes asked.expected)
+    × IsGivenAs (codes "require") rows asked.required
+    × HasGrowth rows asked.extent asked.resume asked.save
+    × (has_growth asked.extent asked.resume asked.save ≡ true)
+
 -- The plan with `--json` has the options and names of these matches. `Measure` requires that neither `--files-from` nor `--null` is
 -- present, `Verify` that none of `--prefix`, `--resume` and `--save` is, where `VerifyGrowing` requires one of them, and `Replay` that
 -- neither EXPECTED nor `--require` is. `Events` has the data with `--data` and without.
@@ -217,11 +234,7 @@ HasJsonValues rows (jsons.Verify log list expected required) =
     HasEvidence rows (string_bytes log) (string_bytes list) (string_bytes expected)
     × IsGivenAs (codes "require") rows required
     × HasGrowth rows Whole None None
-HasJsonValues rows (jsons.VerifyGrowing log list expected required extent resume save) =
-    HasEvidence rows (string_bytes log) (string_bytes list) (string_bytes expected)
-    × IsGivenAs (codes "require") rows required
-    × HasGrowth rows extent resume save
-    × (has_growth extent resume save ≡ true)
+HasJsonValues rows (jsons.VerifyGrowing asked) = HasGrowing rows asked
 HasJsonValues rows (jsons.Locate log list expected required) =
     HasEvidence rows (string_bytes log) (string_bytes list) (string_bytes expected)
     × IsGivenAs (codes "require") rows required
@@ -261,11 +274,7 @@ HasValues rows (VerifyRequired log list expected required) =
     HasEvidence rows (string_bytes log) (string_bytes list) (string_bytes expected)
     × (first_of (codes "require") rows ≡ Some (string_bytes required))
     × HasGrowth rows Whole None None
-HasValues rows (VerifyGrowing log list expected required extent resume save) =
-    HasEvidence rows (string_bytes log) (string_bytes list) (string_bytes expected)
-    × IsGivenAs (codes "require") rows required
-    × HasGrowth rows extent resume save
-    × (has_growth extent resume save ≡ true)
+HasValues rows (VerifyGrowing asked) = HasGrowing rows asked
 HasValues rows (Locate log list expected) =
     HasEvidence rows (string_bytes log) (string_bytes list) (string_bytes expected)
     × (all_of (codes "require") rows ≡ None)
@@ -290,6 +299,7 @@ HasValues rows (ReplayExpected list expected required) =
     × IsGivenAs (codes "require") rows required
 HasValues rows (Json plan) = HasJsonValues rows plan
 HasValues rows (Help text) = ⊥
+HasValues rows Version = ⊥
 
 -- The same of the matches of a command, which was found. With `--json` the result is printed as JSON, and without it it is not.
 pub record HasValuesIn (found : Option (Text × List Row)) (plan : Plan) : Type 0 where

@@ -6,7 +6,7 @@ use Rattle.command_line.specs.Commands.{IsMatched}
 use Rattle.command_line.specs.declared.json_plan.JsonPlan.{JsonPlan}
 use Rattle.command_line.specs.declared.json_plan.JsonPlan.TheVariants as jsons
 use Rattle.command_line.specs.declared.plan.Plan.{Plan}
-use Rattle.command_line.specs.declared.plan.Plan.TheVariants.{Registers, Measure, MeasureListed, Verify, VerifyRequired, VerifyGrowing, Locate, LocateRequired, Expected, RegistersAfter, Events, Show, Replay, ReplayExpected, Json, Help}
+use Rattle.command_line.specs.declared.plan.Plan.TheVariants.{Registers, Measure, MeasureListed, Verify, VerifyRequired, VerifyGrowing, Locate, LocateRequired, Expected, RegistersAfter, Events, Show, Replay, ReplayExpected, Json, Help, Version}
 
 -- A measurement has 1 to 8 workers, a limit of at least one record, and fewer than 2^32 files named by arguments. Here of a plan with
 -- `--json`, and then of any plan.
@@ -25,7 +25,7 @@ IsWithinRanges (MeasureListed alg template workers limit print log files names e
     (1 ≤ workers) × (workers ≤ 8) × (1 ≤ limit) × (vec_len files < 2 ^ 32)
 IsWithinRanges (Verify log list expected) = Unit {0}
 IsWithinRanges (VerifyRequired log list expected required) = Unit {0}
-IsWithinRanges (VerifyGrowing log list expected required extent resume save) = Unit {0}
+IsWithinRanges (VerifyGrowing asked) = Unit {0}
 IsWithinRanges (Locate log list expected) = Unit {0}
 IsWithinRanges (LocateRequired log list expected required) = Unit {0}
 IsWithinRanges (Expected printed registers) = Unit {0}
@@ -36,13 +36,14 @@ IsWithinRanges (Replay list) = Unit {0}
 IsWithinRanges (ReplayExpected list expected required) = Unit {0}
 IsWithinRanges (Json plan) = IsWithinJsonRanges plan
 IsWithinRanges (Help text) = Unit {0}
+IsWithinRanges Version = Unit {0}
 
 -- The name of the command that a plan with `--json` is of.
 abbrev pub json_command : JsonPlan → List ℕ
 json_command (jsons.Measure alg template workers limit print log files) = codes "measure"
 json_command (jsons.MeasureListed alg template workers limit print log files names ends) = codes "measure"
 json_command (jsons.Verify log list expected required) = codes "verify"
-json_command (jsons.VerifyGrowing log list expected required extent resume save) = codes "verify"
+json_command (jsons.VerifyGrowing asked) = codes "verify"
 json_command (jsons.Locate log list expected required) = codes "locate"
 json_command (jsons.Expected printed registers) = codes "expected"
 json_command (jsons.RegistersAfter log) = codes "registers"
@@ -58,7 +59,7 @@ IsOfCommand command (Measure alg template workers limit print log files) = comma
 IsOfCommand command (MeasureListed alg template workers limit print log files names ends) = command ≡ codes "measure"
 IsOfCommand command (Verify log list expected) = command ≡ codes "verify"
 IsOfCommand command (VerifyRequired log list expected required) = command ≡ codes "verify"
-IsOfCommand command (VerifyGrowing log list expected required extent resume save) = command ≡ codes "verify"
+IsOfCommand command (VerifyGrowing asked) = command ≡ codes "verify"
 IsOfCommand command (Locate log list expected) = command ≡ codes "locate"
 IsOfCommand command (LocateRequired log list expected required) = command ≡ codes "locate"
 IsOfCommand command (Expected printed registers) = command ≡ codes "expected"
@@ -69,6 +70,7 @@ IsOfCommand command (Replay list) = command ≡ codes "replay"
 IsOfCommand command (ReplayExpected list expected required) = command ≡ codes "replay"
 IsOfCommand command (Json plan) = command ≡ json_command plan
 IsOfCommand command (Help text) = ⊥
+IsOfCommand command Version = ⊥
 
 -- The argument requests help: it is `--help`, or short options of which the first is `-h`.
 abbrev pub asks_help : List ℕ → Bool
@@ -82,10 +84,16 @@ HasHelpWord words = IsTrue (list_any (λ word. asks_help (string_bytes word)) wo
 abbrev pub IsHelp : Plan → Type 0
 IsHelp plan = (text : String Global) × (plan ≡ Help text)
 
+-- The first argument is `--version`.
+abbrev pub BeginsWithVersion : List (String Global) → Type 0
+BeginsWithVersion [] = ⊥
+BeginsWithVersion (word ∷ words) = string_bytes word ≡ codes "--version"
+
 -- Without arguments the plan is `Registers`: the log on standard input. Otherwise the first argument is the command and all match
--- its options and names, or one of them requests help.
+-- its options and names, or one of them requests help; or the first is `--version`.
 abbrev pub IsAskedBy : List (String Global) → Plan → Type 0
 IsAskedBy [] plan = plan ≡ Registers
 IsAskedBy (word ∷ words) plan =
     (IsOfCommand (string_bytes word) plan × IsMatched (map string_bytes (word ∷ words)) plan)
     ⊎ (HasHelpWord (word ∷ words) × IsHelp plan)
+    ⊎ (BeginsWithVersion (word ∷ words) × (plan ≡ Version))

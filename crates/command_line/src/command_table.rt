@@ -104,6 +104,7 @@ Exit status:
      for each of these: EXPECTED lacks a register that --require names
   2  the arguments or an input were refused
   3  out of memory, an input could not be read, or the output failed;
+     for verify: the checkpoint of --save could not be written;
      for measure: an error of the program itself"
         )
     };

@@ -5,7 +5,7 @@ ghost use Rattle.std.specs.List.{fold};
 ghost use Rattle.clap.specs.Words.{app_of, new_app};
 ghost use Rattle.command_line.specs.parts.Commands.{IsArgument, IsCommand, app_of_row, parser_of_values, rule_of_row, with_argument_row, with_row};
 ghost use Rattle.command_line.specs.declared.commands.KnownNames.{KnownNames};
-ghost use Rattle.command_line.specs.Commands.{Parsers, commands, flag, flag_beside, omittable, optional, program_app, repeated, required, without_default, without_default_beside};
+ghost use Rattle.command_line.specs.Commands.{Parsers, commands, flag, flag_beside, omittable, optional, program_app, bare_program, repeated, required, version_flag, without_default, without_default_beside};
 
 use crate::command_table::{
     ArgumentRow, COMMANDS, CommandRow, Form, PROGRAM_ABOUT, PROGRAM_END, Values, help_end_of,
@@ -13,6 +13,9 @@ use crate::command_table::{
 use clap::builder::ValueParser;
 use clap::{Arg, ArgAction, Command};
 use std::alloc::{AllocError, Global};
+
+/// The argument that asks for the version.
+pub(crate) const VERSION: &str = "--version";
 
 /// The names that options take as values. They come from the crates below, so the table has no room for them.
 #[derive(Clone, Copy)]
@@ -70,15 +73,32 @@ fn with_row<'a>(
     program.subcommand(command(alloc, row, known)?)
 }
 
-// The program, without its commands.
+// The program, without its commands. `read_words` looks for `--version` itself: it is here for the help.
 fn program<'a>(alloc: Global) -> Result<Command<'a>, AllocError>
     ensures { IfOk result (IsCommand program_app) }
+{
+    described_program(alloc)?.arg(version_flag(alloc))
+}
+
+// The program, without its commands and its flag.
+fn described_program<'a>(alloc: Global) -> Result<Command<'a>, AllocError>
+    ensures { IfOk result (IsCommand bare_program) }
 {
     described(alloc, "ima-agent", PROGRAM_ABOUT, PROGRAM_END)
         .no_binary_name(true)
         .disable_help_subcommand(true)
         .subcommand_required(true)
         .bin_name("ima-agent")
+}
+
+// The flag that asks for the version.
+fn version_flag<'a>(alloc: Global) -> Arg<'a>
+    ensures { IsArgument version_flag result }
+{
+    Arg::new(alloc, "version")
+        .help("Print version")
+        .long("version")
+        .action(ArgAction::Version)
 }
 
 // The command of this row.

@@ -1,6 +1,6 @@
 //! What the program's arguments request with `--json`.
 
-use crate::plan::{Extent, NameEnd};
+use crate::plan::{Growing, NameEnd};
 use ima_list::Template;
 use pcr_banks::Alg;
 
@@ -66,24 +66,8 @@ pub enum JsonPlan {
         /// The text of the registers that have to be among them, as `sha256:0-10`, if there is one. It is any text here.
         required: Option<String>,
     },
-    /// As `Verify`, for a list that grows: of a front of it, or going on from a checkpoint. At least one of `extent`, `resume` and
-    /// `save` asks for more than `Verify` does.
-    VerifyGrowing {
-        /// The name of the firmware event log, binary.
-        log: String,
-        /// The name of the measurement list, binary; with `resume`, of what follows the checkpoint.
-        list: String,
-        /// The name of the text of expected registers.
-        expected: String,
-        /// The text of the registers that have to be among them, as `sha256:0-10`, if there is one. It is any text here.
-        required: Option<String>,
-        /// Which part of the list the verdict is on.
-        extent: Extent,
-        /// The name of the checkpoint to go on from, if there is one.
-        resume: Option<String>,
-        /// The name under which the checkpoint is saved, if it is.
-        save: Option<String>,
-    },
+    /// As `Verify`, for a list that grows: of a front of it, or going on from a checkpoint.
+    VerifyGrowing(Growing),
     /// Find where the expected registers first have their values, in a log and a list.
     Locate {
         /// The name of the firmware event log, binary.

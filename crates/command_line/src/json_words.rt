@@ -9,7 +9,8 @@ use crate::fault::WordsFault;
 use crate::json_plan::{JsonPlan, JsonPrint};
 use crate::plan::Print;
 use crate::values::{
-    Evidence, evidence_of, further_names_of, growth_of, measurement_of, name_of, text_if_given,
+    Evidence, evidence_of, further_names_of, growing_of, growth_of, measurement_of, name_of,
+    text_if_given,
 };
 use clap::ArgMatches;
 use std::alloc::Global;
@@ -80,28 +81,15 @@ fn json_print_of(print: Print) -> Result<JsonPrint, WordsFault>
 fn verify_of(alloc: Global, matches: &ArgMatches) -> Result<JsonPlan, WordsFault>
     ensures { IfOk result (IsJsonPlan (codes "verify") (rows_of (found_of matches.now))) }
 {
-    let Evidence {
-        log,
-        list,
-        expected,
-        required,
-    } = evidence_of(alloc, matches)?;
+    let evidence = evidence_of(alloc, matches)?;
     match growth_of(alloc, matches)? {
         None => Ok(JsonPlan::Verify {
-            log,
-            list,
-            expected,
-            required,
+            log: evidence.log,
+            list: evidence.list,
+            expected: evidence.expected,
+            required: evidence.required,
         }),
-        Some(growth) => Ok(JsonPlan::VerifyGrowing {
-            log,
-            list,
-            expected,
-            required,
-            extent: growth.extent,
-            resume: growth.resume,
-            save: growth.save,
-        }),
+        Some(growth) => Ok(JsonPlan::VerifyGrowing(growing_of(evidence, growth))),
     }
 }
 

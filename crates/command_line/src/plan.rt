@@ -42,6 +42,25 @@ pub enum Extent {
     Front,
 }
 
+/// What is asked of a list that grows. At least one of `extent`, `resume` and `save` asks for more than `Verify` does.
+#[derive(Drop)]
+pub struct Growing {
+    /// The name of the firmware event log, binary.
+    pub log: String,
+    /// The name of the measurement list, binary; with `resume`, of what follows the checkpoint.
+    pub list: String,
+    /// The name of the text of expected registers.
+    pub expected: String,
+    /// The text of the registers that have to be among them, as `sha256:0-10`, if there is one. It is any text here.
+    pub required: Option<String>,
+    /// Which part of the list the verdict is on.
+    pub extent: Extent,
+    /// The name of the checkpoint to go on from, if there is one.
+    pub resume: Option<String>,
+    /// The name under which the checkpoint is saved, if it is.
+    pub save: Option<String>,
+}
+
 /// What the program's arguments request.
 #[derive(Drop)]
 pub enum Plan {
@@ -105,24 +124,8 @@ pub enum Plan {
         /// The text of the registers that have to be among them, as `sha256:0-10`. It is any text here.
         required: String,
     },
-    /// As `Verify`, for a list that grows: of a front of it, or going on from a checkpoint. At least one of `extent`, `resume` and
-    /// `save` asks for more than `Verify` does.
-    VerifyGrowing {
-        /// The name of the firmware event log, binary.
-        log: String,
-        /// The name of the measurement list, binary; with `resume`, of what follows the checkpoint.
-        list: String,
-        /// The name of the text of expected registers.
-        expected: String,
-        /// The text of the registers that have to be among them, as `sha256:0-10`, if there is one. It is any text here.
-        required: Option<String>,
-        /// Which part of the list the verdict is on.
-        extent: Extent,
-        /// The name of the checkpoint to go on from, if there is one.
-        resume: Option<String>,
-        /// The name under which the checkpoint is saved, if it is.
-        save: Option<String>,
-    },
+    /// As `Verify`, for a list that grows: of a front of it, or going on from a checkpoint.
+    VerifyGrowing(Growing),
     /// Find where the expected registers first have their values, in a log and a list.
     Locate {
         /// The name of the firmware event log, binary.
@@ -185,4 +188,6 @@ pub enum Plan {
     Json(JsonPlan),
     /// Show this help.
     Help(String),
+    /// Show the version.
+    Version,
 }

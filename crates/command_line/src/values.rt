@@ -9,7 +9,7 @@ ghost use Rattle.ima_list.specs.Templates.{template_name};
 
 use crate::command_table::MOST_WORKERS;
 use crate::fault::WordsFault;
-use crate::plan::{DataShown, Extent, NameEnd, Print};
+use crate::plan::{DataShown, Extent, Growing, NameEnd, Print};
 use clap::ArgMatches;
 use ima_list::Template;
 use pcr_banks::Alg;
@@ -95,6 +95,29 @@ pub(crate) struct Growth {
     pub(crate) extent: Extent,
     pub(crate) resume: Option<String>,
     pub(crate) save: Option<String>,
+}
+
+/// What is asked of a list that grows, by all that `verify` takes.
+pub(crate) fn growing_of(evidence: Evidence, growth: Growth) -> Growing
+    ensures { result ≡ record {
+      log = evidence.log;
+      list = evidence.list;
+      expected = evidence.expected;
+      required = evidence.required;
+      extent = growth.extent;
+      resume = growth.resume;
+      save = growth.save;
+    } }
+{
+    Growing {
+        log: evidence.log,
+        list: evidence.list,
+        expected: evidence.expected,
+        required: evidence.required,
+        extent: growth.extent,
+        resume: growth.resume,
+        save: growth.save,
+    }
 }
 
 /// The options `--prefix`, `--resume` and `--save`, if one of them is present.

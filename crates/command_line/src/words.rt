@@ -1,22 +1,23 @@
 //! Reads the command line.
 
-ghost use Rattle.std.specs.Prelude.{◌≡◌, ◌⊎◌, [], None, Ok, codes, drop, map, string_bytes, IfOk};
-ghost use Rattle.clap.specs.Words.{found_of, rows_of, subcommand_rows_of};
+ghost use Rattle.std.specs.Prelude.{◌≡◌, ◌⊎◌, List, [], None, Ok, codes, drop, map, string_bytes, IfOk};
+ghost use Rattle.clap.specs.Words.{Row, found_of, rows_of, subcommand_rows_of};
 ghost use Rattle.command_line.specs.parts.Commands.{IsCommand};
 ghost use Rattle.command_line.specs.parts.Plans.{IsTextPlan};
-ghost use Rattle.command_line.specs.Commands.{HasValuesIn, IsMatched, Parsers, commands};
+ghost use Rattle.command_line.specs.Commands.{HasEvidence, HasGrowth, HasValuesIn, IsGivenAs, IsMatched, Parsers, commands};
 ghost use Rattle.std.specs.Vec.Iter.{into_iter_items};
-ghost use Rattle.command_line.specs.Plans.{HasHelpWord, IsAskedBy, IsHelp, IsOfCommand, IsWithinRanges, asks_help};
+ghost use Rattle.command_line.specs.Plans.{BeginsWithVersion, HasHelpWord, IsAskedBy, IsHelp, IsOfCommand, IsWithinRanges, asks_help};
 ghost use Rattle.std.specs.List.{list_any};
-ghost use Rattle.command_line.specs.declared.plan.Plan.TheVariants.{Registers};
+ghost use Rattle.command_line.specs.declared.plan.Extent.TheVariants.{Whole};
+ghost use Rattle.command_line.specs.declared.plan.Plan.TheVariants.{Registers, Version};
 
-use crate::commands::{KnownNames, all_commands};
+use crate::commands::{KnownNames, VERSION, all_commands};
 use crate::fault::WordsFault;
 use crate::json_words::json_plan_of;
 use crate::plan::Plan;
 use crate::values::{
-    Evidence, data_of, evidence_of, flag_of, further_names_of, growth_of, measurement_of, name_of,
-    text_if_given,
+    Evidence, data_of, evidence_of, flag_of, further_names_of, growing_of, growth_of,
+    measurement_of, name_of, text_if_given,
 };
 use clap::error::ErrorKind;
 use clap::{ArgMatches, Command, Error};
@@ -28,8 +29,9 @@ use std::env::Args;
 // What is wrong with `--print binary` beside `--json`.
 const NO_JSON_OF_BYTES: &str = "error: invalid value 'binary' for '--print <P>' with '--json'\n";
 
-/// Reads the program's arguments, without its name. Without arguments the plan is `Registers`: the log on standard input.
-/// Otherwise the first argument is the command, and the rest are its options and names, by `clap`'s own definition.
+/// Reads the program's arguments, without its name. Without arguments the plan is `Registers`: the log on standard input. After
+/// `--version` nothing is looked at. Otherwise the first argument is the command, and the rest are its options and names, by `clap`'s
+/// own definition.
 ///
 /// Fails with `Usage` if the arguments are not those of a command, and with `Memory` if memory runs out.
 pub fn read_words(alloc: Global, words: &[String]) -> Result<Plan, WordsFault>
@@ -38,9 +40,12 @@ pub fn read_words(alloc: Global, words: &[String]) -> Result<Plan, WordsFault>
     ensures asked { IfOk result (λ plan. IsAskedBy words.now plan × IsWithinRanges plan) }
     // Without arguments the plan is `Registers`, whatever memory there is.
     ensures none { words.now ≡ [] → result ≡ Ok Registers }
+    // The same of `--version`, whatever follows it.
+    ensures version { BeginsWithVersion words.now → result ≡ Ok Version }
 {
     match words.first() {
         None => Ok(Plan::Registers),
+        Some(word) if word.as_str() == VERSION => Ok(Plan::Version),
         Some(command) => plan_in(alloc, words, command),
     }
 }
@@ -193,33 +198,36 @@ fn measure_of(alloc: Global, matches: &ArgMatches) -> Result<Plan, WordsFault>
 fn verify_of(alloc: Global, matches: &ArgMatches) -> Result<Plan, WordsFault>
     ensures { IfOk result (IsTextPlan (codes "verify") (rows_of (found_of matches.now))) }
 {
+    let evidence = evidence_of(alloc, matches)?;
+    match growth_of(alloc, matches)? {
+        None => Ok(verify_whole(evidence)),
+        Some(growth) => Ok(Plan::VerifyGrowing(growing_of(evidence, growth))),
+    }
+}
+
+// The plan of `verify` of a whole list.
+fn verify_whole(evidence: Evidence) -> Plan
+    ensures { (rows : List Row) → HasEvidence rows (string_bytes evidence.log) (string_bytes evidence.list) (string_bytes evidence.expected)
+        → IsGivenAs (codes "require") rows evidence.required → HasGrowth rows Whole None None → IsTextPlan (codes "verify") rows result }
+{
     let Evidence {
         log,
         list,
         expected,
         required,
-    } = evidence_of(alloc, matches)?;
-    match (growth_of(alloc, matches)?, required) {
-        (None, None) => Ok(Plan::Verify {
+    } = evidence;
+    match required {
+        None => Plan::Verify {
             log,
             list,
             expected,
-        }),
-        (None, Some(required)) => Ok(Plan::VerifyRequired {
-            log,
-            list,
-            expected,
-            required,
-        }),
-        (Some(growth), required) => Ok(Plan::VerifyGrowing {
+        },
+        Some(required) => Plan::VerifyRequired {
             log,
             list,
             expected,
             required,
-            extent: growth.extent,
-            resume: growth.resume,
-            save: growth.save,
-        }),
+        },
     }
 }
 

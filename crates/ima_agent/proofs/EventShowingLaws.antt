@@ -1,5 +1,5 @@
 -- A log whose events are written as they are lent: what was written is what the program is asked for.
-use Rattle.std.proofs.Common.{◌≡◌, ℕ, List, [], ◌++◌, false, Some, Result, Ok, Err, refl, append-nil, inl, inr}
+use Rattle.std.proofs.Common.{ℕ, List, [], false, Some, Result, Ok, Err, refl, append-nil, inl, inr}
 use Rattle.std.specs.Prelude.{String, string_bytes}
 use Rattle.std.specs.Global.{Global}
 use Rattle.byte_streams.specs.declared.streams.Failed.{Failed}

@@ -1,5 +1,5 @@
 -- A list that grows: what its source says of its input, whatever list was taken before.
-use Rattle.std.proofs.Common.{◌≡◌, ℕ, ◌<◌, List, [], ◌++◌, length, Option, None, Some, Ok, Err, Bool, true, refl, sym, ap, subst, ◌∙◌, append_assoc, inl, inr}
+use Rattle.std.proofs.Common.{◌≡◌, ℕ, ◌<◌, List, ◌++◌, length, Option, None, Some, Ok, Err, refl, sym, subst, append_assoc, inl, inr}
 use Rattle.std.specs.Prelude.{◌⊎◌, IfSome, IfOk, IfErr, IsTrue, Result}
 use Rattle.byte_streams.specs.Streams.{SourceState}
 use Rattle.ima_list.specs.declared.fault.ListFault.{ListFault}
@@ -23,8 +23,8 @@ use Rattle.boot_verdict.specs.Verdicts.{IsSomeLog, Verdict}
 use Rattle.ima_agent.specs.declared.fault.NotResumed.TheVariants.{OtherBoot}
 use Rattle.ima_agent.specs.declared.fault.RunFault.{RunFault}
 use Rattle.ima_agent.specs.declared.fault.RunFault.TheVariants as runs
-use Rattle.ima_agent.specs.declared.growing.Judged.{Judged}
-use Rattle.ima_agent.specs.declared.growing.Judged.TheVariants as judged
+use Rattle.ima_agent.specs.declared.grown_reports.Judged.{Judged}
+use Rattle.ima_agent.specs.declared.grown_reports.Judged.TheVariants as judged
 use Rattle.ima_agent.specs.declared.output.Form.{Form}
 use Rattle.ima_agent.specs.declared.output.Output.{Output}
 use Rattle.ima_agent.specs.Growing.{AreGrounds, Growth, HasSaved, IsFaultAfter, IsFrontAfter, IsGrownFault, IsGrownFaultWith, IsNotTaken, IsOfOtherBoot, IsRefusedUnconfirmed, IsTaken, IsUnconfirmed, IsUnconfirmedBefore, IsVerdictAfter, IsWrongAfter, ShowsAndSaves, ShowsGrownWith, ShowsGrowth, entries_taken, most_more, seeks_front}

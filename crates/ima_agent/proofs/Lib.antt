@@ -4,6 +4,7 @@ pub mod MeasuringLaws
 pub mod FaultLaws
 pub mod VerifyingLaws
 pub mod GrowingLaws
+pub mod SessionLaws
 pub mod ShowingLaws
 pub mod ReplayingLaws
 pub mod LocatingLaws

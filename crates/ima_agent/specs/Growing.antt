@@ -1,6 +1,5 @@
 -- The report on a list that grows, as the program writes it, and what it saves. All of this is this project's choice.
-use Rattle.std.specs.Prelude.{◌≡◌, ℕ, ◌<◌, ◌⊎◌, Bool, true, false, List, ◌++◌, length, [], ◌∷◌, Option, Some, None, Ok, Err, IfSome, IsTrue, String, option_map, string_bytes}
-use Rattle.std.specs.Global.{Global}
+use Rattle.std.specs.Prelude.{◌≡◌, ℕ, ◌<◌, ◌⊎◌, Bool, true, false, List, ◌++◌, length, [], ◌∷◌, Option, Some, None, Ok, Err, IfSome, IsTrue, option_map, string_bytes}
 use Rattle.boot_log.specs.Spelling.{IsLog, LogEvent, algs_in}
 use Rattle.boot_log.specs.declared.header.Row.{Row as TableRow}
 use Rattle.ima_list.specs.ListEntry.{ListEntry}
@@ -28,6 +27,7 @@ use Rattle.boot_verdict.specs.Sessions.{IsOfBoot}
 use Rattle.boot_verdict.specs.Verdicts.{IsForged, IsSomeLog, IsVerdict, Verdict, verdict_of, verdict_on}
 use Rattle.command_line.specs.declared.plan.Extent.{Extent}
 use Rattle.command_line.specs.declared.plan.Extent.TheVariants.{Whole, Front}
+use Rattle.command_line.specs.declared.plan.Growing.{Growing}
 use Rattle.json_texts.specs.JsonValues.{line_of}
 use Rattle.json_texts.specs.ReportJson.{front_report_json, meets, report_json}
 use Rattle.ima_agent.specs.declared.fault.NotResumed.TheVariants.{Damaged, OtherBoot, Version}
@@ -55,16 +55,15 @@ pub record Growth : Type 0 where
   pub save : Option (List ℕ)
 
 -- The same of a plan's names and texts.
-abbrev pub growth : String Global → String Global → String Global → Option (String Global) → Extent → Option (String Global)
-    → Option (String Global) → Growth
-growth log list expected required extent resume save = record {
-  log = string_bytes log;
-  list = string_bytes list;
-  expected = string_bytes expected;
-  required = option_map string_bytes required;
-  extent = extent;
-  resume = option_map string_bytes resume;
-  save = option_map string_bytes save;
+abbrev pub growth : Growing → Growth
+growth asked = record {
+  log = string_bytes asked.log;
+  list = string_bytes asked.list;
+  expected = string_bytes asked.expected;
+  required = option_map string_bytes asked.required;
+  extent = asked.extent;
+  resume = option_map string_bytes asked.resume;
+  save = option_map string_bytes asked.save;
 }
 
 -- ---- what is gone on from

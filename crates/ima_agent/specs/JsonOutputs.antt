@@ -26,8 +26,7 @@ IsJsonOutputFor inputs (MeasureListed alg template workers limit print log files
     × (status ≡ 0)
 IsJsonOutputFor inputs (Verify log list expected required) shown status =
     ShowsJsonReport inputs (string_bytes log) (string_bytes list) (string_bytes expected) (option_map string_bytes required) shown status
-IsJsonOutputFor inputs (VerifyGrowing log list expected required extent resume save) shown status =
-    ShowsGrowth inputs (growth log list expected required extent resume save) forms.Json shown status
+IsJsonOutputFor inputs (VerifyGrowing asked) shown status = ShowsGrowth inputs (growth asked) forms.Json shown status
 IsJsonOutputFor inputs (Locate log list expected required) shown status =
     ShowsJsonPlaces inputs (string_bytes log) (string_bytes list) (string_bytes expected) (option_map string_bytes required) shown status
 IsJsonOutputFor inputs (Expected printed registers) shown status =

@@ -22,8 +22,7 @@ plain_of (jsons.MeasureListed alg template workers limit print log files names e
     plans.MeasureListed alg template workers limit (plain_print print) log files names ends
 plain_of (jsons.Verify log list expected None) = plans.Verify log list expected
 plain_of (jsons.Verify log list expected (Some required)) = plans.VerifyRequired log list expected required
-plain_of (jsons.VerifyGrowing log list expected required extent resume save) =
-    plans.VerifyGrowing log list expected required extent resume save
+plain_of (jsons.VerifyGrowing asked) = plans.VerifyGrowing asked
 plain_of (jsons.Locate log list expected None) = plans.Locate log list expected
 plain_of (jsons.Locate log list expected (Some required)) = plans.LocateRequired log list expected required
 plain_of (jsons.Expected printed registers) = plans.Expected printed registers

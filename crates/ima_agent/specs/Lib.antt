@@ -21,6 +21,7 @@ pub mod Growing
 pub mod GrowingOn
 pub mod JsonOutputs
 pub mod Streaming
+pub mod Version
 pub mod Program
 pub mod System
 pub mod parts

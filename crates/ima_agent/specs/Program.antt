@@ -11,7 +11,7 @@ use Rattle.command_line.specs.declared.json_plan.JsonPlan.{JsonPlan}
 use Rattle.command_line.specs.declared.json_plan.JsonPlan.TheVariants as jsons
 use Rattle.command_line.specs.declared.plan.Plan.{Plan}
 use Rattle.command_line.specs.declared.plan.NameEnd.{NameEnd}
-use Rattle.command_line.specs.declared.plan.Plan.TheVariants.{Registers, Measure, MeasureListed, Verify, VerifyRequired, VerifyGrowing, Locate, LocateRequired, Expected, RegistersAfter, Events, Show, Replay, ReplayExpected, Json, Help}
+use Rattle.command_line.specs.declared.plan.Plan.TheVariants.{Registers, Measure, MeasureListed, Verify, VerifyRequired, VerifyGrowing, Locate, LocateRequired, Expected, RegistersAfter, Events, Show, Replay, ReplayExpected, Json, Help, Version}
 use Rattle.ima_agent.specs.JsonFaults.{IsFailure}
 use Rattle.ima_agent.specs.JsonOutputs.{IsJsonOutputFor}
 use Rattle.ima_agent.specs.JsonPlans.{plain_of}
@@ -26,6 +26,7 @@ use Rattle.ima_agent.specs.Requiring.{IsFaultWith, ShowsRequiredPlaces, ShowsReq
 use Rattle.ima_agent.specs.Showing.{IsNoListFor, IsNoLogFor, IsRefusedFor, ShowsEvents, ShowsList, ShowsRegisters, ShowsRegistersAfter}
 use Rattle.ima_agent.specs.Measuring.{IsMeasuringFault, IsNamesFault, HasLogFault, Manner, ShowsMeasured, all_names, failing_in, files_in}
 use Rattle.ima_agent.specs.Verifying.{IsReportFault, ShowsReport}
+use Rattle.ima_agent.specs.Version.{version_text}
 use Rattle.command_line.specs.Commands.{is_json}
 use Rattle.command_line.specs.Plans.{IsAskedBy, IsWithinRanges}
 use Rattle.ima_agent.specs.Faults.{IsWordsFault}
@@ -50,8 +51,7 @@ IsOutputFor inputs (Verify log list expected) shown status =
     ShowsReport inputs (string_bytes log) (string_bytes list) (string_bytes expected) shown status
 IsOutputFor inputs (VerifyRequired log list expected required) shown status =
     ShowsRequiredReport inputs (string_bytes log) (string_bytes list) (string_bytes expected) (string_bytes required) shown status
-IsOutputFor inputs (VerifyGrowing log list expected required extent resume save) shown status =
-    ShowsGrowth inputs (growth log list expected required extent resume save) forms.Text shown status
+IsOutputFor inputs (VerifyGrowing asked) shown status = ShowsGrowth inputs (growth asked) forms.Text shown status
 IsOutputFor inputs (Locate log list expected) shown status =
     ShowsPlaces inputs (string_bytes log) (string_bytes list) (string_bytes expected) shown status
 IsOutputFor inputs (LocateRequired log list expected required) shown status =
@@ -68,6 +68,7 @@ IsOutputFor inputs (ReplayExpected list expected required) shown status =
 IsOutputFor inputs (Show list) shown status = OfInput inputs (Some (string_bytes list)) (λ bytes. ShowsList bytes shown) × (status ≡ 0)
 IsOutputFor inputs (Json plan) shown status = IsJsonOutputFor inputs plan shown status
 IsOutputFor inputs (Help text) shown status = (shown ≡ string_bytes text) × (status ≡ 0)
+IsOutputFor inputs Version shown status = (shown ≡ version_text) × (status ≡ 0)
 
 -- Why nothing is shown of a measurement over this log of the files of these names and of those in the text of this input: the log
 -- is invalid; the text was not loaded, or gives no names; or the measurement failed.
@@ -95,8 +96,7 @@ IsPlainFaultOf inputs (Verify log list expected) fault =
     IsReportFault inputs (string_bytes log) (string_bytes list) (string_bytes expected) fault
 IsPlainFaultOf inputs (VerifyRequired log list expected required) fault =
     IsFaultWith (string_bytes required) (IsReportFault inputs (string_bytes log) (string_bytes list) (string_bytes expected)) fault
-IsPlainFaultOf inputs (VerifyGrowing log list expected required extent resume save) fault =
-    IsGrownFault inputs (growth log list expected required extent resume save) fault
+IsPlainFaultOf inputs (VerifyGrowing asked) fault = IsGrownFault inputs (growth asked) fault
 IsPlainFaultOf inputs (Locate log list expected) fault =
     IsReportFault inputs (string_bytes log) (string_bytes list) (string_bytes expected) fault
 IsPlainFaultOf inputs (LocateRequired log list expected required) fault =
@@ -118,6 +118,7 @@ IsPlainFaultOf inputs (Show list) fault =
     ⊎ OfInput inputs (Some (string_bytes list)) (λ bytes. IsNoListFor bytes fault)
 IsPlainFaultOf inputs (Json plan) fault = ⊥
 IsPlainFaultOf inputs (Help text) fault = ⊥
+IsPlainFaultOf inputs Version fault = fault ≡ runs.Memory
 
 -- The fault may come of the plan with `--json`: one of the same without it. But a damaged list or log is shown as far as it goes.
 abbrev pub IsJsonFaultOf : Inputs → JsonPlan → RunFault → Type 0

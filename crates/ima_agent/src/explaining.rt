@@ -8,7 +8,7 @@ use crate::escaping::{escaped_each, shown_line, shown_lines};
 use crate::fault::RunFault;
 use crate::json_plans::plain_of;
 use crate::words::read_words;
-use command_line::{Plan, refusal_of};
+use command_line::{Growing, Plan, refusal_of};
 use measure_book::BookFault;
 use std::alloc::{AllocError, Global};
 use std::fs::File;
@@ -100,13 +100,24 @@ fn of_argument(alloc: Global, words: &[String]) -> Result<String, AllocError>
     ensures { IfOk result (λ text. list_all is_shown (string_bytes text) ≡ true) }
 {
     let plan = plan_of(alloc, words)?;
-    match &plan {
+    let told = of_plan(alloc, &plan);
+    drop(plan);
+    told
+}
+
+// Why what arguments request is refused, which `clap` takes.
+fn of_plan(alloc: Global, plan: &Plan) -> Result<String, AllocError>
+    ensures { IfOk result (λ text. list_all is_shown (string_bytes text) ≡ true) }
+{
+    match plan {
         Plan::VerifyRequired { required, .. }
         | Plan::LocateRequired { required, .. }
-        | Plan::VerifyGrowing {
-            required: Some(required),
-            ..
-        }
+        | Plan::VerifyGrowing(
+            Growing {
+                required: Some(required),
+                ..
+            },
+        )
         | Plan::ReplayExpected {
             required: Some(required),
             ..
@@ -199,7 +210,16 @@ fn of_input(alloc: Global, fault: &RunFault, words: &[String]) -> Result<String,
     ensures { IfOk result (λ text. list_all is_shown (string_bytes text) ≡ true) }
 {
     let plan = plan_of(alloc, words)?;
-    match input_of(&plan, fault) {
+    let told = of_content(alloc, input_of(&plan, fault), fault);
+    drop(plan);
+    told
+}
+
+// What is wrong with this input, or with none that is known.
+fn of_content(alloc: Global, input: Option<&str>, fault: &RunFault) -> Result<String, AllocError>
+    ensures { IfOk result (λ text. list_all is_shown (string_bytes text) ≡ true) }
+{
+    match input {
         Some(input) => shown_line(alloc, &format!(in alloc; "{input}: {fault}")?),
         None => shown_line(alloc, &format!(in alloc; "{fault}")?),
     }
@@ -226,7 +246,7 @@ fn log_of(plan: &Plan) -> Option<&str> {
         | Plan::MeasureListed { log, .. }
         | Plan::Verify { log, .. }
         | Plan::VerifyRequired { log, .. }
-        | Plan::VerifyGrowing { log, .. }
+        | Plan::VerifyGrowing(Growing { log, .. })
         | Plan::Locate { log, .. }
         | Plan::LocateRequired { log, .. }
         | Plan::RegistersAfter { log }
@@ -240,7 +260,7 @@ fn list_of(plan: &Plan) -> Option<&str> {
     match plan {
         Plan::Verify { list, .. }
         | Plan::VerifyRequired { list, .. }
-        | Plan::VerifyGrowing { list, .. }
+        | Plan::VerifyGrowing(Growing { list, .. })
         | Plan::Locate { list, .. }
         | Plan::LocateRequired { list, .. }
         | Plan::Show { list }
@@ -255,7 +275,7 @@ fn expected_of(plan: &Plan) -> Option<&str> {
     match plan {
         Plan::Verify { expected, .. }
         | Plan::VerifyRequired { expected, .. }
-        | Plan::VerifyGrowing { expected, .. }
+        | Plan::VerifyGrowing(Growing { expected, .. })
         | Plan::Locate { expected, .. }
         | Plan::LocateRequired { expected, .. }
         | Plan::ReplayExpected { expected, .. } => Some(expected.as_str()),
@@ -267,7 +287,7 @@ fn expected_of(plan: &Plan) -> Option<&str> {
 // The checkpoint that a plan goes on from.
 fn checkpoint_of(plan: &Plan) -> Option<&str> {
     match plan {
-        Plan::VerifyGrowing { resume, .. } => resume.as_deref(),
+        Plan::VerifyGrowing(asked) => asked.resume.as_deref(),
         _ => None,
     }
 }

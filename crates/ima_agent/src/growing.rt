@@ -1,41 +1,37 @@
 //! The report on a list that grows: on a front of it, or going on from a checkpoint.
 
-ghost use Rattle.std.specs.Prelude.{◌≡◌, ◌⊎◌, ℕ, List, [], None, Some, true, false, option_map, string_bytes, IfOk, IfErr, IfSome, IsTrue, OnErr, OnOk};
+ghost use Rattle.std.specs.Prelude.{◌≡◌, ◌⊎◌, ℕ, List, [], Some, true, false, option_map, IfOk, IfErr, IsTrue, OnErr, OnOk};
 ghost use Rattle.boot_verdict.specs.declared.checkpoint.Checkpoint.{Checkpoint as CheckpointOf};
 ghost use Rattle.boot_verdict.specs.CheckpointTexts.{checkpoint_text};
 ghost use Rattle.boot_verdict.specs.Checkpoints.{IsCheckpoint, most_after};
 ghost use Rattle.boot_verdict.specs.Sessions.{HasTaken, IsOfBoot};
 ghost use Rattle.boot_verdict.specs.Verdicts.{IsVerdict, verdict_of};
-ghost use Rattle.json_texts.specs.JsonValues.{line_of};
-ghost use Rattle.json_texts.specs.ReportJson.{front_report_json, meets, report_json};
 ghost use Rattle.ima_agent.specs.declared.fault.NotResumed.TheVariants.{OtherBoot};
 ghost use Rattle.ima_agent.specs.declared.fault.RunFault.TheVariants as runs;
-ghost use Rattle.ima_agent.specs.declared.output.Form.TheVariants.{Text};
-ghost use Rattle.ima_agent.specs.Growing.{AreGrounds, HasNoGrounds, HasSaved, IsCheckpointText, IsGrownFault, IsGrownFaultWith, IsKnown, IsNoCheckpoint, IsNotKnown, IsNotSaved, IsOfOtherBoot, IsTaken, ShowsAndSaves, ShowsGrownWith, ShowsGrowth, entries_taken, front_report_in, most_more, report_in, seeks_front};
+ghost use Rattle.ima_agent.specs.Growing.{AreGrounds, HasNoGrounds, HasSaved, IsCheckpointText, IsGrownFault, IsGrownFaultWith, IsKnown, IsNoCheckpoint, IsNotKnown, IsNotSaved, IsOfOtherBoot, IsTaken, ShowsAndSaves, ShowsGrownWith, ShowsGrowth, entries_taken, growth, most_more, seeks_front};
 ghost use Rattle.ima_agent.specs.Loading.{GivesAll, HasFailed, IsNotWritten, input_limit};
-ghost use Rattle.ima_agent.specs.parts.Growing.{IsNotJudged, Judges, JudgesWhole, growth_of, judged_text, judged_well};
+ghost use Rattle.ima_agent.specs.parts.Growing.{IsNotJudged, Judges, JudgesWhole, growth_of};
 ghost use Rattle.ima_agent.specs.Measuring.{HasLogFault};
 
 use crate::fault::{NotResumed, RunFault};
 use crate::files::Files;
+use crate::grown_reports::{Judged, judged_output};
 use crate::inputs::{INPUT_LIMIT, loaded, not_read, not_written};
 use crate::output::{Form, Output};
 use crate::requiring::requirement_in;
 use crate::verifying::verdict_fault;
 use boot_verdict::{
-    Checkpoint, CheckpointFault, Expected, FrontReport, Report, Requirement, ResumeFault, Session,
-    read_checkpoint, read_expected, write_checkpoint, write_front_report, write_report,
-    write_required_front_report, write_required_report,
+    Checkpoint, CheckpointFault, Expected, Report, Requirement, ResumeFault, Session,
+    read_checkpoint, read_expected, write_checkpoint,
 };
-use byte_streams::{Failed, Source, VecSink};
-use command_line::Extent;
+use byte_streams::{Failed, Source};
+use command_line::{Extent, Growing};
 use ima_list::laws::{entries_to_the_end_are_the_reading, no_bytes_have_two_readings};
-use json_texts::{append_front_report, append_report, meets};
 use std::alloc::{AllocError, Global};
 
-/// What is asked of a list that grows.
+/// What is asked of a list that grows, lent.
 #[derive(Clone, Copy)]
-pub(crate) struct Growing<'a> {
+pub(crate) struct Asked<'a> {
     /// The name of the firmware event log.
     pub log: &'a str,
     /// The name of the list, or of what follows the checkpoint.
@@ -52,34 +48,18 @@ pub(crate) struct Growing<'a> {
     pub save: Option<&'a str>,
 }
 
-/// What a plan asks of a list that grows.
-pub(crate) fn growing_of<'a>(
-    log: &'a str,
-    list: &'a str,
-    expected: &'a str,
-    required: &'a Option<String>,
-    extent: Extent,
-    resume: &'a Option<String>,
-    save: &'a Option<String>,
-) -> Growing<'a>
-    ensures { growth_of result ≡ record {
-      log = log.now;
-      list = list.now;
-      expected = expected.now;
-      required = option_map string_bytes required.now;
-      extent = extent;
-      resume = option_map string_bytes resume.now;
-      save = option_map string_bytes save.now;
-    } }
+// What a plan asks of a list that grows.
+fn asked_of(asked: &Growing) -> Asked<'_>
+    ensures { growth_of result ≡ growth asked.now }
 {
-    Growing {
-        log,
-        list,
-        expected,
-        required: required.as_deref(),
-        extent,
-        resume: resume.as_deref(),
-        save: save.as_deref(),
+    Asked {
+        log: &asked.log,
+        list: &asked.list,
+        expected: &asked.expected,
+        required: asked.required.as_deref(),
+        extent: asked.extent,
+        resume: asked.resume.as_deref(),
+        save: asked.save.as_deref(),
     }
 }
 
@@ -88,11 +68,27 @@ pub(crate) fn growing_of<'a>(
 pub(crate) fn grown<F: Files>(
     alloc: Global,
     files: &mut F,
-    asked: Growing<'_>,
+    asked: &Growing,
+    form: Form,
+) -> Result<Output, RunFault>
+    ensures shown { IfOk result (λ output. ShowsGrowth (F.told files.old) (growth asked.now) form output.text.items output.status) }
+    // The checkpoint of what the report is on is what is saved, and nothing else.
+    ensures saved { IfOk result (λ output. ShowsAndSaves (F.told files.old) (growth asked.now) form (F.saved files.old) (F.saved files.new)
+        output.text.items output.status) }
+    ensures kept { OnErr result (F.saved files.new ≡ F.saved files.old) }
+    ensures fault { IfErr result (IsGrownFault (F.told files.old) (growth asked.now)) }
+{
+    grown_as(alloc, files, asked_of(asked), form)
+}
+
+// The same of what is asked, lent.
+fn grown_as<F: Files>(
+    alloc: Global,
+    files: &mut F,
+    asked: Asked<'_>,
     form: Form,
 ) -> Result<Output, RunFault>
     ensures shown { IfOk result (λ output. ShowsGrowth (F.told files.old) (growth_of asked.entry) form output.text.items output.status) }
-    // The checkpoint of what the report is on is what is saved, and nothing else.
     ensures saved { IfOk result (λ output. ShowsAndSaves (F.told files.old) (growth_of asked.entry) form (F.saved files.old) (F.saved files.new)
         output.text.items output.status) }
     ensures kept { OnErr result (F.saved files.new ≡ F.saved files.old) }
@@ -111,7 +107,7 @@ pub(crate) fn grown<F: Files>(
 fn grown_with<F: Files>(
     alloc: Global,
     files: &mut F,
-    asked: Growing<'_>,
+    asked: Asked<'_>,
     requirement: Option<&Requirement>,
     form: Form,
 ) -> Result<Output, RunFault>
@@ -148,7 +144,7 @@ struct Grounds<S> {
 fn grounds_of<F: Files>(
     alloc: Global,
     files: &mut F,
-    asked: Growing<'_>,
+    asked: Asked<'_>,
 ) -> Result<Grounds<F::Src>, RunFault>
     ensures grounds { IfOk result (λ grounds. AreGrounds (F.told files.old) (growth_of asked.entry) grounds.log.items grounds.expected.items
         grounds.known) }
@@ -247,13 +243,6 @@ fn session_after(log: &[u8], known: Checkpoint) -> Result<Session<'_>, RunFault>
     }
 }
 
-// A report on all of a list, or on its confirmed front.
-#[derive(Drop)]
-pub(crate) enum Judged {
-    Whole(Report),
-    Front(FrontReport),
-}
-
 // Has the session take the list, or its confirmed front, and reports on it.
 fn judged_from<R: Source>(
     alloc: Global,
@@ -336,122 +325,6 @@ pub(crate) fn report_of(
         Ok(report) => Ok(report),
         Err(_) => Err(AllocError),
     }
-}
-
-// A report in this form, and the status of its verdict.
-pub(crate) fn judged_output(
-    alloc: Global,
-    judged: &Judged,
-    requirement: Option<&Requirement>,
-    form: Form,
-) -> Result<Output, AllocError>
-    ensures text { IfOk result (λ output. output.text.items ≡ judged_text form (option_map (λ ranges. ranges.now) requirement.entry) judged.now) }
-    ensures status { IfOk result (λ output. output.status ≡ judged_well (option_map (λ ranges. ranges.now) requirement.entry) judged.now) }
-{
-    match judged {
-        Judged::Whole(report) => {
-            let text = report_text(alloc, report, requirement, form)?;
-            Ok(Output::told(text, meets(report, requirement)))
-        }
-        Judged::Front(front) => {
-            let text = front_text(alloc, front, requirement, form)?;
-            Ok(Output::told(text, meets(&front.report, requirement)))
-        }
-    }
-}
-
-// A report on a whole list in this form.
-fn report_text(
-    alloc: Global,
-    report: &Report,
-    requirement: Option<&Requirement>,
-    form: Form,
-) -> Result<Vec<u8>, AllocError>
-    ensures { IfOk result (λ text. text.items ≡ report_in form (option_map (λ ranges. ranges.now) requirement.entry) (verdict_of report.now)) }
-{
-    match form {
-        Form::Text => report_lines(alloc, report, requirement),
-        Form::Json => report_line(alloc, report, requirement),
-    }
-}
-
-// A report on a whole list as lines of text.
-fn report_lines(
-    alloc: Global,
-    report: &Report,
-    requirement: Option<&Requirement>,
-) -> Result<Vec<u8>, AllocError>
-    ensures { IfOk result (λ text. text.items ≡ report_in Text (option_map (λ ranges. ranges.now) requirement.entry) (verdict_of report.now)) }
-{
-    let mut text = VecSink::new(Vec::new(alloc));
-    let written = match requirement {
-        None => write_report(report, &mut text),
-        Some(requirement) => write_required_report(report, requirement, &mut text),
-    };
-    match written {
-        Ok(()) => Ok(text.into_bytes()),
-        Err(Failed) => Err(AllocError),
-    }
-}
-
-// A report on a whole list as a line of JSON.
-fn report_line(
-    alloc: Global,
-    report: &Report,
-    requirement: Option<&Requirement>,
-) -> Result<Vec<u8>, AllocError>
-    ensures { IfOk result (λ line. line.items ≡ line_of (report_json (option_map (λ ranges. ranges.now) requirement.entry) (verdict_of report.now))) }
-{
-    let mut line = Vec::new(alloc);
-    append_report(alloc, report, requirement, &mut line)?;
-    Ok(line)
-}
-
-// A report on a confirmed front in this form.
-fn front_text(
-    alloc: Global,
-    front: &FrontReport,
-    requirement: Option<&Requirement>,
-    form: Form,
-) -> Result<Vec<u8>, AllocError>
-    ensures { IfOk result (λ text. text.items ≡ front_report_in form (option_map (λ ranges. ranges.now) requirement.entry) front.now) }
-{
-    match form {
-        Form::Text => front_lines(alloc, front, requirement),
-        Form::Json => front_line(alloc, front, requirement),
-    }
-}
-
-// A report on a confirmed front as lines of text.
-fn front_lines(
-    alloc: Global,
-    front: &FrontReport,
-    requirement: Option<&Requirement>,
-) -> Result<Vec<u8>, AllocError>
-    ensures { IfOk result (λ text. text.items ≡ front_report_in Text (option_map (λ ranges. ranges.now) requirement.entry) front.now) }
-{
-    let mut text = VecSink::new(Vec::new(alloc));
-    let written = match requirement {
-        None => write_front_report(front, &mut text),
-        Some(requirement) => write_required_front_report(front, requirement, &mut text),
-    };
-    match written {
-        Ok(()) => Ok(text.into_bytes()),
-        Err(Failed) => Err(AllocError),
-    }
-}
-
-// A report on a confirmed front as a line of JSON.
-fn front_line(
-    alloc: Global,
-    front: &FrontReport,
-    requirement: Option<&Requirement>,
-) -> Result<Vec<u8>, AllocError>
-    ensures { IfOk result (λ line. line.items ≡ line_of (front_report_json (option_map (λ ranges. ranges.now) requirement.entry) (verdict_of front.now.report) front.now.entries front.now.unconfirmed)) }
-{
-    let mut line = Vec::new(alloc);
-    append_front_report(alloc, front, requirement, &mut line)?;
-    Ok(line)
 }
 
 // Saves the checkpoint under this name, if there is one.

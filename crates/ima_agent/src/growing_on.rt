@@ -8,7 +8,8 @@ ghost use Rattle.ima_agent.specs.GrowingOn.{IsKnownIn, IsNotGrownOn, IsNotGrownO
 ghost use Rattle.ima_agent.specs.parts.GrowingOn.{IsNotJudgedOn, JudgesOn, JudgesWholeOn};
 
 use crate::fault::RunFault;
-use crate::growing::{Judged, checkpoint_in, judged_output, report_of, seeks_front, session_of};
+use crate::growing::{checkpoint_in, report_of, seeks_front, session_of};
+use crate::grown_reports::{Judged, judged_output};
 use crate::output::{Form, Output};
 use crate::requiring::requirement_in;
 use crate::verifying::first_cause;

@@ -17,7 +17,7 @@ mod registers;
 use crate::expecting::expected_from;
 use crate::fault::RunFault;
 use crate::files::Files;
-use crate::growing::{growing_of, grown};
+use crate::growing::grown;
 use crate::measuring::measured_as_json;
 use crate::output::{Form, Output};
 use crate::progress::Progress;
@@ -55,18 +55,7 @@ pub(crate) fn json_for<R: Threads + Wait + Sync, F: Files, P: Progress>(
             expected,
             required,
         } => report(alloc, files, log, list, expected, required.as_deref()),
-        JsonPlan::VerifyGrowing {
-            log,
-            list,
-            expected,
-            required,
-            extent,
-            resume,
-            save,
-        } => {
-            let asked = growing_of(log, list, expected, required, *extent, resume, save);
-            grown(alloc, files, asked, Form::Json)
-        }
+        JsonPlan::VerifyGrowing(asked) => grown(alloc, files, asked, Form::Json),
         JsonPlan::Locate {
             log,
             list,

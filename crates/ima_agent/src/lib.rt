@@ -11,6 +11,7 @@ mod fault;
 mod files;
 mod growing;
 mod growing_on;
+mod grown_reports;
 mod hashing;
 mod hexadecimal;
 mod inputs;
@@ -33,6 +34,7 @@ mod streaming;
 mod system;
 mod texts;
 mod verifying;
+mod version;
 mod words;
 
 pub use boot_verdict::{
@@ -43,7 +45,7 @@ pub use boot_verdict::{
     write_required_places, write_required_report,
 };
 pub use command_line::{
-    DataShown, Extent, JsonPlan, JsonPrint, NameEnd, Plan, Print, words_after_name,
+    DataShown, Extent, Growing, JsonPlan, JsonPrint, NameEnd, Plan, Print, words_after_name,
 };
 pub use escaping::escaped;
 pub use expecting::expected_on;

@@ -14,7 +14,7 @@ use crate::expecting::expected_from;
 use crate::explaining::Failure;
 use crate::fault::RunFault;
 use crate::files::Files;
-use crate::growing::{growing_of, grown};
+use crate::growing::grown;
 use crate::json_outputs::json_for;
 use crate::list_verifying::list_verified;
 use crate::locating::{located, located_with};
@@ -26,6 +26,7 @@ use crate::showing::{registers_after, shown_list, shown_registers};
 use crate::streaming::{StreamFault, is_streamed, streamed_for};
 use crate::texts::{json_fault_line, json_memory_line, status_of, write_fault};
 use crate::verifying::{verified, verified_with};
+use crate::version::version_text;
 use crate::words::read_words;
 use byte_streams::{Failed, Sink, send};
 use command_line::Plan;
@@ -73,7 +74,7 @@ fn exits_with(status: u8) -> ExitCode
 /// and the list each of these registers first has its value; `expected` writes the lines of expected registers, from what tpm2-tools
 /// printed; `registers` writes the registers that differ from their reset values after a log, and `replay` those after a list alone,
 /// or the report on the list alone and expected registers; `events` writes the lines of a log's events, and `show` those of a list's
-/// entries; and `--help` writes the help.
+/// entries; `--help` writes the help, and `--version` the version.
 ///
 /// The whole output is prepared before its first byte is written; a fault is written as one line. But `events` looks its log through
 /// for a fault, and then writes the lines of the events one after another, so that memory does not grow with them; `show --json` writes the lines of
@@ -128,7 +129,9 @@ fn run_plan<R: Threads + Wait + Sync, F: Files, S: Sink, P: Progress>(
     ensures { Answers (IsOutcome (F.told files.old) plan) result (S.state sink.old) (S.state sink.new) }
 {
     if is_streamed(&plan) {
-        run_streamed(alloc, &plan, words, files, sink, progress)
+        let status = run_streamed(alloc, &plan, words, files, sink, progress);
+        drop(plan);
+        status
     } else {
         run_whole(rt, alloc, plan, words, files, sink, progress)
     }
@@ -270,7 +273,11 @@ fn output_for<R: Threads + Wait + Sync, F: Files, P: Progress>(
 {
     match help_of(plan) {
         Ok(text) => Ok(Output::done(text.into_bytes())),
-        Err(plan) => shown_for(rt, alloc, &plan, files, progress),
+        Err(plan) => {
+            let output = shown_for(rt, alloc, &plan, files, progress);
+            drop(plan);
+            output
+        }
     }
 }
 
@@ -310,18 +317,7 @@ fn shown_for<R: Threads + Wait + Sync, F: Files, P: Progress>(
             expected,
             required,
         } => verified_with(alloc, files, log, list, expected, required),
-        Plan::VerifyGrowing {
-            log,
-            list,
-            expected,
-            required,
-            extent,
-            resume,
-            save,
-        } => {
-            let asked = growing_of(log, list, expected, required, *extent, resume, save);
-            grown(alloc, files, asked, Form::Text)
-        }
+        Plan::VerifyGrowing(asked) => grown(alloc, files, asked, Form::Text),
         Plan::Locate {
             log,
             list,
@@ -367,6 +363,7 @@ fn text_for<R: Threads + Wait + Sync, F: Files, P: Progress>(
         Plan::RegistersAfter { log } => registers_after(alloc, files, log),
         Plan::Replay { list } => replayed(alloc, files, list, Form::Text),
         Plan::Show { list } => shown_list(alloc, files, list),
+        Plan::Version => Ok(version_text(alloc)?),
         _ => unreachable!(),
     }
 }

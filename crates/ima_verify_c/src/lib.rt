@@ -146,7 +146,12 @@ pub extern "C" fn ima_verify_registers(
 
 /// The entries of a measurement list, as `show` writes them. A text that is longer than the buffer is counted, and never whole in memory.
 #[unsafe(no_mangle)]
-pub extern "C" fn ima_verify_show(alloc: Global, list: &[u8], out: &mut [u8], needed: &mut usize) -> i32
+pub extern "C" fn ima_verify_show(
+    alloc: Global,
+    list: &[u8],
+    out: &mut [u8],
+    needed: &mut usize,
+) -> i32
     ensures { Answers (IsEntriesAnswer list.now) result needed.new out.old out.new }
 {
     let asked = entries_within(alloc, list, out.len());

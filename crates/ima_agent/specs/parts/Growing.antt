@@ -15,9 +15,9 @@ use Rattle.boot_verdict.specs.Verdicts.{IsVerdict, Verdict, verdict_of}
 use Rattle.json_texts.specs.ReportJson.{meets}
 use Rattle.ima_agent.specs.declared.fault.RunFault.{RunFault}
 use Rattle.ima_agent.specs.declared.fault.RunFault.TheVariants as runs
-use Rattle.ima_agent.specs.declared.growing.Growing.{Growing}
-use Rattle.ima_agent.specs.declared.growing.Judged.{Judged}
-use Rattle.ima_agent.specs.declared.growing.Judged.TheVariants as judged
+use Rattle.ima_agent.specs.declared.growing.Asked.{Asked}
+use Rattle.ima_agent.specs.declared.grown_reports.Judged.{Judged}
+use Rattle.ima_agent.specs.declared.grown_reports.Judged.TheVariants as judged
 use Rattle.ima_agent.specs.declared.output.Form.{Form}
 use Rattle.ima_agent.specs.Growing.{Growth, front_report_in, report_in}
 use Rattle.ima_agent.specs.Faults.{IsFaultOfVerdict}
@@ -25,7 +25,7 @@ use Rattle.ima_agent.specs.JsonJudging.{judged_status}
 use Rattle.ima_agent.specs.Loading.{HasFailed, input_limit}
 
 -- What is asked.
-abbrev pub growth_of : Growing → Growth
+abbrev pub growth_of : Asked → Growth
 growth_of asked = record {
   log = asked.log.now;
   list = asked.list.now;

@@ -9,8 +9,8 @@ use Rattle.boot_verdict.specs.Sessions.{HasTaken}
 use Rattle.boot_verdict.specs.Verdicts.{verdict_of}
 use Rattle.ima_agent.specs.declared.fault.RunFault.{RunFault}
 use Rattle.ima_agent.specs.declared.fault.RunFault.TheVariants as runs
-use Rattle.ima_agent.specs.declared.growing.Judged.{Judged}
-use Rattle.ima_agent.specs.declared.growing.Judged.TheVariants as judged
+use Rattle.ima_agent.specs.declared.grown_reports.Judged.{Judged}
+use Rattle.ima_agent.specs.declared.grown_reports.Judged.TheVariants as judged
 use Rattle.ima_agent.specs.GrowingOn.{HasNoFront, IsFaultIn, IsFrontOf, IsUnconfirmedIn, IsWholeOf}
 use Rattle.ima_agent.specs.Verifying.{fault_of_verdict}
 

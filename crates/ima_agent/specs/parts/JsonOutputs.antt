@@ -5,7 +5,7 @@ use Rattle.command_line.specs.declared.json_plan.JsonPlan.TheVariants.{Verify, V
 -- The plan shows lines, and its exit status is 0 whatever these say.
 abbrev pub ShowsLines : JsonPlan → Type 0
 ShowsLines (Verify log list expected required) = ⊥
-ShowsLines (VerifyGrowing log list expected required extent resume save) = ⊥
+ShowsLines (VerifyGrowing asked) = ⊥
 ShowsLines (Locate log list expected required) = ⊥
 ShowsLines (Events log) = ⊥
 ShowsLines (Show list) = ⊥

@@ -58,7 +58,7 @@ MeasuresFiles (plans.Measure alg template workers limit print log files) = Unit 
 MeasuresFiles (plans.MeasureListed alg template workers limit print log files names ends) = Unit {0}
 MeasuresFiles (plans.Verify log list expected) = ⊥
 MeasuresFiles (plans.VerifyRequired log list expected required) = ⊥
-MeasuresFiles (plans.VerifyGrowing log list expected required extent resume save) = ⊥
+MeasuresFiles (plans.VerifyGrowing asked) = ⊥
 MeasuresFiles (plans.Locate log list expected) = ⊥
 MeasuresFiles (plans.LocateRequired log list expected required) = ⊥
 MeasuresFiles (plans.Expected printed registers) = ⊥
@@ -69,6 +69,7 @@ MeasuresFiles (plans.Replay list) = ⊥
 MeasuresFiles (plans.ReplayExpected list expected required) = ⊥
 MeasuresFiles (plans.Json plan) = ⊥
 MeasuresFiles (plans.Help text) = ⊥
+MeasuresFiles plans.Version = ⊥
 
 -- These are the parts of a plan that measures files.
 abbrev pub HasParts : Measuring → Manner → Printing → List ℕ → List (String Global) → Type 0
@@ -84,7 +85,7 @@ IsAskedOf (plans.MeasureListed alg template workers limit print log files names 
     HasParts asked (record { alg = alg; template = template; workers = workers; limit = limit }) (printings.Text print) (string_bytes log) files.items
 IsAskedOf (plans.Verify log list expected) asked = ⊥
 IsAskedOf (plans.VerifyRequired log list expected required) asked = ⊥
-IsAskedOf (plans.VerifyGrowing log list expected required extent resume save) asked = ⊥
+IsAskedOf (plans.VerifyGrowing growing) asked = ⊥
 IsAskedOf (plans.Locate log list expected) asked = ⊥
 IsAskedOf (plans.LocateRequired log list expected required) asked = ⊥
 IsAskedOf (plans.Expected printed registers) asked = ⊥
@@ -95,6 +96,7 @@ IsAskedOf (plans.Replay list) asked = ⊥
 IsAskedOf (plans.ReplayExpected list expected required) asked = ⊥
 IsAskedOf (plans.Json plan) asked = ⊥
 IsAskedOf (plans.Help text) asked = ⊥
+IsAskedOf plans.Version asked = ⊥
 
 -- ---- with `--json`
 

@@ -4,7 +4,7 @@ use Rattle.command_line.specs.declared.json_plan.JsonPlan.TheVariants as jsons
 use Rattle.command_line.specs.declared.plan.Plan.{Plan}
 use Rattle.command_line.specs.declared.plan.Plan.TheVariants.{Verify, VerifyRequired, VerifyGrowing, Locate, LocateRequired, Events, ReplayExpected, Json, Help}
 
--- The plan shows something of its inputs: it is not the help.
+-- The plan is not to show the help, whose text it has.
 abbrev pub ShowsInputs : Plan → Type 0
 ShowsInputs (Help text) = ⊥
 ShowsInputs plan = Unit {0}
@@ -14,7 +14,7 @@ abbrev pub ShowsText : Plan → Type 0
 ShowsText (Help text) = ⊥
 ShowsText (Verify log list expected) = ⊥
 ShowsText (VerifyRequired log list expected required) = ⊥
-ShowsText (VerifyGrowing log list expected required extent resume save) = ⊥
+ShowsText (VerifyGrowing asked) = ⊥
 ShowsText (Locate log list expected) = ⊥
 ShowsText (LocateRequired log list expected required) = ⊥
 ShowsText (Events log requested) = ⊥

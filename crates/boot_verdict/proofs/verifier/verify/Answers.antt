@@ -81,7 +81,7 @@ returns-clause-report c =
     let is = c.in_ok-known.ensures.known in
     let viewed = log_viewed c.in_ok-log.ensures.found sound.2 in
     verdict_by sound.2 is (c.in_ok-report_on.ensures sound.0 sound.1 _ viewed
-    (rw c.in_ok-known.ensures.before (c.registers.ensures sound.0 sound.1 viewed)) is)
+    (rw c.in_ok-known.ensures.before (c.registers-start.ensures sound.0 sound.1 viewed)) is)
 
 pub returns-clause-only : goal.returns-clause-only
 returns-clause-only c =
@@ -90,4 +90,4 @@ returns-clause-only c =
     let same = one_list list is.list_is in
     let viewed = log_viewed c.in_ok-log.ensures.found log in
     ap Ok (ap (λ (those : List ListEntry). verdict_on (algs_in table) events those c.args.expected.now) same
-    ∙ sym (c.in_ok-report_on.ensures table events _ viewed (rw c.in_ok-known.ensures.before (c.registers.ensures table events viewed)) is))
+    ∙ sym (c.in_ok-report_on.ensures table events _ viewed (rw c.in_ok-known.ensures.before (c.registers-start.ensures table events viewed)) is))

@@ -1,4 +1,3 @@
-use Rattle.std.proofs.Common.{refl}
 use Rattle.std.proofs.lemmas.Result.{err_from_is_err_and}
 use Rattle.ima_agent.specs.GrowingOn.{growth_on}
 use Rattle.ima_agent.proofs.GrowingOnLaws.{no_report, no_session, shows_grown}

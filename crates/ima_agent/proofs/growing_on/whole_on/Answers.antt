@@ -1,4 +1,4 @@
-use Rattle.std.proofs.Common.{◌++◌, refl, inl}
+use Rattle.std.proofs.Common.{◌++◌, inl}
 use Rattle.ima_agent.proofs.GrowingOnLaws.{all_taken, none_taken}
 use Rattle.ima_agent.proofs.growing_on.whole_on.Goals as goal
 

@@ -31,6 +31,4 @@ returns-in-ReplayExpected-clause-fault g c =
     c.as_deref-in-ReplayExpected.ensures.value (rw (c.deref-in-ReplayExpected.ensures, c.deref-in-ReplayExpected-2.ensures) at c.list_report.ensures.fault)))
 
 pub returns-in-VerifyGrowing-clause-fault : goal.returns-in-VerifyGrowing-clause-fault
-returns-in-VerifyGrowing-clause-fault g c =
-    rw c.in-VerifyGrowing.is
-    (rw (c.growing_of-asked.ensures, c.deref-in-VerifyGrowing.ensures, c.deref-in-VerifyGrowing-2.ensures, c.deref-in-VerifyGrowing-3.ensures) at c.grown.ensures.fault)
+returns-in-VerifyGrowing-clause-fault g c = rw c.in-VerifyGrowing.is c.grown.ensures.fault

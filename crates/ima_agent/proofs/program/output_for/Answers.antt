@@ -7,5 +7,5 @@ use Rattle.ima_agent.proofs.program.output_for.Goals as goal
 pub returns-in-Err-clause-shown : goal.returns-in-Err-clause-shown
 returns-in-Err-clause-shown g c =
     subst
-    (λ (plan : Plan). IfOk c.shown_for.result (λ output. IsOutputFor (g.F.Files.told c.args.files.now) plan output.text.items output.status))
-    c.in-Err.ensures.0 c.shown_for.ensures.shown
+    (λ (plan : Plan). IfOk c.shown_for-output.result (λ output. IsOutputFor (g.F.Files.told c.args.files.now) plan output.text.items output.status))
+    c.in-Err.ensures.0 c.shown_for-output.ensures.shown

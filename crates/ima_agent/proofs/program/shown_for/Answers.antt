@@ -9,6 +9,4 @@ returns-in-Verify-clause-fault g c =
     rw c.in-Verify.is (rw (c.deref.ensures, c.deref-in-Verify.ensures, c.deref-in-Verify-2.ensures) at c.verified.ensures.fault)
 
 pub returns-in-VerifyGrowing-clause-fault : goal.returns-in-VerifyGrowing-clause-fault
-returns-in-VerifyGrowing-clause-fault g c =
-    rw c.in-VerifyGrowing.is
-    (rw (c.growing_of-asked.ensures, c.deref-in-VerifyGrowing.ensures, c.deref-in-VerifyGrowing-2.ensures, c.deref-in-VerifyGrowing-3.ensures) at c.grown.ensures.fault)
+returns-in-VerifyGrowing-clause-fault g c = rw c.in-VerifyGrowing.is c.grown.ensures.fault

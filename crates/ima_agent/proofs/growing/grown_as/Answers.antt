@@ -1,11 +1,7 @@
-use Rattle.std.proofs.Common.{ℕ, List, Some, None}
-use Rattle.std.specs.Borrow.{Bor}
-use Rattle.std.specs.Prelude.{option_map}
-use Rattle.boot_verdict.specs.declared.requirement.BankRange.{BankRange}
-use Rattle.ima_agent.specs.JsonJudging.{IsRequired}
+use Rattle.std.proofs.Common.{None}
 use Rattle.ima_agent.specs.parts.Growing.{growth_of}
 use Rattle.ima_agent.proofs.GrowingLaws.{fault_where, saves_where, shows_where}
-use Rattle.ima_agent.proofs.growing.grown.Goals as goal
+use Rattle.ima_agent.proofs.growing.grown_as.Goals as goal
 
 pub returns-in-None-clause-shown : goal.returns-in-None-clause-shown
 returns-in-None-clause-shown g c =
