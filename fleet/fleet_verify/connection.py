@@ -62,8 +62,7 @@ def _quiet() -> None:
     """Keeps Dask from writing what it meets to standard error: a run says itself why it stops."""
     import dask
 
-    for name in ("distributed", "tornado", "asyncio"):
-        logging.getLogger(name).setLevel(logging.CRITICAL + 1)
+    logging.disable(logging.CRITICAL)  # (levels would not do: Dask sets one for each of its parts)
     # (for each submission Dask would look up the text of the code that called it, which takes longer than the rest)
     dask.config.set({"distributed.diagnostics.computations.ignore-modules": [".*"]})
 
