@@ -36,7 +36,7 @@ const NO_JSON_OF_BYTES: &str = "error: invalid value 'binary' for '--print <P>' 
 /// Fails with `Usage` if the arguments are not those of a command, and with `Memory` if memory runs out.
 pub fn read_words(alloc: Global, words: &[String]) -> Result<Plan, WordsFault>
     // The first argument is the command, the arguments match its options and names, and these are within their ranges; or one of
-    // them requests help.
+    // them requests help; or the first is `--version`.
     ensures asked { IfOk result (λ plan. IsAskedBy words.now plan × IsWithinRanges plan) }
     // Without arguments the plan is `Registers`, whatever memory there is.
     ensures none { words.now ≡ [] → result ≡ Ok Registers }
@@ -51,7 +51,8 @@ pub fn read_words(alloc: Global, words: &[String]) -> Result<Plan, WordsFault>
 }
 
 /// What `clap` says of arguments that it refuses, or what is wrong with `--print binary` beside `--json`: lines for a person, which may
-/// have any bytes of the arguments. `None` if `clap` takes them, and they are no such.
+/// have any bytes of the arguments. `None` if `clap` takes them, and they are no such; of `--help` and `--version` it
+/// is what `clap` shows.
 pub fn refusal_of(alloc: Global, words: &[String]) -> Result<Option<String>, AllocError>
     // Without arguments nothing is refused.
     ensures none { words.now ≡ [] → result ≡ Ok None }

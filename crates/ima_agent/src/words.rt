@@ -1,8 +1,8 @@
 //! Reads the command line, with the program's faults.
 
 ghost use Rattle.std.specs.Prelude.{◌≡◌, [], Ok, IfOk, IfErr};
-ghost use Rattle.command_line.specs.Plans.{IsAskedBy, IsWithinRanges};
-ghost use Rattle.command_line.specs.declared.plan.Plan.TheVariants.{Registers};
+ghost use Rattle.command_line.specs.Plans.{BeginsWithVersion, IsAskedBy, IsWithinRanges};
+ghost use Rattle.command_line.specs.declared.plan.Plan.TheVariants.{Registers, Version};
 ghost use Rattle.ima_agent.specs.Faults.{IsWordsFault};
 
 use crate::fault::RunFault;
@@ -10,16 +10,18 @@ use command_line::Plan;
 use std::alloc::Global;
 
 /// Reads the program's arguments, without its name, as [`command_line::read_words`] does. Without arguments the plan is
-/// `Registers`: the log on standard input. Otherwise the first argument is the command.
+/// `Registers`: the log on standard input. After `--version` nothing is looked at. Otherwise the first argument is the command.
 ///
 /// Fails with `Usage` if the arguments are not those of a command, and with `Memory` if memory runs out.
 pub fn read_words(alloc: Global, words: &[String]) -> Result<Plan, RunFault>
     // The first argument is the command, the arguments match its options and names, and these are within their ranges; or one of
-    // them requests help.
+    // them requests help; or the first is `--version`.
     ensures asked { IfOk result (λ plan. IsAskedBy words.now plan × IsWithinRanges plan) }
     ensures refused { IfErr result IsWordsFault }
     // Without arguments the plan is `Registers`, whatever memory there is.
     ensures none { words.now ≡ [] → result ≡ Ok Registers }
+    // The same of `--version`, whatever follows it.
+    ensures version { BeginsWithVersion words.now → result ≡ Ok Version }
 {
     Ok(command_line::read_words(alloc, words)?)
 }
