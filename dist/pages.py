@@ -35,6 +35,7 @@ RULES = (
     (re.compile(r"^(?:dist/library|export IMA_VERIFY_LIBRARY=/tmp/|export PYTHONPATH=\S*bindings).*\n", re.MULTILINE), ""),
     (re.compile(r"(?<![\w/])fleet/systemd/"), "share/ima-agent/systemd/"),
     (re.compile(r" `fleet/test \[LIBRARY_DIR\]` tests all this.*"), ""),
+    (re.compile(r"`fleet/bench/measure\.py LIBRARY_DIR` prints(?:.|\n)*? client and scheduler\.\n\n"), ""),
 )
 
 # What only the repository has: its scripts, and its folders.
