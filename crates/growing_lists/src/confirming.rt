@@ -60,7 +60,7 @@ impl Session<'_> {
         ensures telling { is_some (R.state source.new).remaining ≡ is_some (R.state source.old).remaining }
         ensures counts { (R.state source.new).failures ≡ failures_after_list result (R.state source.old).failures }
     {
-        let search = search(alloc, &self.known, source, limit, expected)?;
+        let search = searched(alloc, &self.known, source, limit, expected)?;
         let Some(front) = search.front else {
             self.known = whole_of(search.whole)?;
             return Ok(None);
@@ -87,7 +87,7 @@ struct Search {
 }
 
 // Searches the list that goes on with all that the source has left.
-fn search<R: Source>(
+fn searched<R: Source>(
     alloc: Global,
     known: &Checkpoint,
     source: &mut R,
