@@ -403,7 +403,7 @@ module _ (known : Checkpoint) (expected : Bor (List Expected)) (bytes : List ℕ
         by_good : (b : Bool) (steps : List Step) (front : Front) → TellsLeast test steps_found (Some steps) → IsFrontAt (search_before known expected) 0 steps front
             → good ≡ b → FindsFront algs events expected.now known bytes entries (cond b (Some (checkpoint_at known replay front)) None)
         by_good true steps front least at is = front_confirmed steps front least at is
-        by_good false steps front least at is = λ n enough le are.
+        by_good false _ front least at is = λ n enough le are.
             confirms_is n enough (found.most n le are) ∙ ap (λ (b : Bool). b && test (take n steps_found)) is
 
         by : (least : Option (List Step)) (front : Option Front) → TellsLeast test steps_found least → FrontIs (search_before known expected) 0 least front

@@ -1,5 +1,5 @@
 -- A list that goes on where a checkpoint is.
-use Rattle.std.proofs.Common.{◌≡◌, ℕ, ◌<◌, ltb, List, [], Option, option_map, refl, sym, ap, ◌∙◌, inl, inr, rules}
+use Rattle.std.proofs.Common.{◌≡◌, ℕ, ◌<◌, ltb, List, Option, option_map, refl, sym, ap, ◌∙◌, inl, inr, rules}
 use Rattle.std.proofs.lemmas.Bool.{cases_Bool}
 use Rattle.pcr_banks.specs.declared.alg.Alg.{Alg}
 use Rattle.pcr_banks.specs.declared.banks.Banks.{Banks}
