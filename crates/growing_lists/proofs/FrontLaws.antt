@@ -409,7 +409,7 @@ module _ (known : Checkpoint) (expected : Bor (List Expected)) (bytes : List ℕ
         by : (least : Option (List Step)) (front : Option Front) → TellsLeast test steps_found least → FrontIs (search_before known expected) 0 least front
             → FindsFront algs events expected.now known bytes entries (front_with good known replay front)
         by (Some steps) (Some front) least at = by_good good steps front least at refl
-        by (Some steps) None least at = absurd at
+        by (Some _) None least at = absurd at
         by None (Some front) none at = absurd at
         by None None none at = λ n enough le are.
             confirms_is n enough (found.most n le are) ∙ ap (λ (b : Bool). good && b) (none n) ∙ and-false good
