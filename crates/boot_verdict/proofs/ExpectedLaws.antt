@@ -16,7 +16,8 @@ use Rattle.hex.proofs.HexLemmas.{decode_of-ok}
 use Rattle.boot_verdict.specs.declared.expected.Expected.{Expected}
 use Rattle.boot_verdict.specs.StatedRegisters.{split_at_feeds, lines_of, without_return}
 use Rattle.boot_verdict.specs.ExpectedTexts.{IsRegisterLine, Spells}
-use Rattle.boot_verdict.specs.parts.StatedLines.{IsSplitOnce, SaysOnce}
+use Rattle.boot_verdict.specs.Lines.{IsSplitOnce}
+use Rattle.boot_verdict.specs.parts.StatedLines.{SaysOnce}
 use Rattle.boot_verdict.proofs.StatedLaws.{same_expected}
 
 -- ---- a byte that a text lacks

@@ -13,7 +13,3 @@ pub mod RangeLaws
 pub mod WrittenLaws
 pub mod LineLaws
 pub mod RequirementLaws
-pub mod CheckpointLaws
-pub mod SessionLaws
-pub mod FrontLaws
-pub mod ConfirmLaws

@@ -25,8 +25,9 @@ use Rattle.boot_verdict.specs.declared.list_replay.ListReplay.{ListReplay}
 use Rattle.boot_verdict.specs.Places.{AreLocated, first_place, is_found, is_reached, located_on, pcr_after, place_after, place_of_front, place_on, reached_after}
 use Rattle.boot_verdict.specs.Steps.{Step, OfEvent, OfEntry, entries_as_steps, events_as_steps, has_register, least_front, pcr_at_reset, stepped, steps_of, value_after}
 use Rattle.boot_verdict.specs.Verdicts.{is_value, pcr_after_log_and_list, row_state, state_matches}
-use Rattle.boot_verdict.specs.parts.Following.{AreAfter, IsWatchAfter, located_after, register_of}
-use Rattle.boot_verdict.specs.parts.ListReplays.{AreFollowed, ReplaysAll}
+use Rattle.boot_verdict.specs.Following.{AreAfter, register_of}
+use Rattle.boot_verdict.specs.parts.Watches.{IsWatchAfter, located_after}
+use Rattle.boot_verdict.specs.ListReplays.{AreFollowed, ReplaysAll}
 use Rattle.boot_verdict.specs.parts.LogPlaces.{IsFollowed, place_at_reset, row_at_reset}
 use Rattle.boot_verdict.specs.parts.Watches.{looked_at, place_with}
 use Rattle.boot_verdict.proofs.StepLaws.{TellsLeast, banks_joined, fun_same, least_more, least_tells, none_taken, or_all, steps_value, value_quiet}

@@ -25,7 +25,7 @@ use Rattle.boot_verdict.specs.RegisterTexts.{all_registers}
 use Rattle.boot_verdict.specs.Requirements.{AreBankRanges, BeginsWithBankRange, HasMatch, IsBankRangeText, IsRequirementText, expected_of_rows, is_complete, is_complete_in, is_in, is_missing, is_of, names, required_matches, split_at_commas, states}
 use Rattle.boot_verdict.specs.ListVerdicts.{list_verdict_on, required_list_matches}
 use Rattle.boot_verdict.specs.Verdicts.{is_good, is_match, state_matches, verdict_on}
-use Rattle.boot_verdict.specs.parts.StatedLines.{IsSplitOnce}
+use Rattle.boot_verdict.specs.Lines.{IsSplitOnce}
 use Rattle.boot_verdict.specs.parts.RequirementParts.{SpellsRange, TakesPart, parts_left}
 use Rattle.boot_verdict.proofs.ExpectedLaws.{Lacks, lacks_from, not_lacked, one_cut}
 use Rattle.boot_verdict.proofs.RangeLaws.{range_once}

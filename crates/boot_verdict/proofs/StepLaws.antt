@@ -21,8 +21,8 @@ use Rattle.ima_list.specs.Replaying.{IsReplayed, digests_of}
 use Rattle.boot_verdict.specs.declared.places.Place.TheVariants.{Event, Entry}
 use Rattle.boot_verdict.specs.Places.{place_after}
 use Rattle.boot_verdict.specs.Steps.{Step, OfEvent, OfEntry, digest_of_step, entries_as_steps, events_as_steps, fronts, least_front, stepped, steps_of, value_after}
-use Rattle.boot_verdict.specs.parts.Following.{AreAfter, BanksAfter, register_of}
-use Rattle.boot_verdict.specs.parts.ListReplays.{AreFollowed}
+use Rattle.boot_verdict.specs.Following.{AreAfter, BanksAfter, register_of}
+use Rattle.boot_verdict.specs.ListReplays.{AreFollowed}
 
 -- ---- registers
 

@@ -1,5 +1,5 @@
 -- The verdict: registers of the log and of the list, and which fault comes first.
-use Rattle.std.proofs.Common.{◌≡◌, ◌⊎◌, ℕ, List, map, Option, Some, option_map, Result, Ok, Err, refl, ap, subst, ◌∙◌, inl, inr}
+use Rattle.std.proofs.Common.{◌≡◌, ◌⊎◌, ℕ, List, [], map, Option, Some, option_map, Result, Ok, Err, refl, sym, ap, subst, ◌∙◌, inl, inr}
 use Rattle.pcr_banks.specs.declared.alg.Alg.{Alg}
 use Rattle.pcr_banks.specs.declared.banks.Banks.{Banks}
 use Rattle.pcr_banks.specs.declared.digest.Digest.{Digest}
@@ -10,17 +10,20 @@ use Rattle.pcr_banks.specs.Registers.{value_at, extended_by_all}
 use Rattle.pcr_banks.proofs.SetLaws.{same_bytes}
 use Rattle.boot_log.specs.declared.fault.LogFault.{LogFault}
 use Rattle.boot_log.specs.declared.fault.LogFault.TheVariants as logs
-use Rattle.boot_log.specs.Spelling.{LogEvent, HasLogFault}
+use Rattle.boot_log.specs.declared.header.Row.{Row as TableRow}
+use Rattle.boot_log.specs.Spelling.{LogEvent, HasLogFault, IsLog, algs_in}
 use Rattle.boot_log.specs.Reading.{log_fault}
 use Rattle.boot_log.specs.Replaying.{IsFirmware}
 use Rattle.ima_list.specs.ListEntry.{ListEntry}
 use Rattle.ima_list.specs.Aggregates.{aggregate_register_count, boot_aggregate_of, joined_values}
 use Rattle.ima_list.specs.Replaying.{IsReplayed, digests_of}
+use Rattle.boot_verdict.specs.declared.checkpoint.Checkpoint.{Checkpoint}
 use Rattle.boot_verdict.specs.declared.expected.Expected.{Expected}
 use Rattle.boot_verdict.specs.declared.report.Row.{Row}
 use Rattle.boot_verdict.specs.declared.verifier.VerifyFault.{VerifyFault}
 use Rattle.boot_verdict.specs.declared.verifier.VerifyFault.TheVariants as faults
-use Rattle.boot_verdict.specs.Verdicts.{IsVerifyFault, IsVerifyFaultFrom, aggregate_of, aggregate_state, booted_aggregate, pcr_after_log, fault_of_log, pcr_after_log_and_list, row_on, row_state}
+use Rattle.boot_verdict.specs.Checkpoints.{IsCheckpoint, IsMoreFault}
+use Rattle.boot_verdict.specs.Verdicts.{IsSomeLog, IsVerdict, IsVerifyFault, IsVerifyFaultFrom, Verdict, aggregate_of, aggregate_state, booted_aggregate, pcr_after_log, fault_of_log, pcr_after_log_and_list, row_on, row_state, verdict_on}
 use Rattle.boot_verdict.specs.parts.Rows.{row_of}
 
 -- ---- registers
@@ -134,3 +137,33 @@ log_not_memory log fault has memory =
       | inl header ↦ header.fault_is
       | inr event ↦ event.fault_is
     ]
+
+-- ---- reports
+
+-- The bytes of a view are the log's.
+pub log_viewed : {viewed log : List ℕ} {table : List TableRow} {events : List LogEvent} → viewed ≡ log → IsLog log table events → IsLog viewed table events
+log_viewed {table = table} {events = events} same is = subst (λ (bytes : List ℕ). IsLog bytes table events) (sym same) is
+
+-- The report on what is known of a list is the verdict.
+pub verdict_by : {log list : List ℕ} {expected : List Expected} {verdict : Verdict} {table : List TableRow} {events : List LogEvent} {known : Checkpoint}
+    → IsLog log table events → (is : IsCheckpoint list known) → verdict ≡ verdict_on (algs_in table) events is.entries expected
+    → IsVerdict log list expected verdict
+verdict_by {table = table} {events = events} log is same = record {
+  table = table;
+  events = events;
+  entries = is.entries;
+  log_is = log;
+  list_is = is.list_is;
+  genuine = is.genuine;
+  verdict_is = same;
+}
+
+-- Why there is none, where the log is one.
+pub refused_from : {log : List ℕ} (old new : Option (List ℕ)) (limit : ℕ) (fault : VerifyFault) → IsSomeLog log → IsMoreFault [] old new limit fault
+    → IsVerifyFaultFrom log old new limit fault
+refused_from old new limit (faults.Log fault) is why = absurd why
+refused_from old new limit (faults.List fault) is why = (is, why)
+refused_from old new limit (faults.Replay fault) is why = (is, why)
+refused_from old new limit faults.Source is why = (is, why)
+refused_from old new limit faults.TooLong is why = (is, why)
+refused_from old new limit faults.Memory is why = tt

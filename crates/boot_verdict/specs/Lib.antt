@@ -1,5 +1,6 @@
 pub mod RegisterTexts
 pub mod ExpectFaults
+pub mod Lines
 pub mod StatedRegisters
 pub mod ExpectedTexts
 pub mod Verdicts
@@ -16,10 +17,8 @@ pub mod PrintedTexts
 pub mod RegisterRanges
 pub mod Requirements
 pub mod RequiredTexts
-pub mod FrontTexts
 pub mod ListVerdicts
 pub mod WrittenTexts
+pub mod Following
+pub mod ListReplays
 pub mod Checkpoints
-pub mod CheckpointTexts
-pub mod Sessions
-pub mod Fronts

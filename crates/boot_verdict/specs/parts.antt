@@ -1,13 +1,8 @@
 pub mod StatedLines
-pub mod ListReplays
 pub mod LogPlaces
 pub mod Rows
 pub mod WrittenLines
 pub mod RangeEnds
 pub mod RequirementParts
 pub mod Watches
-pub mod Following
-pub mod CheckpointParts
 pub mod Gathering
-pub mod Confirming
-pub mod Searches

@@ -1,39 +1,21 @@
-//! Where a verification stopped, and its text read back.
+//! Where a verification stopped, and how it goes on.
 
-ghost use Rattle.std.specs.Prelude.{◌≡◌, ◌↔◌, ◌+◌, ◌^◌, ◌<◌, ◌≤◌, ℕ, true, is_some, List, ◌++◌, [], codes, decimal, flat_map, length, Ok, IsOk, IfOk, IfErr, IfSome, IfNone, IsErrOf, IsTrue, Option};
-ghost use Rattle.std.specs.Option.{IsSomeAnd};
-ghost use Rattle.pcr_banks.specs.declared.alg.Alg.{Alg};
-ghost use Rattle.pcr_banks.specs.declared.banks.Banks.{Banks};
-ghost use Rattle.pcr_banks.specs.declared.digest.Digest.{Digest};
-ghost use Rattle.pcr_banks.specs.Hashing.{name_of};
-ghost use Rattle.pcr_banks.specs.Digests.{alg_of, bytes_of, digest_of};
-ghost use Rattle.pcr_banks.specs.Registers.{is_active, register_count};
-ghost use Rattle.boot_verdict.specs.declared.checkpoint.Checkpoint.{Checkpoint};
-ghost use Rattle.boot_verdict.specs.declared.checkpoint.CheckpointFault.TheVariants.{Memory};
-ghost use Rattle.boot_verdict.specs.RegisterTexts.{all_registers, register_line};
+ghost use Rattle.std.specs.Prelude.{◌≡◌, ◌+◌, ◌^◌, ◌<◌, ℕ, is_some, List, [], length, Ok, IsOk, IfOk, IfErr, IsErrOf};
 ghost use Rattle.byte_streams.specs.Streams.{LosesFront};
 ghost use Rattle.ima_list.specs.ListEntry.{ListEntry};
 ghost use Rattle.ima_list.specs.Spelling.{IsReading};
 ghost use Rattle.ima_list.specs.Replaying.{AreGenuine};
 ghost use Rattle.boot_verdict.specs.ListSources.{failures_after_list};
-ghost use Rattle.boot_verdict.specs.parts.Following.{BanksAfter};
-ghost use Rattle.boot_verdict.specs.parts.ListReplays.{ReplaysAll};
+ghost use Rattle.boot_verdict.specs.Following.{BanksAfter};
+ghost use Rattle.boot_verdict.specs.ListReplays.{ReplaysAll};
 ghost use Rattle.boot_verdict.specs.Verdicts.{IsSomeLog, IsVerifyFault};
-ghost use Rattle.boot_verdict.specs.Checkpoints.{GoesOn, HaveValues, IsCheckpoint, IsCounted, IsHash, IsMoreFault, IsPossible, SameData, SameValues, most_after};
-ghost use Rattle.boot_verdict.specs.CheckpointTexts.{IsOfOtherVersion, bank_lines, banks_lines, checkpoint_text, data_lines, number_line, stated_line, stated_words, value_line};
-ghost use Rattle.boot_verdict.specs.parts.CheckpointParts.{HasBank, Sets, TakesBank};
+ghost use Rattle.boot_verdict.specs.Checkpoints.{GoesOn, IsCheckpoint, IsMoreFault, most_after};
 
-use crate::expected::register_on;
-use crate::lines::{after_prefix, split_once};
 use crate::list_replay::ListReplay;
-use crate::replaying::list_start;
-use crate::texts::write_checkpoint;
 use crate::verifier::VerifyFault;
 use byte_streams::Source;
-use pcr_banks::laws::{digest_is_a_hash, registers_have_hashes};
-use pcr_banks::{Alg, Banks, Digest, REGISTERS};
-use std::alloc::{AllocError, Global};
-use thiserror::Error;
+use pcr_banks::{Banks, Digest};
+use std::alloc::Global;
 
 /// The most bytes that a list may have.
 const MOST_BYTES: u64 = (1 << 63) - 1;
@@ -55,7 +37,7 @@ pub struct Checkpoint {
 
 impl Checkpoint {
     /// Before a list that begins with these registers.
-    pub(crate) fn before_list(registers: Banks) -> Self
+    pub fn before_list(registers: Banks) -> Self
         ensures checkpoint { IsCheckpoint [] result }
         ensures before { result.before ≡ registers }
         ensures entries { result.entries ≡ 0 }
@@ -76,8 +58,9 @@ impl Checkpoint {
         Ok(Checkpoint::after(registers, replay, list.len() as u64))
     }
 
-    /// The checkpoint after all that the source has left, at most `limit` bytes.
-    pub(crate) fn go_on<R: Source>(
+    /// The checkpoint after all that the source has left, at most `limit` bytes, as what follows the list. Fails with the fault of the
+    /// whole list. There is [`Checkpoint::room`] for so many bytes.
+    pub fn go_on<R: Source>(
         &self,
         alloc: Global,
         source: &mut R,
@@ -115,8 +98,8 @@ impl Checkpoint {
         }
     }
 
-    /// The replay of the list.
-    pub(crate) fn replay(&self) -> ListReplay<Banks>
+    // The replay of the list.
+    fn replay(&self) -> ListReplay<Banks>
         ensures replays { (list : List ℕ) → IsCheckpoint list self.now → ReplaysAll BanksAfter self.now.before list result }
         ensures entries { result.entries ≡ self.now.entries }
     {
@@ -129,7 +112,7 @@ impl Checkpoint {
     }
 
     /// How many bytes may follow, where `limit` are allowed.
-    pub(crate) fn room(&self, limit: u64) -> u64
+    pub fn room(&self, limit: u64) -> u64
         ensures room { result ≡ most_after self.now limit }
         ensures entries { self.now.entries + result < 2 ^ 64 }
         ensures bytes { self.now.bytes + result < 2 ^ 64 }
@@ -138,232 +121,4 @@ impl Checkpoint {
         let _entries = self.entries;
         limit.min(MOST_BYTES.saturating_sub(known))
     }
-
-    // Whether there are no more entries than bytes, and fewer than 2^63 bytes.
-    fn is_counted(&self) -> bool
-        ensures { IsTrue result ↔ IsCounted self.now }
-    {
-        self.entries as u64 <= self.bytes && self.bytes < 1 << 63
-    }
-}
-
-/// Law: a checkpoint with possible counts is one that [`read_checkpoint`] reads from its text.
-pub fn counted_checkpoint_is_possible(checkpoint: &Checkpoint)
-    ensures { IsCounted checkpoint.now → IsPossible checkpoint.now }
-{
-    registers_have_hashes(&checkpoint.before);
-    registers_have_hashes(&checkpoint.after);
-    if let Some(digest) = &checkpoint.stated {
-        digest_is_a_hash(digest);
-    }
-}
-
-/// Why a text is not read as a checkpoint.
-#[derive(Clone, Copy, Debug, Error)]
-pub enum CheckpointFault {
-    /// The text begins as that of a checkpoint does, but has another version.
-    #[error("a checkpoint of another version")]
-    Version,
-    /// It is not the text of a checkpoint, or it was damaged.
-    #[error("not a checkpoint, or a damaged one")]
-    Damaged,
-    /// Out of memory.
-    #[error("out of memory")]
-    Memory,
-}
-
-impl From<AllocError> for CheckpointFault {
-    ghost from_gives = { λ _ fault. fault ≡ Memory };
-
-    fn from(_refused: AllocError) -> CheckpointFault {
-        CheckpointFault::Memory
-    }
-}
-
-/// Reads the text that [`crate::write_checkpoint`] makes of a checkpoint, and no other.
-///
-/// Fails with [`CheckpointFault::Version`] if the text begins as that of a checkpoint does, but has another version; with
-/// [`CheckpointFault::Damaged`] if it is not the text of a checkpoint, or of none with possible counts; or with
-/// [`CheckpointFault::Memory`].
-pub fn read_checkpoint(alloc: Global, text: &[u8]) -> Result<Checkpoint, CheckpointFault>
-    // The text is that of the result, whose counts are possible.
-    ensures found { IfOk result (λ found. IsCounted found × (text.now ≡ checkpoint_text found)) }
-    // The text of a checkpoint is read, unless memory runs out.
-    ensures only { (checkpoint : Checkpoint) → IsPossible checkpoint → text.now ≡ checkpoint_text checkpoint
-        → IfOk result (λ found. SameData found checkpoint) × IfErr result (λ fault. fault ≡ CheckpointFault.Memory) }
-    // It is the text of no other.
-    ensures one { (first second : Checkpoint) → IsPossible first → IsPossible second → text.now ≡ checkpoint_text first
-        → text.now ≡ checkpoint_text second → SameData first second }
-    ensures version { IsErrOf result CheckpointFault.Version ↔ IsOfOtherVersion text.now }
-{
-    let Some(version) = after_prefix(b"ima-agent checkpoint ", text) else {
-        return Err(CheckpointFault::Damaged);
-    };
-    let Some(lines) = after_prefix(b"1\n", version) else {
-        return Err(CheckpointFault::Version);
-    };
-    let Some(checkpoint) = data_at(lines) else {
-        return Err(CheckpointFault::Damaged);
-    };
-    checked(alloc, checkpoint, text)
-}
-
-// The checkpoint, if its counts are possible and this is its text.
-fn checked(
-    alloc: Global,
-    checkpoint: Checkpoint,
-    text: &[u8],
-) -> Result<Checkpoint, CheckpointFault>
-    ensures same { IfOk result (λ found. found ≡ checkpoint) }
-    ensures found { IfOk result (λ found. IsCounted found × (text.now ≡ checkpoint_text found)) }
-    ensures only { IsCounted checkpoint → text.now ≡ checkpoint_text checkpoint → IfErr result (λ fault. fault ≡ CheckpointFault.Memory) }
-    ensures version { IsErrOf result CheckpointFault.Version → ⊥ }
-{
-    if !checkpoint.is_counted() {
-        return Err(CheckpointFault::Damaged);
-    }
-    if !is_text_of(alloc, &checkpoint, text)? {
-        return Err(CheckpointFault::Damaged);
-    }
-    Ok(checkpoint)
-}
-
-// Whether this is the checkpoint's text.
-fn is_text_of(alloc: Global, checkpoint: &Checkpoint, text: &[u8]) -> Result<bool, AllocError>
-    ensures { IfOk result (λ is. IsTrue is ↔ (text.now ≡ checkpoint_text checkpoint.now)) }
-{
-    let written = write_checkpoint(alloc, checkpoint)?;
-    Ok(written.as_slice() == text)
-}
-
-// The data that lines at the front state, which may be those of no checkpoint.
-fn data_at(text: &[u8]) -> Option<Checkpoint>
-    ensures { (known : Checkpoint) (rest : List ℕ) → IsPossible known → text.now ≡ data_lines known ++ rest
-        → IsSomeAnd result (λ found. SameData found known) }
-{
-    let (entries, rest) = number_at(b"entries ", text)?;
-    let (bytes, rest) = number_at(b"bytes ", rest)?;
-    let (stated, rest) = stated_at(rest)?;
-    let (before, rest) = section_at(b"before\n", rest)?;
-    let (after, _) = section_at(b"after\n", rest)?;
-    Some(Checkpoint {
-        before,
-        after,
-        entries: entries as usize,
-        bytes,
-        stated,
-    })
-}
-
-// The number on a line that begins with this word, and what follows the line.
-fn number_at<'a>(word: &[u8], text: &'a [u8]) -> Option<(u64, &'a [u8])>
-    ensures { (number : ℕ) (rest : List ℕ) → number < 2 ^ 64 → text.now ≡ number_line word.now number ++ rest
-        → IsSomeAnd result (λ x. (x.0 ≡ number) × (x.1.now ≡ rest)) }
-{
-    let (digits, rest) = split_once(b'\n', after_prefix(word, text)?)?;
-    Some((number_named(digits)?, rest))
-}
-
-// The number whose decimal digits these are; of other texts, any or none.
-fn number_named(digits: &[u8]) -> Option<u64>
-    ensures { (number : ℕ) → number < 2 ^ 64 → digits.now ≡ decimal number → IsSomeAnd result (λ x. x ≡ number) }
-{
-    match str::from_utf8(digits) {
-        Ok(text) => text.parse::<u64>().ok(),
-        Err(_) => None,
-    }
-}
-
-// The boot aggregate on the line at the front, and what follows the line.
-fn stated_at(text: &[u8]) -> Option<(Option<Digest>, &[u8])>
-    ensures { (stated : Option Digest) (rest : List ℕ) → IfSome stated (λ digest. IsHash (alg_of digest) (bytes_of digest))
-        → text.now ≡ stated_line stated ++ rest → IsSomeAnd result (λ x. (x.0 ≡ stated) × (x.1.now ≡ rest)) }
-{
-    let (words, rest) = split_once(b'\n', after_prefix(b"boot_aggregate ", text)?)?;
-    Some((stated_by(words)?, rest))
-}
-
-// The boot aggregate that these words state.
-fn stated_by(words: &[u8]) -> Option<Option<Digest>>
-    ensures { (stated : Option Digest) → IfSome stated (λ digest. IsHash (alg_of digest) (bytes_of digest))
-        → words.now ≡ stated_words stated → IsSomeAnd result (λ x. x ≡ stated) }
-{
-    if is_none(words) {
-        return Some(None);
-    }
-    let (name, digits) = split_once(b':', words)?;
-    Some(Some(Digest::from_hex(Alg::from_name(name)?, digits)?))
-}
-
-// Whether the words are those for no boot aggregate.
-fn is_none(words: &[u8]) -> bool
-    ensures { IsTrue result ↔ (words.now ≡ codes "none") }
-{
-    words == b"none".as_slice()
-}
-
-// The banks whose lines follow this word, and what follows them.
-fn section_at<'a>(word: &[u8], text: &'a [u8]) -> Option<(Banks, &'a [u8])>
-    ensures { (known : Banks) (rest : List ℕ) → HaveValues known → text.now ≡ word.now ++ (banks_lines known ++ rest)
-        → IsSomeAnd result (λ x. SameValues x.0 known × (x.1.now ≡ rest)) }
-{
-    banks_at(after_prefix(word, text)?)
-}
-
-// The banks whose lines are at the front, and what follows them.
-fn banks_at(text: &[u8]) -> Option<(Banks, &[u8])>
-    ensures { (known : Banks) (rest : List ℕ) → HaveValues known → text.now ≡ banks_lines known ++ rest
-        → IsSomeAnd result (λ x. SameValues x.0 known × (x.1.now ≡ rest)) }
-{
-    let (banks, rest) = bank_at(list_start(), Alg::Sha1, text)?;
-    let (banks, rest) = bank_at(banks, Alg::Sha256, rest)?;
-    let (banks, rest) = bank_at(banks, Alg::Sha384, rest)?;
-    bank_at(banks, Alg::Sha512, rest)
-}
-
-// These banks with one whose lines are at the front, and what follows the lines.
-fn bank_at(banks: Banks, alg: Alg, text: &[u8]) -> Option<(Banks, &[u8])>
-    ensures { (known : Banks) (rest : List ℕ) → HaveValues known → HasBank banks alg
-        → text.now ≡ bank_lines known alg ++ rest
-        → IsSomeAnd result (λ x. TakesBank known banks x.0 alg × (x.1.now ≡ rest)) }
-{
-    match after_none(alg, text) {
-        Some(rest) => Some((banks.without(alg), rest)),
-        None => values_at(banks, text),
-    }
-}
-
-// What follows the line that says that the bank is not active, if this line is at the front.
-fn after_none(alg: Alg, text: &[u8]) -> Option<&[u8]>
-    ensures found { IfSome result (λ rest. text.now ≡ name_of alg ++ (codes " none\n" ++ rest.now)) }
-    ensures none { IfNone result ((rest : List ℕ) → text.now ≡ name_of alg ++ (codes " none\n" ++ rest) → ⊥) }
-{
-    after_prefix(b" none\n", after_prefix(alg.name().as_bytes(), text)?)
-}
-
-// These banks with the registers whose lines are at the front, as many as a bank has, and what follows the lines.
-fn values_at(start: Banks, text: &[u8]) -> Option<(Banks, &[u8])>
-    ensures { (known : Banks) (alg : Alg) (rest : List ℕ) → HaveValues known → HasBank start alg
-        → IsTrue (is_active known alg) → text.now ≡ flat_map (value_line known alg) all_registers ++ rest
-        → IsSomeAnd result (λ x. TakesBank known start x.0 alg × (x.1.now ≡ rest)) }
-{
-    let mut banks = start;
-    let mut rest = text;
-    for _register in 0..REGISTERS {
-        let (next, after) = value_at(banks, rest)?;
-        banks = next;
-        rest = after;
-    }
-    Some((banks, rest))
-}
-
-// These banks with the register whose line is at the front, and what follows the line.
-fn value_at(banks: Banks, text: &[u8]) -> Option<(Banks, &[u8])>
-    ensures { (alg : Alg) (register : ℕ) (value rest : List ℕ) → register < register_count → IsHash alg value
-        → text.now ≡ register_line alg register value ++ rest
-        → IsSomeAnd result (λ x. Sets banks x.0 alg register value × (x.1.now ≡ rest)) }
-{
-    let (line, rest) = split_once(b'\n', text)?;
-    let row = register_on(line)?;
-    Some((banks.with(row.register, &row.value), rest))
 }

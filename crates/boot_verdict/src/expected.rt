@@ -125,7 +125,7 @@ impl<'a> LinePlace<'a> for Anywhere {
 }
 
 /// The register that the line names, if it is a register line.
-pub(crate) fn register_on(line: &[u8]) -> Option<Expected>
+pub fn register_on(line: &[u8]) -> Option<Expected>
     ensures found { IfSome result (IsRegisterLine line.now) }
     ensures none { IfNone result ((e : Expected) → IsRegisterLine line.now e → ⊥) }
 {

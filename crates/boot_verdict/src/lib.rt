@@ -3,10 +3,7 @@
 #![tactic(auto)]
 
 mod checkpoint;
-mod confirming;
 mod expected;
-mod front_report;
-mod fronts;
 pub mod laws;
 mod lines;
 mod list_replay;
@@ -19,30 +16,28 @@ mod register_range;
 mod replaying;
 mod report;
 mod requirement;
-mod same_banks;
-mod session;
 mod stated;
 mod steps;
 mod texts;
 mod verifier;
 
-pub use checkpoint::{
-    Checkpoint, CheckpointFault, counted_checkpoint_is_possible, read_checkpoint,
-};
-pub use expected::{ExpectFault, Expected, read_expected};
-pub use front_report::{FrontReport, Unconfirmed};
+pub use checkpoint::Checkpoint;
+pub use expected::{ExpectFault, Expected, read_expected, register_on};
+pub use lines::{after_prefix, split_once};
+pub use list_replay::ListReplay;
 pub use list_verifier::{ListReport, verify_list_from};
 pub use locating::{locate, locate_from};
-pub use places::{Located, Place, all_found, required_found};
+pub use places::{Located, Place, all_found, is_reached, required_found};
 pub use printed::read_printed;
 pub use register_range::RegisterRange;
 pub use replaying::{list_start, replay_from};
 pub use report::{Aggregate, Report, Row, State};
 pub use requirement::{BankRange, Requirement, RequirementFault};
-pub use session::{ResumeFault, Session};
+pub use steps::{Follow, Step};
 pub use texts::{
-    EventData, write_checkpoint, write_events, write_expected, write_front_report,
-    write_list_report, write_places, write_registers, write_report, write_required_front_report,
-    write_required_list_report, write_required_places, write_required_report,
+    EventData, digits_of, write_change, write_counts, write_events, write_expected,
+    write_list_report, write_outcome, write_places, write_registers, write_report,
+    write_required_list_report, write_required_outcome, write_required_places,
+    write_required_report,
 };
-pub use verifier::{VerifyFault, verify, verify_from};
+pub use verifier::{VerifyFault, aggregate_of, report_on, verify, verify_from};

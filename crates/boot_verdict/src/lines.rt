@@ -5,7 +5,8 @@ ghost use Rattle.std.specs.Str.{bytes_eq};
 ghost use Rattle.std.specs.Str.Iter.{LacksByte};
 ghost use Rattle.pcr_banks.specs.Registers.{register_count};
 ghost use Rattle.boot_verdict.specs.StatedRegisters.{lines_of, without_return};
-ghost use Rattle.boot_verdict.specs.parts.StatedLines.{IsSplitOnce, lines_left};
+ghost use Rattle.boot_verdict.specs.Lines.{IsSplitOnce};
+ghost use Rattle.boot_verdict.specs.parts.StatedLines.{lines_left};
 
 use itoa::Buffer;
 use memchr::memchr;
@@ -50,7 +51,7 @@ fn is_decimal_of(number: u32, text: &[u8]) -> bool
 }
 
 /// The bytes before the first `byte` and those after it; `None` if the text lacks it.
-pub(crate) fn split_once(byte: u8, text: &[u8]) -> Option<(&[u8], &[u8])>
+pub fn split_once(byte: u8, text: &[u8]) -> Option<(&[u8], &[u8])>
     ensures cut { IfSome result (λ x. IsSplitOnce byte text.now x.0.now x.1.now) }
     ensures none { IfNone result (LacksByte byte text.now) }
 {
@@ -59,7 +60,7 @@ pub(crate) fn split_once(byte: u8, text: &[u8]) -> Option<(&[u8], &[u8])>
 }
 
 /// What follows this prefix, if the text begins with it.
-pub(crate) fn after_prefix<'a>(prefix: &[u8], text: &'a [u8]) -> Option<&'a [u8]>
+pub fn after_prefix<'a>(prefix: &[u8], text: &'a [u8]) -> Option<&'a [u8]>
     ensures found { IfSome result (λ rest. text.now ≡ prefix.now ++ rest.now) }
     ensures none { IfNone result ((rest : List ℕ) → text.now ≡ prefix.now ++ rest → ⊥) }
 {

@@ -92,7 +92,7 @@ fn look(row: &mut Located, banks: &Banks, register: u32, place: Place)
 }
 
 /// Whether the expected register has its value in these banks.
-pub(crate) fn is_reached(expected: &Expected, banks: &Banks) -> bool
+pub fn is_reached(expected: &Expected, banks: &Banks) -> bool
     ensures { result ≡ is_reached expected.now (value_at banks.now expected.now.alg expected.now.register) }
 {
     is_value(expected, banks.read(expected.alg, expected.register))

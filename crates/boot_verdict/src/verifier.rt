@@ -162,7 +162,7 @@ pub fn verify_from<R: Source>(
 }
 
 /// The report on a log and the list of a checkpoint, whose registers before the list are those that the log leaves.
-pub(crate) fn report_on(
+pub fn report_on(
     alloc: Global,
     log: &LogView<'_>,
     known: &Checkpoint,
@@ -217,7 +217,7 @@ fn state_of(expected: &Expected, value: Option<Digest>) -> State
 }
 
 /// The state of the boot aggregate that the list states, if any. `start` has the log's registers.
-pub(crate) fn aggregate_of(start: &Banks, stated: Option<Digest>) -> Aggregate
+pub fn aggregate_of(start: &Banks, stated: Option<Digest>) -> Aggregate
     ensures { (algs : AlgSet) (events : List LogEvent) → IsFirmware algs events start.now
         → result ≡ aggregate_of algs events (option_map (λ digest. (alg_of digest, bytes_of digest)) stated) }
 {

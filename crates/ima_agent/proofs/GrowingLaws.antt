@@ -7,18 +7,18 @@ use Rattle.ima_list.specs.declared.fault.ListFault.TheVariants as lists
 use Rattle.ima_list.specs.Spelling.{IsReading, list_spelling}
 use Rattle.boot_verdict.specs.declared.checkpoint.Checkpoint.{Checkpoint}
 use Rattle.boot_verdict.specs.declared.expected.Expected.{Expected}
-use Rattle.boot_verdict.specs.declared.front_report.FrontReport.{FrontReport}
-use Rattle.boot_verdict.specs.declared.front_report.Unconfirmed.{Unconfirmed}
-use Rattle.boot_verdict.specs.declared.front_report.Unconfirmed.TheVariants as unconfirmed
+use Rattle.growing_lists.specs.declared.front_report.FrontReport.{FrontReport}
+use Rattle.growing_lists.specs.declared.front_report.Unconfirmed.{Unconfirmed}
+use Rattle.growing_lists.specs.declared.front_report.Unconfirmed.TheVariants as unconfirmed
 use Rattle.boot_verdict.specs.declared.requirement.BankRange.{BankRange}
-use Rattle.boot_verdict.specs.declared.session.Session.{Session}
+use Rattle.growing_lists.specs.declared.session.Session.{Session}
 use Rattle.boot_verdict.specs.declared.verifier.VerifyFault.{VerifyFault}
 use Rattle.boot_verdict.specs.declared.verifier.VerifyFault.TheVariants as verdicts
-use Rattle.boot_verdict.specs.CheckpointTexts.{checkpoint_text}
+use Rattle.growing_lists.specs.CheckpointTexts.{checkpoint_text}
 use Rattle.boot_verdict.specs.Checkpoints.{IsMoreFault, most_after}
-use Rattle.boot_verdict.specs.Fronts.{CameUnconfirmed, IsFrontReport, IsUnconfirmedFault, IsWrongWith, TakesUnconfirmed}
+use Rattle.growing_lists.specs.Fronts.{CameUnconfirmed, IsFrontReport, IsUnconfirmedFault, IsWrongWith, TakesUnconfirmed}
 use Rattle.boot_verdict.specs.ListSources.{CameFrom, CameWhole, FailsFor, IsListFaultAfter}
-use Rattle.boot_verdict.specs.Sessions.{HasTaken, IsOfBoot}
+use Rattle.growing_lists.specs.Sessions.{HasTaken, IsOfBoot}
 use Rattle.boot_verdict.specs.Verdicts.{IsSomeLog, Verdict}
 use Rattle.ima_agent.specs.declared.fault.NotResumed.TheVariants.{OtherBoot}
 use Rattle.ima_agent.specs.declared.fault.RunFault.{RunFault}

@@ -5,9 +5,9 @@ use Rattle.ima_list.specs.ListEntry.{ListEntry}
 use Rattle.ima_list.specs.Spelling.{BeginsWith, IsReading}
 use Rattle.ima_list.specs.declared.fault.ListFault.{ListFault}
 use Rattle.boot_verdict.specs.declared.checkpoint.Checkpoint.{Checkpoint}
-use Rattle.boot_verdict.specs.declared.session.Session.{Session}
+use Rattle.growing_lists.specs.declared.session.Session.{Session}
 use Rattle.boot_verdict.specs.Checkpoints.{most_after}
-use Rattle.boot_verdict.specs.Sessions.{HasTaken}
+use Rattle.growing_lists.specs.Sessions.{HasTaken}
 use Rattle.ima_agent.specs.Loading.{input_limit}
 
 count_in : Result (List ListEntry) ListFault → ℕ

@@ -8,22 +8,23 @@ use Rattle.ima_list.specs.Replaying.{AreGenuine, IsReplayFault}
 use Rattle.ima_list.specs.Spelling.{BeginsWith, IsReading, list_spelling}
 use Rattle.boot_verdict.specs.declared.checkpoint.Checkpoint.{Checkpoint}
 use Rattle.boot_verdict.specs.declared.expected.Expected.{Expected}
-use Rattle.boot_verdict.specs.declared.front_report.FrontReport.{FrontReport}
-use Rattle.boot_verdict.specs.declared.front_report.Unconfirmed.{Unconfirmed}
-use Rattle.boot_verdict.specs.declared.front_report.Unconfirmed.TheVariants as unconfirmed
+use Rattle.growing_lists.specs.declared.front_report.FrontReport.{FrontReport}
+use Rattle.growing_lists.specs.declared.front_report.Unconfirmed.{Unconfirmed}
+use Rattle.growing_lists.specs.declared.front_report.Unconfirmed.TheVariants as unconfirmed
 use Rattle.boot_verdict.specs.declared.requirement.BankRange.{BankRange}
 use Rattle.boot_verdict.specs.declared.verifier.VerifyFault.{VerifyFault}
 use Rattle.boot_verdict.specs.declared.verifier.VerifyFault.TheVariants as verdicts
-use Rattle.boot_verdict.specs.Checkpoints.{IsCheckpoint, IsCounted, IsPossible, most_after}
-use Rattle.boot_verdict.specs.CheckpointTexts.{IsOfOtherVersion, checkpoint_text}
+use Rattle.boot_verdict.specs.Checkpoints.{IsCheckpoint, most_after}
+use Rattle.growing_lists.specs.CheckpointData.{IsCounted, IsPossible}
+use Rattle.growing_lists.specs.CheckpointTexts.{IsOfOtherVersion, checkpoint_text}
 use Rattle.boot_verdict.specs.ExpectedTexts.{IsExpectedText}
-use Rattle.boot_verdict.specs.Fronts.{AreUnconfirmed, IsConfirmed}
-use Rattle.boot_verdict.specs.FrontTexts.{front_report_text, required_front_report_text}
+use Rattle.growing_lists.specs.Fronts.{AreUnconfirmed, IsConfirmed}
+use Rattle.growing_lists.specs.FrontTexts.{front_report_text, required_front_report_text}
 use Rattle.boot_verdict.specs.ListSources.{IsSound}
 use Rattle.boot_verdict.specs.ReportTexts.{report_text}
 use Rattle.boot_verdict.specs.RequiredTexts.{required_report_text}
 use Rattle.boot_verdict.specs.Requirements.{is_complete}
-use Rattle.boot_verdict.specs.Sessions.{IsOfBoot}
+use Rattle.growing_lists.specs.Sessions.{IsOfBoot}
 use Rattle.boot_verdict.specs.Verdicts.{IsForged, IsSomeLog, IsVerdict, Verdict, verdict_of, verdict_on}
 use Rattle.command_line.specs.declared.plan.Extent.{Extent}
 use Rattle.command_line.specs.declared.plan.Extent.TheVariants.{Whole, Front}

@@ -2,9 +2,9 @@
 
 ghost use Rattle.std.specs.Prelude.{◌≡◌, ◌⊎◌, ℕ, List, [], Some, true, false, option_map, IfOk, IfErr, IsTrue, OnErr, OnOk};
 ghost use Rattle.boot_verdict.specs.declared.checkpoint.Checkpoint.{Checkpoint as CheckpointOf};
-ghost use Rattle.boot_verdict.specs.CheckpointTexts.{checkpoint_text};
+ghost use Rattle.growing_lists.specs.CheckpointTexts.{checkpoint_text};
 ghost use Rattle.boot_verdict.specs.Checkpoints.{IsCheckpoint, most_after};
-ghost use Rattle.boot_verdict.specs.Sessions.{HasTaken, IsOfBoot};
+ghost use Rattle.growing_lists.specs.Sessions.{HasTaken, IsOfBoot};
 ghost use Rattle.boot_verdict.specs.Verdicts.{IsVerdict, verdict_of};
 ghost use Rattle.ima_agent.specs.declared.fault.NotResumed.TheVariants.{OtherBoot};
 ghost use Rattle.ima_agent.specs.declared.fault.RunFault.TheVariants as runs;
@@ -20,12 +20,10 @@ use crate::inputs::{INPUT_LIMIT, loaded, not_read, not_written};
 use crate::output::{Form, Output};
 use crate::requiring::requirement_in;
 use crate::verifying::verdict_fault;
-use boot_verdict::{
-    Checkpoint, CheckpointFault, Expected, Report, Requirement, ResumeFault, Session,
-    read_checkpoint, read_expected, write_checkpoint,
-};
+use boot_verdict::{Checkpoint, Expected, Report, Requirement, read_expected};
 use byte_streams::{Failed, Source};
 use command_line::{Extent, Growing};
+use growing_lists::{CheckpointFault, ResumeFault, Session, read_checkpoint, write_checkpoint};
 use ima_list::laws::{entries_to_the_end_are_the_reading, no_bytes_have_two_readings};
 use std::alloc::{AllocError, Global};
 

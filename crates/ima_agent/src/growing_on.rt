@@ -2,7 +2,7 @@
 
 ghost use Rattle.std.specs.Prelude.{◌≡◌, ◌⊎◌, false, true, option_map, IfOk, IfErr};
 ghost use Rattle.boot_verdict.specs.declared.checkpoint.Checkpoint.{Checkpoint as CheckpointOf};
-ghost use Rattle.boot_verdict.specs.CheckpointTexts.{checkpoint_text};
+ghost use Rattle.growing_lists.specs.CheckpointTexts.{checkpoint_text};
 ghost use Rattle.ima_agent.specs.Growing.{IsNoCheckpoint};
 ghost use Rattle.ima_agent.specs.GrowingOn.{IsKnownIn, IsNotGrownOn, IsNotGrownOnWith, ShowsGrownOn, ShowsGrownOnWith, growth_on};
 ghost use Rattle.ima_agent.specs.parts.GrowingOn.{IsNotJudgedOn, JudgesOn, JudgesWholeOn};
@@ -13,11 +13,10 @@ use crate::grown_reports::{Judged, judged_output};
 use crate::output::{Form, Output};
 use crate::requiring::requirement_in;
 use crate::verifying::first_cause;
-use boot_verdict::{
-    Checkpoint, Expected, Report, Requirement, Session, read_expected, write_checkpoint,
-};
+use boot_verdict::{Checkpoint, Expected, Report, Requirement, read_expected};
 use byte_streams::SliceSource;
 use command_line::Extent;
+use growing_lists::{Session, write_checkpoint};
 use std::alloc::Global;
 
 /// What is asked of a list that grows: bytes in memory, of any size.

@@ -9,11 +9,9 @@ ghost use Rattle.ima_agent.specs.Growing.{front_report_in, report_in};
 ghost use Rattle.ima_agent.specs.parts.Growing.{judged_text, judged_well};
 
 use crate::output::{Form, Output};
-use boot_verdict::{
-    FrontReport, Report, Requirement, write_front_report, write_report,
-    write_required_front_report, write_required_report,
-};
+use boot_verdict::{Report, Requirement, write_report, write_required_report};
 use byte_streams::{Failed, VecSink};
+use growing_lists::{FrontReport, write_front_report, write_required_front_report};
 use json_texts::{append_front_report, append_report, meets};
 use std::alloc::{AllocError, Global};
 

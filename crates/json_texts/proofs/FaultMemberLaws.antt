@@ -11,7 +11,7 @@ use Rattle.ima_list.specs.ListEntry.{ListEntry}
 use Rattle.ima_list.specs.FieldKinds.{FileFields}
 use Rattle.ima_list.specs.Fields.{fields_of}
 use Rattle.ima_list.specs.Templates.{template_named}
-use Rattle.boot_verdict.specs.declared.front_report.Unconfirmed.{Unconfirmed}
+use Rattle.growing_lists.specs.declared.front_report.Unconfirmed.{Unconfirmed}
 use Rattle.boot_verdict.specs.declared.requirement.BankRange.{BankRange}
 use Rattle.boot_verdict.specs.Verdicts.{Verdict}
 use Rattle.json_texts.specs.JsonValues.{Member, hex_json, members_of, number_json}

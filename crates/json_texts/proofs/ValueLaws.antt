@@ -16,8 +16,8 @@ use Rattle.pcr_banks.specs.Digests.{bytes_of}
 use Rattle.ima_list.specs.declared.fault.ListFault.TheVariants as lists
 use Rattle.ima_list.specs.declared.replaying.ReplayFault.TheVariants as replays
 use Rattle.boot_verdict.specs.declared.expected.Expected.{Expected}
-use Rattle.boot_verdict.specs.declared.front_report.Unconfirmed.{Unconfirmed}
-use Rattle.boot_verdict.specs.declared.front_report.Unconfirmed.TheVariants as faults
+use Rattle.growing_lists.specs.declared.front_report.Unconfirmed.{Unconfirmed}
+use Rattle.growing_lists.specs.declared.front_report.Unconfirmed.TheVariants as faults
 use Rattle.boot_verdict.specs.declared.places.Located.{Located}
 use Rattle.boot_verdict.specs.declared.places.Place.{Place}
 use Rattle.boot_verdict.specs.declared.places.Place.TheVariants as places
@@ -26,7 +26,7 @@ use Rattle.boot_verdict.specs.declared.report.State.{State}
 use Rattle.boot_verdict.specs.declared.report.State.TheVariants.{Match, Differ, Absent}
 use Rattle.boot_verdict.specs.declared.requirement.BankRange.{BankRange}
 use Rattle.boot_verdict.specs.EventTexts.{algorithm_with}
-use Rattle.boot_verdict.specs.FrontTexts.{unconfirmed_entry, unconfirmed_kind, unconfirmed_message, unconfirmed_number}
+use Rattle.growing_lists.specs.FrontTexts.{unconfirmed_entry, unconfirmed_kind, unconfirmed_message, unconfirmed_number}
 use Rattle.boot_verdict.specs.ListVerdicts.{ListVerdict}
 use Rattle.boot_verdict.specs.declared.register_range.RegisterRange.{RegisterRange}
 use Rattle.boot_verdict.specs.RegisterRanges.{is_within}

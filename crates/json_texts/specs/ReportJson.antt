@@ -3,12 +3,12 @@ use Rattle.std.specs.Prelude.{ℕ, Bool, true, false, List, [], ◌∷◌, ◌++
 use Rattle.json.specs.Json.{Json}
 use Rattle.json.specs.Json as json
 use Rattle.pcr_banks.specs.Digests.{bytes_of}
-use Rattle.boot_verdict.specs.declared.front_report.Unconfirmed.{Unconfirmed}
+use Rattle.growing_lists.specs.declared.front_report.Unconfirmed.{Unconfirmed}
 use Rattle.boot_verdict.specs.declared.report.Row.{Row}
 use Rattle.boot_verdict.specs.declared.report.State.{State}
 use Rattle.boot_verdict.specs.declared.report.State.TheVariants.{Match, Differ, Absent}
 use Rattle.boot_verdict.specs.declared.requirement.BankRange.{BankRange}
-use Rattle.boot_verdict.specs.FrontTexts.{unconfirmed_entry, unconfirmed_kind, unconfirmed_message, unconfirmed_number}
+use Rattle.growing_lists.specs.FrontTexts.{unconfirmed_entry, unconfirmed_kind, unconfirmed_message, unconfirmed_number}
 use Rattle.boot_verdict.specs.ListVerdicts.{ListVerdict, list_matches, required_list_matches}
 use Rattle.boot_verdict.specs.ReportTexts.{aggregate_word}
 use Rattle.boot_verdict.specs.Requirements.{expected_of_rows, required_matches}

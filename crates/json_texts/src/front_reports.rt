@@ -2,7 +2,7 @@
 
 ghost use Rattle.std.specs.Prelude.{◌≡◌, [], ◌∷◌, ◌++◌, Some, option_map, OnOk, OnErr};
 ghost use Rattle.std.specs.Str.{IsUtf8};
-ghost use Rattle.boot_verdict.specs.FrontTexts.{unconfirmed_entry};
+ghost use Rattle.growing_lists.specs.FrontTexts.{unconfirmed_entry};
 ghost use Rattle.boot_verdict.specs.Verdicts.{verdict_of};
 ghost use Rattle.json.specs.Tree.{json_tokens};
 ghost use Rattle.json_texts.specs.declared.faults.FaultPlace.TheVariants.{Entry};
@@ -14,12 +14,13 @@ use crate::faults::{FaultPlace, FaultText, write_fault_member};
 use crate::lines::{begin_line, end_line};
 use crate::members::write_number;
 use crate::reports::{write_counts, write_outcome};
-use boot_verdict::{FrontReport, Requirement, Unconfirmed};
+use boot_verdict::Requirement;
+use growing_lists::{FrontReport, Unconfirmed};
 use json::Writer;
 use std::alloc::{AllocError, Global};
 
-/// Appends the line of a report on a confirmed front, in the words of [`boot_verdict::write_front_report`], or of
-/// [`boot_verdict::write_required_front_report`] where registers are required.
+/// Appends the line of a report on a confirmed front, in the words of [`growing_lists::write_front_report`], or of
+/// [`growing_lists::write_required_front_report`] where registers are required.
 ///
 /// Its members are those of [`crate::append_report`], of which `entries` has the number of entries of the whole list. After it is
 /// `confirmed`, the number of entries of the front, and if something is wrong after the front `unconfirmed`, an object with `kind`, which is

@@ -12,7 +12,7 @@ use Rattle.boot_verdict.specs.declared.places.Place.TheVariants.{Reset, Nowhere,
 use Rattle.boot_verdict.specs.declared.places.Watch.{Watch}
 use Rattle.boot_verdict.specs.Verdicts.{is_value}
 use Rattle.boot_verdict.specs.Steps.{events_as_steps}
-use Rattle.boot_verdict.specs.parts.Following.{IsWatchAfter}
+use Rattle.boot_verdict.specs.parts.Watches.{IsWatchAfter}
 
 -- The place of a register with this reset value.
 abbrev pub place_at_reset : Expected → Option (List ℕ) → Place

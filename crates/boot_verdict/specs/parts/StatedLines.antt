@@ -1,14 +1,8 @@
 -- Lines that state registers, while they are read one after another.
 use Rattle.std.specs.Prelude.{◌≡◌, ℕ, false, List, [], ◌∷◌, ◌++◌, Option, Some, None}
 use Rattle.std.specs.List.{list_any}
-use Rattle.std.specs.Str.Iter.{LacksByte}
 use Rattle.boot_verdict.specs.declared.expected.Expected.{Expected}
 use Rattle.boot_verdict.specs.StatedRegisters.{Saying, lines_of, same_register}
-
--- `front` is what stands before the first `byte` of the text, and `rest` what stands after it.
-pub record IsSplitOnce (byte : ℕ) (text front rest : List ℕ) : Type 0 where
-  pub lacks : LacksByte byte front
-  pub parts : text ≡ front ++ byte ∷ rest
 
 -- The lines of the rest of a text; none after its last line.
 abbrev pub lines_left : Option (List ℕ) → List (List ℕ)

@@ -1,11 +1,15 @@
--- One look at the rows whose values are watched for.
-use Rattle.std.specs.Prelude.{ℕ, ◌==◌, Bool, if◌then◌else◌}
+-- The rows whose values are watched for: one look at them, and what they are after some steps.
+use Rattle.std.specs.Prelude.{◌≡◌, ℕ, ◌==◌, Bool, if◌then◌else◌, List, map}
 use Rattle.pcr_banks.specs.declared.banks.Banks.{Banks}
 use Rattle.pcr_banks.specs.Registers.{value_at}
+use Rattle.boot_verdict.specs.declared.expected.Expected.{Expected}
 use Rattle.boot_verdict.specs.declared.places.Located.{Located}
 use Rattle.boot_verdict.specs.declared.places.Place.{Place}
 use Rattle.boot_verdict.specs.declared.places.Place.TheVariants.{Reset, Event, Entry, Nowhere, Absent}
-use Rattle.boot_verdict.specs.Places.{is_reached}
+use Rattle.boot_verdict.specs.declared.places.Watch.{Watch}
+use Rattle.boot_verdict.specs.Following.{AreAfter}
+use Rattle.boot_verdict.specs.Places.{first_place, is_reached}
+use Rattle.boot_verdict.specs.Steps.{Step}
 
 -- The place after a look: `place`, if there was none and the value is reached now.
 abbrev pub place_with : Place → Place → Bool → Place
@@ -25,3 +29,13 @@ looked banks place row = record {
 -- The row after a look at the register that was extended.
 abbrev pub looked_at : Banks → ℕ → Place → Located → Located
 looked_at banks register place row = if row.expected.register == register then looked banks place row else row
+
+-- The row of an expected register after these steps, where the log has so many events.
+abbrev pub located_after : ℕ → Banks → List Step → Expected → Located
+located_after events start steps expected =
+    record { expected = expected; place = first_place events expected (value_at start expected.alg expected.register) steps }
+
+-- The banks are those of `start` after these steps, and each of its rows has its place among them.
+pub record IsWatchAfter (start : Watch) (events : ℕ) (steps : List Step) (now : Watch) : Type 0 where
+  pub banks : AreAfter start.banks steps now.banks
+  pub rows : now.rows.items ≡ map (λ row. located_after events start.banks steps row.expected) start.rows.items

@@ -7,7 +7,7 @@ ghost use Rattle.pcr_banks.specs.Digests.{bytes_of};
 use pcr_banks::{Digest, MOST_DIGITS};
 
 /// The digest in lower case hexadecimal, written into `room`.
-pub(crate) fn digits_of<'a>(value: &Digest, room: &'a mut [u8; MOST_DIGITS]) -> &'a [u8]
+pub fn digits_of<'a>(value: &Digest, room: &'a mut [u8; MOST_DIGITS]) -> &'a [u8]
     ensures { result.now ≡ encode_lower (bytes_of value.now) }
 {
     let count = value.hex_into(room);

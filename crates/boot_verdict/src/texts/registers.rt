@@ -40,7 +40,7 @@ fn write_register<S: Sink>(
 }
 
 /// Writes the register's line if its value differs from `before`.
-pub(super) fn write_change<S: Sink>(
+pub fn write_change<S: Sink>(
     register: u32,
     before: Option<Digest>,
     now: Option<Digest>,

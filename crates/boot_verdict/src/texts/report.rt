@@ -26,7 +26,7 @@ pub fn write_report<S: Sink>(report: &Report, sink: &mut S) -> Result<(), Failed
 }
 
 /// Writes the lines of events and locality, and of entries.
-pub(super) fn write_counts<S: Sink>(
+pub fn write_counts<S: Sink>(
     events: usize,
     locality: u8,
     entries: usize,
@@ -50,7 +50,7 @@ pub(super) fn write_counts<S: Sink>(
 }
 
 /// Writes what comes after the counts: the boot aggregate, the expected registers and the verdict.
-pub(super) fn write_outcome<S: Sink>(report: &Report, sink: &mut S) -> Result<(), Failed>
+pub fn write_outcome<S: Sink>(report: &Report, sink: &mut S) -> Result<(), Failed>
     ensures { Sends (S.state sink.old) (S.state sink.new) result (outcome_text (verdict_of report.now)) }
 {
     write_aggregate(report.aggregate, sink)?;

@@ -31,7 +31,7 @@ pub fn write_required_report<S: Sink>(
 
 /// Writes what comes after the counts: how many registers were compared, the boot aggregate, the expected registers, those that are
 /// missing, and the verdict.
-pub(super) fn write_required_outcome<S: Sink>(
+pub fn write_required_outcome<S: Sink>(
     report: &Report,
     requirement: &Requirement,
     sink: &mut S,

@@ -2,15 +2,15 @@
 use Rattle.std.specs.Prelude.{◌≡◌, ℕ, ◌⊎◌, Bool, true, List, ◌++◌, Option, option_map}
 use Rattle.byte_streams.specs.Streams.{SourceState}
 use Rattle.boot_verdict.specs.declared.expected.Expected.{Expected}
-use Rattle.boot_verdict.specs.declared.front_report.FrontReport.{FrontReport}
+use Rattle.growing_lists.specs.declared.front_report.FrontReport.{FrontReport}
 use Rattle.boot_verdict.specs.declared.report.Report.{Report}
 use Rattle.boot_verdict.specs.declared.requirement.BankRange.{BankRange}
-use Rattle.boot_verdict.specs.declared.session.Session.{Session}
+use Rattle.growing_lists.specs.declared.session.Session.{Session}
 use Rattle.boot_verdict.specs.declared.verifier.VerifyFault.{VerifyFault}
 use Rattle.boot_verdict.specs.declared.verifier.VerifyFault.TheVariants as verdicts
 use Rattle.boot_verdict.specs.Checkpoints.{IsMoreFault, most_after}
-use Rattle.boot_verdict.specs.Fronts.{IsFrontReport, IsUnconfirmedFault, TakesUnconfirmed}
-use Rattle.boot_verdict.specs.Sessions.{HasTaken, TakesMore}
+use Rattle.growing_lists.specs.Fronts.{IsFrontReport, IsUnconfirmedFault, TakesUnconfirmed}
+use Rattle.growing_lists.specs.Sessions.{HasTaken, TakesMore}
 use Rattle.boot_verdict.specs.Verdicts.{IsVerdict, Verdict, verdict_of}
 use Rattle.json_texts.specs.ReportJson.{meets}
 use Rattle.ima_agent.specs.declared.fault.RunFault.{RunFault}

@@ -1,11 +1,11 @@
 -- A report on a list that grows, of bytes in memory, before it is written.
 use Rattle.std.specs.Prelude.{◌≡◌, ℕ, ◌⊎◌, Bool, true, List, ◌++◌}
 use Rattle.boot_verdict.specs.declared.expected.Expected.{Expected}
-use Rattle.boot_verdict.specs.declared.front_report.FrontReport.{FrontReport}
+use Rattle.growing_lists.specs.declared.front_report.FrontReport.{FrontReport}
 use Rattle.boot_verdict.specs.declared.report.Report.{Report}
-use Rattle.boot_verdict.specs.declared.session.Session.{Session}
+use Rattle.growing_lists.specs.declared.session.Session.{Session}
 use Rattle.boot_verdict.specs.declared.verifier.VerifyFault.{VerifyFault}
-use Rattle.boot_verdict.specs.Sessions.{HasTaken}
+use Rattle.growing_lists.specs.Sessions.{HasTaken}
 use Rattle.boot_verdict.specs.Verdicts.{verdict_of}
 use Rattle.ima_agent.specs.declared.fault.RunFault.{RunFault}
 use Rattle.ima_agent.specs.declared.fault.RunFault.TheVariants as runs

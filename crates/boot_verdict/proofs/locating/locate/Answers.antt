@@ -5,7 +5,7 @@ use Rattle.ima_list.specs.ListEntry.{ListEntry}
 use Rattle.boot_verdict.specs.Places.{located_on}
 use Rattle.boot_verdict.proofs.PlaceLaws.{located_all, located_in}
 use Rattle.boot_verdict.proofs.ReplayLaws.{one_list}
-use Rattle.boot_verdict.proofs.SessionLaws.{log_viewed}
+use Rattle.boot_verdict.proofs.VerdictLaws.{log_viewed}
 use Rattle.boot_verdict.proofs.VerdictLaws.{log_first, log_not_memory}
 use Rattle.boot_verdict.proofs.locating.locate.Goals as goal
 

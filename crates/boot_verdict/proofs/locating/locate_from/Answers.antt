@@ -5,7 +5,7 @@ use Rattle.ima_list.specs.ListEntry.{ListEntry}
 use Rattle.boot_verdict.specs.Places.{located_on}
 use Rattle.boot_verdict.proofs.PlaceLaws.{located_all, located_in}
 use Rattle.boot_verdict.proofs.ReplayLaws.{list_not_read, same_entries}
-use Rattle.boot_verdict.proofs.SessionLaws.{log_viewed, refused_from}
+use Rattle.boot_verdict.proofs.VerdictLaws.{log_viewed, refused_from}
 use Rattle.boot_verdict.proofs.VerdictLaws.{log_first_from, log_not_memory}
 use Rattle.boot_verdict.proofs.locating.locate_from.Goals as goal
 

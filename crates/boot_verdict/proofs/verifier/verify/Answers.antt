@@ -5,7 +5,7 @@ use Rattle.ima_list.specs.ListEntry.{ListEntry}
 use Rattle.boot_verdict.specs.declared.verifier.VerifyFault.TheVariants.{Memory}
 use Rattle.boot_verdict.specs.Verdicts.{verdict_on}
 use Rattle.boot_verdict.proofs.ReplayLaws.{one_list}
-use Rattle.boot_verdict.proofs.SessionLaws.{log_viewed, verdict_by}
+use Rattle.boot_verdict.proofs.VerdictLaws.{log_viewed, verdict_by}
 use Rattle.boot_verdict.proofs.VerdictLaws.{log_first, log_not_memory}
 use Rattle.boot_verdict.proofs.verifier.verify.Goals as goal
 

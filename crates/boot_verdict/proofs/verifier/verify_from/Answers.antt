@@ -4,7 +4,7 @@ use Rattle.boot_log.specs.Spelling.{algs_in}
 use Rattle.ima_list.specs.ListEntry.{ListEntry}
 use Rattle.boot_verdict.specs.Verdicts.{verdict_on}
 use Rattle.boot_verdict.proofs.ReplayLaws.{list_not_read, same_entries}
-use Rattle.boot_verdict.proofs.SessionLaws.{log_viewed, refused_from, verdict_by}
+use Rattle.boot_verdict.proofs.VerdictLaws.{log_viewed, refused_from, verdict_by}
 use Rattle.boot_verdict.proofs.VerdictLaws.{log_first_from, log_not_memory}
 use Rattle.boot_verdict.proofs.verifier.verify_from.Goals as goal
 

@@ -1,5 +1,0 @@
-use Rattle.boot_verdict.proofs.CheckpointLaws.{AreTaken}
-use Rattle.boot_verdict.proofs.checkpoint.values_at.Given as goal
-
-abbrev pub invariant-loop-register : goal.invariant-loop-register
-invariant-loop-register l = AreTaken l.fn.start l.fn.text l.banks l._register l.rest

@@ -1,7 +1,0 @@
-use Rattle.std.proofs.Common.{None, refl}
-use Rattle.pcr_banks.specs.Registers.{value_at}
-use Rattle.boot_verdict.proofs.texts.checkpoint.write_value.Goals as goal
-
-pub returns : goal.returns
-returns g c =
-    c.write_change.ensures c.args.alg None (value_at c.args.banks.now c.args.alg c.args.register) refl c.read.ensures.value

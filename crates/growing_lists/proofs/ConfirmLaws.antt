@@ -1,0 +1,115 @@
+-- What a session makes of a search for the confirmed front.
+use Rattle.std.proofs.Common.{◌≡◌, ℕ, List, ◌++◌, Option, Some, None, Result, Ok, Err, ap, subst, ◌∙◌}
+use Rattle.boot_log.specs.declared.header.Row.{Row as TableRow}
+use Rattle.boot_log.specs.LogViews.{log_bytes}
+use Rattle.boot_log.specs.Replaying.{IsFirmware}
+use Rattle.boot_log.specs.Spelling.{LogEvent, IsLog, algs_in}
+use Rattle.boot_log.proofs.LogLaws.{one_reading}
+use Rattle.ima_list.specs.ListEntry.{ListEntry}
+use Rattle.ima_list.specs.Spelling.{list_spelling}
+use Rattle.boot_verdict.specs.declared.checkpoint.Checkpoint.{Checkpoint}
+use Rattle.growing_lists.specs.declared.confirming.Search.{Search}
+use Rattle.boot_verdict.specs.declared.expected.Expected.{Expected}
+use Rattle.growing_lists.specs.declared.front_report.Unconfirmed.{Unconfirmed}
+use Rattle.growing_lists.specs.declared.front_report.Unconfirmed.TheVariants as unconfirmed
+use Rattle.boot_verdict.specs.declared.report.Report.{Report}
+use Rattle.growing_lists.specs.declared.session.Session.{Session}
+use Rattle.boot_verdict.specs.Checkpoints.{IsCheckpoint, IsMoreFault}
+use Rattle.growing_lists.specs.Fronts.{AreUnconfirmed, IsFrontReport, IsUnconfirmedFault, IsWrongWith, TakesUnconfirmed}
+use Rattle.growing_lists.specs.Sessions.{HasTaken}
+use Rattle.boot_verdict.specs.Verdicts.{verdict_of, verdict_on}
+use Rattle.growing_lists.specs.parts.Searches.{FindsFront, IsConfirmedAt, IsWhole, Searches, fault_in, wrong_with}
+use Rattle.boot_verdict.proofs.VerdictLaws.{log_viewed}
+use Rattle.growing_lists.proofs.SessionLaws.{taken_as}
+
+-- The same of any log that is this one.
+any_log : (log : List ℕ) (expected : List Expected) (least : ℕ) (entries : List ListEntry) (table : List TableRow) (events : List LogEvent)
+    → IsLog log table events → AreUnconfirmed (algs_in table) events expected least entries
+    → (other : List TableRow) (others : List LogEvent) → IsLog log other others → AreUnconfirmed (algs_in other) others expected least entries
+any_log log expected least entries table events is none other others also =
+    let same = one_reading log table other events others is also in
+    subst (λ (p : List TableRow × List LogEvent). AreUnconfirmed (algs_in p.0) p.1 expected least entries) (λ i. (same.0 i, same.1 i)) none
+
+module _ (session : Session) (log list : List ℕ) (has : HasTaken log list session) (old new : Option (List ℕ)) (limit : ℕ) (expected : List Expected)
+    (search : Search) (searches : Searches session.known list old new limit expected search) where
+  none_confirmed : search.front ≡ None → (table : List TableRow) (events : List LogEvent) → IsLog log table events
+      → AreUnconfirmed (algs_in table) events expected session.known.entries searches.entries
+  none_confirmed none =
+      any_log log expected session.known.entries searches.entries has.table has.events has.log_is
+      (subst (FindsFront (algs_in has.table) has.events expected session.known (list ++ searches.came) searches.entries) none
+      (searches.front (algs_in has.table) has.events has.start))
+
+  -- The list is refused.
+  pub refused_by : (wrong : Unconfirmed) → search.whole ≡ Err wrong → search.front ≡ None
+      → IsMoreFault list old new limit (fault_in wrong) × IsUnconfirmedFault log list old new limit expected session.known.entries (fault_in wrong)
+  refused_by wrong is none = by wrong (subst (IsWhole session.known list old new limit searches.entries) is searches.whole)
+      (subst (λ (whole : Result Checkpoint Unconfirmed). IsWrongWith list old new limit search.entries (wrong_with whole)) is searches.wrong)
+    where
+      by : (wrong : Unconfirmed) → IsWhole session.known list old new limit searches.entries (Err wrong) → IsWrongWith list old new limit search.entries (Some wrong)
+          → IsMoreFault list old new limit (fault_in wrong) × IsUnconfirmedFault log list old new limit expected session.known.entries (fault_in wrong)
+      by (unconfirmed.List fault) whole why = (
+        why.0,
+        (
+          search.entries,
+          why.1,
+          record {
+            came = searches.came;
+            over = searches.over;
+            entries = searches.entries;
+            rest = searches.rest;
+            came_is = searches.came_is;
+            begins = searches.begins;
+            count_is = searches.count;
+            none = none_confirmed none;
+          },
+        ),
+      )
+      by (unconfirmed.Replay fault) (more, came, reading) (most, entries, all, list_is, first, counted) = (
+        (most, all, record { entries = entries; list_is = list_is; first = first }),
+        record { more = more; entries = searches.entries; came = came; list_is = reading; none = none_confirmed none },
+      )
+
+  -- No front is confirmed.
+  pub takes_unconfirmed : (known : Checkpoint) → search.whole ≡ Ok known → search.front ≡ None
+      → TakesUnconfirmed log list old new limit expected session.known.entries (record { log = session.log; known = known })
+  takes_unconfirmed known is none = by (subst (IsWhole session.known list old new limit searches.entries) is searches.whole)
+    where
+      by : IsWhole session.known list old new limit searches.entries (Ok known)
+          → TakesUnconfirmed log list old new limit expected session.known.entries (record { log = session.log; known = known })
+      by (more, came, reading, checkpoint, before) = record {
+        takes = record { more = more; came = came; taken = taken_as has checkpoint before };
+        entries = searches.entries;
+        list_is = reading;
+        none = none_confirmed none;
+      }
+
+  -- ---- the front
+
+  module _ (at : Checkpoint) (found : search.front ≡ Some at) where
+    abbrev pub here : IsConfirmedAt (algs_in has.table) has.events expected session.known (list ++ searches.came) at
+    here = subst (FindsFront (algs_in has.table) has.events expected session.known (list ++ searches.came) searches.entries) found
+        (searches.front (algs_in has.table) has.events has.start)
+
+    pub front_reported : (report : Report)
+        → ((table : List TableRow) (events : List LogEvent) (list : List ℕ) → IsLog (log_bytes session.log) table events
+        → IsFirmware (algs_in table) events at.before → (is : IsCheckpoint list at) → verdict_of report ≡ verdict_on (algs_in table) events is.entries expected)
+        → IsFrontReport log list old new limit expected session.known.entries (record { log = session.log; known = at })
+        (record { report = report; entries = search.entries; unconfirmed = wrong_with search.whole })
+    front_reported report shows =
+        let start : IsFirmware (algs_in has.table) has.events at.before = rw here.before has.start in
+        let verdict = shows has.table has.events (list_spelling here.front) (log_viewed has.same_log has.log_is) start here.checkpoint in
+        record {
+          came = searches.came;
+          over = searches.over;
+          table = has.table;
+          events = has.events;
+          front = here.front;
+          rest = here.rest;
+          came_is = searches.came_is;
+          log_is = has.log_is;
+          begins = here.begins;
+          confirmed = here.confirmed;
+          verdict_is = verdict ∙ ap (λ (entries : List ListEntry). verdict_on (algs_in has.table) has.events entries expected) here.same;
+          taken = taken_as has here.checkpoint here.before;
+          wrong = searches.wrong;
+        }

@@ -1,0 +1,4 @@
+pub mod CheckpointLaws
+pub mod SessionLaws
+pub mod FrontLaws
+pub mod ConfirmLaws

@@ -1,0 +1,48 @@
+-- Which data a checkpoint can have, and which have the same. All of this is this project's choice.
+use Rattle.std.specs.Prelude.{◌≡◌, ℕ, ◌^◌, ◌<◌, ◌≤◌, List, length, IsTrue, IsSome, IfSome}
+use Rattle.hex.specs.Hex.{IsBytes}
+use Rattle.pcr_banks.specs.declared.alg.Alg.{Alg}
+use Rattle.pcr_banks.specs.declared.banks.Banks.{Banks}
+use Rattle.pcr_banks.specs.Hashing.{size_of}
+use Rattle.pcr_banks.specs.Digests.{alg_of, bytes_of}
+use Rattle.pcr_banks.specs.Registers.{register_count, is_active, value_at}
+use Rattle.boot_verdict.specs.declared.checkpoint.Checkpoint.{Checkpoint}
+
+-- Bytes, as many as a hash of the algorithm has.
+abbrev pub IsHash : Alg → List ℕ → Type 0
+IsHash alg value = (length value ≡ size_of alg) × IsBytes value
+
+-- Each register of an active bank has a value, which is as long as a hash of the bank's algorithm. It is so in all banks that a
+-- program has.
+pub record HaveValues (banks : Banks) : Type 0 where
+  pub whole : (a : Alg) (r : ℕ) → IsTrue (is_active banks a) → r < register_count → IsSome (value_at banks a r)
+  pub sized : (a : Alg) (r : ℕ) → IfSome (value_at banks a r) (IsHash a)
+
+-- There are no more entries than bytes, and fewer than 2^63 bytes. So as many bytes again as memory can have, and the entries in
+-- them, can be counted.
+abbrev pub IsCounted : Checkpoint → Type 0
+IsCounted checkpoint = (checkpoint.entries ≤ checkpoint.bytes) × (checkpoint.bytes < 2 ^ 63)
+
+-- The counts are possible; and what else is so of all values that a program has.
+pub record IsPossible (checkpoint : Checkpoint) : Type 0 where
+  pub counted : IsCounted checkpoint
+  pub before : HaveValues checkpoint.before
+  pub after : HaveValues checkpoint.after
+  pub stated : IfSome checkpoint.stated (λ digest. IsHash (alg_of digest) (bytes_of digest))
+
+-- All registers have the same values.
+abbrev pub SameValues : Banks → Banks → Type 0
+SameValues first second = (a : Alg) (r : ℕ) → value_at first a r ≡ value_at second a r
+
+-- The same banks are active, and all registers have the same values.
+pub record AreSameBanks (first second : Banks) : Type 0 where
+  pub active : (a : Alg) → is_active first a ≡ is_active second a
+  pub values : SameValues first second
+
+-- Two checkpoints of the same data.
+pub record SameData (first second : Checkpoint) : Type 0 where
+  pub entries : first.entries ≡ second.entries
+  pub bytes : first.bytes ≡ second.bytes
+  pub stated : first.stated ≡ second.stated
+  pub before : SameValues first.before second.before
+  pub after : SameValues first.after second.after

@@ -1,0 +1,32 @@
+-- The verification of a list that grows. All of this is this project's choice.
+use Rattle.std.specs.Prelude.{◌≡◌, ℕ, List, ◌++◌, Option}
+use Rattle.boot_log.specs.declared.header.Row.{Row as TableRow}
+use Rattle.boot_log.specs.LogViews.{log_bytes}
+use Rattle.boot_log.specs.Replaying.{IsFirmware}
+use Rattle.boot_log.specs.Spelling.{LogEvent, IsLog, algs_in}
+use Rattle.boot_verdict.specs.declared.checkpoint.Checkpoint.{Checkpoint}
+use Rattle.growing_lists.specs.declared.session.Session.{Session}
+use Rattle.boot_verdict.specs.Checkpoints.{IsCheckpoint}
+use Rattle.boot_verdict.specs.ListSources.{CameWhole}
+
+-- The session is of this log, and has taken this list.
+pub record HasTaken (log list : List ℕ) (session : Session) : Type 0 where
+  pub table : List TableRow
+  pub events : List LogEvent
+  pub log_is : IsLog log table events
+  pub same_log : log_bytes session.log ≡ log
+  pub start : IsFirmware (algs_in table) events session.known.before
+  pub checkpoint : IsCheckpoint list session.known
+
+-- The log leaves the registers that are before the checkpoint.
+pub record IsOfBoot (log : List ℕ) (known : Checkpoint) : Type 0 where
+  pub table : List TableRow
+  pub events : List LogEvent
+  pub log_is : IsLog log table events
+  pub start : IsFirmware (algs_in table) events known.before
+
+-- The session has taken, after this list, all that the source had left, at most `limit` bytes.
+pub record TakesMore (log list : List ℕ) (old new : Option (List ℕ)) (limit : ℕ) (session : Session) : Type 0 where
+  pub more : List ℕ
+  pub came : CameWhole old new limit more
+  pub taken : HasTaken log (list ++ more) session

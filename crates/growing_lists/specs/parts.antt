@@ -1,0 +1,3 @@
+pub mod CheckpointParts
+pub mod Confirming
+pub mod Searches

@@ -1,0 +1,104 @@
+//! The search for the shortest front of a list after which each expected register has its value.
+
+ghost use Rattle.std.specs.Prelude.{◌≡◌};
+ghost use Rattle.growing_lists.specs.parts.Confirming.{IsConfirmingAfter, are_reached, front_at, search_after, size_of_step};
+ghost use Rattle.boot_verdict.specs.Following.{step_of};
+
+use boot_verdict::{Checkpoint, Expected, Follow, Place, Step, is_reached};
+use pcr_banks::Banks;
+
+/// A point after an entry of the list.
+#[derive(Clone, Copy)]
+pub(crate) struct Front {
+    /// The registers there.
+    pub registers: Banks,
+    /// The number of the last entry before it.
+    pub last: usize,
+    /// How many bytes the list has up to it.
+    pub bytes: u64,
+}
+
+/// Registers, and the first front at which each expected one had its value.
+#[derive(Drop)]
+pub(crate) struct Confirming<'a> {
+    /// The registers.
+    pub banks: Banks,
+    /// How many bytes the entries so far have.
+    pub bytes: u64,
+    /// The number of the first entry that may be the last of a front.
+    pub first: usize,
+    /// The expected registers.
+    pub expected: &'a [Expected],
+    /// The front, if there is one so far.
+    pub front: Option<Front>,
+}
+
+impl<'a> Confirming<'a> {
+    /// After the list of this checkpoint: its end may be the front.
+    pub fn after(known: &Checkpoint, expected: &'a [Expected]) -> Self
+        ensures { result ≡ search_after known.now expected.entry }
+    {
+        let search = Confirming {
+            banks: known.after,
+            bytes: known.bytes,
+            first: known.entries.saturating_sub(1),
+            expected,
+            front: None,
+        };
+        if known.entries == 0 {
+            return search;
+        }
+        Confirming {
+            front: search.front_at(Place::Entry(search.first)),
+            ..search
+        }
+    }
+
+    // The front that ends at this place, if it is that of an entry that may be the last, and each expected register has its value now.
+    fn front_at(&self, place: Place) -> Option<Front>
+        ensures { result ≡ front_at self.now place }
+    {
+        let Place::Entry(last) = place else {
+            return None;
+        };
+        if last >= self.first && are_reached(self.expected, &self.banks) {
+            Some(Front {
+                registers: self.banks,
+                last,
+                bytes: self.bytes,
+            })
+        } else {
+            None
+        }
+    }
+}
+
+impl Follow for Confirming<'_> {
+    ghost is_after = { IsConfirmingAfter };
+
+    // Replays the step, and looks at the registers, if there is no front yet.
+    fn step(&mut self, step: &Step<'_>, place: Place) {
+        step.replay_into(&mut self.banks);
+        self.bytes = self.bytes.saturating_add(size_of(step));
+        if self.front.is_none() {
+            self.front = self.front_at(place);
+        }
+    }
+}
+
+// How many bytes the step has in the list.
+fn size_of(step: &Step<'_>) -> u64
+    ensures { result ≡ size_of_step (step_of step.now) }
+{
+    match step {
+        Step::Event(_) => 0,
+        Step::Entry(entry) => entry.size() as u64,
+    }
+}
+
+// Whether each expected register has its value in these banks.
+fn are_reached(expected: &[Expected], banks: &Banks) -> bool
+    ensures { result ≡ are_reached banks.now expected.now }
+{
+    expected.iter().all(|expected| is_reached(expected, banks))
+}

@@ -1,0 +1,120 @@
+//! A verification of a list that grows: of a log, it takes the list's bytes as they come, and reports on what it has taken.
+
+ghost use Rattle.std.specs.Prelude.{◌≡◌, List, [], Some, is_some, IsOk, IfOk, IfErr, IsErrOf, OnOk, OnErr, ℕ};
+ghost use Rattle.byte_streams.specs.Streams.{LosesFront};
+ghost use Rattle.boot_log.specs.Reading.{log_fault};
+ghost use Rattle.boot_log.specs.declared.header.Row.{Row as TableRow};
+ghost use Rattle.boot_log.specs.LogViews.{log_bytes};
+ghost use Rattle.boot_log.specs.Spelling.{LogEvent, IsLog};
+ghost use Rattle.boot_verdict.specs.Checkpoints.{IsCheckpoint, IsMoreFault, most_after};
+ghost use Rattle.boot_verdict.specs.ListSources.{failures_after_list};
+ghost use Rattle.boot_verdict.specs.Verdicts.{IsSomeLog, IsVerdict, verdict_of};
+
+use crate::same_banks::are_same_banks;
+use boot_log::{LogFault, LogView};
+use boot_verdict::{Checkpoint, Expected, Report, VerifyFault, report_on};
+use byte_streams::Source;
+use std::alloc::Global;
+use thiserror::Error;
+
+/// Why a session does not go on from a checkpoint.
+#[derive(Clone, Copy, Debug, Error)]
+pub enum ResumeFault {
+    /// The log is invalid.
+    #[error("the log is invalid: {0}")]
+    Log(LogFault),
+    /// The checkpoint is of another boot: the log leaves other registers than those before its list.
+    #[error("the checkpoint is of another boot")]
+    OtherBoot,
+}
+
+/// A verification of a list that grows. It has looked through the log, and has taken some bytes of the list: it knows what they leave,
+/// and keeps none of them.
+#[derive(Drop)]
+pub struct Session<'a> {
+    pub(crate) log: LogView<'a>,
+    pub(crate) known: Checkpoint,
+}
+
+impl<'a> Session<'a> {
+    ghost use Rattle.growing_lists.specs.Sessions.{HasTaken, IsOfBoot, TakesMore};
+
+    /// A session of this log that has taken no bytes of the list. Fails with the fault of the log.
+    pub fn new(log: &'a [u8]) -> Result<Self, LogFault>
+        ensures taken { IfOk result (HasTaken log.now []) }
+        ensures only { (table : List TableRow) (events : List LogEvent) → IsLog log.now table events → IsOk result }
+        ensures fault { IfErr result (λ fault. log_fault log.now ≡ Some fault) }
+    {
+        let log = LogView::new(log)?;
+        let known = Checkpoint::before_list(log.registers());
+        Ok(Session { log, known })
+    }
+
+    /// A session of this log that goes on from a checkpoint.
+    ///
+    /// Fails with the fault of the log, or with [`ResumeFault::OtherBoot`] if the log leaves other registers than those before the
+    /// checkpoint's list.
+    pub fn resumed(log: &'a [u8], known: Checkpoint) -> Result<Self, ResumeFault>
+        // If it is the checkpoint of a list, the session has taken that list.
+        ensures taken { IfOk result (λ session. (list : List ℕ) → IsCheckpoint list known → HasTaken log.now list session) }
+        ensures log { IfOk result (λ session. log_bytes session.log ≡ log.now) }
+        ensures known { IfOk result (λ session. session.known ≡ known) }
+        ensures boot { IfOk result (λ _. IsOfBoot log.now known) }
+        // Wherever the log leaves the registers before the checkpoint, the session goes on.
+        ensures only { IsOfBoot log.now known → IsOk result }
+        // The log's fault comes first.
+        ensures fault { (fault : LogFault) → IsErrOf result (ResumeFault.Log fault) → log_fault log.now ≡ Some fault }
+        ensures other { IsErrOf result ResumeFault.OtherBoot → IsSomeLog log.now }
+    {
+        let log = match LogView::new(log) {
+            Ok(log) => log,
+            Err(fault) => return Err(ResumeFault::Log(fault)),
+        };
+        if !are_same_banks(&log.registers(), &known.before) {
+            return Err(ResumeFault::OtherBoot);
+        }
+        Ok(Session { log, known })
+    }
+
+    /// What is known after the bytes taken so far: enough to go on later with [`Session::resumed`].
+    pub fn checkpoint(&self) -> &Checkpoint
+        ensures { result.now ≡ self.now.known }
+    {
+        &self.known
+    }
+
+    /// Takes all that the source has left, as the bytes that follow those taken so far: at most `limit`, and no more than make a list
+    /// of 2^63 - 1 bytes. After `Err` the session is as before.
+    ///
+    /// Fails as [`boot_verdict::verify_from`] does of the whole list, with entries numbered from its first.
+    pub fn more<R: Source>(
+        &mut self,
+        alloc: Global,
+        source: &mut R,
+        limit: u64,
+    ) -> Result<(), VerifyFault>
+        ensures taken { OnOk result ((log list : List ℕ) → HasTaken log list self.old
+            → TakesMore log list (R.state source.old).remaining (R.state source.new).remaining (most_after self.old.known limit) self.new) }
+        ensures kept { OnErr result (self.new ≡ self.old) }
+        // Any fault is the first cause.
+        ensures fault { IfErr result (λ fault. (log list : List ℕ) → HasTaken log list self.old
+            → IsMoreFault list (R.state source.old).remaining (R.state source.new).remaining (most_after self.old.known limit) fault) }
+        // In any case the source loses bytes from its front, and nothing else.
+        ensures front { LosesFront (R.state source.old).remaining (R.state source.new).remaining }
+        ensures telling { is_some (R.state source.new).remaining ≡ is_some (R.state source.old).remaining }
+        ensures counts { (R.state source.new).failures ≡ failures_after_list result (R.state source.old).failures }
+    {
+        let next = self.known.go_on(alloc, source, self.known.room(limit))?;
+        self.known = next;
+        Ok(())
+    }
+
+    /// The report on the log, the list taken so far and the expected registers. Fails only if memory runs out.
+    pub fn report(&self, alloc: Global, expected: &[Expected]) -> Result<Report, VerifyFault>
+        // It is the verdict on the log and the list.
+        ensures report { IfOk result (λ report. (log list : List ℕ) → HasTaken log list self.now → IsVerdict log list expected.now (verdict_of report)) }
+        ensures fault { (log list : List ℕ) → HasTaken log list self.now → IfErr result (λ fault. fault ≡ VerifyFault.Memory) }
+    {
+        Ok(report_on(alloc, &self.log, &self.known, expected)?)
+    }
+}

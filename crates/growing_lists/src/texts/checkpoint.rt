@@ -1,0 +1,135 @@
+//! The text of a checkpoint.
+
+ghost use Rattle.std.specs.Prelude.{◌≡◌, ◌++◌, IfOk};
+ghost use Rattle.pcr_banks.specs.Digests.{bytes_of};
+ghost use Rattle.hex.specs.Hex.{encode_lower};
+ghost use Rattle.byte_streams.specs.Streams.{Sends};
+ghost use Rattle.std.specs.Prelude.{codes, decimal, flat_map};
+ghost use Rattle.boot_verdict.specs.RegisterTexts.{all_registers};
+ghost use Rattle.growing_lists.specs.CheckpointTexts.{bank_lines, banks_lines, checkpoint_body, checkpoint_text, number_line, seal_line, stated_line, value_line};
+
+use boot_verdict::{Checkpoint, digits_of, write_change};
+use byte_streams::{Failed, Sink, VecSink, send, send_pieces};
+use itoa::Buffer;
+use pcr_banks::{Alg, Banks, Digest, MOST_DIGITS, REGISTERS, hash};
+use std::alloc::{AllocError, Global};
+
+/// Makes the text of a checkpoint: a line with the version of this form, one with the number of entries, one with that of bytes, one
+/// with the boot aggregate; the lines of the registers before the list, and of those after it; and last the SHA-256 of all this.
+/// [`crate::read_checkpoint`] reads it.
+///
+/// Each bank is there, by the order of [`Alg::ALL`]: with a line for each register, as [`boot_verdict::write_registers`] writes it, or with
+/// the line `sha1 none` if it is not active. Fails only if memory runs out.
+pub fn write_checkpoint(alloc: Global, checkpoint: &Checkpoint) -> Result<Vec<u8>, AllocError>
+    ensures { IfOk result (λ text. text.items ≡ checkpoint_text checkpoint.now) }
+{
+    let body = body_of(alloc, checkpoint)?;
+    let digest = hash(Alg::Sha256, &body);
+    let mut text = VecSink::new(body);
+    match write_seal(&digest, &mut text) {
+        Ok(()) => Ok(text.into_bytes()),
+        Err(Failed) => Err(AllocError),
+    }
+}
+
+// What stands before the last line.
+fn body_of(alloc: Global, checkpoint: &Checkpoint) -> Result<Vec<u8>, AllocError>
+    ensures { IfOk result (λ body. body.items ≡ checkpoint_body checkpoint.now) }
+{
+    let mut text = VecSink::new(Vec::new(alloc));
+    match write_body(checkpoint, &mut text) {
+        Ok(()) => Ok(text.into_bytes()),
+        Err(Failed) => Err(AllocError),
+    }
+}
+
+fn write_body<S: Sink>(checkpoint: &Checkpoint, sink: &mut S) -> Result<(), Failed>
+    ensures { Sends (S.state sink.old) (S.state sink.new) result (checkpoint_body checkpoint.now) }
+{
+    write_counts(checkpoint.entries, checkpoint.bytes, sink)?;
+    write_stated(&checkpoint.stated, sink)?;
+    write_section(b"before\n", &checkpoint.before, sink)?;
+    write_section(b"after\n", &checkpoint.after, sink)
+}
+
+fn write_counts<S: Sink>(entries: usize, bytes: u64, sink: &mut S) -> Result<(), Failed>
+    ensures { Sends (S.state sink.old) (S.state sink.new) result (codes "ima-agent checkpoint 1\nentries "
+        ++ (decimal entries ++ (codes "\nbytes " ++ (decimal bytes ++ codes "\n")))) }
+{
+    let mut first = Buffer::new();
+    let mut second = Buffer::new();
+    let pieces: [&[u8]; 5] = [
+        b"ima-agent checkpoint 1\nentries ",
+        first.format(entries).as_bytes(),
+        b"\nbytes ",
+        second.format(bytes).as_bytes(),
+        b"\n",
+    ];
+    send_pieces(&pieces, sink)
+}
+
+fn write_stated<S: Sink>(stated: &Option<Digest>, sink: &mut S) -> Result<(), Failed>
+    ensures { Sends (S.state sink.old) (S.state sink.new) result (stated_line stated.now) }
+{
+    match stated {
+        None => send(b"boot_aggregate none\n", sink),
+        Some(digest) => {
+            let mut room = [0; MOST_DIGITS];
+            let digits = digits_of(digest, &mut room);
+            let name = digest.alg().name().as_bytes();
+            send_pieces(&[b"boot_aggregate ", name, b":", digits, b"\n"], sink)
+        }
+    }
+}
+
+// Writes the line that begins with these registers, and their lines.
+fn write_section<S: Sink>(word: &[u8], banks: &Banks, sink: &mut S) -> Result<(), Failed>
+    ensures { Sends (S.state sink.old) (S.state sink.new) result (word.now ++ banks_lines banks.now) }
+{
+    send(word, sink)?;
+    write_banks(banks, sink)
+}
+
+fn write_banks<S: Sink>(banks: &Banks, sink: &mut S) -> Result<(), Failed>
+    ensures { Sends (S.state sink.old) (S.state sink.new) result (banks_lines banks.now) }
+{
+    for alg in &Alg::ALL {
+        write_bank(banks, *alg, sink)?;
+    }
+    Ok(())
+}
+
+fn write_bank<S: Sink>(banks: &Banks, alg: Alg, sink: &mut S) -> Result<(), Failed>
+    ensures { Sends (S.state sink.old) (S.state sink.new) result (bank_lines banks.now alg) }
+{
+    if banks.read(alg, 0).is_some() {
+        write_values(banks, alg, sink)
+    } else {
+        send_pieces(&[alg.name().as_bytes(), b" none\n"], sink)
+    }
+}
+
+fn write_values<S: Sink>(banks: &Banks, alg: Alg, sink: &mut S) -> Result<(), Failed>
+    ensures { Sends (S.state sink.old) (S.state sink.new) result (flat_map (value_line banks.now alg) all_registers) }
+{
+    for register in 0..REGISTERS {
+        write_value(banks, alg, register, sink)?;
+    }
+    Ok(())
+}
+
+// Writes the register's line, if it has a value.
+fn write_value<S: Sink>(banks: &Banks, alg: Alg, register: u32, sink: &mut S) -> Result<(), Failed>
+    ensures { Sends (S.state sink.old) (S.state sink.new) result (value_line banks.now alg register) }
+{
+    write_change(register, None, banks.read(alg, register), sink)
+}
+
+fn write_seal<S: Sink>(digest: &Digest, sink: &mut S) -> Result<(), Failed>
+    ensures { Sends (S.state sink.old) (S.state sink.new) result
+        (codes "sha256 " ++ (encode_lower (bytes_of digest.now) ++ codes "\n")) }
+{
+    let mut room = [0; MOST_DIGITS];
+    let digits = digits_of(digest, &mut room);
+    send_pieces(&[b"sha256 ", digits, b"\n"], sink)
+}
