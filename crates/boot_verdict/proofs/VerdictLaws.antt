@@ -25,12 +25,9 @@ use Rattle.boot_verdict.specs.declared.verifier.VerifyFault.TheVariants as fault
 use Rattle.boot_verdict.specs.Checkpoints.{IsCheckpoint, IsMoreFault}
 use Rattle.boot_verdict.specs.Verdicts.{IsSomeLog, IsVerdict, IsVerifyFault, IsVerifyFaultFrom, Verdict, aggregate_of, aggregate_state, booted_aggregate, pcr_after_log, fault_of_log, pcr_after_log_and_list, row_on, row_state, verdict_on}
 use Rattle.boot_verdict.specs.parts.Rows.{row_of}
+use Rattle.boot_verdict.proofs.StepLaws.{fun_same}
 
 -- ---- registers
-
--- Functions with the same values are the same.
-fun_same : {A B : Type 0} (f g : A → B) → ((x : A) → f x ≡ g x) → f ≡ g
-fun_same f g same = λ i x. same x i
 
 -- The boot aggregate of the log's registers.
 pub booted_same : (algs : AlgSet) (events : List LogEvent) (banks : Banks) (alg : Alg) → IsFirmware algs events banks

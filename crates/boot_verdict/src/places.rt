@@ -5,7 +5,7 @@ ghost use Rattle.pcr_banks.specs.Digests.{digest_of};
 ghost use Rattle.pcr_banks.specs.Registers.{value_at};
 ghost use Rattle.boot_verdict.specs.Places.{all_found, is_found, is_reached};
 ghost use Rattle.boot_verdict.specs.Requirements.{required_found};
-ghost use Rattle.boot_verdict.specs.parts.Watches.{looked_at};
+ghost use Rattle.boot_verdict.specs.parts.Watches.{looked, looked_at};
 
 use crate::expected::Expected;
 use crate::requirement::Requirement;
@@ -75,17 +75,16 @@ pub(crate) fn look_at(rows: &mut [Located], banks: &Banks, register: u32, place:
     ensures { rows.new ≡ map (looked_at banks.now register place) rows.old }
 {
     for row in rows.iter_mut() {
-        look(row, banks, register, place);
+        if row.expected.register == register {
+            look(row, banks, place);
+        }
     }
 }
 
-// Gives the row this place if it is one of this register, has none yet, and its register now has the value.
-fn look(row: &mut Located, banks: &Banks, register: u32, place: Place)
-    ensures { row.new ≡ looked_at banks.now register place row.old }
+// Gives the row this place if it has none yet, and its register now has the value.
+fn look(row: &mut Located, banks: &Banks, place: Place)
+    ensures { row.new ≡ looked banks.now place row.old }
 {
-    if row.expected.register != register {
-        return;
-    }
     if row.place == Place::Nowhere && is_reached(&row.expected, banks) {
         row.place = place;
     }

@@ -34,7 +34,7 @@ pub fn counted_checkpoint_is_possible(checkpoint: &Checkpoint)
 }
 
 /// Why a text is not read as a checkpoint.
-#[derive(Clone, Copy, Debug, Error)]
+#[derive(Clone, Copy, Debug, PartialEq, Eq, Error)]
 pub enum CheckpointFault {
     /// The text begins as that of a checkpoint does, but has another version.
     #[error("a checkpoint of another version")]

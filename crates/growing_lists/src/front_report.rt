@@ -9,7 +9,7 @@ use itoa::Buffer;
 use std::alloc::{AllocError, Global};
 
 /// Why what follows a confirmed front is no list of genuine entries.
-#[derive(Clone, Copy)]
+#[derive(Clone, Copy, PartialEq, Eq)]
 pub enum Unconfirmed {
     /// The bytes are no list.
     List(ListFault),

@@ -18,7 +18,7 @@ use std::alloc::Global;
 use thiserror::Error;
 
 /// Why a session does not go on from a checkpoint.
-#[derive(Clone, Copy, Debug, Error)]
+#[derive(Clone, Copy, Debug, PartialEq, Eq, Error)]
 pub enum ResumeFault {
     /// The log is invalid.
     #[error("the log is invalid: {0}")]

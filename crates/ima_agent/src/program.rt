@@ -8,7 +8,7 @@ ghost use Rattle.command_line.specs.Commands.{is_json};
 ghost use Rattle.command_line.specs.declared.plan.Plan.TheVariants.{Help};
 ghost use Rattle.command_line.specs.Plans.{IsWithinRanges};
 ghost use Rattle.ima_agent.specs.Program.{Answers, IsFaultOf, IsOutcome, IsOutput, IsOutputFor, IsOutputOf, status_after};
-ghost use Rattle.ima_agent.specs.parts.Program.{IsStreamed, IsWhole, ShowsInputs, ShowsText};
+ghost use Rattle.ima_agent.specs.parts.Program.{IsStreamed, IsWhole, IsNoHelp, ShowsText};
 
 use crate::expecting::expected_from;
 use crate::explaining::Failure;
@@ -283,7 +283,7 @@ fn output_for<R: Threads + Wait + Sync, F: Files, P: Progress>(
 
 // The text of the help, or the plan, which is then not to show that.
 fn help_of(plan: Plan) -> Result<String, Plan>
-    ensures { MatchResult result (λ text. plan ≡ Help text) (λ rest. (rest ≡ plan) × ShowsInputs plan) }
+    ensures { MatchResult result (λ text. plan ≡ Help text) (λ rest. (rest ≡ plan) × IsNoHelp plan) }
 {
     match plan {
         Plan::Help(text) => Ok(text),
@@ -299,7 +299,7 @@ fn shown_for<R: Threads + Wait + Sync, F: Files, P: Progress>(
     files: &mut F,
     progress: &P,
 ) -> Result<Output, RunFault>
-    requires inputs { ShowsInputs plan.now }
+    requires inputs { IsNoHelp plan.now }
     requires whole { IsWhole plan.now }
     requires within { IsWithinRanges plan.now }
     ensures shown { IfOk result (λ output. IsOutputFor (F.told files.old) plan.now output.text.items output.status) }

@@ -5,9 +5,9 @@ use Rattle.command_line.specs.declared.plan.Plan.{Plan}
 use Rattle.command_line.specs.declared.plan.Plan.TheVariants.{Verify, VerifyRequired, VerifyGrowing, Locate, LocateRequired, Events, ReplayExpected, Json, Help}
 
 -- The plan is not to show the help, whose text it has.
-abbrev pub ShowsInputs : Plan → Type 0
-ShowsInputs (Help text) = ⊥
-ShowsInputs plan = Unit {0}
+abbrev pub IsNoHelp : Plan → Type 0
+IsNoHelp (Help text) = ⊥
+IsNoHelp plan = Unit {0}
 
 -- The plan shows a text of its inputs, which is prepared whole, and its exit status is 0 whatever the text says.
 abbrev pub ShowsText : Plan → Type 0
