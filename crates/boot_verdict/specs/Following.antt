@@ -15,7 +15,7 @@ abbrev pub step_of : TakenStep → Step
 step_of (taken.Event event) = OfEvent (log_event_of event.now)
 step_of (taken.Entry entry) = OfEntry entry.now
 
--- An entry is genuine.
+-- The step can be taken: an event always is, and an entry if it is genuine.
 abbrev pub CanBeTaken : TakenStep → Type 0
 CanBeTaken (taken.Event event) = Unit {0}
 CanBeTaken (taken.Entry entry) = IsGenuine entry.now
@@ -32,7 +32,7 @@ pub record AreAfter (start : Banks) (steps : List Step) (now : Banks) : Type 0 w
   pub active : (a : Alg) → is_active now a ≡ is_active start a
   pub values : (a : Alg) (r : ℕ) → value_at now a r ≡ value_after a r (value_at start a r) steps
 
--- What follows a boot is after these steps as it was before them, where the log has so many events.
+-- What follows a boot, before and after some steps of it, where the log has so many events.
 abbrev pub After : Type 0 → Type 1
 After Following = Following → ℕ → List Step → Following → Type 0
 

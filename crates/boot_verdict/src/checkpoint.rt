@@ -20,7 +20,8 @@ use std::alloc::Global;
 /// The most bytes that a list may have.
 const MOST_BYTES: u64 = (1 << 63) - 1;
 
-/// Where a verification stopped: what is needed to go on with the bytes that follow.
+/// Where a verification stopped: what is needed to go on with the bytes that follow. A caller may make any; what a call says of one holds
+/// if it is that of a list.
 #[derive(Clone, Copy)]
 pub struct Checkpoint {
     /// The registers before the list's first entry.
@@ -36,7 +37,7 @@ pub struct Checkpoint {
 }
 
 impl Checkpoint {
-    /// Before a list that begins with these registers.
+    /// The checkpoint before a list's first entry, where these are the registers.
     pub fn before_list(registers: Banks) -> Self
         ensures checkpoint { IsCheckpoint [] result }
         ensures before { result.before ≡ registers }
@@ -58,8 +59,10 @@ impl Checkpoint {
         Ok(Checkpoint::after(registers, replay, list.len() as u64))
     }
 
-    /// The checkpoint after all that the source has left, at most `limit` bytes, as what follows the list. Fails with the fault of the
-    /// whole list. There is [`Checkpoint::room`] for so many bytes.
+    /// The checkpoint after all that the source has left, at most `limit` bytes, as what follows the list. The entries so far and `limit`
+    /// must be below 2^64 together, and so must the bytes so far and `limit`: see [`Checkpoint::room`].
+    ///
+    /// Fails as [`crate::verify_from`] does of the whole list, but never with [`VerifyFault::Log`].
     pub fn go_on<R: Source>(
         &self,
         alloc: Global,

@@ -124,7 +124,7 @@ impl<'a> LinePlace<'a> for Anywhere {
     }
 }
 
-/// The register that the line names, if it is a register line.
+/// What the line expects, if it is a register line as [`read_expected`] has it, without its line end.
 pub fn register_on(line: &[u8]) -> Option<Expected>
     ensures found { IfSome result (IsRegisterLine line.now) }
     ensures none { IfNone result ((e : Expected) → IsRegisterLine line.now e → ⊥) }

@@ -1,5 +1,5 @@
-//! The verdict on a firmware log, a measurement list and expected registers; where registers first have their expected values; and the
-//! texts of events, registers, reports and places.
+//! The verdict on a firmware log, a measurement list and expected registers; how a verification goes on from where it stopped; where
+//! registers first have their expected values; and the texts of events, registers, reports and places.
 #![tactic(auto)]
 
 mod checkpoint;

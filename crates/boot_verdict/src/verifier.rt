@@ -161,7 +161,10 @@ pub fn verify_from<R: Source>(
     Ok(report_on(alloc, &firmware, &known, expected)?)
 }
 
-/// The report on a log and the list of a checkpoint, whose registers before the list are those that the log leaves.
+/// The report on a log and on the list of a checkpoint. Fails only if memory runs out.
+///
+/// Nothing is compared here: if the log leaves other registers than those before the checkpoint's list, or it is the checkpoint of no
+/// list, the report says nothing. A session (of `growing_lists`) compares the registers before it goes on.
 pub fn report_on(
     alloc: Global,
     log: &LogView<'_>,

@@ -18,7 +18,7 @@ pub record HasTaken (log list : List ℕ) (session : Session) : Type 0 where
   pub start : IsFirmware (algs_in table) events session.known.before
   pub checkpoint : IsCheckpoint list session.known
 
--- The log leaves the registers that are before the checkpoint.
+-- The log leaves the registers that are before the checkpoint's list.
 pub record IsOfBoot (log : List ℕ) (known : Checkpoint) : Type 0 where
   pub table : List TableRow
   pub events : List LogEvent

@@ -32,7 +32,8 @@ impl Session<'_> {
     /// read to its end all the same, or to a fault of the list, of which the report tells.
     ///
     /// Without such a front all is taken, as by [`Session::more`], with its faults; the result is `None`, and the verdict is `differ`.
-    /// A source that fails, or has too many bytes, is a fault in any case. After `Err` the session is as before.
+    /// A source that fails, or has too many bytes, is a fault in any case. After `Err` the session is as before. What came after the front
+    /// is not taken: the next call wants it again, from the byte of the list at which [`Session::checkpoint`] stands.
     pub fn confirm<R: Source>(
         &mut self,
         alloc: Global,

@@ -113,7 +113,7 @@ impl<'a> Session<'a> {
     pub fn report(&self, alloc: Global, expected: &[Expected]) -> Result<Report, VerifyFault>
         // It is the verdict on the log and the list.
         ensures report { IfOk result (λ report. (log list : List ℕ) → HasTaken log list self.now → IsVerdict log list expected.now (verdict_of report)) }
-        ensures fault { (log list : List ℕ) → HasTaken log list self.now → IfErr result (λ fault. fault ≡ VerifyFault.Memory) }
+        ensures fault { IfErr result (λ fault. fault ≡ VerifyFault.Memory) }
     {
         Ok(report_on(alloc, &self.log, &self.known, expected)?)
     }

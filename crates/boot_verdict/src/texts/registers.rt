@@ -39,7 +39,8 @@ fn write_register<S: Sink>(
     )
 }
 
-/// Writes the register's line if its value differs from `before`.
+/// Writes the register's line, as [`crate::write_registers`] does, if `now` is another value than `before`. Both must be values of one
+/// bank. After `Err` the sink has taken a prefix of the line.
 pub fn write_change<S: Sink>(
     register: u32,
     before: Option<Digest>,

@@ -25,7 +25,7 @@ pub fn write_report<S: Sink>(report: &Report, sink: &mut S) -> Result<(), Failed
     write_outcome(report, sink)
 }
 
-/// Writes the lines of events and locality, and of entries.
+/// Writes the lines of events and locality, and of entries. After `Err` the sink has taken a prefix of them.
 pub fn write_counts<S: Sink>(
     events: usize,
     locality: u8,
@@ -49,7 +49,8 @@ pub fn write_counts<S: Sink>(
     send_pieces(&pieces, sink)
 }
 
-/// Writes what comes after the counts: the boot aggregate, the expected registers and the verdict.
+/// Writes what comes after the counts: the boot aggregate, the expected registers and the verdict. After `Err` the sink has taken a prefix
+/// of it.
 pub fn write_outcome<S: Sink>(report: &Report, sink: &mut S) -> Result<(), Failed>
     ensures { Sends (S.state sink.old) (S.state sink.new) result (outcome_text (verdict_of report.now)) }
 {

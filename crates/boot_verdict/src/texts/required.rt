@@ -30,7 +30,7 @@ pub fn write_required_report<S: Sink>(
 }
 
 /// Writes what comes after the counts: how many registers were compared, the boot aggregate, the expected registers, those that are
-/// missing, and the verdict.
+/// missing, and the verdict. After `Err` the sink has taken a prefix of it.
 pub fn write_required_outcome<S: Sink>(
     report: &Report,
     requirement: &Requirement,

@@ -18,8 +18,8 @@ use std::alloc::{AllocError, Global};
 /// with the boot aggregate; the lines of the registers before the list, and of those after it; and last the SHA-256 of all this.
 /// [`crate::read_checkpoint`] reads it.
 ///
-/// Each bank is there, by the order of [`Alg::ALL`]: with a line for each register, as [`boot_verdict::write_registers`] writes it, or with
-/// the line `sha1 none` if it is not active. Fails only if memory runs out.
+/// Each bank is there, in the order of [`Alg::ALL`]: with a line for each register, as [`boot_verdict::write_registers`] writes it, or
+/// with the line `sha1 none` if it is not active. Fails only if memory runs out.
 pub fn write_checkpoint(alloc: Global, checkpoint: &Checkpoint) -> Result<Vec<u8>, AllocError>
     ensures { IfOk result (λ text. text.items ≡ checkpoint_text checkpoint.now) }
 {

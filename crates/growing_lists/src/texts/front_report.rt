@@ -9,8 +9,8 @@ use boot_verdict::{Requirement, write_counts, write_outcome, write_required_outc
 use byte_streams::{Failed, Sink, send, send_pieces};
 use itoa::Buffer;
 
-/// Writes the report on a confirmed front as [`boot_verdict::write_report`] does, with two differences. The line `entries 99` has the number of
-/// entries of the whole list. And after it is a line with that of the front, `confirmed 97 of 99 entries`; and if something is wrong
+/// Writes the report on a confirmed front as [`boot_verdict::write_report`] does, with two differences. The line `entries 99` has the
+/// number of entries of the whole list. And after it is a line with that of the front, `confirmed 97 of 99 entries`; and if something is wrong
 /// after the front, one that says what: `unconfirmed: list fault 1 at entry 120`, `unconfirmed: replay fault 1 at entry 98`.
 pub fn write_front_report<S: Sink>(front: &FrontReport, sink: &mut S) -> Result<(), Failed>
     ensures { Sends (S.state sink.old) (S.state sink.new) result
