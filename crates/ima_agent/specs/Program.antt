@@ -70,8 +70,8 @@ IsOutputFor inputs (Json plan) shown status = IsJsonOutputFor inputs plan shown 
 IsOutputFor inputs (Help text) shown status = (shown ≡ string_bytes text) × (status ≡ 0)
 IsOutputFor inputs Version shown status = (shown ≡ version_text) × (status ≡ 0)
 
--- With this output of the plan, what was saved before and after: of a list that grows, the checkpoint of what the report is on is saved, if
--- that is asked for; nothing else is, and nothing for any other plan.
+-- What was saved before and after this output of the plan. With a report on a list that grows the checkpoint of what it is on is saved, if
+-- that is asked for, and nothing else; with any other output nothing is.
 abbrev pub SavesFor : Inputs → Plan → Saved → Saved → List ℕ → ℕ → Type 0
 SavesFor inputs (VerifyGrowing asked) old new shown status = ShowsAndSaves inputs (growth asked) forms.Text old new shown status
 SavesFor inputs (Json (jsons.VerifyGrowing asked)) old new shown status =
