@@ -2,7 +2,7 @@
 """Writes what is in a release, and what that was made of, in SPDX 2.3.
 
 dist/sbom.py RELEASE           puts ima-agent.spdx.json beside its pages; the release has everything else but SHA256SUMS
-dist/sbom.py --check FOLDER    looks at that of a release, or of a prefix; each fault is printed, and the status is 1 if there is one
+dist/sbom.py --check RELEASE   looks at that of a release; each fault is printed, and the status is 1 if there is one
 
 There are the files with their sums, this project's crates below the program and the library, the kit's crates below these with the
 kit's identity, and the C library, which is linked when they are started. The time is SOURCE_DATE_EPOCH."""

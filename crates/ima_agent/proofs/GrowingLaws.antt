@@ -166,15 +166,16 @@ module _ (inputs : Inputs) (asked : Growth) (required : Option (List BankRange))
     (old new : SourceState) (before : Session) (grounds : AreGrounds inputs asked log expected known)
     (has : HasAll (inputs.held (Some asked.list)) old.remaining)
     (started : (taken : List ℕ) → IsTaken known taken → HasTaken log taken before) (least : before.known.entries ≡ entries_taken known) where
-  pub shows : (form : Form) (after : Session) (report : Judged) (shown : List ℕ) (status : ℕ)
+  pub shows : IfSome known (IsOfBoot log) → (form : Form) (after : Session) (report : Judged) (shown : List ℕ) (status : ℕ)
       → Judges (seeks_front asked.extent required expected) old.remaining new.remaining expected before after report
       → shown ≡ judged_text form required report → status ≡ judged_well required report
       → ShowsGrownWith inputs asked required form after.known shown status
-  shows form after (judged.Whole report) shown status is text-is status-is = record {
+  shows boot form after (judged.Whole report) shown status is text-is status-is = record {
     log = log;
     expected = expected;
     known = known;
     grounds = grounds;
+    boot = boot;
     report = inl (record {
       verdict = _;
       verdict_is = λ taken take.
@@ -187,11 +188,12 @@ module _ (inputs : Inputs) (asked : Growth) (required : Option (List BankRange))
       status_is = status-is;
     });
   }
-  shows form after (judged.Front report) shown status is text-is status-is = record {
+  shows boot form after (judged.Front report) shown status is text-is status-is = record {
     log = log;
     expected = expected;
     known = known;
     grounds = grounds;
+    boot = boot;
     report = inr (record {
       report = report;
       sought = is.0;

@@ -1,5 +1,6 @@
 -- What a session that takes bytes in memory says of the list that they make.
 use Rattle.std.proofs.Common.{◌≡◌, ◌⊎◌, ℕ, Bool, false, List, ◌++◌, Option, None, Some, Ok, Err, refl, sym, ap, subst, ◌∙◌, append_assoc, inl, inr}
+use Rattle.std.specs.Prelude.{IfSome}
 use Rattle.std.proofs.lemmas.Bool.{false≢true}
 use Rattle.ima_list.specs.declared.fault.ListFault.{ListFault}
 use Rattle.ima_list.specs.declared.fault.ListFault.TheVariants as lists
@@ -17,7 +18,7 @@ use Rattle.boot_verdict.specs.declared.verifier.VerifyFault.TheVariants as verdi
 use Rattle.boot_verdict.specs.Checkpoints.{IsMoreFault}
 use Rattle.growing_lists.specs.Fronts.{CameUnconfirmed, IsFrontReport, IsUnconfirmedFault, IsWrongWith, TakesUnconfirmed}
 use Rattle.boot_verdict.specs.ListSources.{CameFrom, CameWhole, FailsFor, IsListFaultAfter}
-use Rattle.growing_lists.specs.Sessions.{HasTaken, TakesMore}
+use Rattle.growing_lists.specs.Sessions.{HasTaken, IsOfBoot, TakesMore}
 use Rattle.boot_verdict.specs.ExpectedTexts.{IsExpectedText}
 use Rattle.boot_verdict.specs.Verdicts.{IsForged, verdict_of}
 use Rattle.ima_agent.specs.declared.fault.NotResumed.TheVariants.{OtherBoot}
@@ -228,12 +229,14 @@ module _ (asked : GrowthOn) (required : Option (List BankRange)) (expected : Lis
           })
 
       -- The report is shown.
-      pub shows_grown : (report : Judged) → JudgesOn seeks asked.more expected before after report → shown ≡ judged_text form required report
+      pub shows_grown : IfSome known (IsOfBoot asked.log) → (report : Judged) → JudgesOn seeks asked.more expected before after report
+          → shown ≡ judged_text form required report
           → status ≡ judged_well required report → ShowsGrownOnWith asked required form after.known shown status
-      shows_grown report is text-is status-is = record {
+      shows_grown boot report is text-is status-is = record {
         expected = expected;
         known = known;
         grounds = record { expected_is = states; known_is = is_known };
+        boot = boot;
         report =
             subst (λ (b : Bool). ShowsWholeOn asked.log asked.more expected known b form required after.known shown status
             ⊎ ShowsFrontOn asked.log asked.more expected known b form required after.known shown status) sought

@@ -192,13 +192,14 @@ pub record ShowsFront (inputs : Inputs) (name log : List ℕ) (expected : List E
   pub status_is : status ≡ judged_status (meets required (verdict_of report.report))
 
 -- What is shown is the report that is asked for, in this form, where these registers are required, with its status; and this is the
--- checkpoint of what it is on.
+-- checkpoint of what it is on. The log leaves the registers before what is gone on from.
 pub record ShowsGrownWith (inputs : Inputs) (asked : Growth) (required : Option (List BankRange)) (form : Form) (next : Checkpoint) (shown : List ℕ)
     (status : ℕ) : Type 0 where
   pub log : List ℕ
   pub expected : List Expected
   pub known : Option Checkpoint
   pub grounds : AreGrounds inputs asked log expected known
+  pub boot : IfSome known (IsOfBoot log)
   pub report :
       ShowsWhole inputs asked.list log expected known (seeks_front asked.extent required expected) form required next shown status
       ⊎ ShowsFront inputs asked.list log expected known (seeks_front asked.extent required expected) form required next shown status

@@ -1,5 +1,5 @@
 -- The report on a list that grows, of bytes in memory, and the checkpoint of what it is on. All of this is this project's choice.
-use Rattle.std.specs.Prelude.{◌≡◌, ℕ, ◌⊎◌, if◌then◌else◌, Bool, true, List, ◌++◌, length, [], Option, Some, None, Ok, Err, option_map}
+use Rattle.std.specs.Prelude.{◌≡◌, ℕ, ◌⊎◌, if◌then◌else◌, Bool, true, List, ◌++◌, length, [], Option, Some, None, Ok, Err, IfSome, option_map}
 use Rattle.boot_log.specs.Spelling.{IsLog, LogEvent, algs_in}
 use Rattle.boot_log.specs.declared.header.Row.{Row as TableRow}
 use Rattle.ima_list.specs.ListEntry.{ListEntry}
@@ -18,6 +18,7 @@ use Rattle.boot_verdict.specs.Checkpoints.{IsCheckpoint}
 use Rattle.growing_lists.specs.CheckpointTexts.{checkpoint_text}
 use Rattle.boot_verdict.specs.ExpectedTexts.{IsExpectedText}
 use Rattle.growing_lists.specs.Fronts.{AreUnconfirmed, IsConfirmed}
+use Rattle.growing_lists.specs.Sessions.{IsOfBoot}
 use Rattle.boot_verdict.specs.Verdicts.{IsForged, IsSomeLog, IsVerdict, Verdict, verdict_of, verdict_on}
 use Rattle.command_line.specs.declared.plan.Extent.{Extent}
 use Rattle.command_line.specs.declared.plan.Extent.TheVariants.{Front, Whole}
@@ -144,12 +145,13 @@ pub record AreGroundsIn (asked : GrowthOn) (expected : List Expected) (known : O
   pub known_is : IsKnownIn asked.state known
 
 -- What is shown is the report that is asked for, in this form, where these registers are required, with its status; and this is the
--- checkpoint of what it is on.
+-- checkpoint of what it is on. The log leaves the registers before what is gone on from.
 pub record ShowsGrownOnWith (asked : GrowthOn) (required : Option (List BankRange)) (form : Form) (next : Checkpoint) (shown : List ℕ) (status : ℕ)
     : Type 0 where
   pub expected : List Expected
   pub known : Option Checkpoint
   pub grounds : AreGroundsIn asked expected known
+  pub boot : IfSome known (IsOfBoot asked.log)
   pub report :
       ShowsWholeOn asked.log asked.more expected known (seeks_front asked.extent required expected) form required next shown status
       ⊎ ShowsFrontOn asked.log asked.more expected known (seeks_front asked.extent required expected) form required next shown status

@@ -203,6 +203,7 @@ pub(crate) fn checkpoint_in(alloc: Global, text: &[u8]) -> Result<Checkpoint, Ru
 // A session of this log that goes on from this checkpoint, if there is one.
 pub(crate) fn session_of(log: &[u8], known: Option<Checkpoint>) -> Result<Session<'_>, RunFault>
     ensures taken { IfOk result (λ session. (taken : List ℕ) → IsTaken known taken → HasTaken log.now taken session) }
+    ensures boot { IfOk result (λ _. IfSome known (IsOfBoot log.now)) }
     ensures entries { IfOk result (λ session. session.known.entries ≡ entries_taken known) }
     ensures most { IfOk result (λ session. most_after session.known input_limit ≡ most_more known) }
     ensures fault { IfErr result (λ fault. HasLogFault log.now fault ⊎ ((fault ≡ runs.Checkpoint OtherBoot) × IsOfOtherBoot log.now known)) }
@@ -232,6 +233,7 @@ fn session_before(log: &[u8]) -> Result<Session<'_>, RunFault>
 fn session_after(log: &[u8], known: Checkpoint) -> Result<Session<'_>, RunFault>
     ensures taken { IfOk result (λ session. (taken : List ℕ) → IsCheckpoint taken known → HasTaken log.now taken session) }
     ensures known { IfOk result (λ session. session.known ≡ known) }
+    ensures boot { IfOk result (λ _. IsOfBoot log.now known) }
     ensures fault { IfErr result (λ fault. HasLogFault log.now fault ⊎ ((fault ≡ runs.Checkpoint OtherBoot) × (IsOfBoot log.now known → ⊥))) }
 {
     match Session::resumed(log, known) {

@@ -28,7 +28,8 @@ returns-clause-shown g c = (
   shows (g.F.Files.told c.args.files.now) (growth_of c.args.asked) _ c.in_ok-log.field-0.log.items c.in_ok-log.field-0.expected.items
       c.in_ok-log.field-0.known (g.F.Src.Source.state c.in_ok-log.field-0.list) (g.F.Src.Source.state c.judged_from.new.list)
       c.in_ok-session.session c.in_ok-log.ensures.grounds c.in_ok-log.ensures.given
-      (rw c.deref.ensures.value at c.in_ok-session.ensures.taken) c.in_ok-session.ensures.entries c.args.form c.judged_from.new.session
+      (rw c.deref.ensures.value at c.in_ok-session.ensures.taken) c.in_ok-session.ensures.entries
+      (rw c.deref.ensures.value at c.in_ok-session.ensures.boot) c.args.form c.judged_from.new.session
       c.in_ok-judged.judged _ _
       (rw (c.seeks_front-seeks.ensures, c.deref-2.ensures.value, c.deref-3.ensures.value) at c.in_ok-judged.ensures.judged)
       c.in_ok-output.ensures.text c.in_ok-output.ensures.status,

@@ -25,7 +25,7 @@ returns-clause-shown c = (
   shows_grown (growth_on c.args.asked) _ c.in_ok-expected.expected.items c.in_ok-known.known c.in_ok-expected.ensures.found
       c.in_ok-known.ensures.known c.in_ok-session.session c.in_ok-session.ensures.taken c.in_ok-session.ensures.entries
       c.seeks_front-seeks.result (rw c.deref.ensures.value at c.seeks_front-seeks.ensures) c.judged_on.new.session c.args.form _ _
-      c.in_ok-judged.judged (rw c.deref-2.ensures.value at c.in_ok-judged.ensures.judged) c.in_ok-output.ensures.text
+      c.in_ok-session.ensures.boot c.in_ok-judged.judged (rw c.deref-2.ensures.value at c.in_ok-judged.ensures.judged) c.in_ok-output.ensures.text
       c.in_ok-output.ensures.status,
   rw c.checkpoint.ensures at c.in_ok-checkpoint.ensures,
 )
