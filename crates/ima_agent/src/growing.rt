@@ -1,6 +1,6 @@
 //! The report on a list that grows: on a front of it, or going on from a checkpoint.
 
-ghost use Rattle.std.specs.Prelude.{◌≡◌, ◌⊎◌, ℕ, List, [], Some, true, false, option_map, IfOk, IfErr, IsTrue, OnErr, OnOk};
+ghost use Rattle.std.specs.Prelude.{◌≡◌, ◌⊎◌, ℕ, List, [], Some, true, false, option_map, IfOk, IfSome, IfErr, IsTrue, OnErr, OnOk};
 ghost use Rattle.boot_verdict.specs.declared.checkpoint.Checkpoint.{Checkpoint as CheckpointOf};
 ghost use Rattle.growing_lists.specs.CheckpointTexts.{checkpoint_text};
 ghost use Rattle.boot_verdict.specs.Checkpoints.{IsCheckpoint, most_after};
