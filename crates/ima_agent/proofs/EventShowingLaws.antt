@@ -1,5 +1,5 @@
 -- A log whose events are written as they are lent: what was written is what the program is asked for.
-use Rattle.std.proofs.Common.{ℕ, List, [], false, Some, Result, Ok, Err, refl, append-nil, inl, inr}
+use Rattle.std.proofs.Common.{◌≡◌, ℕ, List, [], false, Some, Result, Ok, Err, refl, append-nil, inl, inr}
 use Rattle.std.specs.Prelude.{String, string_bytes}
 use Rattle.std.specs.Global.{Global}
 use Rattle.byte_streams.specs.declared.streams.Failed.{Failed}
@@ -13,7 +13,7 @@ use Rattle.command_line.specs.declared.plan.Plan.TheVariants as plans
 use Rattle.ima_agent.specs.declared.fault.RunFault.{RunFault}
 use Rattle.ima_agent.specs.declared.streaming.StreamFault.{StreamFault}
 use Rattle.ima_agent.specs.declared.streaming.StreamFault.TheVariants as streams
-use Rattle.ima_agent.specs.Loading.{Holds, Inputs, IsInputFault}
+use Rattle.ima_agent.specs.Loading.{Holds, Inputs, IsInputFault, Saved}
 use Rattle.ima_agent.specs.Program.{IsOutcome}
 use Rattle.ima_agent.specs.Showing.{IsNoLogFor, data_of}
 use Rattle.ima_agent.specs.Streaming.{Streams}
@@ -67,9 +67,10 @@ module _ (inputs : Inputs) (name : List ℕ) (requested : DataShown) where
 
 -- ---- the outcome of a plan
 
-pub plain_outcome : (inputs : Inputs) (log : String Global) (requested : DataShown) (text : List ℕ) (status : ℕ)
-    → ShowsPlainEventsOf inputs (string_bytes log) requested text status → IsOutcome inputs (plans.Events log requested) text status
-plain_outcome inputs log requested text status (inl (bytes, held, inl (shown, is))) = inl ((bytes, held, shown), is)
-plain_outcome inputs log requested text status (inl (bytes, held, inr (fault, is, failure))) =
-    inr (inl (fault, inr (bytes, held, is), failure))
-plain_outcome inputs log requested text status (inr (fault, is, failure)) = inr (inl (fault, inl is, failure))
+pub plain_outcome : (inputs : Inputs) (log : String Global) (requested : DataShown) (old new : Saved) → new ≡ old → (text : List ℕ)
+    (status : ℕ) → ShowsPlainEventsOf inputs (string_bytes log) requested text status
+    → IsOutcome inputs (plans.Events log requested) old new text status
+plain_outcome inputs log requested old new kept text status (inl (bytes, held, inl (shown, is))) = inl (((bytes, held, shown), is), kept)
+plain_outcome inputs log requested old new kept text status (inl (bytes, held, inr (fault, is, failure))) =
+    inr (inl (fault, inr (bytes, held, is), failure, kept))
+plain_outcome inputs log requested old new kept text status (inr (fault, is, failure)) = inr (inl (fault, inl is, failure, kept))

@@ -21,7 +21,7 @@ use Rattle.ima_agent.specs.declared.streaming.StreamFault.{StreamFault}
 use Rattle.ima_agent.specs.declared.streaming.StreamFault.TheVariants as streams
 use Rattle.ima_agent.specs.JsonFaults.{IsFailure, ToldAsJson}
 use Rattle.ima_agent.specs.JsonShowing.{ShowsEventsOf, ShowsJsonEvents}
-use Rattle.ima_agent.specs.Loading.{Holds, Inputs, IsInputFault}
+use Rattle.ima_agent.specs.Loading.{Holds, Inputs, IsInputFault, Saved}
 use Rattle.ima_agent.specs.Program.{IsOutcome}
 use Rattle.ima_agent.specs.Streaming.{Streams}
 use Rattle.ima_agent.specs.parts.Streaming.{ShowsEventsIn}
@@ -163,8 +163,8 @@ module _ (inputs : Inputs) (name : List ℕ) where
 
 -- ---- the outcome of a plan
 
-pub events_outcome : (inputs : Inputs) (log : String Global) (text : List ℕ) (status : ℕ)
-    → ShowsEventsOf inputs (string_bytes log) text status → IsOutcome inputs (plans.Json (jsons.Events log)) text status
-events_outcome inputs log text status (inl (bytes, held, inl shown)) = inl (bytes, held, shown)
-events_outcome inputs log text status (inl (bytes, held, inr out)) = inr (inr (bytes, held, out))
-events_outcome inputs log text status (inr (fault, is, told)) = inr (inl (fault, is, inl told))
+pub events_outcome : (inputs : Inputs) (log : String Global) (old new : Saved) → new ≡ old → (text : List ℕ) (status : ℕ)
+    → ShowsEventsOf inputs (string_bytes log) text status → IsOutcome inputs (plans.Json (jsons.Events log)) old new text status
+events_outcome inputs log old new kept text status (inl (bytes, held, inl shown)) = inl ((bytes, held, shown), kept)
+events_outcome inputs log old new kept text status (inl (bytes, held, inr out)) = inr (inr ((bytes, held, out), kept))
+events_outcome inputs log old new kept text status (inr (fault, is, told)) = inr (inl (fault, is, inl told, kept))

@@ -27,7 +27,7 @@ use Rattle.ima_agent.specs.declared.streaming.StreamFault.{StreamFault}
 use Rattle.ima_agent.specs.declared.streaming.StreamFault.TheVariants as streams
 use Rattle.ima_agent.specs.JsonFaults.{IsFailure, ToldAsJson}
 use Rattle.ima_agent.specs.JsonShowing.{EndsAfterEntries, ShowsEntriesOf}
-use Rattle.ima_agent.specs.Loading.{HasFailed, Holds, Inputs, IsNotRead, IsTooLong, input_limit}
+use Rattle.ima_agent.specs.Loading.{HasFailed, Holds, Inputs, IsNotRead, IsTooLong, Saved, input_limit}
 use Rattle.ima_agent.specs.Program.{Answers, IsOutcome}
 use Rattle.ima_agent.specs.Streaming.{Streams}
 use Rattle.ima_agent.specs.parts.Streaming.{IsStreamResultOf, SendsEntriesOf}
@@ -302,10 +302,10 @@ streams_so P Q old new (Err (streams.Run fault)) so sent =
       goes_on = λ last status failure. so (sent.text ++ last) status (sent.goes_on last status failure);
     }
 
-pub entries_outcome : (inputs : Inputs) (list : String Global) (text : List ℕ) (status : ℕ)
-    → ShowsEntriesOf inputs (string_bytes list) text status → IsOutcome inputs (Json (jsons.Show list)) text status
-entries_outcome inputs list text status (inl shows) = inl shows
-entries_outcome inputs list text status (inr fails) = inr (inr fails)
+pub entries_outcome : (inputs : Inputs) (list : String Global) (old new : Saved) → new ≡ old → (text : List ℕ) (status : ℕ)
+    → ShowsEntriesOf inputs (string_bytes list) text status → IsOutcome inputs (Json (jsons.Show list)) old new text status
+entries_outcome inputs list old new kept text status (inl shows) = inl (shows, kept)
+entries_outcome inputs list old new kept text status (inr fails) = inr (inr (fails, kept))
 
 -- ---- the answer to what was sent
 

@@ -16,9 +16,9 @@ use Rattle.ima_agent.specs.JsonFaults.{IsFailure}
 use Rattle.ima_agent.specs.JsonOutputs.{IsJsonOutputFor}
 use Rattle.ima_agent.specs.JsonPlans.{plain_of}
 use Rattle.ima_agent.specs.JsonShowing.{FailsAfterEntries, RunsOutAfterEvents}
-use Rattle.ima_agent.specs.Loading.{Inputs, IsInputFault, OfInput}
+use Rattle.ima_agent.specs.Loading.{Inputs, IsInputFault, OfInput, Saved}
 use Rattle.ima_agent.specs.Expecting.{IsNotPrintedFor, IsRangeFault, ShowsExpected}
-use Rattle.ima_agent.specs.Growing.{IsGrownFault, ShowsGrowth, growth}
+use Rattle.ima_agent.specs.Growing.{IsGrownFault, ShowsAndSaves, ShowsGrowth, growth}
 use Rattle.ima_agent.specs.ListVerifying.{IsListReportFaultWith, ShowsListReport}
 use Rattle.ima_agent.specs.Locating.{ShowsPlaces}
 use Rattle.ima_agent.specs.Replaying.{IsReplayFaultOf, ShowsReplay}
@@ -69,6 +69,14 @@ IsOutputFor inputs (Show list) shown status = OfInput inputs (Some (string_bytes
 IsOutputFor inputs (Json plan) shown status = IsJsonOutputFor inputs plan shown status
 IsOutputFor inputs (Help text) shown status = (shown ≡ string_bytes text) × (status ≡ 0)
 IsOutputFor inputs Version shown status = (shown ≡ version_text) × (status ≡ 0)
+
+-- What was saved before and after this output of the plan. With a report on a list that grows the checkpoint of what it is on is saved, if
+-- that is asked for, and nothing else; with any other output nothing is.
+abbrev pub SavesFor : Inputs → Plan → Saved → Saved → List ℕ → ℕ → Type 0
+SavesFor inputs (VerifyGrowing asked) old new shown status = ShowsAndSaves inputs (growth asked) forms.Text old new shown status
+SavesFor inputs (Json (jsons.VerifyGrowing asked)) old new shown status =
+    ShowsAndSaves inputs (growth asked) forms.Json old new shown status
+SavesFor inputs plan old new shown status = new ≡ old
 
 -- Why nothing is shown of a measurement over this log of the files of these names and of those in the text of this input: the log
 -- is invalid; the text was not loaded, or gives no names; or the measurement failed.
@@ -147,19 +155,20 @@ IsBrokenOff inputs (Json (jsons.Events log)) text status =
 IsBrokenOff inputs (Json (jsons.Show list)) text status = FailsAfterEntries inputs (string_bytes list) text status
 IsBrokenOff inputs plan text status = ⊥
 
--- The text to be written for the plan, and the status if the sink takes it all: its output, or those of a fault that may come of it; or
--- the output as far as it came, and the fault.
-abbrev pub IsOutcome : Inputs → Plan → List ℕ → ℕ → Type 0
-IsOutcome inputs plan text status =
-    IsOutputFor inputs plan text status
-    ⊎ ((fault : RunFault) × IsFaultOf inputs plan fault × IsFailure (is_json plan) fault text status)
-    ⊎ IsBrokenOff inputs plan text status
+-- The text to be written for the plan, the status if the sink takes it all, and what was saved before and after: the plan's output, with
+-- what is saved with it. Or else nothing is saved, and the text and the status are those of a fault that may come of the plan; or the
+-- text is the output as far as it came, and the fault.
+abbrev pub IsOutcome : Inputs → Plan → Saved → Saved → List ℕ → ℕ → Type 0
+IsOutcome inputs plan old new text status =
+    (IsOutputFor inputs plan text status × SavesFor inputs plan old new text status)
+    ⊎ ((fault : RunFault) × IsFaultOf inputs plan fault × IsFailure (is_json plan) fault text status × (new ≡ old))
+    ⊎ (IsBrokenOff inputs plan text status × (new ≡ old))
 
--- The same for the arguments: for what they request; if they are refused, the fault's line and its status.
-abbrev pub IsOutput : Inputs → List (String Global) → List ℕ → ℕ → Type 0
-IsOutput inputs words text status =
-    ((plan : Plan) × IsPlanOf words plan × IsOutcome inputs plan text status)
-    ⊎ ((fault : RunFault) × IsWordsFault fault × (text ≡ fault_line fault) × (status ≡ fault_status fault))
+-- The same for the arguments: for what they request; if they are refused, the fault's line and its status, and nothing is saved.
+abbrev pub IsOutput : Inputs → List (String Global) → Saved → Saved → List ℕ → ℕ → Type 0
+IsOutput inputs words old new text status =
+    ((plan : Plan) × IsPlanOf words plan × IsOutcome inputs plan old new text status)
+    ⊎ ((fault : RunFault) × IsWordsFault fault × (text ≡ fault_line fault) × (status ≡ fault_status fault) × (new ≡ old))
 
 -- The status after an output was sent; 3 if the sink failed.
 abbrev pub status_after : {A E : Type 0} → Result A E → ℕ → ℕ
@@ -175,7 +184,8 @@ pub record Answers (IsAsked : List ℕ → ℕ → Type 0) (answer : ℕ) (old n
   pub sends : Sends old new sent text
   pub answer_is : answer ≡ status_after sent status
 
--- The output for the arguments; if they could not be obtained, that of a program out of memory.
-abbrev pub IsOutputOf : {E : Type 0} → Inputs → Result (Vec (String Global)) E → List ℕ → ℕ → Type 0
-IsOutputOf inputs (Ok words) text status = IsOutput inputs words.items text status
-IsOutputOf inputs (Err fault) text status = (text ≡ fault_line runs.Memory) × (status ≡ fault_status runs.Memory)
+-- The output for the arguments; if they could not be obtained, that of a program out of memory, and nothing is saved.
+abbrev pub IsOutputOf : {E : Type 0} → Inputs → Result (Vec (String Global)) E → Saved → Saved → List ℕ → ℕ → Type 0
+IsOutputOf inputs (Ok words) old new text status = IsOutput inputs words.items old new text status
+IsOutputOf inputs (Err fault) old new text status =
+    (text ≡ fault_line runs.Memory) × (status ≡ fault_status runs.Memory) × (new ≡ old)

@@ -1,6 +1,6 @@
 //! What a verdict is on: a log, a list and expected registers, from the files of their names.
 
-ghost use Rattle.std.specs.Prelude.{Some, IfOk, IfErr, IsTrue};
+ghost use Rattle.std.specs.Prelude.{◌≡◌, Some, IfOk, IfErr, IsTrue};
 ghost use Rattle.ima_agent.specs.Loading.{HasFailed};
 ghost use Rattle.ima_agent.specs.parts.Verifying.{IsEvidence};
 ghost use Rattle.ima_agent.specs.Verifying.{IsReportFault};
@@ -36,6 +36,7 @@ pub(crate) fn opened<F: Files>(
     ensures failing { IfOk result (λ evidence. (later : F.Src) → HasFailed (F.Src.state evidence.list) (F.Src.state later)
         → IsTrue ((F.told files.old).may_fail (Some list.now))) }
     ensures fault { IfErr result (IsReportFault (F.told files.old) log.now list.now expected.now) }
+    ensures saved { F.saved files.new ≡ F.saved files.old }
 {
     let log = loaded(alloc, files, Some(log))?;
     let text = loaded(alloc, files, Some(expected))?;

@@ -30,6 +30,7 @@ pub(crate) fn expected_from<F: Files>(
     ensures fault { IfErr result (λ fault. IsRangeFault (option_map (λ text. text.now) registers.entry) fault
         ⊎ IsInputFault (F.told files.old) (Some printed.now) fault
         ⊎ OfInput (F.told files.old) (Some printed.now) (λ text. IsNotPrintedFor (option_map (λ text. text.now) registers.entry) text fault)) }
+    ensures saved { F.saved files.new ≡ F.saved files.old }
 {
     let range = range_of(registers)?;
     let text = loaded(alloc, files, Some(printed))?;

@@ -1,9 +1,10 @@
 //! What the commands show with `--json`.
 
-ghost use Rattle.std.specs.Prelude.{IfOk, IfErr};
+ghost use Rattle.std.specs.Prelude.{◌≡◌, IfOk, IfErr, OnErr};
 ghost use Rattle.command_line.specs.Plans.{IsWithinJsonRanges};
+ghost use Rattle.command_line.specs.declared.plan.Plan.TheVariants.{Json};
 ghost use Rattle.ima_agent.specs.JsonOutputs.{IsJsonOutputFor};
-ghost use Rattle.ima_agent.specs.Program.{IsJsonFaultOf};
+ghost use Rattle.ima_agent.specs.Program.{IsJsonFaultOf, SavesFor};
 ghost use Rattle.ima_agent.specs.parts.JsonOutputs.{ShowsLines};
 ghost use Rattle.ima_agent.specs.parts.Program.{IsWholeJson};
 
@@ -46,6 +47,8 @@ pub(crate) fn json_for<R: Threads + Wait + Sync, F: Files, P: Progress>(
     requires whole { IsWholeJson plan.now }
     requires within { IsWithinJsonRanges plan.now }
     ensures shown { IfOk result (λ output. IsJsonOutputFor (F.told files.old) plan.now output.text.items output.status) }
+    ensures saved { IfOk result (λ output. SavesFor (F.told files.old) (Json plan.now) (F.saved files.old) (F.saved files.new) output.text.items output.status) }
+    ensures kept { OnErr result (F.saved files.new ≡ F.saved files.old) }
     ensures fault { IfErr result (IsJsonFaultOf (F.told files.old) plan.now) }
 {
     match plan {
@@ -83,6 +86,7 @@ fn lines_for<R: Threads + Wait + Sync, F: Files, P: Progress>(
     requires within { IsWithinJsonRanges plan.now }
     ensures shown { IfOk result (λ shown. IsJsonOutputFor (F.told files.old) plan.now shown.items 0) }
     ensures fault { IfErr result (IsJsonFaultOf (F.told files.old) plan.now) }
+    ensures saved { F.saved files.new ≡ F.saved files.old }
 {
     match plan {
         JsonPlan::Measure { .. } | JsonPlan::MeasureListed { .. } => {

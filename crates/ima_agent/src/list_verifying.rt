@@ -34,6 +34,7 @@ pub(crate) fn list_verified<F: Files>(
         (option_map (λ text. text.now) required.entry) output.text.items output.status) }
     ensures fault { IfErr result (IsListReportFaultWith (F.told files.old) list.now expected.now
         (option_map (λ text. text.now) required.entry)) }
+    ensures saved { F.saved files.new ≡ F.saved files.old }
 {
     match required {
         None => unrequired(alloc, files, list, expected),
@@ -50,6 +51,7 @@ fn unrequired<F: Files>(
 ) -> Result<Output, RunFault>
     ensures shown { IfOk result (λ output. ShowsListReport (F.told files.old) list.now expected.now None output.text.items output.status) }
     ensures fault { IfErr result (IsListReportFault (F.told files.old) list.now expected.now) }
+    ensures saved { F.saved files.new ≡ F.saved files.old }
 {
     let report = list_judged(alloc, files, list, expected)?;
     Ok(list_output(alloc, &report)?)
@@ -66,6 +68,7 @@ fn with_required<F: Files>(
     ensures shown { IfOk result (λ output. ShowsListReport (F.told files.old) list.now expected.now (Some required.now)
         output.text.items output.status) }
     ensures fault { IfErr result (IsFaultWith required.now (IsListReportFault (F.told files.old) list.now expected.now)) }
+    ensures saved { F.saved files.new ≡ F.saved files.old }
 {
     let requirement = requirement_in(alloc, required.as_bytes())?;
     let report = list_judged(alloc, files, list, expected)?;
@@ -112,6 +115,7 @@ pub(crate) fn list_judged<F: Files>(
 ) -> Result<ListReport, RunFault>
     ensures report { IfOk result (λ report. HasListVerdict (F.told files.old) list.now expected.now (list_verdict_of report)) }
     ensures fault { IfErr result (IsListReportFault (F.told files.old) list.now expected.now) }
+    ensures saved { F.saved files.new ≡ F.saved files.old }
 {
     let text = loaded(alloc, files, Some(expected))?;
     let expected = read_expected(alloc, &text)?;

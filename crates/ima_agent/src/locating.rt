@@ -35,6 +35,7 @@ pub(crate) fn located<F: Files>(
 ) -> Result<Output, RunFault>
     ensures shown { IfOk result (λ output. ShowsPlaces (F.told files.old) log.now list.now expected.now output.text.items output.status) }
     ensures fault { IfErr result (IsReportFault (F.told files.old) log.now list.now expected.now) }
+    ensures saved { F.saved files.new ≡ F.saved files.old }
 {
     let places = found(alloc, files, log, list, expected)?;
     Ok(places_output(alloc, &places)?)
@@ -52,6 +53,7 @@ pub(crate) fn located_with<F: Files>(
     ensures shown { IfOk result (λ output. ShowsRequiredPlaces (F.told files.old) log.now list.now expected.now required.now
         output.text.items output.status) }
     ensures fault { IfErr result (IsFaultWith required.now (IsReportFault (F.told files.old) log.now list.now expected.now)) }
+    ensures saved { F.saved files.new ≡ F.saved files.old }
 {
     let requirement = requirement_in(alloc, required.as_bytes())?;
     let places = found(alloc, files, log, list, expected)?;
@@ -103,6 +105,7 @@ pub(crate) fn found<F: Files>(
 ) -> Result<Vec<Located>, RunFault>
     ensures places { IfOk result (λ places. HasPlaces (F.told files.old) log.now list.now expected.now places.items) }
     ensures fault { IfErr result (IsReportFault (F.told files.old) log.now list.now expected.now) }
+    ensures saved { F.saved files.new ≡ F.saved files.old }
 {
     let Evidence {
         log,

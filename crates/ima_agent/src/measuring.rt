@@ -149,6 +149,7 @@ pub(crate) fn measured_for<R: Threads + Wait + Sync, F: Files, P: Progress>(
     requires within { IsWithinRanges plan.now }
     ensures shown { IfOk result (λ shown. IsOutputFor (F.told files.old) plan.now shown.items 0) }
     ensures fault { IfErr result (IsFaultOf (F.told files.old) plan.now) }
+    ensures saved { F.saved files.new ≡ F.saved files.old }
 {
     let asked = Measuring::of(plan);
     match plan {
@@ -171,6 +172,7 @@ pub(crate) fn measured_as_json<R: Threads + Wait + Sync, F: Files, P: Progress>(
     requires within { IsWithinJsonRanges plan.now }
     ensures shown { IfOk result (λ shown. IsJsonOutputFor (F.told files.old) plan.now shown.items 0) }
     ensures fault { IfErr result (IsPlainFaultOf (F.told files.old) (plain_of plan.now)) }
+    ensures saved { F.saved files.new ≡ F.saved files.old }
 {
     let asked = Measuring::of_json(plan);
     match plan {
@@ -198,6 +200,7 @@ fn measured<R: Threads + Wait + Sync, F: Files, P: Progress>(
     ensures fault { IfErr result (λ fault. IsInputFault (F.told files.old) (Some asked.entry.log.now) fault
         ⊎ OfInput (F.told files.old) (Some asked.entry.log.now) (λ bytes.
         IsMeasuringFault (files_in (F.told files.old)) (failing_in (F.told files.old)) bytes (manner_of asked.entry) (map string_bytes asked.entry.files.now) fault)) }
+    ensures saved { F.saved files.new ≡ F.saved files.old }
 {
     let bytes = loaded(alloc, files, Some(asked.log))?;
     let log = LogView::new(&bytes)?;
@@ -231,6 +234,7 @@ fn measured_listed<R: Threads + Wait + Sync, F: Files, P: Progress>(
     ensures fault { IfErr result (λ fault. IsInputFault (F.told files.old) (Some asked.entry.log.now) fault
         ⊎ OfInput (F.told files.old) (Some asked.entry.log.now) (λ bytes.
         IsListedFault (F.told files.old) bytes (manner_of asked.entry) (map string_bytes asked.entry.files.now) names.now ends fault)) }
+    ensures saved { F.saved files.new ≡ F.saved files.old }
 {
     let bytes = loaded(alloc, files, Some(asked.log))?;
     let log = LogView::new(&bytes)?;

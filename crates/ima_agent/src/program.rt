@@ -1,13 +1,13 @@
 //! Runs the program.
 
-ghost use Rattle.std.specs.Prelude.{◌≡◌, true, IfOk, IfErr, MatchResult};
+ghost use Rattle.std.specs.Prelude.{◌≡◌, true, IfOk, IfErr, MatchResult, OnErr};
 ghost use Rattle.std.specs.Process.{exit_status};
 ghost use Rattle.ima_agent.specs.FaultTexts.{fault_line, fault_status};
 ghost use Rattle.ima_agent.specs.JsonFaults.{IsFailure, IsFaultAsJson, ToldAsJson};
 ghost use Rattle.command_line.specs.Commands.{is_json};
 ghost use Rattle.command_line.specs.declared.plan.Plan.TheVariants.{Help};
 ghost use Rattle.command_line.specs.Plans.{IsWithinRanges};
-ghost use Rattle.ima_agent.specs.Program.{Answers, IsFaultOf, IsOutcome, IsOutput, IsOutputFor, IsOutputOf, status_after};
+ghost use Rattle.ima_agent.specs.Program.{Answers, IsFaultOf, IsOutcome, IsOutput, IsOutputFor, IsOutputOf, SavesFor, status_after};
 ghost use Rattle.ima_agent.specs.parts.Program.{IsStreamed, IsWhole, IsNoHelp, ShowsText};
 
 use crate::expecting::expected_from;
@@ -47,7 +47,7 @@ pub fn exit_code<R: Threads + Wait + Sync, F: Files, S: Sink, P: Progress>(
     sink: &mut S,
     progress: &P,
 ) -> ExitCode
-    ensures { Answers (IsOutputOf (F.told files.old) words) (exit_status result) (S.state sink.old) (S.state sink.new) }
+    ensures { Answers (IsOutputOf (F.told files.old) words (F.saved files.old) (F.saved files.new)) (exit_status result) (S.state sink.old) (S.state sink.new) }
 {
     match words {
         Ok(words) => exits_with(run_with_progress(rt, alloc, &words, files, sink, progress)),
@@ -82,6 +82,8 @@ fn exits_with(status: u8) -> ExitCode
 /// reads the loaded log: a fault's line then comes after those of the entries or events before it, whatever the fault. The status is 0 on success, 1
 /// if the report does not match, a register's value was not reached or a required register is missing, 2 for refused input, and 3 if
 /// memory ran out, outcomes do not account for the book, or a device failed. After the sink fails, nothing more is written.
+///
+/// A file is replaced only by `verify --save`: by the checkpoint of what the report is on, before the report is written. With a fault none is.
 pub fn run<R: Threads + Wait + Sync, F: Files, S: Sink>(
     rt: &R,
     alloc: Global,
@@ -89,7 +91,7 @@ pub fn run<R: Threads + Wait + Sync, F: Files, S: Sink>(
     files: &mut F,
     sink: &mut S,
 ) -> u8
-    ensures { Answers (IsOutput (F.told files.old) words.now) result (S.state sink.old) (S.state sink.new) }
+    ensures { Answers (IsOutput (F.told files.old) words.now (F.saved files.old) (F.saved files.new)) result (S.state sink.old) (S.state sink.new) }
 {
     run_with_progress(rt, alloc, words, files, sink, &NoProgress)
 }
@@ -103,7 +105,7 @@ pub fn run_with_progress<R: Threads + Wait + Sync, F: Files, S: Sink, P: Progres
     sink: &mut S,
     progress: &P,
 ) -> u8
-    ensures { Answers (IsOutput (F.told files.old) words.now) result (S.state sink.old) (S.state sink.new) }
+    ensures { Answers (IsOutput (F.told files.old) words.now (F.saved files.old) (F.saved files.new)) result (S.state sink.old) (S.state sink.new) }
 {
     match read_words(alloc, words) {
         Ok(plan) => run_plan(rt, alloc, plan, words, files, sink, progress),
@@ -126,7 +128,7 @@ fn run_plan<R: Threads + Wait + Sync, F: Files, S: Sink, P: Progress>(
     progress: &P,
 ) -> u8
     requires within { IsWithinRanges plan }
-    ensures { Answers (IsOutcome (F.told files.old) plan) result (S.state sink.old) (S.state sink.new) }
+    ensures { Answers (IsOutcome (F.told files.old) plan (F.saved files.old) (F.saved files.new)) result (S.state sink.old) (S.state sink.new) }
 {
     if is_streamed(&plan) {
         let status = run_streamed(alloc, &plan, words, files, sink, progress);
@@ -147,7 +149,7 @@ fn run_streamed<F: Files, S: Sink, P: Progress>(
     progress: &P,
 ) -> u8
     requires { IsStreamed plan.now }
-    ensures { Answers (IsOutcome (F.told files.old) plan.now) result (S.state sink.old) (S.state sink.new) }
+    ensures { Answers (IsOutcome (F.told files.old) plan.now (F.saved files.old) (F.saved files.new)) result (S.state sink.old) (S.state sink.new) }
 {
     match streamed_for(alloc, plan, files, sink) {
         Ok(()) => DONE,
@@ -175,7 +177,7 @@ fn run_whole<R: Threads + Wait + Sync, F: Files, S: Sink, P: Progress>(
 ) -> u8
     requires whole { IsWhole plan }
     requires within { IsWithinRanges plan }
-    ensures { Answers (IsOutcome (F.told files.old) plan) result (S.state sink.old) (S.state sink.new) }
+    ensures { Answers (IsOutcome (F.told files.old) plan (F.saved files.old) (F.saved files.new)) result (S.state sink.old) (S.state sink.new) }
 {
     let json = is_json(&plan);
     match output_for(rt, alloc, plan, files, progress) {
@@ -269,6 +271,8 @@ fn output_for<R: Threads + Wait + Sync, F: Files, P: Progress>(
     requires whole { IsWhole plan }
     requires within { IsWithinRanges plan }
     ensures shown { IfOk result (λ output. IsOutputFor (F.told files.old) plan output.text.items output.status) }
+    ensures saved { IfOk result (λ output. SavesFor (F.told files.old) plan (F.saved files.old) (F.saved files.new) output.text.items output.status) }
+    ensures kept { OnErr result (F.saved files.new ≡ F.saved files.old) }
     ensures fault { IfErr result (IsFaultOf (F.told files.old) plan) }
 {
     match help_of(plan) {
@@ -303,6 +307,8 @@ fn shown_for<R: Threads + Wait + Sync, F: Files, P: Progress>(
     requires whole { IsWhole plan.now }
     requires within { IsWithinRanges plan.now }
     ensures shown { IfOk result (λ output. IsOutputFor (F.told files.old) plan.now output.text.items output.status) }
+    ensures saved { IfOk result (λ output. SavesFor (F.told files.old) plan.now (F.saved files.old) (F.saved files.new) output.text.items output.status) }
+    ensures kept { OnErr result (F.saved files.new ≡ F.saved files.old) }
     ensures fault { IfErr result (IsFaultOf (F.told files.old) plan.now) }
 {
     match plan {
@@ -351,6 +357,7 @@ fn text_for<R: Threads + Wait + Sync, F: Files, P: Progress>(
     requires within { IsWithinRanges plan.now }
     ensures shown { IfOk result (λ shown. IsOutputFor (F.told files.old) plan.now shown.items 0) }
     ensures fault { IfErr result (IsFaultOf (F.told files.old) plan.now) }
+    ensures saved { F.saved files.new ≡ F.saved files.old }
 {
     match plan {
         Plan::Registers => shown_registers(alloc, files),

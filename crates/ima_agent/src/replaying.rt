@@ -28,6 +28,7 @@ pub(crate) fn replayed<F: Files>(
 ) -> Result<Vec<u8>, RunFault>
     ensures shown { IfOk result (λ shown. OfInput (F.told files.old) (Some list.now) (λ bytes. ShowsReplay form bytes shown.items)) }
     ensures fault { IfErr result (IsReplayFaultOf (F.told files.old) list.now) }
+    ensures saved { F.saved files.new ≡ F.saved files.old }
 {
     match files.source(Some(list)) {
         Ok(mut source) => registers_from(alloc, &mut source, list, form),

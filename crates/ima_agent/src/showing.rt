@@ -30,6 +30,7 @@ pub(crate) fn shown_registers<F: Files>(alloc: Global, files: &mut F) -> Result<
     ensures shown { IfOk result (λ shown. OfInput (F.told files.old) None (λ text. ShowsRegisters text shown.items)) }
     ensures fault { IfErr result (λ fault. IsInputFault (F.told files.old) None fault
         ⊎ OfInput (F.told files.old) None (λ text. IsRefusedFor text fault)) }
+    ensures saved { F.saved files.new ≡ F.saved files.old }
 {
     let text = loaded(alloc, files, None)?;
     registers_in(alloc, text)
@@ -44,6 +45,7 @@ pub(crate) fn registers_after<F: Files>(
     ensures shown { IfOk result (λ shown. OfInput (F.told files.old) (Some log.now) (λ bytes. ShowsRegistersAfter bytes shown.items)) }
     ensures fault { IfErr result (λ fault. IsInputFault (F.told files.old) (Some log.now) fault
         ⊎ OfInput (F.told files.old) (Some log.now) (λ bytes. IsNoLogFor bytes fault)) }
+    ensures saved { F.saved files.new ≡ F.saved files.old }
 {
     let bytes = loaded(alloc, files, Some(log))?;
     registers_on(alloc, &bytes)
@@ -57,7 +59,8 @@ pub(crate) fn events_written<F: Files, S: Sink>(
     requested: DataShown,
     sink: &mut S,
 ) -> Result<(), StreamFault>
-    ensures { Streams false (ShowsPlainEventsOf (F.told files.old) log.now requested) (S.state sink.old) (S.state sink.new) result }
+    ensures streams { Streams false (ShowsPlainEventsOf (F.told files.old) log.now requested) (S.state sink.old) (S.state sink.new) result }
+    ensures saved { F.saved files.new ≡ F.saved files.old }
 {
     match loaded(alloc, files, Some(log)) {
         Ok(bytes) => events_of(alloc, &bytes, requested, sink),
@@ -149,6 +152,7 @@ pub(crate) fn shown_list<F: Files>(
     ensures shown { IfOk result (λ shown. OfInput (F.told files.old) (Some list.now) (λ bytes. ShowsList bytes shown.items)) }
     ensures fault { IfErr result (λ fault. IsInputFault (F.told files.old) (Some list.now) fault
         ⊎ OfInput (F.told files.old) (Some list.now) (λ bytes. IsNoListFor bytes fault)) }
+    ensures saved { F.saved files.new ≡ F.saved files.old }
 {
     let bytes = loaded(alloc, files, Some(list))?;
     entries_on(alloc, &bytes)

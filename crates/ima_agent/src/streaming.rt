@@ -43,7 +43,8 @@ pub(crate) fn streamed_for<F: Files, S: Sink>(
     sink: &mut S,
 ) -> Result<(), StreamFault>
     requires { IsStreamed plan.now }
-    ensures { Streams (is_json plan.now) (IsOutcome (F.told files.old) plan.now) (S.state sink.old) (S.state sink.new) result }
+    ensures streams { Streams (is_json plan.now) (IsOutcome (F.told files.old) plan.now (F.saved files.old) (F.saved files.new)) (S.state sink.old) (S.state sink.new) result }
+    ensures saved { F.saved files.new ≡ F.saved files.old }
 {
     match plan {
         Plan::Events { log, data } => events_written(alloc, files, log, *data, sink),
@@ -60,7 +61,8 @@ fn streamed_json<F: Files, S: Sink>(
     sink: &mut S,
 ) -> Result<(), StreamFault>
     requires { IsStreamedJson plan.now }
-    ensures { Streams true (IsOutcome (F.told files.old) (Json plan.now)) (S.state sink.old) (S.state sink.new) result }
+    ensures streams { Streams true (IsOutcome (F.told files.old) (Json plan.now) (F.saved files.old) (F.saved files.new)) (S.state sink.old) (S.state sink.new) result }
+    ensures saved { F.saved files.new ≡ F.saved files.old }
 {
     match plan {
         JsonPlan::Events { log } => events_sent(alloc, files, log, sink),

@@ -34,6 +34,7 @@ pub(crate) fn verified<F: Files>(
 ) -> Result<Output, RunFault>
     ensures shown { IfOk result (λ output. ShowsReport (F.told files.old) log.now list.now expected.now output.text.items output.status) }
     ensures fault { IfErr result (IsReportFault (F.told files.old) log.now list.now expected.now) }
+    ensures saved { F.saved files.new ≡ F.saved files.old }
 {
     let report = judged(alloc, files, log, list, expected)?;
     Ok(report_output(alloc, &report)?)
@@ -51,6 +52,7 @@ pub(crate) fn verified_with<F: Files>(
     ensures shown { IfOk result (λ output. ShowsRequiredReport (F.told files.old) log.now list.now expected.now required.now
         output.text.items output.status) }
     ensures fault { IfErr result (IsFaultWith required.now (IsReportFault (F.told files.old) log.now list.now expected.now)) }
+    ensures saved { F.saved files.new ≡ F.saved files.old }
 {
     let requirement = requirement_in(alloc, required.as_bytes())?;
     let report = judged(alloc, files, log, list, expected)?;
@@ -105,6 +107,7 @@ pub(crate) fn judged<F: Files>(
 ) -> Result<Report, RunFault>
     ensures report { IfOk result (λ report. HasVerdict (F.told files.old) log.now list.now expected.now (verdict_of report)) }
     ensures fault { IfErr result (IsReportFault (F.told files.old) log.now list.now expected.now) }
+    ensures saved { F.saved files.new ≡ F.saved files.old }
 {
     let Evidence {
         log,

@@ -23,7 +23,8 @@ pub(crate) fn entries_sent<F: Files, S: Sink>(
     list: &str,
     sink: &mut S,
 ) -> Result<(), StreamFault>
-    ensures { Streams true (ShowsEntriesOf (F.told files.old) list.now) (S.state sink.old) (S.state sink.new) result }
+    ensures streams { Streams true (ShowsEntriesOf (F.told files.old) list.now) (S.state sink.old) (S.state sink.new) result }
+    ensures saved { F.saved files.new ≡ F.saved files.old }
 {
     entries_to_the_end_are_the_reading();
     match files.source(Some(list)) {

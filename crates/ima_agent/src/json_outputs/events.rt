@@ -25,7 +25,8 @@ pub(crate) fn events_sent<F: Files, S: Sink>(
     log: &str,
     sink: &mut S,
 ) -> Result<(), StreamFault>
-    ensures { Streams true (ShowsEventsOf (F.told files.old) log.now) (S.state sink.old) (S.state sink.new) result }
+    ensures streams { Streams true (ShowsEventsOf (F.told files.old) log.now) (S.state sink.old) (S.state sink.new) result }
+    ensures saved { F.saved files.new ≡ F.saved files.old }
 {
     match loaded(alloc, files, Some(log)) {
         Ok(bytes) => events_in(alloc, &bytes, sink),

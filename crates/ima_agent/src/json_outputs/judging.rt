@@ -35,6 +35,7 @@ pub(super) fn report<F: Files>(
         (option_map (λ text. text.now) required.entry) output.text.items output.status) }
     ensures fault { IfErr result (IsFaultWhere (option_map (λ text. text.now) required.entry)
         (IsReportFault (F.told files.old) log.now list.now expected.now)) }
+    ensures saved { F.saved files.new ≡ F.saved files.old }
 {
     match required {
         None => report_with(alloc, files, log, list, expected, None),
@@ -57,6 +58,7 @@ fn report_with<F: Files>(
     ensures shown { IfOk result (λ output. IsJsonReport (F.told files.old) log.now list.now expected.now
         (option_map (λ ranges. ranges.now) requirement.entry) output.text.items output.status) }
     ensures fault { IfErr result (IsReportFault (F.told files.old) log.now list.now expected.now) }
+    ensures saved { F.saved files.new ≡ F.saved files.old }
 {
     let report = judged(alloc, files, log, list, expected)?;
     Ok(report_line(alloc, &report, requirement)?)
@@ -92,6 +94,7 @@ pub(super) fn places<F: Files>(
         (option_map (λ text. text.now) required.entry) output.text.items output.status) }
     ensures fault { IfErr result (IsFaultWhere (option_map (λ text. text.now) required.entry)
         (IsReportFault (F.told files.old) log.now list.now expected.now)) }
+    ensures saved { F.saved files.new ≡ F.saved files.old }
 {
     match required {
         None => places_with(alloc, files, log, list, expected, None),
@@ -114,6 +117,7 @@ fn places_with<F: Files>(
     ensures shown { IfOk result (λ output. AreJsonPlaces (F.told files.old) log.now list.now expected.now
         (option_map (λ ranges. ranges.now) requirement.entry) output.text.items output.status) }
     ensures fault { IfErr result (IsReportFault (F.told files.old) log.now list.now expected.now) }
+    ensures saved { F.saved files.new ≡ F.saved files.old }
 {
     let places = found(alloc, files, log, list, expected)?;
     Ok(places_line(alloc, &places, requirement)?)
@@ -148,6 +152,7 @@ pub(super) fn list_report<F: Files>(
         (option_map (λ text. text.now) required.entry) output.text.items output.status) }
     ensures fault { IfErr result (IsFaultWhere (option_map (λ text. text.now) required.entry)
         (IsListReportFault (F.told files.old) list.now expected.now)) }
+    ensures saved { F.saved files.new ≡ F.saved files.old }
 {
     match required {
         None => list_report_with(alloc, files, list, expected, None),
@@ -169,6 +174,7 @@ fn list_report_with<F: Files>(
     ensures shown { IfOk result (λ output. IsJsonListReport (F.told files.old) list.now expected.now
         (option_map (λ ranges. ranges.now) requirement.entry) output.text.items output.status) }
     ensures fault { IfErr result (IsListReportFault (F.told files.old) list.now expected.now) }
+    ensures saved { F.saved files.new ≡ F.saved files.old }
 {
     let report = list_judged(alloc, files, list, expected)?;
     Ok(list_report_line(alloc, &report, requirement)?)

@@ -22,6 +22,7 @@ pub(super) fn log_registers<F: Files>(
     ensures shown { IfOk result (λ shown. OfInput (F.told files.old) (Some log.now) (λ bytes. ShowsJsonRegisters bytes shown.items)) }
     ensures fault { IfErr result (λ fault. IsInputFault (F.told files.old) (Some log.now) fault
         ⊎ OfInput (F.told files.old) (Some log.now) (λ bytes. IsNoLogFor bytes fault)) }
+    ensures saved { F.saved files.new ≡ F.saved files.old }
 {
     let bytes = loaded(alloc, files, Some(log))?;
     registers_on(alloc, &bytes)

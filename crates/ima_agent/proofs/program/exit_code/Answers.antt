@@ -1,4 +1,4 @@
-use Rattle.std.proofs.Common.{◌∙◌}
+use Rattle.std.proofs.Common.{refl, ◌∙◌}
 use Rattle.ima_agent.proofs.program.exit_code.Goals as goal
 
 pub returns-in-Ok : goal.returns-in-Ok
@@ -20,7 +20,7 @@ returns-in-Err g c =
       text = said.text;
       status = said.status;
       sent = said.sent;
-      output = rw c.in-Err.is said.output;
+      output = rw c.in-Err.is (said.output.0, said.output.1, refl);
       sends = said.sends;
       answer_is = c.exits_with-in-Err.ensures ∙ said.answer_is;
     }

@@ -6,7 +6,7 @@ returns-in-Ok g c = record {
   text = c.in-Ok.output.text.items;
   status = c.in-Ok.output.status;
   sent = c.send-sent.result;
-  output = inl c.in-Ok.ensures.shown;
+  output = inl (c.in-Ok.ensures.shown, c.in-Ok.ensures.saved);
   sends = rw (← c.deref.ensures.value) c.send-sent.ensures;
   answer_is = c.status_after.ensures;
 }
@@ -18,7 +18,7 @@ returns-in-Err g c =
       text = said.text;
       status = said.status;
       sent = said.sent;
-      output = inr (inl (c.in-Err.fault, c.in-Err.ensures.fault, rw c.is_json-json.ensures at said.output));
+      output = inr (inl (c.in-Err.fault, c.in-Err.ensures.fault, rw c.is_json-json.ensures at said.output, c.in-Err.ensures.kept));
       sends = said.sends;
       answer_is = said.answer_is;
     }

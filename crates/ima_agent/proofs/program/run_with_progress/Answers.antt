@@ -1,4 +1,4 @@
-use Rattle.std.proofs.Common.{inl, inr}
+use Rattle.std.proofs.Common.{refl, inl, inr}
 use Rattle.ima_agent.proofs.program.run_with_progress.Goals as goal
 
 pub returns-in-Ok : goal.returns-in-Ok
@@ -20,7 +20,7 @@ returns-in-Err g c =
       text = said.text;
       status = said.status;
       sent = said.sent;
-      output = inr (c.in-Err.fault, c.in-Err.ensures.refused, said.output.0, said.output.1);
+      output = inr (c.in-Err.fault, c.in-Err.ensures.refused, said.output.0, said.output.1, refl);
       sends = said.sends;
       answer_is = said.answer_is;
     }
