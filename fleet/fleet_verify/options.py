@@ -4,6 +4,7 @@ import argparse
 import re
 from typing import Any, List, Sequence
 
+from . import __version__
 from .verdicts import VERDICTS
 from .work import NONE
 
@@ -86,6 +87,7 @@ def add_options(parser: argparse.ArgumentParser) -> None:
         "--progress", metavar="SECONDS", type=positive, default=10,
         help="the time between lines of progress where standard error is no terminal (default: 10)",
     )
+    parser.add_argument("--version", action="version", version=f"%(prog)s {__version__}", help="print the version, and end")
     parser.add_argument("machines", metavar="MACHINES", help="the table of machines")
     parser.add_argument("table", metavar="TABLE", help="the table of verdicts")
 
