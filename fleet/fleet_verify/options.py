@@ -77,7 +77,7 @@ def add_options(parser: argparse.ArgumentParser) -> None:
     )
     parser.add_argument(
         "--in-flight", metavar="N", type=positive,
-        help="how many machines are in flight at most (default: as many as take each thread of a worker some 200 milliseconds)",
+        help="how many machines are in flight at most (default: as many as take each thread of a worker about a second)",
     )
     parser.add_argument(
         "--patience", metavar="SECONDS", type=positive, default=600,

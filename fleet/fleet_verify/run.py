@@ -71,7 +71,8 @@ class Run:
     heard: float = field(default_factory=time.monotonic)
     looked: float = -LOOK_SECONDS
     looking: "Optional[asyncio.Task[None]]" = None
-    keys: Iterator[str] = field(default_factory=lambda: (f"verify-{uuid.uuid4().hex}-{number}" for number in itertools.count()))
+    name: str = field(default_factory=lambda: f"verify-{uuid.uuid4().hex}")
+    numbers: Iterator[int] = field(default_factory=itertools.count)
 
     async def verify(self) -> None:
         """Verifies the machines. Those of a batch whose workers died again and again are tried once more at the end, each with no other
@@ -151,7 +152,7 @@ class Run:
         ]
         request = {"machines": machines, "require": self.options.require, "is_poll": self.options.poll, "seconds": BATCH_SECONDS}
         batch.future = self.connection.client.submit(
-            verify_batch, json.dumps(request), key=next(self.keys), retries=TRIES - 1, pure=False,
+            verify_batch, json.dumps(request), key=f"{self.name}-{next(self.numbers)}", retries=TRIES - 1, pure=False,
         )
         batch.following = asyncio.create_task(self._follow(batch))
         self.in_flight.append(batch)
