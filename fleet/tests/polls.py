@@ -178,7 +178,6 @@ class Growing:
         is_whole = self.kind.startswith("restarted") or self.kind in ("other version", "lost")
         return self.row(start=0 if is_whole else before)
 
-
     def whole_row(self):
         """What must come of it after the third poll, if its list is there, and read from the beginning."""
         if self.kind.startswith("tampered"):
