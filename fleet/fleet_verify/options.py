@@ -76,8 +76,8 @@ def add_options(parser: argparse.ArgumentParser) -> None:
         "--whole", action="store_true", help="with --poll: read all lists from their beginnings, whatever checkpoints there are",
     )
     parser.add_argument(
-        "--in-flight", metavar="N", type=positive,
-        help="how many machines are in flight at most (default: as many as take each thread of a worker about a second)",
+        "--in-flight", metavar="N", type=positive, default=16000,
+        help="how many machines are in flight at most (default: 16000, and no more than take each thread of a worker about a second)",
     )
     parser.add_argument(
         "--patience", metavar="SECONDS", type=positive, default=600,

@@ -26,10 +26,9 @@ SPARE = 1.25
 # How many batches there are for each thread: one that it verifies, and one that is there when that ends.
 AT_ONCE = 2
 FIRST_BATCH = 64
-MOST_BATCH = 2000
+MOST_BATCH = 1000
 # The least part of a batch that is given at the end of a run, when what is left is shared among the workers.
 LEAST_PART = 16
-MOST_UNRECORDED = 8000
 TRIES = 3
 TICK_SECONDS = 0.2
 LOOK_SECONDS = 1.0
@@ -99,7 +98,7 @@ class Run:
     async def _verify(self, is_alone: bool) -> None:
         while True:
             self._look()
-            self.ledger.take_turn(self._most * AT_ONCE * self._threads, self.arrived)
+            self.ledger.take_turn(max(self._most, AT_ONCE * FIRST_BATCH) * self._threads, self.arrived)
             self._submit(is_alone)
             if self.ledger.is_done and not self.in_flight:
                 return
@@ -135,16 +134,10 @@ class Run:
 
     def _size(self) -> int:
         """How many machines to give to a worker."""
-        if self.ledger.unrecorded > MOST_UNRECORDED:
-            return 0
-        batches = AT_ONCE * self._threads
+        batches, most = AT_ONCE * self._threads, int(self.options.in_flight)
         share, least = math.ceil(self.ledger.remaining / batches), math.ceil(self._most / LEAST_PART)
-        size = min(self._most, max(share, least))
-        most: Optional[int] = self.options.in_flight
-        if most is None:
-            return size
         given = sum(len(batch.tasks) for batch in self.in_flight) + self.ledger.unrecorded
-        return min(size, max(most // batches, 1), most - given)
+        return min(self._most, max(share, least), max(most // batches, 1), max(most - given, 0))
 
     def _send(self, batch: Batch) -> None:
         machines = [
