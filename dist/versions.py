@@ -18,6 +18,7 @@ PLACES = (
     ("*.case", rf"ima-agent {NUMBER}", True),
     ("*.antt", rf"ima-agent {NUMBER}", False),
     ("*.py", rf"ima-agent {NUMBER}", False),
+    ("fleet/fleet_verify/__init__.py", rf'^__version__ = "{NUMBER}"$', True),
     ("*.md", rf"(?:ima-agent |ima-agent-|ima_verify-|bindings/go/v|\bgo get \S+@v){NUMBER}", False),
 )
 

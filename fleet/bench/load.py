@@ -5,12 +5,15 @@ fleet/bench/load.py LIBRARY_DIR [MACHINES] [ENTRIES] [SECONDS]
 
 LIBRARY_DIR has libima_verify.so. There are MACHINES machines (by default 20000), links to a made log, a list of ENTRIES entries (5000) and
 the registers that these make; a worker is killed every SECONDS (10). Scheduler, client and workers with their nannies are processes of
-their own, which listen on 127.0.0.1 alone. It ends by itself, after half an hour at the latest.
+their own, which listen on 127.0.0.1 alone. Dask has the settings by which docs/fleet.md has a scheduler keep little. It ends by itself,
+after half an hour at the latest.
 
 It prints how much memory client and scheduler have from tenth to tenth of the machines, and at the end what was killed and what was verified
-twice. The status is 0 if workers were killed and others took their places, every machine has its verdict, a match, and the client wrote no traceback."""
+twice. The status is 0 if workers were killed and others took their places, every machine has its verdict, a match, and the client wrote no
+traceback."""
 
 import os
+import re
 import signal
 import sys
 import tempfile
@@ -29,6 +32,7 @@ LOOK_SECONDS = 0.2
 MOST_SECONDS = 1800
 NOTED = ("--preload", Path(__file__).resolve().parents[1] / "tests/noted_calls.py")
 PARTS = 10
+SETTINGS = dict(re.findall(r"`(DASK_\w+)=(\w+)`", (Path(__file__).resolve().parents[2] / "docs/fleet.md").read_text()))
 
 
 def memory(process):
@@ -78,7 +82,7 @@ def run(processes, count, entries, seconds):
     """Whether a run under load ends as it should."""
     table = make_table(processes.folder / "machines", count, large_files(entries), is_linked=True)
     verdicts = processes.folder / "verdicts.db"
-    with processes.cluster("load", WORKERS, "--nanny", *NOTED) as (address, started):
+    with processes.cluster("load", WORKERS, "--nanny", *NOTED, **SETTINGS) as (address, started):
         *nannies, scheduler = started
         until("the workers", lambda: all(children_of(nanny.pid) for nanny in nannies))
         print("| Done | Seconds | Client, MiB | Scheduler, MiB | Killed |\n|---:|---:|---:|---:|---:|", flush=True)

@@ -15,6 +15,22 @@ LOCAL = "127.0.0.1"
 # Threads of libraries for numbers, of which no worker has a use, and none may be there at a fork.
 ALONE = dict.fromkeys(("OMP_NUM_THREADS", "MKL_NUM_THREADS", "OPENBLAS_NUM_THREADS"), "1")
 
+# What Dask is told in this process: what a scheduler of its own keeps in memory is little, and no more at the end of a long run than at its
+# start. Its clocks go off seldom.
+SETTINGS = {
+    "distributed.scheduler.transition-log-length": 1000,
+    "distributed.scheduler.events-log-length": 1000,
+    "distributed.scheduler.work-stealing": False,
+    "distributed.scheduler.active-memory-manager.start": False,
+    "distributed.admin.low-level-log-length": 1000,
+    "distributed.worker.profile.enabled": False,
+    "distributed.admin.tick.interval": "1s",
+    "distributed.admin.system-monitor.interval": "10s",
+    "distributed.comm.compression": None,
+    # (for each submission Dask would look up the text of the code that called it, which takes longer than the rest)
+    "distributed.diagnostics.computations.ignore-modules": [".*"],
+}
+
 
 @contextmanager
 def nursery(workers: int) -> "Iterator[subprocess.Popen[str]]":
@@ -63,8 +79,7 @@ def _quiet() -> None:
     import dask
 
     logging.disable(logging.CRITICAL)  # (levels would not do: Dask sets one for each of its parts)
-    # (for each submission Dask would look up the text of the code that called it, which takes longer than the rest)
-    dask.config.set({"distributed.diagnostics.computations.ignore-modules": [".*"]})
+    dask.config.set(SETTINGS)
 
 
 @asynccontextmanager
@@ -97,6 +112,6 @@ async def connect(scheduler: Optional[str], workers: Optional[int]) -> AsyncIter
             with suppress(OSError):  # (that it is gone is found when workers are looked for)
                 own.stdin.write(f"{started.address}\n")
                 own.stdin.flush()
-            async with opened(Client(started.address, asynchronous=True)) as client:
+            async with opened(Client(started.address, asynchronous=True, direct_to_workers=True)) as client:
                 yield Connection(client, own)
             await asyncio.get_running_loop().run_in_executor(None, end, own)  # (the workers before their scheduler)

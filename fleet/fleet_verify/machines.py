@@ -11,11 +11,12 @@ import re
 from pathlib import Path
 from typing import Dict, List, NamedTuple, Tuple
 
-FILES = ("firmware.log", "ima.list", "expected.txt")
+from .work import FILES, paths_of
+
 MOST_CHARACTERS = 255
 
 # (fsspec chains its file systems with `::`)
-_PLACE = re.compile(r"(?:/|[a-z][a-z0-9+.-]*(?:::[a-z][a-z0-9+.-]*)*://)[^\x00-\x1f\x7f]*", re.IGNORECASE)
+_PLACE = re.compile(r"(?:/|[a-z][a-z0-9+.-]*(?:::[a-z][a-z0-9+.-]*)*://(?!$))[^\x00-\x1f\x7f]*", re.IGNORECASE)
 
 
 class BadTable(Exception):
@@ -31,10 +32,7 @@ class Machine(NamedTuple):
     @property
     def paths(self) -> Tuple[str, ...]:
         """The paths of its log, its list and its expected registers."""
-        if len(self.places) == len(FILES):
-            return self.places
-        (folder,) = self.places
-        return tuple(f"{folder.rstrip('/')}/{file}" for file in FILES)
+        return tuple(paths_of(self.places))
 
 
 def read_machines(path: str) -> List[Machine]:

@@ -8,16 +8,22 @@ import os
 import select
 import signal
 import sys
-import time
-from typing import Dict
+from typing import Set
 
-# What Dask is told in each worker. (Its profiler looks at what runs a hundred times a second.)
-SETTINGS = {"distributed.worker.profile.interval": "1s", "distributed.worker.profile.cycle": "10s"}
+# What Dask is told in each worker. (Its profiler would look at what runs a hundred times a second.)
+SETTINGS = {
+    "distributed.worker.profile.enabled": False,
+    "distributed.worker.profile.interval": "1s",
+    "distributed.worker.profile.cycle": "10s",
+    "distributed.admin.tick.interval": "1s",
+    "distributed.admin.system-monitor.interval": "10s",
+    "distributed.comm.compression": None,
+}
 LOOK_SECONDS = 0.05
-# A worker that ends so soon has not started. After some in a row the nursery gives up.
-START_SECONDS = 1.0
+# So many workers may end one after another before the scheduler has them. Then the nursery gives up.
 MOST_FAILED_STARTS = 10
 PR_SET_PDEATHSIG = 1
+PIPE_BYTES = 64 * 1024  # (no more fit into one)
 
 
 def load() -> None:
@@ -32,8 +38,8 @@ def load() -> None:
     versions.optional_packages = []  # (as in the client: to tell of them Dask would load pandas)
 
 
-def work(address: str, folder: str) -> None:
-    """Is a worker, until the scheduler closes it or is gone."""
+def work(address: str, folder: str, started: int) -> None:
+    """Is a worker, until the scheduler closes it or is gone. Once the scheduler has it, it says so in the pipe `started`."""
     import asyncio
 
     from distributed import Worker
@@ -43,12 +49,13 @@ def work(address: str, folder: str) -> None:
             address, nthreads=1, host="127.0.0.1", local_directory=folder, memory_limit=0, dashboard=False,
             dashboard_address="127.0.0.1:0",
         ) as worker:
+            os.write(started, f"{os.getpid()}\n".encode())
             await worker.finished()
 
     asyncio.run(serve())
 
 
-def fork_worker(address: str, folder: str) -> int:
+def fork_worker(address: str, folder: str, started: int) -> int:
     """Forks a worker, and gives the number of its process."""
     process = os.fork()
     if process:
@@ -59,7 +66,7 @@ def fork_worker(address: str, folder: str) -> int:
         nothing = os.open(os.devnull, os.O_RDWR)
         os.dup2(nothing, sys.stdin.fileno())
         os.dup2(nothing, sys.stdout.fileno())
-        work(address, folder)
+        work(address, folder, started)
         status = 0
     finally:
         os._exit(status)  # (without a word: the nursery tells what is to be told)
@@ -73,21 +80,33 @@ def is_at_end() -> bool:
 
 def keep(count: int, address: str, folder: str) -> None:
     """Keeps so many workers running, until the client ends or they fail to start again and again."""
-    started: Dict[int, float] = {}
+    told, started = os.pipe2(os.O_CLOEXEC | os.O_NONBLOCK)
+    running: Set[int] = set()
+    ready: Set[int] = set()
     failed_starts = 0
     while not is_at_end() and failed_starts < MOST_FAILED_STARTS:
-        while len(started) < count:
-            started[fork_worker(address, folder)] = time.monotonic()
-        process, status = os.waitpid(-1, os.WNOHANG)
+        while len(running) < count:
+            running.add(fork_worker(address, folder, started))
+        process, _ = os.waitpid(-1, os.WNOHANG)
+        ready.update(read_numbers(told))
         if process:
-            is_early = time.monotonic() - started.pop(process) < START_SECONDS
-            failed_starts = failed_starts + 1 if is_early else 0
-    for process in started:
+            running.remove(process)
+            failed_starts = 0 if process in ready else failed_starts + 1
+            ready.discard(process)
+    for process in running:
         os.kill(process, signal.SIGKILL)
-    for process in started:
+    for process in running:
         os.waitpid(process, 0)
     if failed_starts >= MOST_FAILED_STARTS:
-        print(f"{failed_starts} workers ended in their first second", flush=True)
+        print(f"{failed_starts} workers ended one after another before they had started", flush=True)
+
+
+def read_numbers(pipe: int) -> Set[int]:
+    """The numbers that stand in a pipe, each a line."""
+    try:
+        return set(map(int, os.read(pipe, PIPE_BYTES).split()))
+    except BlockingIOError:
+        return set()
 
 
 def main() -> None:

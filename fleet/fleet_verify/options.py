@@ -4,6 +4,7 @@ import argparse
 import re
 from typing import Any, List, Sequence
 
+from . import __version__
 from .verdicts import VERDICTS
 from .work import NONE
 
@@ -75,8 +76,8 @@ def add_options(parser: argparse.ArgumentParser) -> None:
         "--whole", action="store_true", help="with --poll: read all lists from their beginnings, whatever checkpoints there are",
     )
     parser.add_argument(
-        "--in-flight", metavar="N", type=positive,
-        help="how many machines are in flight at most (default: as many as take each thread of a worker some 200 milliseconds)",
+        "--in-flight", metavar="N", type=positive, default=16000,
+        help="how many machines are in flight at most (default: 16000, and no more than take each thread of a worker about a second)",
     )
     parser.add_argument(
         "--patience", metavar="SECONDS", type=positive, default=600,
@@ -86,6 +87,7 @@ def add_options(parser: argparse.ArgumentParser) -> None:
         "--progress", metavar="SECONDS", type=positive, default=10,
         help="the time between lines of progress where standard error is no terminal (default: 10)",
     )
+    parser.add_argument("--version", action="version", version=f"%(prog)s {__version__}", help="print the version, and end")
     parser.add_argument("machines", metavar="MACHINES", help="the table of machines")
     parser.add_argument("table", metavar="TABLE", help="the table of verdicts")
 

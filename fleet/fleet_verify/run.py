@@ -8,27 +8,32 @@ import math
 import time
 import uuid
 from collections import Counter
+from contextlib import suppress
 from dataclasses import dataclass, field
-from typing import Any, Dict, Iterator, List, Optional, Set
+from typing import Any, Dict, Iterator, List, Optional
 
+from .answers import Answered, read_answers
 from .connection import Connection
 from .ending import CannotGoOn
 from .ledger import Ledger, Task
 from .progress import Progress
 from .verdicts import VERDICTS
-from .work import TROUBLED, UNFIT, Fields, cause_of, now, verify_batch
+from .work import UNFIT, Fields, cause_of, now, verify_batch
 
 # A batch is as many machines as a worker is expected to verify in this time, and a quarter more: what it does not do comes back.
-BATCH_SECONDS = 0.2
+BATCH_SECONDS = 0.5
 SPARE = 1.25
+# How many batches there are for each thread: one that it verifies, and one that is there when that ends.
+AT_ONCE = 2
 FIRST_BATCH = 64
-MOST_BATCH = 2000
+MOST_BATCH = 1000
 # The least part of a batch that is given at the end of a run, when what is left is shared among the workers.
-LEAST_PART = 8
-MOST_UNRECORDED = 4000
+LEAST_PART = 16
 TRIES = 3
 TICK_SECONDS = 0.2
 LOOK_SECONDS = 1.0
+# How long a run that stops waits for answers that a worker has given, and that are on their way.
+CLOSE_SECONDS = 1.0
 
 # Why a machine failed that was verified with no other in flight.
 KILLED = "KilledWorker: each worker that verified it died"
@@ -40,15 +45,16 @@ class Batch:
 
     tasks: List[Task]
     is_alone: bool
-    answers: List[Fields] = field(default_factory=list)
-    seconds: float = 0
+    future: Any = None
+    following: "Optional[asyncio.Task[None]]" = None
+    answered: Optional[Answered] = None
     is_killed: bool = False
     fault: str = ""
 
 
 @dataclass
 class Run:
-    """A run: its batches are in flight, one for each thread of the workers. `ledger` has the machines and the table, and `sizes` by the
+    """A run: its batches are in flight, some for each thread of the workers. `ledger` has the machines and the table, and `sizes` by the
     workers' addresses how many machines each may do in a batch."""
 
     connection: Connection
@@ -60,12 +66,12 @@ class Run:
     in_flight: List[Batch] = field(default_factory=list)
     ended: List[Batch] = field(default_factory=list)
     sizes: Dict[str, int] = field(default_factory=dict)
-    following: "Set[asyncio.Task[None]]" = field(default_factory=set)
     arrived: asyncio.Event = field(default_factory=asyncio.Event)
     heard: float = field(default_factory=time.monotonic)
     looked: float = -LOOK_SECONDS
     looking: "Optional[asyncio.Task[None]]" = None
-    keys: Iterator[str] = field(default_factory=lambda: (f"verify-{uuid.uuid4().hex}-{number}" for number in itertools.count()))
+    name: str = field(default_factory=lambda: f"verify-{uuid.uuid4().hex}")
+    numbers: Iterator[int] = field(default_factory=itertools.count)
 
     async def verify(self) -> None:
         """Verifies the machines. Those of a batch whose workers died again and again are tried once more at the end, each with no other
@@ -75,14 +81,24 @@ class Run:
             self.ledger.give_back(self.suspects)
             await self._verify(is_alone=True)
         finally:
-            await self.ledger.close()
-            for task in (*self.following, *filter(None, [self.looking])):
+            await self._close()
+
+    async def _close(self) -> None:
+        """Records all that is answered, whatever ends the run."""
+        arriving = [batch.following for batch in self.in_flight if batch.following and batch.future.done()]
+        if arriving:
+            await asyncio.wait(arriving, timeout=CLOSE_SECONDS)
+        with suppress(CannotGoOn):
+            self._take()
+        await self.ledger.close()
+        for task in (*(batch.following for batch in self.in_flight), self.looking):
+            if task is not None:
                 task.cancel()
 
     async def _verify(self, is_alone: bool) -> None:
         while True:
             self._look()
-            self.ledger.take_turn(self._most * self._threads, self.arrived)
+            self.ledger.take_turn(max(self._most, AT_ONCE * FIRST_BATCH) * self._threads, self.arrived)
             self._submit(is_alone)
             if self.ledger.is_done and not self.in_flight:
                 return
@@ -108,8 +124,8 @@ class Run:
         return max((self.sizes.get(address, 0) for address in self.connection.threads), default=0) or FIRST_BATCH
 
     def _submit(self, is_alone: bool) -> None:
-        """Gives a batch for each thread that has none. (None waits behind another, and so a worker that dies had one for each thread.)"""
-        while len(self.in_flight) < (1 if is_alone else self._threads):
+        """Gives as many batches as there may be. (Those that wait come to no harm when a worker dies.)"""
+        while len(self.in_flight) < (1 if is_alone else AT_ONCE * self._threads):
             size = 1 if is_alone else self._size()
             tasks = [self.ledger.next.popleft() for _ in range(min(size, len(self.ledger.next)))]
             if not tasks:
@@ -118,38 +134,30 @@ class Run:
 
     def _size(self) -> int:
         """How many machines to give to a worker."""
-        if self.ledger.unrecorded > MOST_UNRECORDED:
-            return 0
-        share, least = math.ceil(self.ledger.remaining / self._threads), math.ceil(self._most / LEAST_PART)
-        size = min(self._most, max(share, least))
-        most: Optional[int] = self.options.in_flight
-        if most is None:
-            return size
+        batches, most = AT_ONCE * self._threads, int(self.options.in_flight)
+        share, least = math.ceil(self.ledger.remaining / batches), math.ceil(self._most / LEAST_PART)
         given = sum(len(batch.tasks) for batch in self.in_flight) + self.ledger.unrecorded
-        return min(size, max(most // self._threads, 1), most - given)
+        return min(self._most, max(share, least), max(most // batches, 1), max(most - given, 0))
 
     def _send(self, batch: Batch) -> None:
         machines = [
-            (machine.paths, None if checkpoint is None else checkpoint.decode("latin-1")) for machine, checkpoint in batch.tasks
+            (machine.places, None if checkpoint is None else checkpoint.decode("latin-1")) for machine, checkpoint in batch.tasks
         ]
         request = {"machines": machines, "require": self.options.require, "is_poll": self.options.poll, "seconds": BATCH_SECONDS}
-        future = self.connection.client.submit(
-            verify_batch, json.dumps(request), key=next(self.keys), retries=TRIES - 1, pure=False,
+        batch.future = self.connection.client.submit(
+            verify_batch, json.dumps(request), key=f"{self.name}-{next(self.numbers)}", retries=TRIES - 1, pure=False,
         )
+        batch.following = asyncio.create_task(self._follow(batch))
         self.in_flight.append(batch)
-        following = asyncio.create_task(self._follow(batch, future))
-        self.following.add(following)
-        following.add_done_callback(self.following.discard)
 
-    async def _follow(self, batch: Batch, future: Any) -> None:
+    async def _follow(self, batch: Batch) -> None:
         """Waits for a batch's answers, and keeps them."""
         from distributed import KilledWorker
 
         try:
-            answered = json.loads(await future)
-            batch.answers, batch.seconds = answered["answers"], answered["seconds"]
+            batch.answered = read_answers(await batch.future, [machine for machine, _ in batch.tasks])
         except Exception as fault:
-            batch.is_killed = future.status == "error" and isinstance(fault, KilledWorker)
+            batch.is_killed = batch.future.status == "error" and isinstance(fault, KilledWorker)
             batch.fault = cause_of(fault)
         self.ended.append(batch)
         self.arrived.set()
@@ -171,36 +179,44 @@ class Run:
             raise CannotGoOn(lost)
 
     def _take(self) -> None:
-        """Sorts what came of the batches that ended. What is no verdict stops the run, unless the machine is tried again."""
+        """Sorts what came of the batches that ended, of all of them before one stops the run."""
         ended, self.ended = self.ended, []
+        faults = []
         for batch in ended:
             self.in_flight.remove(batch)
-            if batch.answers:
-                self._take_answers(batch)
-            elif not batch.is_killed:
-                raise CannotGoOn(f"no answer came on {batch.tasks[0][0].name} and {len(batch.tasks) - 1} more: {batch.fault}")
-            elif batch.is_alone:
-                self._fail(batch.tasks[0], KILLED)
-            else:
-                self.suspects.extend(batch.tasks)
+            try:
+                self._take_batch(batch)
+            except CannotGoOn as fault:
+                faults.append(fault)
+        if faults:
+            raise faults[0]
 
-    def _take_answers(self, batch: Batch) -> None:
-        for task, answer in zip(batch.tasks, batch.answers):
-            machine, _ = task
+    def _take_batch(self, batch: Batch) -> None:
+        """Sorts what came of a batch. What is no verdict stops the run, unless the machine is tried again."""
+        if batch.answered is not None:
+            self._take_answers(batch.tasks, batch.answered)
+        elif not batch.is_killed:
+            raise CannotGoOn(f"no answer came on {batch.tasks[0][0].name} and {len(batch.tasks) - 1} more: {batch.fault}")
+        elif batch.is_alone:
+            self._fail(batch.tasks[0], KILLED)
+        else:
+            self.suspects.extend(batch.tasks)
+
+    def _take_answers(self, tasks: List[Task], answered: Answered) -> None:
+        for task, answer in zip(tasks, answered.answers):
             if answer["verdict"] in VERDICTS:
-                self.ledger.answers.append((machine, answer))
+                self.ledger.answers.append((task[0], answer))
             elif answer["verdict"] == UNFIT:
-                raise CannotGoOn(f"worker {answer['worker']} cannot verify: {answer['cause']}")
+                raise CannotGoOn(f"worker {answered.worker} cannot verify: {answer['cause']}")
             else:
                 self._try_again(task, answer)
-        done = len(batch.answers)
-        self.ledger.give_back(batch.tasks[done:])
-        size = math.ceil(SPARE * BATCH_SECONDS * done / max(batch.seconds, BATCH_SECONDS / MOST_BATCH))
-        self.sizes[batch.answers[0]["worker"]] = min(size, MOST_BATCH)
+        done = len(answered.answers)
+        self.ledger.give_back(tasks[done:])
+        size = math.ceil(SPARE * BATCH_SECONDS * done / max(answered.seconds, BATCH_SECONDS / MOST_BATCH))
+        self.sizes[answered.worker] = min(size, MOST_BATCH)
 
     def _try_again(self, task: Task, answer: Fields) -> None:
         """A machine on which a worker met an error is tried twice more."""
-        assert answer["verdict"] == TROUBLED
         self.tries[task[0].name] += 1
         if self.tries[task[0].name] < TRIES:
             self.ledger.give_back([task])

@@ -11,7 +11,7 @@ VERDICTS = ("match", "differ", "refused", "unreadable", "failed")
 
 # Marks a file as a table of verdicts, and says which form its tables have.
 _APPLICATION = 0x494D4156
-_FORM = 4
+_FORM = 5
 _SECONDS = 60
 
 _TABLES = f"""
@@ -32,8 +32,8 @@ CREATE TABLE verdicts (
 CREATE VIEW registers (machine, algorithm, register, state, value) AS
     SELECT machine, json_extract(row.value, '$.bank'), json_extract(row.value, '$.register'), json_extract(row.value, '$.state'),
         json_extract(row.value, '$.value') FROM verdicts, json_each(report, '$.registers') AS row;
-CREATE TABLE ends (time TEXT NOT NULL); -- when a run had given its counts, by the client's clock
 CREATE TABLE polls (number INTEGER PRIMARY KEY, time TEXT NOT NULL); -- when each poll began, by the client's clock
+CREATE TABLE ends (time TEXT NOT NULL, poll INTEGER REFERENCES polls); -- when a run, or which poll, had given its counts
 CREATE TABLE checkpoints (machine TEXT NOT NULL PRIMARY KEY REFERENCES verdicts, checkpoint BLOB NOT NULL);
 CREATE TABLE changes (
     number INTEGER PRIMARY KEY,
@@ -165,7 +165,7 @@ class Verdicts:
     def end(self, time: str) -> None:
         """Notes that a run has given its counts."""
         with self.connection:
-            self.connection.execute("INSERT INTO ends VALUES (?)", (time,))
+            self.connection.execute("INSERT INTO ends VALUES (?, ?)", (time, self.poll))
 
     def counts(self) -> Dict[str, int]:
         """How many machines have each verdict, of this poll if it is one."""

@@ -3,13 +3,16 @@
 import hashlib
 import json
 import os
+import re
 import time
 from datetime import datetime, timezone
 from types import FunctionType
 from typing import Any, Dict, List, Optional, Sequence, Tuple
 
 PARTS = ("log", "list", "expected")
+FILES = ("firmware.log", "ima.list", "expected.txt")
 MOST_BYTES = 64 * 1024 * 1024
+PIECE = 64 * 1024
 MOST_CAUSE = 1000
 
 # What `--require` says if it names nothing.
@@ -25,6 +28,9 @@ SHORTER = "list: it is shorter than at the checkpoint"
 # What may come of a machine besides a verdict: the worker lacks the library or a driver, or an error that none foresaw.
 UNFIT, TROUBLED = "unfit", "troubled"
 
+# The verdicts that have a report.
+REPORTED = ("match", "differ")
+
 Fields = Dict[str, Any]
 
 
@@ -32,17 +38,33 @@ def now() -> str:
     return datetime.now(timezone.utc).isoformat(timespec="milliseconds")
 
 
-def cause_of(fault: BaseException, path: Optional[str] = None) -> str:
+def paths_of(places: Sequence[str]) -> Sequence[str]:
+    """The paths of a machine's log, list and expected registers, by its folder or these paths."""
+    if len(places) == len(FILES):
+        return places
+    protocol, mark, folder = places[0].rpartition("://")
+    return [f"{protocol}{mark}{folder.rstrip('/')}/{file}" for file in FILES]
+
+
+def cause_of(fault: BaseException, path: str = "") -> str:
     """An exception as text that SQLite takes. The path stands in the machine's row: without it, one cause reads the same everywhere."""
     text = str(fault)
     if isinstance(fault, OSError) and fault.errno is not None and fault.strerror:
         text = f"[Errno {fault.errno}] {fault.strerror}"
-    elif path:
-        place = path.split("://", 1)[-1]
-        for written in (path, place, place.strip("/")):
-            text = text.replace(written, "..")
+    text = without_path(text, path)
     named = f"{type(fault).__name__}: {text}" if text else type(fault).__name__
     return named.encode(errors="replace").decode()[:MOST_CAUSE]
+
+
+def without_path(text: str, path: str) -> str:
+    """A text with `..` in place of a path, however much of it a driver writes: all, what follows a protocol, or the key in a bucket."""
+    inner = path.rpartition("::")[2]
+    place = inner.rpartition("://")[2]
+    bare = place.strip("/")
+    for written in (path, inner, place, bare, bare.partition("/")[2]):
+        if written.strip("/"):
+            text = re.sub(rf"(?<!\w){re.escape(written)}(?!\w)", "..", text)
+    return text
 
 
 def required_verdict(log: bytes, measurements: bytes, expected: bytes, require: str) -> Any:
@@ -108,17 +130,23 @@ def read_input(path: str, start: int = 0) -> Optional[bytes]:
 
 
 def read_file(path: str, start: int) -> Optional[bytes]:
-    """The same of a file. (Memory is asked for by its size: to ask for the most takes longer than to read a short one.)"""
-    with open(path, "rb") as file:
-        rest = os.fstat(file.fileno()).st_size - start
+    """The same of a file, by calls of the system: to make the objects of `open` takes longer than to read a short one. (Memory is asked for
+    by the file's size, and more only of one that grew, or has none.)"""
+    file = os.open(path, os.O_RDONLY | os.O_CLOEXEC)
+    try:
+        rest = os.fstat(file).st_size - start
         if start:
             if rest < 0:
                 return None
-            file.seek(start)
-        data = file.read(min(max(rest, 0), MOST_BYTES) + 1)
-        if max(rest, 0) < len(data) <= MOST_BYTES:  # it grew, or has no size
-            data += file.read(MOST_BYTES + 1 - len(data))
-        return data
+            os.lseek(file, start, os.SEEK_SET)
+        pieces = [os.read(file, min(max(rest, 0), MOST_BYTES) + 1)]
+        left = MOST_BYTES + 1 - len(pieces[0])
+        while left and (piece := os.read(file, min(left, PIECE))):
+            pieces.append(piece)
+            left -= len(piece)
+        return b"".join(pieces)
+    finally:
+        os.close(file)
 
 
 def verdict_fields(verdict: Any) -> Fields:
@@ -207,19 +235,25 @@ def answer_on(paths: Sequence[str], checkpoint: Optional[str], require: str, is_
 
 
 def verify_batch(request: str) -> str:
-    """A worker's answers, in JSON, on the first machines of a batch: on one at least, and on no other after the time that the request
-    gives. `seconds` is what they took."""
+    """A worker's answers on the first machines of a batch: on one at least, and on no other after the time that the request gives.
+
+    The first line is JSON, where `seconds` is what they took. Each other line is a report, in the order of the answers that have one."""
     from distributed import get_worker
 
     asked = json.loads(request)
     answers: List[Fields] = []
-    worker, start = get_worker().address, time.monotonic()
-    for paths, checkpoint in asked["machines"]:
-        answer = answer_on(paths, checkpoint, asked["require"], asked["is_poll"])
-        answers.append({**answer, "worker": worker, "time": now()})
+    reports: List[str] = []
+    start = time.monotonic()
+    for places, checkpoint in asked["machines"]:
+        answer = answer_on(paths_of(places), checkpoint, asked["require"], asked["is_poll"])
+        if answer["verdict"] in REPORTED:
+            reports.append(answer.pop("report"))
+        answer.update(places=places, time=now())
+        answers.append(answer)
         if answer["verdict"] == UNFIT or time.monotonic() - start > asked["seconds"]:
             break
-    return json.dumps({"answers": answers, "seconds": time.monotonic() - start})
+    told = {"worker": get_worker().address, "answers": answers, "seconds": time.monotonic() - start}
+    return "\n".join([json.dumps(told), *reports])
 
 
 # Dask sends a function of `__main__` whole, and of any other module only the name.

@@ -70,6 +70,7 @@ def test_ends(tools, check, fleet):
     test_early_signals(ends)
     test_own_worker_killed(ends)
     test_deaths_at_start(ends)
+    test_deadly_machines(ends)
     test_no_library(ends)
 
 
@@ -128,7 +129,7 @@ def test_own_worker_killed(ends):
 def test_deaths_at_start(ends):
     """Workers that die at their start are replaced; if all do, the run says so."""
     deaths = ends.tools.folder / "deaths"
-    for name, count, status, said in (("some die", 3, 1, "done"), ("all die", 1000, 3, "workers ended in their first")):
+    for name, count, status, said in (("some die", 3, 1, "done"), ("all die", 1000, 3, "before they had started")):
         deaths.write_bytes(bytes(count))
         client = ends.client(name, module=ends.dying, DEATHS=str(deaths))
         client.communicate(timeout=SECONDS)
@@ -136,6 +137,20 @@ def test_deaths_at_start(ends):
         ends.check_said(f"{name} at the start", name, said)
         wanted = ends.fleet.rows if status == 1 else {}
         ends.check(f"{name} at the start: verdicts", rows_of(ends.tools.folder / f"{name}.db"), wanted)
+
+
+def test_deadly_machines(ends):
+    """Each of many machines kills the one worker as soon as that has started: these fail, and the run goes on."""
+    deadly = [f"machine {number}" for number in range(12)]
+    given = {"DEADLY": ",".join(name.split()[1] for name in deadly), "DASK_DISTRIBUTED__SCHEDULER__ALLOWED_FAILURES": "0"}
+    table = ends.tools.folder / "deadly machines.db"
+    status, _, errors = ends.tools.verify("--workers", 1, ends.fleet.table, table, **ends.preload(NOTES), **given)
+    ends.check("deadly machines: status", (status, errors if status == 3 else ""), (1, ""))
+    rows = rows_of(table)
+    reached = [name for name in deadly if ends.fleet.kinds[name] != "missing"]  # (of one that lacks a file none is verified)
+    ends.check("deadly machines fail", {rows.pop(name)[0] for name in reached}, {"failed"})
+    ends.check("deadly machines: the others have their verdicts", rows, {name: ends.fleet.rows[name] for name in rows})
+    ends.check("deadly machines: no other fails", len(rows), len(ends.fleet.rows) - len(reached))
 
 
 def test_no_library(ends):

@@ -1,9 +1,11 @@
 """Preloaded by the workers of fleet/test: notes each call of `ima_verify.verify` on a log, and each of a session's `more`, in the file
 NOTED_CALLS, a line each.
 
-A machine is known by its number, that of the empty lines at the end of its expected registers. The machine DEADLY kills its
-worker, and the machine LARGE gets no memory. While there is a file GATE, the machines from the number that it has on wait."""
+A machine is known by its number, that of the empty lines at the end of its expected registers. The machines DEADLY kill their
+worker, the machine LARGE gets no memory, and on the machine LYING the worker answers that it matches, whatever the report says. While
+there is a file GATE, the machines from the number that it has on wait."""
 
+import dataclasses
 import os
 import signal
 import time
@@ -20,7 +22,8 @@ def noted(log, measurements, expected, **given):
     """Notes the call, unless it only asks what may be required, and does it."""
     if log:
         note(number_of(expected))
-    return ima_verify.unnoted(log, measurements, expected, **given)
+    verdict = ima_verify.unnoted(log, measurements, expected, **given)
+    return dataclasses.replace(verdict, matches=True) if number_of(expected) == os.environ.get("LYING") else verdict
 
 
 class Noted(ima_verify.Unnoted):
@@ -53,7 +56,7 @@ def note(number):
         calls.write(f"{number}\n")
     while not is_open(number):
         time.sleep(SECONDS)
-    if number == os.environ.get("DEADLY"):
+    if number in os.environ.get("DEADLY", "").split(","):
         os.kill(os.getpid(), signal.SIGKILL)
     if number == os.environ.get("LARGE"):
         raise MemoryError

@@ -52,6 +52,13 @@ for start in (0, 1_000_003, len(DATA) - 1, len(DATA), len(DATA) + 1):
     print(*asked)
 """
 
+# Makes a table of verdicts.
+EMPTY = """
+import sys
+from fleet_verify.verdicts import Verdicts
+Verdicts(sys.argv[1], "sha256:0-10")
+"""
+
 # The number of the one machine of each kind. All others only grow.
 KINDS = {
     10: "restarted, shorter", 20: "restarted, longer", 30: "restarted, other log", 40: "tampered before", 50: "tampered after",
@@ -170,7 +177,6 @@ class Growing:
             return self.row("differ")
         is_whole = self.kind.startswith("restarted") or self.kind in ("other version", "lost")
         return self.row(start=0 if is_whole else before)
-
 
     def whole_row(self):
         """What must come of it after the third poll, if its list is there, and read from the beginning."""
@@ -334,20 +340,30 @@ def test_whole(polls, verdicts):
 
 
 def test_stale(polls, verdicts):
-    """The query of docs/fleet.md for what is not well: also what is not of the last poll, and everything if none has ended of late."""
+    """The query of docs/fleet.md for what is not well: also what is not of the last poll, and everything if that has not ended of late. It
+    is empty only if there is something that is well."""
     text = re.findall(r"```sql\n(.*?)```", (ROOT / "docs/fleet.md").read_text(), re.DOTALL)[2]
-    bad = set(query(verdicts, "SELECT machine FROM verdicts WHERE verdict <> 'match'"))
-    found = {row[:1] for row in query(verdicts, text)}
+    bad = {name for name, in query(verdicts, "SELECT machine FROM verdicts WHERE verdict <> 'match'")}
+    names = {machine.name for machine in polls.machines}
+    found = {row[0] for row in query(verdicts, text)}
     polls.check("the query of what is not well", (found, 0 < len(bad) < MACHINES), (bad, True))
+    stale = {None, *names}
     for title, script, wanted in (
-        ("a machine that the last poll lacks", "UPDATE verdicts SET poll = 1 WHERE machine = 'machine 0'", {*bad, ("machine 0",)}),
-        ("the last poll ended long ago", "UPDATE ends SET time = '2020-01-01T00:00:00.000+00:00'", None),
-        ("no poll ended", "DELETE FROM ends", None),
+        ("all is well", "UPDATE verdicts SET verdict = 'match'", set()),
+        ("a machine that the last poll lacks", "UPDATE verdicts SET poll = 1 WHERE machine = 'machine 0'", {*bad, "machine 0"}),
+        ("the last poll ended long ago", "UPDATE ends SET time = '2020-01-01T00:00:00.000+00:00'", stale),
+        ("the last poll ended at no time", "UPDATE ends SET time = 'now and then'", stale),
+        ("no poll ended", "DELETE FROM ends", stale),
+        ("the last poll has not ended", "INSERT INTO polls (time) VALUES ('now')", stale),
+        ("a run that is no poll ended", "UPDATE ends SET poll = NULL", stale),
+        ("a poll that recorded nothing ended", "DELETE FROM verdicts", {None}),
     ):
         table = shutil.copyfile(verdicts, polls.tools.folder / f"{title}.db")
         change(table, script)
-        found = {row[:1] for row in query(table, text)}
-        polls.check(f"the query of what is not well: {title}", found, wanted or {(machine.name,) for machine in polls.machines})
+        polls.check(f"the query of what is not well: {title}", {row[0] for row in query(table, text)}, wanted)
+    empty = polls.tools.folder / "empty.db"
+    polls.tools.start(["-c", EMPTY, empty], PYTHONPATH=str(ROOT / "fleet")).communicate(timeout=SECONDS)
+    polls.check("the query of what is not well: an empty table", [row[0] for row in query(empty, text)], [None])
 
 
 def test_other_kind(polls, verdicts, without):
