@@ -2,6 +2,7 @@
 
 import os
 import shutil
+import signal
 import subprocess
 import sys
 import time
@@ -66,6 +67,10 @@ class Processes:
     folder: Path
     environment: dict
     started: list = field(default_factory=list)
+
+    def __post_init__(self):
+        """A SIGTERM ends this program as an error does, so that it ends what it started."""
+        signal.signal(signal.SIGTERM, lambda *_: sys.exit(1))
 
     def start(self, words, said="errors", **given):
         """Starts a process of this Python. What it writes to standard error goes to the file of the name `said`."""
