@@ -7,7 +7,7 @@ from typing import Any, Dict, Iterator, List, NamedTuple, NoReturn, Optional, Tu
 
 from ._results import (
     Algorithm, BootAggregate, Entries, Entry, Event, Events, Kind, LibraryError, ListVerdict, LogAlgorithm, Place, PlaceRow, Places,
-    Refused, Register, Row, State, Unconfirmed, Verdict,
+    Refused, Register, Report, Row, State, Unconfirmed, Verdict,
 )
 
 DONE, DIFFERS, REFUSED, OUT_OF_MEMORY = range(4)
@@ -26,6 +26,14 @@ _FAULT = re.compile(
     f"|(checkpoint) fault {_NUMBER})"
 )
 _REFUSED, _UNCONFIRMED = "refused: ", "unconfirmed: "
+
+# A report of a match as libraries write it, which need not be taken apart: its counts, and its rows as one. (Larger numbers are rare.)
+_COUNT = "(0|[1-9][0-9]{0,17})"
+_MATCHING_ROW = '{"bank":"sha(?:1|256|384|512)","register":(?:1?[0-9]|2[0-3]),"state":"match"}'
+_MATCH = re.compile(
+    f'{{"events":{_COUNT},"locality":([0-9]),"entries":{_COUNT},"boot_aggregate":"good",'
+    f'"registers":\\[({_MATCHING_ROW}(?:,{_MATCHING_ROW})*)\\],"verdict":"match"}}\n'.encode()
+)
 
 # How a checkpoint begins.
 _CHECKPOINT, _CHECKPOINT_VERSION = b"ima-agent checkpoint ", b"1\n"
@@ -67,6 +75,17 @@ def read_verdict(status: int, text: bytes) -> Verdict:
     """The verdict on a whole list that a report states."""
     with _reading(status, text):
         return _verdict_of(status, text, False)[0]
+
+
+def read_report(status: int, text: bytes) -> Report:
+    """The verdict on a whole list that a report states, without its rows."""
+    match = _MATCH.fullmatch(text) if status == DONE else None
+    if match is None:
+        verdict = read_verdict(status, text)
+        counts, aggregate = (verdict.events, verdict.locality, verdict.entries), verdict.boot_aggregate
+        return Report(*counts, aggregate, verdict.compared, verdict.matches, verdict.json)
+    events, locality, entries, rows = match.groups()
+    return Report(int(events), int(locality), int(entries), BootAggregate.GOOD, rows.count(b"{"), True, text[:-1].decode())
 
 
 def read_more(

@@ -133,6 +133,24 @@ class Verdict(_Judged):
 
 
 @dataclass(frozen=True)
+class Report:
+    """A verdict as `Verdict` has it, but for the rows, which only `json` tells; as a condition, it is true exactly if it is a match.
+
+    `compared` says how many expected registers were compared. Without any it is no match."""
+
+    events: int
+    locality: int
+    entries: int
+    boot_aggregate: BootAggregate
+    compared: int
+    matches: bool
+    json: str
+
+    def __bool__(self) -> bool:
+        return self.matches
+
+
+@dataclass(frozen=True)
 class ListVerdict(_Judged):
     """The verdict on a list without a log, and expected registers; as a condition, it is true exactly if it is a match.
 

@@ -142,6 +142,17 @@ class Answers(unittest.TestCase):
         self.assertEqual(_answers.read_registers(0, REGISTERS)[0].value, 20 * b"\xaa")
         self.assertEqual(_answers.read_lines(0, LINES + LINES, False), LINES + LINES)
 
+    def test_reports_are_verdicts_without_rows(self):
+        for status, text in (
+            (0, REPORT), (1, DIFFERING), (1, LACKING), (0, REPORT.replace(b'"locality":0', b'"locality":255')),
+            (0, REPORT.replace(b"}]", b"}" + 95 * b',{"bank":"sha1","register":23,"state":"match"}' + b"]")),
+            (0, REPORT.replace(b'"events":1', b'"events":18446744073709551615')), (0, REPORT.replace(b":3", b": 3")),
+        ):
+            report, verdict = _answers.read_report(status, text), _answers.read_verdict(status, text)
+            for name in ("events", "locality", "entries", "boot_aggregate", "compared", "matches", "json"):
+                self.assertEqual(getattr(report, name), getattr(verdict, name))
+            self.assertEqual(bool(report), bool(verdict))
+
     def test_right_answers_with_missing_registers_are_read(self):
         lacking = _answers.read_verdict(1, LACKING)
         self.assertEqual((lacking.matches, lacking.compared, len(lacking.rows)), (False, 1, 2))
@@ -151,6 +162,7 @@ class Answers(unittest.TestCase):
     def test_members_may_stand_in_any_order_and_be_more(self):
         text = b'{"x":[null],' + REPORT[1:-2].replace(b'"events":1,', b"") + b',"events":1}\n'
         self.assertEqual(_answers.read_verdict(0, text).rows, _answers.read_verdict(0, REPORT).rows)
+        self.assertEqual(_answers.read_report(0, text).compared, 1)
 
     def test_wrong_reports_are_no_verdicts(self):
         match = b'"state":"match"'
@@ -169,13 +181,14 @@ class Answers(unittest.TestCase):
             (b"match", b"match\xff"), (REPORT, b""), (REPORT, b"\n"), (REPORT, b"{}\n"), (REPORT, b"[]\n"), (REPORT, b"null\n"),
             (REPORT, b'"match"\n'), (REPORT, b"0\n"), (REPORT, 100_000 * b"[" + b"\n"), (REPORT, FAULT), (REPORT, REPORT.rstrip() + REPORT),
         )
-        self.check_changes(_answers.read_verdict, 0, REPORT, changes)
-        self.check_wrong(_answers.read_verdict, 1, REPORT)
-        self.check_wrong(_answers.read_verdict, 0, DIFFERING)
-        for size in range(len(REPORT)):
-            self.check_wrong(_answers.read_verdict, 0, REPORT[:size])
-        for value in (63 * b"0" + b"A", 62 * b"0", 66 * b"0", b"", 62 * b"0" + b" 0", 63 * b"0" + b"g"):
-            self.check_wrong(_answers.read_verdict, 1, DIFFERING.replace(64 * b"0", value))
+        for read in (_answers.read_verdict, _answers.read_report):
+            self.check_changes(read, 0, REPORT, changes)
+            self.check_wrong(read, 1, REPORT)
+            self.check_wrong(read, 0, DIFFERING)
+            for size in range(len(REPORT)):
+                self.check_wrong(read, 0, REPORT[:size])
+            for value in (63 * b"0" + b"A", 62 * b"0", 66 * b"0", b"", 62 * b"0" + b" 0", 63 * b"0" + b"g"):
+                self.check_wrong(read, 1, DIFFERING.replace(64 * b"0", value))
 
     def test_wrong_reports_with_missing_registers_are_no_verdicts(self):
         self.check_changes(_answers.read_verdict, 1, LACKING, (
@@ -192,6 +205,8 @@ class Answers(unittest.TestCase):
             self.assertIn('"verdict":"match"', verdict.json)
             for wrong in (b"{}", b'""', b"null"):
                 self.check_wrong(read, 0, report.replace(b"[%b]" % row, wrong))
+        found = _answers.read_report(0, REPORT.replace(row, b""))
+        self.assertEqual((found.compared, found.matches, bool(found)), (0, False, False))
         places = _answers.read_places(0, b'{"registers":[],"located":true}\n')
         self.assertEqual((places.rows, places.located, bool(places)), ((), False, False))
         self.check_wrong(_answers.read_places, 1, b'{"registers":[],"located":true}\n')
@@ -242,6 +257,7 @@ class Answers(unittest.TestCase):
     def test_result_that_states_a_fault_is_none(self):
         for read, status, text in (
             (_answers.read_verdict, 0, REPORT), (_answers.read_verdict, 1, DIFFERING), (_answers.read_list_verdict, 0, LIST_REPORT),
+            (_answers.read_report, 0, REPORT), (_answers.read_report, 1, DIFFERING),
             (_answers.read_places, 0, PLACES), (_answers.read_places, 1, NOT_LOCATED), (_answers.read_registers, 0, REGISTERS),
         ):
             for fault in (b'"fault":null', b'"fault":{}', FAULT[1:-2], MEMORY[1:-2]):

@@ -57,6 +57,20 @@ class Sample(unittest.TestCase):
         self.assertTrue(verdict)
         self.assertEqual(len(rows), 24)
 
+    def test_report_is_the_verdict_without_its_rows(self):
+        ten = b"".join(EXPECTED.splitlines(True)[:10])
+        for inputs, given, compared in (
+            ((LOG, LIST, EXPECTED), {}, 24), ((LOG, LONGER, EXPECTED), {}, 24), ((LOG, LIST, ten), {"require": "sha256:0-10"}, 10),
+            ((LOG, LIST, b""), {}, 0),
+        ):
+            report, verdict = ima_verify.report(*inputs, **given), ima_verify.verify(*inputs, **given)
+            for name in ("events", "locality", "entries", "boot_aggregate", "compared", "matches", "json"):
+                self.assertEqual(getattr(report, name), getattr(verdict, name))
+            self.assertEqual((report.compared, bool(report)), (compared, bool(verdict)))
+        with self.assertRaisesRegex(ima_verify.Refused, "^refused: replay fault 1 at entry 5$"):
+            ima_verify.report(LOG, CHANGED, EXPECTED)
+        self.assertRaises(ValueError, ima_verify.report, LOG, LIST, EXPECTED, require="")
+
     def test_registers_are_those_of_the_sample(self):
         self.assertEqual(ima_verify.registers(LOG), registers_in(REGISTERS))
 
