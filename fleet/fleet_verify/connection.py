@@ -27,6 +27,7 @@ SETTINGS = {
     "distributed.admin.tick.interval": "1s",
     "distributed.admin.system-monitor.interval": "10s",
     "distributed.comm.compression": None,
+    "distributed.comm.offload": False,  # (no message is so long that another thread should take it: none is measured)
     # (for each submission Dask would look up the text of the code that called it, which takes longer than the rest)
     "distributed.diagnostics.computations.ignore-modules": [".*"],
 }
@@ -75,7 +76,7 @@ class Connection:
 
 
 def _quiet() -> None:
-    """Keeps Dask from writing what it meets to standard error: a run says itself why it stops."""
+    """Keeps Dask, which is not loaded yet, from writing what it meets to standard error: a run says itself why it stops."""
     import dask
 
     logging.disable(logging.CRITICAL)  # (levels would not do: Dask sets one for each of its parts)
@@ -94,10 +95,10 @@ async def opened(client: Any) -> AsyncIterator[Any]:
 @asynccontextmanager
 async def connect(scheduler: Optional[str], workers: Optional[int]) -> AsyncIterator[Connection]:
     """A client of the scheduler at this address, or of one with so many workers on this computer."""
+    _quiet()
     if scheduler is not None:
         from distributed import Client
 
-        _quiet()
         async with opened(Client(scheduler, asynchronous=True)) as client:
             yield Connection(client, None)
         return
@@ -105,13 +106,15 @@ async def connect(scheduler: Optional[str], workers: Optional[int]) -> AsyncIter
     with nursery(workers) as own:
         from distributed import Client, Scheduler, versions
 
-        _quiet()
         versions.optional_packages = []
-        async with Scheduler(host=LOCAL, port=0, dashboard=False, dashboard_address=f"{LOCAL}:0") as started:
+        # (its workers reach it by TCP, and the client, which is in this process, without a socket)
+        listening = {"protocol": ["tcp", "inproc"], "host": [LOCAL, None], "port": [0, None]}
+        async with Scheduler(**listening, dashboard=False, dashboard_address=f"{LOCAL}:0") as started:
             assert own.stdin is not None
             with suppress(OSError):  # (that it is gone is found when workers are looked for)
                 own.stdin.write(f"{started.address}\n")
                 own.stdin.flush()
-            async with opened(Client(started.address, asynchronous=True, direct_to_workers=True)) as client:
+            inside = started.listeners[-1].contact_address
+            async with opened(Client(inside, asynchronous=True, direct_to_workers=True)) as client:
                 yield Connection(client, own)
             await asyncio.get_running_loop().run_in_executor(None, end, own)  # (the workers before their scheduler)

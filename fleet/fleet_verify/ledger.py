@@ -18,15 +18,16 @@ Answer = Tuple[Machine, Fields]
 
 class Ledger:
     """The machines that are not given to workers yet, and the answers that are not recorded yet. A thread of its own uses the table, in
-    turns: each records all answers that there are, in one transaction, and reads the checkpoints of machines that come next."""
+    turns: each records all answers that there are, in one transaction, and reads the checkpoints of machines that come next, if there may
+    be some."""
 
     def __init__(
         self, table: Verdicts, machines: Sequence[Machine], before: Dict[str, str], has_checkpoints: bool,
         count: Callable[[str, Optional[str]], None],
     ):
-        self.table, self.before, self.has_checkpoints, self.count = table, before, has_checkpoints, count
-        self.later: Deque[Machine] = deque(machines)
-        self.next: Deque[Task] = deque()
+        self.table, self.before, self.count = table, before, count
+        self.later: Deque[Machine] = deque(machines if has_checkpoints else ())
+        self.next: Deque[Task] = deque(() if has_checkpoints else ((machine, None) for machine in machines))
         self.answers: List[Answer] = []
         self.left = len(machines)
         self._recording: List[Answer] = []
@@ -82,7 +83,7 @@ class Ledger:
     def _use_table(self, machines: Sequence[Machine]) -> List[Task]:
         if self._recording:
             self.table.record(self._recording, self.before)
-        return [(machine, self.table.checkpoint(machine) if self.has_checkpoints else None) for machine in machines]
+        return [(machine, self.table.checkpoint(machine)) for machine in machines]
 
     async def close(self) -> None:
         """Records what is answered, unless the table could not be written before."""

@@ -31,10 +31,11 @@ def load() -> None:
     import logging
 
     import dask
-    from distributed import versions
 
     dask.config.set(SETTINGS)
     logging.disable(logging.CRITICAL)
+    from distributed import versions
+
     versions.optional_packages = []  # (as in the client: to tell of them Dask would load pandas)
 
 

@@ -77,7 +77,7 @@ def add_options(parser: argparse.ArgumentParser) -> None:
     )
     parser.add_argument(
         "--in-flight", metavar="N", type=positive, default=16000,
-        help="how many machines are in flight at most (default: 16000, and no more than take each thread of a worker about a second)",
+        help="how many machines are in flight at most (default: 16000, and no more than take each thread of a worker half a second)",
     )
     parser.add_argument(
         "--patience", metavar="SECONDS", type=positive, default=600,

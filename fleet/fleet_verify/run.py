@@ -21,7 +21,7 @@ from .verdicts import VERDICTS
 from .work import UNFIT, Fields, cause_of, now, verify_batch
 
 # A batch is as many machines as a worker is expected to verify in this time, and a quarter more: what it does not do comes back.
-BATCH_SECONDS = 0.5
+BATCH_SECONDS = 0.2
 SPARE = 1.25
 # How many batches there are for each thread: one that it verifies, and one that is there when that ends.
 AT_ONCE = 2

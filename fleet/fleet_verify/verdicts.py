@@ -2,7 +2,7 @@
 checkpoint, and each change of a verdict."""
 
 import sqlite3
-from typing import Collection, Dict, Iterable, Optional, Sequence, Tuple
+from typing import Any, Collection, Dict, Optional, Sequence, Tuple
 
 from .machines import Machine
 from .work import Fields
@@ -14,11 +14,14 @@ _APPLICATION = 0x494D4156
 _FORM = 5
 _SECONDS = 60
 
+# (SQLite makes a table anew for each row that it compares with a list of more than two)
+_IS_VERDICT = " OR ".join(f"verdict = '{verdict}'" for verdict in VERDICTS)
+
 _TABLES = f"""
 BEGIN IMMEDIATE;
 CREATE TABLE verdicts (
     machine TEXT NOT NULL PRIMARY KEY,
-    verdict TEXT NOT NULL CHECK (verdict IN {VERDICTS}),
+    verdict TEXT NOT NULL CHECK ({_IS_VERDICT}),
     cause TEXT, -- the line of a refusal, or why there is no verdict
     required TEXT NOT NULL, -- as `--require` named it
     events INTEGER, locality INTEGER, entries INTEGER, boot_aggregate TEXT,
@@ -119,33 +122,37 @@ class Verdicts:
         found = self.connection.execute(query, (machine.name,)).fetchone()
         return None if found is None else found[0]
 
-    def record(self, answers: Iterable[Tuple[Machine, Fields]], again: Collection[str]) -> None:
+    def record(self, answers: Sequence[Tuple[Machine, Fields]], again: Collection[str]) -> None:
         """Records answers, each with its machine, in one transaction. What the machines of `again` had is replaced."""
         with self.connection:
             self.connection.execute("BEGIN IMMEDIATE")
             if self.poll != self.connection.execute("SELECT max(number) FROM polls").fetchone()[0]:
                 raise BadVerdicts("a later poll has begun")
-            for machine, answer in answers:
-                if self.poll is not None:
-                    self._record_change(machine.name, answer)
-                if machine.name in again:
-                    for table in ("checkpoints", "verdicts"):
-                        self.connection.execute(f"DELETE FROM {table} WHERE machine = ?", (machine.name,))
-                self._record_verdict(machine, answer)
+            if self.poll is not None:
+                self._record_changes(answers)
+            old = [(machine.name,) for machine, _ in answers if machine.name in again]
+            for table in ("checkpoints", "verdicts"):
+                self.connection.executemany(f"DELETE FROM {table} WHERE machine = ?", old)
+            self.connection.executemany(_INSERT, (self._row(machine, answer) for machine, answer in answers))
+            reached = [
+                (machine.name, answer["checkpoint"].encode()) for machine, answer in answers if answer.get("checkpoint") is not None
+            ]
+            self.connection.executemany("INSERT INTO checkpoints VALUES (?, ?)", reached)
 
-    def _record_change(self, name: str, answer: Fields) -> None:
-        """Records that the machine had another verdict, or none."""
-        self.connection.execute(
+    def _record_changes(self, answers: Sequence[Tuple[Machine, Fields]]) -> None:
+        """Records which machines had another verdict, or none."""
+        self.connection.executemany(
             "INSERT INTO changes (machine, poll, verdict, cause, time) SELECT :machine, :poll, :verdict, :cause, :time "
             "WHERE NOT EXISTS (SELECT 1 FROM verdicts WHERE machine = :machine AND verdict = :verdict)",
-            {"machine": name, "poll": self.poll, **{field: answer.get(field) for field in ("verdict", "cause", "time")}},
+            [
+                {"machine": machine.name, "poll": self.poll, **{field: answer.get(field) for field in ("verdict", "cause", "time")}}
+                for machine, answer in answers
+            ],
         )
 
-    def _record_verdict(self, machine: Machine, answer: Fields) -> None:
-        fields = (answer.get(field) for field in _FIELDS)
-        self.connection.execute(_INSERT, (machine.name, self.required, *machine.paths, self.poll, *fields))
-        if answer.get("checkpoint") is not None:
-            self.connection.execute("INSERT INTO checkpoints VALUES (?, ?)", (machine.name, answer["checkpoint"].encode()))
+    def _row(self, machine: Machine, answer: Fields) -> Tuple[Any, ...]:
+        """The values of a machine's row."""
+        return (machine.name, self.required, *machine.paths, self.poll, *map(answer.get, _FIELDS))
 
     def standing(self, again: Sequence[str]) -> Tuple[int, Optional[str]]:
         """How many verdicts are of none of these kinds, and when the first of them was given."""

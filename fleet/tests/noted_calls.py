@@ -1,4 +1,4 @@
-"""Preloaded by the workers of fleet/test: notes each call of `ima_verify.verify` on a log, and each of a session's `more`, in the file
+"""Preloaded by the workers of fleet/test: notes each call of `ima_verify.report` on a log, and each of a session's `more`, in the file
 NOTED_CALLS, a line each.
 
 A machine is known by its number, that of the empty lines at the end of its expected registers. The machines DEADLY kill their
@@ -15,15 +15,15 @@ import ima_verify
 
 SECONDS = 0.01
 if not hasattr(ima_verify, "unnoted"):  # (Dask may load this twice)
-    ima_verify.unnoted, ima_verify.Unnoted = ima_verify.verify, ima_verify.Session
+    ima_verify.unnoted, ima_verify.Unnoted = ima_verify.report, ima_verify.Session
 
 
 def noted(log, measurements, expected, **given):
     """Notes the call, unless it only asks what may be required, and does it."""
     if log:
         note(number_of(expected))
-    verdict = ima_verify.unnoted(log, measurements, expected, **given)
-    return dataclasses.replace(verdict, matches=True) if number_of(expected) == os.environ.get("LYING") else verdict
+    report = ima_verify.unnoted(log, measurements, expected, **given)
+    return dataclasses.replace(report, matches=True) if number_of(expected) == os.environ.get("LYING") else report
 
 
 class Noted(ima_verify.Unnoted):
@@ -62,4 +62,4 @@ def note(number):
         raise MemoryError
 
 
-ima_verify.verify, ima_verify.Session = noted, Noted
+ima_verify.report, ima_verify.Session = noted, Noted
