@@ -25,9 +25,10 @@ BATCH_SECONDS = 0.2
 SPARE = 1.25
 # How many batches there are for each thread: one that it verifies, and one that is there when that ends.
 AT_ONCE = 2
-FIRST_BATCH = 64
+FIRST_BATCH = 256
 MOST_BATCH = 1000
-# The least part of a batch that is given at the end of a run, when what is left is shared among the workers.
+# At the end of a run each thread is given the part of what is left that it has of so many, but no less than this part of a batch.
+SHARES = 1.5
 LEAST_PART = 16
 TRIES = 3
 TICK_SECONDS = 0.2
@@ -135,7 +136,8 @@ class Run:
     def _size(self) -> int:
         """How many machines to give to a worker."""
         batches, most = AT_ONCE * self._threads, int(self.options.in_flight)
-        share, least = math.ceil(self.ledger.remaining / batches), math.ceil(self._most / LEAST_PART)
+        share = math.ceil(self.ledger.remaining / SHARES / self._threads)
+        least = math.ceil(self._most / LEAST_PART) if self.sizes else 1
         given = sum(len(batch.tasks) for batch in self.in_flight) + self.ledger.unrecorded
         return min(self._most, max(share, least), max(most // batches, 1), max(most - given, 0))
 

@@ -2,7 +2,8 @@
 checkpoint, and each change of a verdict."""
 
 import sqlite3
-from typing import Any, Collection, Dict, Optional, Sequence, Tuple
+from itertools import chain
+from typing import Any, Collection, Dict, List, Optional, Sequence, Tuple
 
 from .machines import Machine
 from .work import Fields
@@ -54,10 +55,11 @@ _FIELDS = (
     "verdict", "cause", "events", "locality", "entries", "boot_aggregate", "log_sha256", "list_sha256", "expected_sha256",
     "list_from", "interface_version", "worker", "time", "report",
 )
-_INSERT = (
-    f"INSERT INTO verdicts (machine, required, log, list, expected, poll, {', '.join(_FIELDS)}) "
-    f"VALUES ({', '.join('?' * (6 + len(_FIELDS)))})"
-)
+_ROW = f"({', '.join('?' * (6 + len(_FIELDS)))})"
+_INSERT = f"INSERT INTO verdicts (machine, required, log, list, expected, poll, {', '.join(_FIELDS)}) VALUES {_ROW}"
+# So many rows are inserted by one statement, which takes less time than as many statements. (A statement may have 999 values.)
+_ROWS = 40
+_INSERT_ROWS = _INSERT + f", {_ROW}" * (_ROWS - 1)
 
 
 class BadVerdicts(Exception):
@@ -133,7 +135,7 @@ class Verdicts:
             old = [(machine.name,) for machine, _ in answers if machine.name in again]
             for table in ("checkpoints", "verdicts"):
                 self.connection.executemany(f"DELETE FROM {table} WHERE machine = ?", old)
-            self.connection.executemany(_INSERT, (self._row(machine, answer) for machine, answer in answers))
+            self._record_verdicts(answers)
             reached = [
                 (machine.name, answer["checkpoint"].encode()) for machine, answer in answers if answer.get("checkpoint") is not None
             ]
@@ -150,9 +152,15 @@ class Verdicts:
             ],
         )
 
-    def _row(self, machine: Machine, answer: Fields) -> Tuple[Any, ...]:
-        """The values of a machine's row."""
-        return (machine.name, self.required, *machine.paths, self.poll, *map(answer.get, _FIELDS))
+    def _record_verdicts(self, answers: Sequence[Tuple[Machine, Fields]]) -> None:
+        """Adds a row for each machine."""
+        rows: List[Tuple[Any, ...]] = [
+            (machine.name, self.required, *machine.paths, self.poll, *map(answer.get, _FIELDS)) for machine, answer in answers
+        ]
+        rest = len(rows) % _ROWS
+        for start in range(rest, len(rows), _ROWS):
+            self.connection.execute(_INSERT_ROWS, list(chain.from_iterable(rows[start:start + _ROWS])))
+        self.connection.executemany(_INSERT, rows[:rest])
 
     def standing(self, again: Sequence[str]) -> Tuple[int, Optional[str]]:
         """How many verdicts are of none of these kinds, and when the first of them was given."""
