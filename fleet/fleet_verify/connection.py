@@ -27,7 +27,7 @@ SETTINGS = {
     "distributed.admin.tick.interval": "1s",
     "distributed.admin.system-monitor.interval": "10s",
     "distributed.comm.compression": None,
-    "distributed.comm.offload": False,  # (no message is so long that another thread should take it: none is measured)
+    "distributed.comm.offload": False,  # (no message is so long that a thread should write it: none is measured)
     # (for each submission Dask would look up the text of the code that called it, which takes longer than the rest)
     "distributed.diagnostics.computations.ignore-modules": [".*"],
 }

@@ -27,7 +27,8 @@ SPARE = 1.25
 AT_ONCE = 2
 FIRST_BATCH = 256
 MOST_BATCH = 1000
-# At the end of a run each thread is given the part of what is left that it has of so many, but no less than this part of a batch.
+# At the end of a run a batch is what is left divided by the threads, and by this, so that all threads end at about the same time; but no
+# batch is less than this part of a whole one.
 SHARES = 1.5
 LEAST_PART = 16
 TRIES = 3
@@ -136,7 +137,7 @@ class Run:
     def _size(self) -> int:
         """How many machines to give to a worker."""
         batches, most = AT_ONCE * self._threads, int(self.options.in_flight)
-        share = math.ceil(self.ledger.remaining / SHARES / self._threads)
+        share = math.ceil(self.ledger.remaining / self._threads / SHARES)
         least = math.ceil(self._most / LEAST_PART) if self.sizes else 1
         given = sum(len(batch.tasks) for batch in self.in_flight) + self.ledger.unrecorded
         return min(self._most, max(share, least), max(most // batches, 1), max(most - given, 0))

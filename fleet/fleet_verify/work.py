@@ -68,10 +68,11 @@ def without_path(text: str, path: str) -> str:
 
 
 def required_verdict(log: bytes, measurements: bytes, expected: bytes, require: str) -> Any:
-    """The library's verdict where these registers are required. Its rows stay in its report: to take them out takes longer than to hash."""
+    """The library's verdict where these registers are required. Its rows stay in the report: to read them takes longer than to hash the
+    inputs."""
     import ima_verify
 
-    report = getattr(ima_verify, "report", ima_verify.verify)  # (the first version of the package has only this)
+    report = getattr(ima_verify, "report", ima_verify.verify)  # (the package had only this at first)
     if require == NONE:
         return report(log, measurements, expected)
     return report(log, measurements, expected, require=require)
