@@ -6,6 +6,7 @@ to fail: of an empty, a cut and a missing input, and of a program that dies afte
 tried, which is told. The last line is 'N passed, M failed'."""
 
 import json
+import os
 import re
 import shutil
 import subprocess
@@ -17,7 +18,7 @@ ROOT = Path(__file__).resolve().parent.parent
 sys.path.insert(0, str(ROOT))
 
 from reference.fields import with_length
-from reference.log import read_log
+from reference.log import EV_NO_ACTION, read_log
 from reference.measurement_list import IMA, IMA_NG, IMA_SIG, VIOLATION, Entry, entry_of, list_spelling
 from reference.registers import BY_NAME, SHA1
 
@@ -25,6 +26,7 @@ TOOLS = ("bash", "jq")
 BLOCK = re.compile(r"^```sh\n(.*?)^```$", re.MULTILINE | re.DOTALL)
 # What only the recipe's block has.
 JUDGE, TAKE, EVENTS, AGGREGATE, PATHS = "--rawfile known", "> known.txt", "diff before.events", "--arg aggregate", 'select(has("payload"))'
+IMA_ALONE, MEASURED = "$2 == 10", "--files-from names"
 
 SAMPLE = ROOT / "samples/real-boot"
 LOG = read_log((SAMPLE / "firmware.log").read_bytes())
@@ -105,9 +107,14 @@ class Recipes:
         self.program, self.folder = program, folder
         self.blocks = BLOCK.findall((ROOT / "docs/guide.md").read_text())
 
-    def run(self, mark, files, agent=""):
-        """The status and the output of the recipe with this mark, of these files; `agent` is what the program's output passes through."""
+    def block(self, mark):
         [block] = [block for block in self.blocks if mark in block]
+        return block
+
+    def run(self, mark, files, agent="", **settings):
+        """The status and the output of the recipe with this mark, of these files; `agent` is what the program's output passes through,
+        `settings` what the environment has beside the caller's."""
+        block = self.block(mark)
         for path in self.folder.iterdir():
             path.unlink()
         for name, data in files.items():
@@ -115,7 +122,8 @@ class Recipes:
         script = self.folder / "ima-agent"
         script.write_text(f'#!/bin/sh\n"{self.program}" "$@"{agent}\n')
         script.chmod(0o755)
-        done = subprocess.run(["bash", "-c", block], cwd=self.folder, stdin=subprocess.DEVNULL, capture_output=True, timeout=60)
+        done = subprocess.run(["bash", "-c", block], cwd=self.folder, env={**os.environ, **settings}, stdin=subprocess.DEVNULL,
+                              capture_output=True, timeout=60)
         return done.returncode, done.stdout
 
     def shown(self, mark, files):
@@ -125,9 +133,9 @@ class Recipes:
             return status, output
         return [json.loads(line) for line in output.splitlines()]
 
-    def fails(self, mark, files, agent=""):
+    def fails(self, mark, files, agent="", **settings):
         """Whether the recipe fails, and with another status than those of answers (4: no entry, of jq)."""
-        return self.run(mark, files, agent)[0] not in (0, 1, 4)
+        return self.run(mark, files, agent, **settings)[0] not in (0, 1, 4)
 
 
 def of_list(*entries):
@@ -172,8 +180,9 @@ def judged(recipes):
 def taken(recipes):
     """The digests of an earlier boot."""
     entries = [FIRST, *PASSED_OVER.values(), *SHOWN.values()]
+    whole = {"confirmed": str(len(entries))}
     known = [entry.as_json(0) for entry in entries if is_confirmed(entry) and entry.fields()]
-    is_done = recipes.run(TAKE, {"before.list": list_spelling(entries)}) == (0, b"")
+    is_done = recipes.run(TAKE, {"before.list": list_spelling(entries)}, **whole) == (0, b"")
     sums = (recipes.folder / "known.txt").read_bytes()
     *lines, end = [line.split("  ", 1) for line in sums.decode().split("\n")]
     found = [[digest, json.loads(f'"{path}"')] for digest, path in lines]
@@ -183,9 +192,56 @@ def taken(recipes):
     shown = recipes.shown(JUDGE, {"ima.list": list_spelling(entries), "known.txt": sums})
     yield "what an earlier list makes known", shown == [*rest, {"judged": len(entries)}]
     for what, files in damaged_lists():
-        yield what, recipes.fails(TAKE, {"before.list": data for data in files.values()})
+        yield what, recipes.fails(TAKE, {"before.list": data for data in files.values()}, **whole)
     for what, agent in (("that dies", DYING), ("with other JSON", FOREIGN)):
-        yield f"a program {what}", recipes.fails(TAKE, {"before.list": list_spelling(entries)}, agent)
+        yield f"a program {what}", recipes.fails(TAKE, {"before.list": list_spelling(entries)}, agent, **whole)
+    went_on = {"before.list": list_spelling([FIRST, measured(KNOWN), measured(UNKNOWN)])}
+    front = [FIRST.fields().digest.hex(), KNOWN.hex()]
+    for what, confirmed, wanted in (
+        ("an entry after the confirmed front", "2", front), ("a front of one entry", "1", front[:1]), ("a front of none", "0", []),
+        ("no verdict with a front", "null", []), ("the whole list", "3", [*front, UNKNOWN.hex()]),
+    ):
+        is_done = recipes.run(TAKE, went_on, confirmed=confirmed) == (0, b"")
+        sums = (recipes.folder / "known.txt").read_text()
+        yield what, is_done and [line.split("  ")[0] for line in sums.splitlines()] == wanted
+    for what, confirmed in (("no front", ""), ("a line of a report", "confirmed 2 of 3 entries"), ("words", "2 of 3")):
+        is_refused = recipes.fails(TAKE, went_on, confirmed=confirmed)
+        yield what, is_refused and not (recipes.folder / "known.txt").read_bytes()
+
+
+def extended(recipes):
+    """Whether events of a log extend register 10."""
+    whole, event = LOG.spelling(), LOG.events[0]._replace(register=10, type=6)
+    for what, events, wanted in (
+        ("no such event", [], 0), ("such an event", [event], 1), ("two", [event, event], 1), ("one before the others", None, 1),
+        ("an event that extends nothing", [event._replace(type=EV_NO_ACTION)], 0),
+        ("an event of register 1, with a line as data", [event._replace(register=1, data=b"\n1 10 x\n")], 0),
+    ):
+        log = LOG._replace(events=[event, *LOG.events] if events is None else [*LOG.events, *events])
+        yield what, recipes.run(IMA_ALONE, {"firmware.log": log.spelling()}) == (wanted, b"")
+    for what, files in (("no log", {}), ("an empty log", {"firmware.log": b""}), ("a cut log", {"firmware.log": whole[:-1]}),
+                        ("a log cut after its header", {"firmware.log": whole[:40]}), ("another file", {"firmware.log": b"10 10 10\n"})):
+        yield what, recipes.fails(IMA_ALONE, files)
+    yield "a program that dies", recipes.fails(IMA_ALONE, {"firmware.log": whole}, DYING)
+
+
+def measures(recipes):
+    """The list of a file tree, here of a folder with two files."""
+    log = {"firmware.log": LOG.spelling()}
+    block = recipes.block(MEASURED)
+    with tempfile.TemporaryDirectory() as tree:
+        recipes.blocks[recipes.blocks.index(block)] = block.replace("/usr/bin", tree)
+        aggregate = entry_of(IMA_NG, SHA256, LOG.registers().boot_aggregate(SHA256), b"boot_aggregate").line()
+        lines = {aggregate}
+        for name in ("one", "two"):
+            Path(tree, name).write_text(name)
+            lines.add(entry_of(IMA_NG, SHA256, SHA256.hash(name.encode()), f"{tree}/{name}".encode()).line())
+        yield "two files", recipes.run(MEASURED, log) == (0, aggregate)
+        found = (recipes.folder / "measured.txt").read_bytes().splitlines(keepends=True)
+        yield "the list of two files", found[:1] == [aggregate] and len(found) == 3 and set(found) == lines
+        for what, files in (("no log", {}), ("an empty log", {"firmware.log": b""}), ("a cut log", {"firmware.log": LOG.spelling()[:-1]})):
+            yield what, recipes.fails(MEASURED, files)
+        yield "a program that dies", recipes.fails(MEASURED, log, DYING)
 
 
 def compared(recipes):
@@ -252,7 +308,7 @@ def main():
     passed = failed = 0
     with tempfile.TemporaryDirectory() as name:
         recipes = Recipes(Path(program).resolve(), Path(name))
-        for tried in () if lacking else (judged, taken, compared, aggregated, paths):
+        for tried in () if lacking else (extended, judged, taken, measures, compared, aggregated, paths):
             for what, is_right in tried(recipes):
                 passed, failed = passed + is_right, failed + (not is_right)
                 if not is_right:

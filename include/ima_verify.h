@@ -10,8 +10,8 @@
  * command prints with --json, each a JSON text and a line feed. The page formats.md has the formats, and what each
  * fault number means; ima-agent(1) has the faults, too.
  *
- * A verdict speaks of the registers that are expected, and of no others: ima_verify_verdict says `match` of none
- * at all. So say which registers a verdict must cover, and call ima_verify_required.
+ * A verdict speaks of the registers that are expected, and of no others. If no register is expected,
+ * ima_verify_verdict still says `match`; so call ima_verify_required, and say which registers it must cover.
  *
  * Pointers. None may be null, `out` and `needed` included, even where its size is 0: give the address of any
  * byte then. To ask for the size alone, give `out` such an address, and an `out_size` of 0. Nothing may change

@@ -9,10 +9,12 @@ ghost use Rattle.pcr_banks.specs.Hashing.{name_of};
 ghost use Rattle.pcr_banks.specs.Digests.{alg_of, bytes_of};
 ghost use Rattle.pcr_banks.specs.Registers.{is_active, register_count};
 ghost use Rattle.boot_verdict.specs.declared.checkpoint.Checkpoint.{Checkpoint};
+ghost use Rattle.boot_verdict.specs.Checkpoints.{IsCheckpoint};
 ghost use Rattle.boot_verdict.specs.RegisterTexts.{all_registers, register_line};
 ghost use Rattle.growing_lists.specs.declared.checkpoint_reader.CheckpointFault.TheVariants.{Memory};
 ghost use Rattle.growing_lists.specs.CheckpointData.{HaveValues, IsCounted, IsHash, IsPossible, SameData, SameValues};
 ghost use Rattle.growing_lists.specs.CheckpointTexts.{IsOfOtherVersion, bank_lines, banks_lines, checkpoint_text, data_lines, number_line, stated_line, stated_words, value_line};
+ghost use Rattle.growing_lists.specs.Sessions.{IsOfBoot};
 ghost use Rattle.growing_lists.specs.parts.CheckpointParts.{HasBank, Sets, TakesBank};
 
 use crate::texts::write_checkpoint;
@@ -32,6 +34,15 @@ pub fn counted_checkpoint_is_possible(checkpoint: &Checkpoint)
         digest_is_a_hash(digest);
     }
 }
+
+/// Law: possible checkpoints with the same data are those of the same lists, and of the same boots. By [`read_checkpoint`] all of one text
+/// have the same data: so the text of a list's checkpoint tells on which list, and in which boot, a verification goes on.
+pub fn same_data_is_of_the_same_lists()
+    ensures lists { (first second : Checkpoint) → IsPossible first → IsPossible second → SameData first second
+        → (list : List ℕ) → IsCheckpoint list first → IsCheckpoint list second }
+    ensures boots { (first second : Checkpoint) → IsPossible first → IsPossible second → SameData first second
+        → (log : List ℕ) → IsOfBoot log first → IsOfBoot log second }
+{}
 
 /// Why a text is not read as a checkpoint.
 #[derive(Clone, Copy, Debug, PartialEq, Eq, Error)]
@@ -61,8 +72,8 @@ impl From<AllocError> for CheckpointFault {
 /// [`CheckpointFault::Damaged`] if it is not the text of a checkpoint, or of none with possible counts; or with
 /// [`CheckpointFault::Memory`].
 pub fn read_checkpoint(alloc: Global, text: &[u8]) -> Result<Checkpoint, CheckpointFault>
-    // The text is that of the result, whose counts are possible.
-    ensures found { IfOk result (λ found. IsCounted found × (text.now ≡ checkpoint_text found)) }
+    // The text is that of the result, which is possible.
+    ensures found { IfOk result (λ found. IsPossible found × (text.now ≡ checkpoint_text found)) }
     // The text of a checkpoint is read, unless memory runs out.
     ensures only { (checkpoint : Checkpoint) → IsPossible checkpoint → text.now ≡ checkpoint_text checkpoint
         → IfOk result (λ found. SameData found checkpoint) × IfErr result (λ fault. fault ≡ CheckpointFault.Memory) }
@@ -90,7 +101,7 @@ fn checked(
     text: &[u8],
 ) -> Result<Checkpoint, CheckpointFault>
     ensures same { IfOk result (λ found. found ≡ checkpoint) }
-    ensures found { IfOk result (λ found. IsCounted found × (text.now ≡ checkpoint_text found)) }
+    ensures found { IfOk result (λ found. IsPossible found × (text.now ≡ checkpoint_text found)) }
     ensures only { IsCounted checkpoint → text.now ≡ checkpoint_text checkpoint → IfErr result (λ fault. fault ≡ CheckpointFault.Memory) }
     ensures version { IsErrOf result CheckpointFault.Version → ⊥ }
 {
@@ -100,6 +111,7 @@ fn checked(
     if !is_text_of(alloc, &checkpoint, text)? {
         return Err(CheckpointFault::Damaged);
     }
+    counted_checkpoint_is_possible(&checkpoint);
     Ok(checkpoint)
 }
 

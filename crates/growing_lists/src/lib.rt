@@ -10,7 +10,10 @@ mod same_banks;
 mod session;
 mod texts;
 
-pub use checkpoint_reader::{CheckpointFault, counted_checkpoint_is_possible, read_checkpoint};
+pub use checkpoint_reader::{
+    CheckpointFault, counted_checkpoint_is_possible, read_checkpoint,
+    same_data_is_of_the_same_lists,
+};
 pub use front_report::{FrontReport, Unconfirmed};
 pub use session::{ResumeFault, Session};
 pub use texts::{write_checkpoint, write_front_report, write_required_front_report};

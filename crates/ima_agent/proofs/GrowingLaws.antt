@@ -1,6 +1,7 @@
 -- A list that grows: what its source says of its input, whatever list was taken before.
-use Rattle.std.proofs.Common.{◌≡◌, ℕ, ◌<◌, List, ◌++◌, length, Option, None, Some, Ok, Err, refl, sym, subst, append_assoc, inl, inr}
+use Rattle.std.proofs.Common.{◌≡◌, ℕ, ◌<◌, List, [], ◌++◌, length, Option, None, Some, Ok, Err, refl, sym, subst, append_assoc, inl, inr}
 use Rattle.std.specs.Prelude.{◌⊎◌, IfSome, IfOk, IfErr, IsTrue, Result}
+use Rattle.std.proofs.lemmas.List.{append-nil}
 use Rattle.byte_streams.specs.Streams.{SourceState}
 use Rattle.ima_list.specs.declared.fault.ListFault.{ListFault}
 use Rattle.ima_list.specs.declared.fault.ListFault.TheVariants as lists
@@ -14,12 +15,14 @@ use Rattle.boot_verdict.specs.declared.requirement.BankRange.{BankRange}
 use Rattle.growing_lists.specs.declared.session.Session.{Session}
 use Rattle.boot_verdict.specs.declared.verifier.VerifyFault.{VerifyFault}
 use Rattle.boot_verdict.specs.declared.verifier.VerifyFault.TheVariants as verdicts
+use Rattle.growing_lists.specs.CheckpointData.{IsCounted, IsPossible}
 use Rattle.growing_lists.specs.CheckpointTexts.{checkpoint_text}
+use Rattle.growing_lists.proofs.DataLaws.{counted_front}
 use Rattle.boot_verdict.specs.Checkpoints.{IsMoreFault, most_after}
 use Rattle.growing_lists.specs.Fronts.{CameUnconfirmed, IsFrontReport, IsUnconfirmedFault, IsWrongWith, TakesUnconfirmed}
 use Rattle.boot_verdict.specs.ListSources.{CameFrom, CameWhole, FailsFor, IsListFaultAfter}
-use Rattle.growing_lists.specs.Sessions.{HasTaken, IsOfBoot}
-use Rattle.boot_verdict.specs.Verdicts.{IsSomeLog, Verdict}
+use Rattle.growing_lists.specs.Sessions.{HasTaken, IsOfBoot, TakesMore}
+use Rattle.boot_verdict.specs.Verdicts.{IsSomeLog, Verdict, verdict_of}
 use Rattle.ima_agent.specs.declared.fault.NotResumed.TheVariants.{OtherBoot}
 use Rattle.ima_agent.specs.declared.fault.RunFault.{RunFault}
 use Rattle.ima_agent.specs.declared.fault.RunFault.TheVariants as runs
@@ -27,16 +30,20 @@ use Rattle.ima_agent.specs.declared.grown_reports.Judged.{Judged}
 use Rattle.ima_agent.specs.declared.grown_reports.Judged.TheVariants as judged
 use Rattle.ima_agent.specs.declared.output.Form.{Form}
 use Rattle.ima_agent.specs.declared.output.Output.{Output}
-use Rattle.ima_agent.specs.Growing.{AreGrounds, Growth, HasSaved, IsFaultAfter, IsFrontAfter, IsGrownFault, IsGrownFaultWith, IsNotTaken, IsOfOtherBoot, IsRefusedUnconfirmed, IsTaken, IsUnconfirmed, IsUnconfirmedBefore, IsVerdictAfter, IsWrongAfter, ShowsAndSaves, ShowsGrownWith, ShowsGrowth, entries_taken, most_more, seeks_front}
+use Rattle.ima_agent.specs.Growing.{AreGrounds, Growth, HasSaved, IsFaultAfter, IsFrontAfter, IsGrownFault, IsGrownFaultWith, IsKnown, IsNext, IsNotSaved, IsNotTaken, IsOfOtherBoot, IsRefusedUnconfirmed, IsTaken, IsUnconfirmed, IsUnconfirmedBefore, IsVerdictAfter, IsWrongAfter, ShowsAndSaves, ShowsGrownWith, ShowsGrowth, entries_taken, most_more, seeks_front}
 use Rattle.ima_agent.specs.JsonJudging.{IsRequired}
 use Rattle.ima_agent.specs.Loading.{HasFailed, Inputs, Holds, OfInput, Saved, input_limit}
 use Rattle.ima_agent.specs.Measuring.{HasLogFault}
 use Rattle.ima_agent.specs.parts.Growing.{IsNotJudged, IsNotTakenFrom, Judges, TakesVerdict, judged_text, judged_well}
 use Rattle.ima_agent.proofs.VerifyingLaws.{HasAll, held_more, held_whole, longer}
 
--- A session goes on in the boot of its log.
-of_boot : (log list : List ℕ) (session : Session) → HasTaken log list session → IsOfBoot log session.known
-of_boot log list session is = record { table = is.table; events = is.events; log_is = is.log_is; start = is.start }
+-- Whoever goes on from what a session knows goes on from what it has taken.
+pub next_of : {log list : List ℕ} {session : Session} → HasTaken log list session → IsPossible session.known → IsNext log list session.known
+next_of is possible = record {
+  checkpoint = is.checkpoint;
+  boot = record { table = is.table; events = is.events; log_is = is.log_is; start = is.start };
+  possible = possible;
+}
 
 module _ (inputs : Inputs) (name : List ℕ) (old new : Option (List ℕ)) (limit : ℕ) (has : HasAll (inputs.held (Some name)) old) where
   -- ---- what came, and the input
@@ -75,14 +82,14 @@ module _ (inputs : Inputs) (name : List ℕ) (old new : Option (List ℕ)) (limi
 
   -- ---- a report
 
-  pub verdict_after : (log taken : List ℕ) (expected : List Expected) (after : Session) (verdict : Verdict)
-      → TakesVerdict log taken old new limit expected after verdict → IsVerdictAfter inputs name log expected taken verdict after.known
-  verdict_after log taken expected after verdict is = record {
+  pub verdict_after : (log taken : List ℕ) (expected : List Expected) (after : Session) (verdict : Verdict) → IsPossible after.known
+      → TakesVerdict log taken old new limit expected after verdict → IsVerdictAfter inputs name log expected taken limit verdict after.known
+  verdict_after log taken expected after verdict possible is = record {
     more = is.takes.more;
     held = whole is.takes.more is.takes.came;
+    within = is.takes.came.came.within;
     verdict_is = is.verdict_is;
-    next_is = is.takes.taken.checkpoint;
-    next_boot = of_boot log (taken ++ is.takes.more) after is.takes.taken;
+    next_is = next_of is.takes.taken possible;
   }
 
   pub none_confirmed : (log taken : List ℕ) (expected : List Expected) (least : ℕ) (after : Session)
@@ -102,8 +109,9 @@ module _ (inputs : Inputs) (name : List ℕ) (old new : Option (List ℕ)) (limi
   wrong_after taken count (Some (unconfirmed.List fault)) is = (list_fault taken fault is.0, is.1)
 
   pub front_after : (log taken : List ℕ) (expected : List Expected) (least : ℕ) (after : Session) (report : FrontReport)
-      → IsFrontReport log taken old new limit expected least after report → IsFrontAfter inputs name log expected taken least report after.known
-  front_after log taken expected least after report is =
+      → IsPossible after.known → IsFrontReport log taken old new limit expected least after report
+      → IsFrontAfter inputs name log expected taken least report after.known
+  front_after log taken expected least after report possible is =
       let held = begins is.came is.over is.came_is in
       record {
         came = is.came;
@@ -118,8 +126,7 @@ module _ (inputs : Inputs) (name : List ℕ) (old new : Option (List ℕ)) (limi
         confirmed = is.confirmed;
         verdict_is = is.verdict_is;
         wrong = wrong_after taken report.entries report.unconfirmed is.wrong;
-        next_is = is.taken.checkpoint;
-        next_boot = of_boot log (list_spelling is.front) after is.taken;
+        next_is = next_of is.taken possible;
       }
 
   -- ---- why there is none
@@ -160,17 +167,42 @@ module _ (inputs : Inputs) (name : List ℕ) (old new : Option (List ℕ)) (limi
   refused_unconfirmed log taken expected least verdicts.TooLong is = tt
   refused_unconfirmed log taken expected least verdicts.Memory is = tt
 
+-- ---- what can be gone on from
+
+-- What is gone on from has possible counts.
+pub known_counted : (inputs : Inputs) (resume : Option (List ℕ)) (known : Option Checkpoint) → IsKnown inputs resume known → IfSome known IsCounted
+known_counted inputs None None is = tt
+known_counted inputs (Some name) (Some known) is = is.2.0.counted
+known_counted inputs None (Some known) is = absurd is
+known_counted inputs (Some name) None is = absurd is
+
+-- What is taken after it is of possible counts,
+pub counted_whole : {log taken : List ℕ} {old new : Option (List ℕ)} (limit : ℕ) {before after : Session} → HasTaken log taken before
+    → IsCounted before.known → TakesMore log taken old new (most_after before.known limit) after → IsCounted after.known
+counted_whole {taken = taken} limit {before} {after} has counted takes =
+    counted_front taken takes.more (taken ++ takes.more) [] before.known after.known limit counted has.checkpoint takes.came.came.within
+    (sym (append-nil (taken ++ takes.more))) takes.taken.checkpoint
+
+-- and so is a front of that.
+pub counted_at_front : {log taken : List ℕ} {old new : Option (List ℕ)} (limit : ℕ) {expected : List Expected} {least : ℕ} {before after : Session}
+    {report : FrontReport} → HasTaken log taken before → IsCounted before.known
+    → IsFrontReport log taken old new (most_after before.known limit) expected least after report → IsCounted after.known
+counted_at_front {taken = taken} limit {before = before} {after} has counted is =
+    counted_front taken is.came (list_spelling is.front) is.rest before.known after.known limit counted has.checkpoint is.came_is.within
+    is.begins.parts is.taken.checkpoint
+
 -- ---- what the program shows
 
 module _ (inputs : Inputs) (asked : Growth) (required : Option (List BankRange)) (log : List ℕ) (expected : List Expected) (known : Option Checkpoint)
     (old new : SourceState) (before : Session) (grounds : AreGrounds inputs asked log expected known)
     (has : HasAll (inputs.held (Some asked.list)) old.remaining)
-    (started : (taken : List ℕ) → IsTaken known taken → HasTaken log taken before) (least : before.known.entries ≡ entries_taken known) where
-  pub shows : IfSome known (IsOfBoot log) → (form : Form) (after : Session) (report : Judged) (shown : List ℕ) (status : ℕ)
+    (started : (taken : List ℕ) → IsTaken known taken → HasTaken log taken before) (least : before.known.entries ≡ entries_taken known)
+    (most : most_after before.known input_limit ≡ most_more known) (counted : IsCounted before.known) (boot : IfSome known (IsOfBoot log)) where
+  pub shows : (form : Form) (after : Session) → (IsCounted after.known → IsPossible after.known) → (report : Judged) (shown : List ℕ) (status : ℕ)
       → Judges (seeks_front asked.extent required expected) old.remaining new.remaining expected before after report
       → shown ≡ judged_text form required report → status ≡ judged_well required report
       → ShowsGrownWith inputs asked required form after.known shown status
-  shows boot form after (judged.Whole report) shown status is text-is status-is = record {
+  shows form after possible (judged.Whole report) shown status is text-is status-is = record {
     log = log;
     expected = expected;
     known = known;
@@ -179,7 +211,10 @@ module _ (inputs : Inputs) (asked : Growth) (required : Option (List BankRange))
     report = inl (record {
       verdict = _;
       verdict_is = λ taken take.
-          verdict_after inputs asked.list old.remaining new.remaining _ has log taken expected after _ (is.0 log taken (started taken take));
+          let takes = is.0 log taken (started taken take) in
+          subst (λ (n : ℕ). IsVerdictAfter inputs asked.list log expected taken n (verdict_of report) after.known) most
+          (verdict_after inputs asked.list old.remaining new.remaining _ has log taken expected after _
+          (possible (counted_whole input_limit (started taken take) counted takes.takes)) takes);
       unconfirmed = λ sought taken take.
           subst (λ (n : ℕ). IsUnconfirmed inputs asked.list log expected taken n) least
           (none_confirmed inputs asked.list old.remaining new.remaining _ has log taken expected before.known.entries after
@@ -188,7 +223,7 @@ module _ (inputs : Inputs) (asked : Growth) (required : Option (List BankRange))
       status_is = status-is;
     });
   }
-  shows boot form after (judged.Front report) shown status is text-is status-is = record {
+  shows form after possible (judged.Front report) shown status is text-is status-is = record {
     log = log;
     expected = expected;
     known = known;
@@ -198,9 +233,10 @@ module _ (inputs : Inputs) (asked : Growth) (required : Option (List BankRange))
       report = report;
       sought = is.0;
       front_is = λ taken take.
+          let front = is.1 log taken (started taken take) in
           subst (λ (n : ℕ). IsFrontAfter inputs asked.list log expected taken n report after.known) least
           (front_after inputs asked.list old.remaining new.remaining _ has log taken expected before.known.entries after report
-          (is.1 log taken (started taken take)));
+          (possible (counted_at_front input_limit (started taken take) counted front)) front);
       text_is = text-is;
       status_is = status-is;
     });
@@ -209,11 +245,10 @@ module _ (inputs : Inputs) (asked : Growth) (required : Option (List BankRange))
   some_log : (taken : List ℕ) → HasTaken log taken before → IsSomeLog log
   some_log taken is = record { table = is.table; events = is.events; log_is = is.log_is }
 
-  pub not_taken : (fault : RunFault) (most : most_after before.known input_limit ≡ most_more known)
-      → (HasFailed old new → IsTrue (inputs.may_fail (Some asked.list)))
+  pub not_taken : (fault : RunFault) → (HasFailed old new → IsTrue (inputs.may_fail (Some asked.list)))
       → IsNotTakenFrom asked.list (seeks_front asked.extent required expected) old new expected before fault
       → IsNotTaken inputs asked.list log expected known (seeks_front asked.extent required expected) fault
-  not_taken fault most failing is = record {
+  not_taken fault failing is = record {
     first = is.first;
     first_is = λ taken take. (
       some_log taken (started taken take),
@@ -228,18 +263,24 @@ module _ (inputs : Inputs) (asked : Growth) (required : Option (List BankRange))
     says = is.says;
   }
 
-  pub list_fails : (fault : RunFault) (most : most_after before.known input_limit ≡ most_more known)
-      → (HasFailed old new → IsTrue (inputs.may_fail (Some asked.list)))
+  pub list_fails : (fault : RunFault) → (HasFailed old new → IsTrue (inputs.may_fail (Some asked.list)))
       → IsNotJudged asked.list (seeks_front asked.extent required expected) old new expected before fault
       → IsGrownFaultWith inputs asked required fault
-  list_fails fault most failing (inl is) = inr (inl (record {
+  list_fails fault failing (inl is) = inr (inl (record {
     log = log;
     expected = expected;
     known = known;
     grounds = grounds;
-    cause = inr (inr (not_taken fault most failing is));
+    cause = inr (inr (boot, not_taken fault failing is));
   }))
-  list_fails fault most failing (inr memory) = inl (inr (inr (inr (inr (inr memory)))))
+  list_fails fault failing (inr memory) = inl (inr (inr (inr (inr (inr memory)))))
+
+-- The report is made, and its checkpoint is not saved.
+pub save_fails : (inputs : Inputs) (asked : Growth) (required : Option (List BankRange)) (form : Form) (next : Checkpoint) (shown : List ℕ)
+    (status : ℕ) (fault : RunFault) → ShowsGrownWith inputs asked required form next shown status
+    → IsNotSaved asked.save fault ⊎ (fault ≡ runs.Memory) → IsGrownFaultWith inputs asked required fault
+save_fails inputs asked required form next shown status fault is (inl unsaved) = inr (inr ((form, next, shown, status, is), unsaved))
+save_fails inputs asked required form next shown status fault is (inr memory) = inl (inr (inr (inr (inr (inr memory)))))
 
 -- The log is refused, or of another boot.
 pub session_fails : (inputs : Inputs) (asked : Growth) (required : Option (List BankRange)) (log : List ℕ) (expected : List Expected)

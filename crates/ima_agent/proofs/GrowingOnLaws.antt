@@ -16,6 +16,7 @@ use Rattle.growing_lists.specs.declared.session.Session.{Session}
 use Rattle.boot_verdict.specs.declared.verifier.VerifyFault.{VerifyFault}
 use Rattle.boot_verdict.specs.declared.verifier.VerifyFault.TheVariants as verdicts
 use Rattle.boot_verdict.specs.Checkpoints.{IsMoreFault}
+use Rattle.growing_lists.specs.CheckpointData.{IsCounted, IsPossible}
 use Rattle.growing_lists.specs.Fronts.{CameUnconfirmed, IsFrontReport, IsUnconfirmedFault, IsWrongWith, TakesUnconfirmed}
 use Rattle.boot_verdict.specs.ListSources.{CameFrom, CameWhole, FailsFor, IsListFaultAfter}
 use Rattle.growing_lists.specs.Sessions.{HasTaken, IsOfBoot, TakesMore}
@@ -33,6 +34,7 @@ use Rattle.ima_agent.specs.Measuring.{HasLogFault}
 use Rattle.ima_agent.specs.Verifying.{fault_of_verdict}
 use Rattle.ima_agent.specs.parts.Growing.{judged_text, judged_well}
 use Rattle.ima_agent.specs.parts.GrowingOn.{IsNotJudgedOn, IsNotTakenIn, JudgesOn}
+use Rattle.ima_agent.proofs.GrowingLaws.{next_of}
 use Rattle.ima_agent.proofs.ReplayingLaws.{of_whole}
 use Rattle.ima_agent.proofs.VerifyingLaws.{held_more}
 
@@ -127,9 +129,9 @@ module _ (taken more : List ℕ) (new : Option (List ℕ)) (limit : ℕ) where
     wrong_in count (Some (unconfirmed.List fault)) is = (list_fault fault is.0, is.1)
 
     -- The report is on the confirmed front.
-    pub front_in : (after : Session) (report : FrontReport) → IsFrontReport log taken (Some more) new limit expected least after report
-        → IsFrontOf log (taken ++ more) expected least report after.known
-    front_in after report is =
+    pub front_in : (after : Session) (report : FrontReport) → IsPossible after.known
+        → IsFrontReport log taken (Some more) new limit expected least after report → IsFrontOf log (taken ++ more) expected least report after.known
+    front_in after report possible is =
         let rest = rest_of is.came is.over is.came_is in
         record {
           table = is.table;
@@ -141,7 +143,7 @@ module _ (taken more : List ℕ) (new : Option (List ℕ)) (limit : ℕ) where
           confirmed = is.confirmed;
           verdict_is = is.verdict_is;
           wrong = wrong_in report.entries report.unconfirmed is.wrong;
-          next_is = is.taken.checkpoint;
+          next_is = next_of is.taken possible;
         }
 
 -- Why all of the bytes are not taken.
@@ -156,6 +158,11 @@ none_taken more expected before new limit first is = record {
 }
 
 -- ---- the report that is asked for
+
+-- What is gone on from has possible counts.
+pub known_counted : (state : List ℕ) (known : Option Checkpoint) → IsKnownIn state known → IfSome known IsCounted
+known_counted state None is = tt
+known_counted state (Some known) is = is.0.counted
 
 module _ (asked : GrowthOn) (required : Option (List BankRange)) (expected : List Expected) (known : Option Checkpoint)
     (states : IsExpectedText asked.expected expected) (is_known : IsKnownIn asked.state known) where
@@ -178,7 +185,8 @@ module _ (asked : GrowthOn) (required : Option (List BankRange)) (expected : Lis
       })))
 
   module _ (before : Session) (has : (taken : List ℕ) → IsTaken known taken → HasTaken asked.log taken before)
-      (count : before.known.entries ≡ entries_taken known) (seeks : Bool) (sought : seeks ≡ seeks_front asked.extent required expected) where
+      (count : before.known.entries ≡ entries_taken known) (counted : IsCounted before.known) (boot : IfSome known (IsOfBoot asked.log))
+      (seeks : Bool) (sought : seeks ≡ seeks_front asked.extent required expected) where
     not_taken : (fault : RunFault) → IsNotTakenIn seeks asked.more expected before fault
         → IsNotTakenOn asked.log asked.more expected known seeks fault
     not_taken fault none = record {
@@ -200,7 +208,7 @@ module _ (asked : GrowthOn) (required : Option (List BankRange)) (expected : Lis
           expected = expected;
           known = known;
           grounds = record { expected_is = states; known_is = is_known };
-          cause = inr (inr (subst (λ (b : Bool). IsNotTakenOn asked.log asked.more expected known b fault) sought (not_taken fault none)));
+          cause = inr (inr (boot, subst (λ (b : Bool). IsNotTakenOn asked.log asked.more expected known b fault) sought (not_taken fault none)));
         })))
 
     module _ (after : Session) (form : Form) (shown : List ℕ) (status : ℕ) where
@@ -211,7 +219,7 @@ module _ (asked : GrowthOn) (required : Option (List BankRange)) (expected : Lis
       shows (judged.Whole report) is text-is status-is =
           inl (record {
             verdict = verdict_of report;
-            verdict_is = λ taken of. is.0 asked.log taken (has taken of);
+            verdict_is = λ taken of. is.0 asked.log taken (has taken of) counted;
             unconfirmed = λ seeking taken of.
                 subst (λ (n : ℕ). HasNoFront asked.log (taken ++ asked.more) expected n) count (is.1 seeking asked.log taken (has taken of));
             text_is = text-is;
@@ -223,16 +231,16 @@ module _ (asked : GrowthOn) (required : Option (List BankRange)) (expected : Lis
             sought = is.0;
             front_is = λ taken of.
                 subst (λ (n : ℕ). IsFrontOf asked.log (taken ++ asked.more) expected n report after.known) count
-                (is.1 asked.log taken (has taken of));
+                (is.1 asked.log taken (has taken of) counted);
             text_is = text-is;
             status_is = status-is;
           })
 
       -- The report is shown.
-      pub shows_grown : IfSome known (IsOfBoot asked.log) → (report : Judged) → JudgesOn seeks asked.more expected before after report
+      pub shows_grown : (report : Judged) → JudgesOn seeks asked.more expected before after report
           → shown ≡ judged_text form required report
           → status ≡ judged_well required report → ShowsGrownOnWith asked required form after.known shown status
-      shows_grown boot report is text-is status-is = record {
+      shows_grown report is text-is status-is = record {
         expected = expected;
         known = known;
         grounds = record { expected_is = states; known_is = is_known };

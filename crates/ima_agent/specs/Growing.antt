@@ -1,5 +1,5 @@
 -- The report on a list that grows, as the program writes it, and what it saves. All of this is this project's choice.
-use Rattle.std.specs.Prelude.{◌≡◌, ℕ, ◌<◌, ◌⊎◌, Bool, true, false, List, ◌++◌, length, [], ◌∷◌, Option, Some, None, Ok, Err, IfSome, IsTrue, option_map, string_bytes}
+use Rattle.std.specs.Prelude.{◌≡◌, ℕ, ◌<◌, ◌≤◌, ◌⊎◌, Bool, true, false, List, ◌++◌, length, [], Option, Some, None, Ok, Err, IfSome, IsTrue, codes, option_map, string_bytes}
 use Rattle.boot_log.specs.Spelling.{IsLog, LogEvent, algs_in}
 use Rattle.boot_log.specs.declared.header.Row.{Row as TableRow}
 use Rattle.ima_list.specs.ListEntry.{ListEntry}
@@ -15,7 +15,7 @@ use Rattle.boot_verdict.specs.declared.requirement.BankRange.{BankRange}
 use Rattle.boot_verdict.specs.declared.verifier.VerifyFault.{VerifyFault}
 use Rattle.boot_verdict.specs.declared.verifier.VerifyFault.TheVariants as verdicts
 use Rattle.boot_verdict.specs.Checkpoints.{IsCheckpoint, most_after}
-use Rattle.growing_lists.specs.CheckpointData.{IsCounted, IsPossible}
+use Rattle.growing_lists.specs.CheckpointData.{IsPossible}
 use Rattle.growing_lists.specs.CheckpointTexts.{IsOfOtherVersion, checkpoint_text}
 use Rattle.boot_verdict.specs.ExpectedTexts.{IsExpectedText}
 use Rattle.growing_lists.specs.Fronts.{AreUnconfirmed, IsConfirmed}
@@ -38,7 +38,7 @@ use Rattle.ima_agent.specs.declared.output.Form.{Form}
 use Rattle.ima_agent.specs.declared.output.Form.TheVariants as forms
 use Rattle.ima_agent.specs.Faults.{IsFaultOfVerdict}
 use Rattle.ima_agent.specs.JsonJudging.{IsRequired, judged_status}
-use Rattle.ima_agent.specs.Loading.{Inputs, Holds, IsInputFault, IsNotWritten, IsReadFailure, OfInput, Saved, input_limit}
+use Rattle.ima_agent.specs.Loading.{HasReplaced, Inputs, Holds, IsInputFault, IsNotWritten, IsReadFailure, OfInput, Saved, input_limit}
 use Rattle.ima_agent.specs.Measuring.{HasLogFault}
 use Rattle.ima_agent.specs.Requiring.{IsRequirementFault}
 use Rattle.ima_agent.specs.Verifying.{IsNotExpected}
@@ -84,9 +84,10 @@ abbrev pub most_more : Option Checkpoint → ℕ
 most_more None = input_limit
 most_more (Some known) = most_after known input_limit
 
--- The text is that of this checkpoint, whose counts are possible.
+-- The text is that of this checkpoint, which is possible. Any other possible one of which it is has the same data, and so is that of the
+-- same lists and boots.
 abbrev pub IsCheckpointText : List ℕ → Checkpoint → Type 0
-IsCheckpointText text known = IsCounted known × (text ≡ checkpoint_text known)
+IsCheckpointText text known = IsPossible known × (text ≡ checkpoint_text known)
 
 -- What is gone on from: the checkpoint in the file of this name, if a name is given.
 abbrev pub IsKnown : Inputs → Option (List ℕ) → Option Checkpoint → Type 0
@@ -118,14 +119,21 @@ front_report_in forms.Text (Some ranges) front =
 front_report_in forms.Json required front =
     line_of (front_report_json required (verdict_of front.report) front.entries front.unconfirmed)
 
--- This is the verdict on the log and the list that goes on, after `taken`, with the bytes of the input of this name; and this is the
--- checkpoint of that list, in this boot.
-pub record IsVerdictAfter (inputs : Inputs) (name log : List ℕ) (expected : List Expected) (taken : List ℕ) (verdict : Verdict) (next : Checkpoint) : Type 0 where
+-- This is the checkpoint of the list, in the boot of this log, and its text can be gone on from.
+pub record IsNext (log list : List ℕ) (next : Checkpoint) : Type 0 where
+  pub checkpoint : IsCheckpoint list next
+  pub boot : IsOfBoot log next
+  pub possible : IsPossible next
+
+-- This is the verdict on the log and the list that goes on, after `taken`, with the bytes of the input of this name, at most `most`; and
+-- this is the checkpoint of that list.
+pub record IsVerdictAfter (inputs : Inputs) (name log : List ℕ) (expected : List Expected) (taken : List ℕ) (most : ℕ) (verdict : Verdict)
+    (next : Checkpoint) : Type 0 where
   pub more : List ℕ
   pub held : Holds inputs (Some name) more
+  pub within : length more ≤ most
   pub verdict_is : IsVerdict log (taken ++ more) expected verdict
-  pub next_is : IsCheckpoint (taken ++ more) next
-  pub next_boot : IsOfBoot log next
+  pub next_is : IsNext log (taken ++ more) next
 
 -- No front of that list is confirmed, with as many entries as were taken or more.
 pub record IsUnconfirmed (inputs : Inputs) (name log : List ℕ) (expected : List Expected) (taken : List ℕ) (least : ℕ) : Type 0 where
@@ -148,7 +156,7 @@ IsWrongAfter inputs name taken count (Some (unconfirmed.List fault)) =
     OfInput inputs (Some name) (λ more. IsReading (taken ++ more) (Err fault)) × (list_fault_entry fault ≡ Some count)
 
 -- The report is on the confirmed front of the list that goes on, after `taken`, with the bytes of the input of this name; and this is the
--- checkpoint of the front, in this boot.
+-- checkpoint of the front.
 pub record IsFrontAfter (inputs : Inputs) (name log : List ℕ) (expected : List Expected) (taken : List ℕ) (least : ℕ) (report : FrontReport)
     (next : Checkpoint) : Type 0 where
   pub came : List ℕ
@@ -163,8 +171,7 @@ pub record IsFrontAfter (inputs : Inputs) (name log : List ℕ) (expected : List
   pub confirmed : IsConfirmed (algs_in table) events expected least front
   pub verdict_is : verdict_of report.report ≡ verdict_on (algs_in table) events front expected
   pub wrong : IsWrongAfter inputs name taken report.entries report.unconfirmed
-  pub next_is : IsCheckpoint (list_spelling front) next
-  pub next_boot : IsOfBoot log next
+  pub next_is : IsNext log (list_spelling front) next
 
 -- A front is asked for, and one can be confirmed: the expected registers have all that is required.
 abbrev pub seeks_front : Extent → Option (List BankRange) → List Expected → Bool
@@ -177,7 +184,7 @@ seeks_front Front (Some ranges) expected = is_complete ranges expected
 pub record ShowsWhole (inputs : Inputs) (name log : List ℕ) (expected : List Expected) (known : Option Checkpoint) (seeks : Bool) (form : Form)
     (required : Option (List BankRange)) (next : Checkpoint) (shown : List ℕ) (status : ℕ) : Type 0 where
   pub verdict : Verdict
-  pub verdict_is : (taken : List ℕ) → IsTaken known taken → IsVerdictAfter inputs name log expected taken verdict next
+  pub verdict_is : (taken : List ℕ) → IsTaken known taken → IsVerdictAfter inputs name log expected taken (most_more known) verdict next
   pub unconfirmed : seeks ≡ true → (taken : List ℕ) → IsTaken known taken → IsUnconfirmed inputs name log expected taken (entries_taken known)
   pub text_is : shown ≡ report_in form required verdict
   pub status_is : status ≡ judged_status (meets required verdict)
@@ -215,10 +222,10 @@ ShowsGrowth inputs asked form shown status = (next : Checkpoint) × ShowsGrown i
 
 -- ---- what is saved
 
--- The file of this name, if one is given, was replaced by this text, and no other was; where it is told which files were replaced.
+-- The file of this name, if one is given, was replaced by this text, through one beside it whose name ends in `.new`, and no other was.
 abbrev pub HasSaved : Saved → Saved → Option (List ℕ) → List ℕ → Type 0
 HasSaved old new None text = new ≡ old
-HasSaved old new (Some name) text = IfSome old (λ earlier. new ≡ Some (earlier ++ (name, text) ∷ []))
+HasSaved old new (Some name) text = HasReplaced old new (record { name = name; beside = name ++ codes ".new"; bytes = text })
 
 -- The report is shown, and the checkpoint of what it is on is saved, if that is asked for; nothing else is.
 abbrev pub ShowsAndSaves : Inputs → Growth → Form → Saved → Saved → List ℕ → ℕ → Type 0
@@ -243,10 +250,10 @@ IsNotKnown inputs None fault = ⊥
 IsNotKnown inputs (Some name) fault =
     IsInputFault inputs (Some name) fault ⊎ OfInput inputs (Some name) (λ text. IsNoCheckpoint text fault)
 
--- The log leaves other registers than those before the checkpoint.
+-- The log is valid, and leaves other registers than those before the checkpoint.
 abbrev pub IsOfOtherBoot : List ℕ → Option Checkpoint → Type 0
 IsOfOtherBoot log None = ⊥
-IsOfOtherBoot log (Some known) = IsOfBoot log known → ⊥
+IsOfOtherBoot log (Some known) = IsSomeLog log × (IsOfBoot log known → ⊥)
 
 -- Why the bytes of the input of this name are not taken after this list, of which no more than `most` may follow.
 abbrev pub IsFaultAfter : Inputs → List ℕ → List ℕ → ℕ → VerifyFault → Type 0
@@ -285,11 +292,12 @@ pub record IsNotTaken (inputs : Inputs) (name log : List ℕ) (expected : List E
       → IsRefusedUnconfirmed inputs name log expected taken (entries_taken known) first
   pub says : IsFaultOfVerdict name first fault
 
--- Why there is no report on these grounds: the log is refused, or of another boot than the checkpoint, or the list is not taken.
+-- Why there is no report on these grounds: the log is refused, or of another boot than the checkpoint; or it is of the same, and the list
+-- is not taken.
 abbrev pub IsNoReportAfter : Inputs → List ℕ → List ℕ → List Expected → Option Checkpoint → Bool → RunFault → Type 0
 IsNoReportAfter inputs name log expected known seeks fault =
     HasLogFault log fault ⊎ ((fault ≡ runs.Checkpoint OtherBoot) × IsOfOtherBoot log known)
-    ⊎ IsNotTaken inputs name log expected known seeks fault
+    ⊎ (IfSome known (IsOfBoot log) × IsNotTaken inputs name log expected known seeks fault)
 
 -- Where these registers are required, there is no report on the grounds that are asked for.
 pub record HasNoReport (inputs : Inputs) (asked : Growth) (required : Option (List BankRange)) (fault : RunFault) : Type 0 where
@@ -304,6 +312,12 @@ abbrev pub IsNotSaved : Option (List ℕ) → RunFault → Type 0
 IsNotSaved None fault = ⊥
 IsNotSaved (Some name) fault = IsNotWritten name fault
 
+-- There is a report, but the checkpoint of what it is on could not be written.
+abbrev pub IsUnsaved : Inputs → Growth → Option (List BankRange) → RunFault → Type 0
+IsUnsaved inputs asked required fault =
+    ((form : Form) × (next : Checkpoint) × (shown : List ℕ) × (status : ℕ) × ShowsGrownWith inputs asked required form next shown status)
+    × IsNotSaved asked.save fault
+
 -- Why there are no grounds: an input was not loaded, the text does not state expected registers, the file to go on from has no
 -- checkpoint, the list could not be opened, or memory ran out.
 abbrev pub HasNoGrounds : Inputs → Growth → RunFault → Type 0
@@ -314,7 +328,7 @@ HasNoGrounds inputs asked fault =
 -- Why nothing is shown where these registers are required: there are no grounds, or no report, or the checkpoint was not saved.
 abbrev pub IsGrownFaultWith : Inputs → Growth → Option (List BankRange) → RunFault → Type 0
 IsGrownFaultWith inputs asked required fault =
-    HasNoGrounds inputs asked fault ⊎ HasNoReport inputs asked required fault ⊎ IsNotSaved asked.save fault
+    HasNoGrounds inputs asked fault ⊎ HasNoReport inputs asked required fault ⊎ IsUnsaved inputs asked required fault
 
 -- Why a text that is given requires nothing.
 abbrev pub IsNotRequired : Option (List ℕ) → RunFault → Type 0

@@ -14,7 +14,6 @@ use Rattle.growing_lists.specs.declared.front_report.Unconfirmed.TheVariants as 
 use Rattle.boot_verdict.specs.declared.requirement.BankRange.{BankRange}
 use Rattle.boot_verdict.specs.declared.verifier.VerifyFault.{VerifyFault}
 use Rattle.boot_verdict.specs.declared.verifier.VerifyFault.TheVariants as verdicts
-use Rattle.boot_verdict.specs.Checkpoints.{IsCheckpoint}
 use Rattle.growing_lists.specs.CheckpointTexts.{checkpoint_text}
 use Rattle.boot_verdict.specs.ExpectedTexts.{IsExpectedText}
 use Rattle.growing_lists.specs.Fronts.{AreUnconfirmed, IsConfirmed}
@@ -28,7 +27,7 @@ use Rattle.ima_agent.specs.declared.fault.RunFault.{RunFault}
 use Rattle.ima_agent.specs.declared.fault.RunFault.TheVariants as runs
 use Rattle.ima_agent.specs.declared.growing_on.GrowingOn.{GrowingOn}
 use Rattle.ima_agent.specs.declared.output.Form.{Form}
-use Rattle.ima_agent.specs.Growing.{IsCheckpointText, IsNoCheckpoint, IsNotRequired, IsOfOtherBoot, IsTaken, entries_taken, front_report_in, report_in, seeks_front}
+use Rattle.ima_agent.specs.Growing.{IsCheckpointText, IsNext, IsNoCheckpoint, IsNotRequired, IsOfOtherBoot, IsTaken, entries_taken, front_report_in, report_in, seeks_front}
 use Rattle.ima_agent.specs.JsonJudging.{IsRequired, judged_status}
 use Rattle.ima_agent.specs.Measuring.{HasLogFault}
 use Rattle.ima_agent.specs.Verifying.{IsNoExpectedText, fault_of_verdict}
@@ -67,7 +66,7 @@ IsKnownIn state (Some known) = IsCheckpointText state known
 
 -- This is the verdict on the log and the list, and this is the checkpoint of the list.
 abbrev pub IsWholeOf : List ℕ → List ℕ → List Expected → Verdict → Checkpoint → Type 0
-IsWholeOf log list expected verdict next = IsVerdict log list expected verdict × IsCheckpoint list next
+IsWholeOf log list expected verdict next = IsVerdict log list expected verdict × IsNext log list next
 
 -- No front of the list is confirmed, with so many entries or more.
 pub record HasNoFront (log list : List ℕ) (expected : List Expected) (least : ℕ) : Type 0 where
@@ -94,7 +93,7 @@ pub record IsFrontOf (log list : List ℕ) (expected : List Expected) (least : �
   pub confirmed : IsConfirmed (algs_in table) events expected least front
   pub verdict_is : verdict_of report.report ≡ verdict_on (algs_in table) events front expected
   pub wrong : IsWrongIn list report.entries report.unconfirmed
-  pub next_is : IsCheckpoint (list_spelling front) next
+  pub next_is : IsNext log (list_spelling front) next
 
 -- Why the list is refused: the fault of its bytes, or of its entries; or memory ran out.
 abbrev pub IsFaultIn : List ℕ → VerifyFault → Type 0
@@ -173,11 +172,12 @@ pub record IsNotTakenOn (log more : List ℕ) (expected : List Expected) (known 
   pub unconfirmed : seeks ≡ true → (taken : List ℕ) → IsTaken known taken → IsUnconfirmedIn log (taken ++ more) expected (entries_taken known) first
   pub says : fault ≡ fault_of_verdict first
 
--- Why there is no report on these grounds: the log is refused, or of another boot than the checkpoint, or the list is not taken.
+-- Why there is no report on these grounds: the log is refused, or of another boot than the checkpoint; or it is of the same, and the list
+-- is not taken.
 abbrev pub IsNoReportAfterIn : List ℕ → List ℕ → List Expected → Option Checkpoint → Bool → RunFault → Type 0
 IsNoReportAfterIn log more expected known seeks fault =
     HasLogFault log fault ⊎ ((fault ≡ runs.Checkpoint OtherBoot) × IsOfOtherBoot log known)
-    ⊎ IsNotTakenOn log more expected known seeks fault
+    ⊎ (IfSome known (IsOfBoot log) × IsNotTakenOn log more expected known seeks fault)
 
 -- Where these registers are required, there is no report on the grounds that are asked for.
 pub record HasNoReportOn (asked : GrowthOn) (required : Option (List BankRange)) (fault : RunFault) : Type 0 where
@@ -186,11 +186,17 @@ pub record HasNoReportOn (asked : GrowthOn) (required : Option (List BankRange))
   pub grounds : AreGroundsIn asked expected known
   pub cause : IsNoReportAfterIn asked.log asked.more expected known (seeks_front asked.extent required expected) fault
 
--- Why nothing is shown where these registers are required: the text does not state expected registers, there is no checkpoint to go on
--- from, there is no report, or memory ran out.
+-- There are bytes to go on from, and they are no checkpoint's text.
+abbrev pub IsNotKnownIn : List ℕ → RunFault → Type 0
+IsNotKnownIn state fault = (state ≡ [] → ⊥) × IsNoCheckpoint state fault
+
+-- Why nothing is shown where these registers are required: the text does not state expected registers; or it does, and there is no
+-- checkpoint to go on from; or there is no report; or memory ran out.
 abbrev pub IsNotGrownOnWith : GrowthOn → Option (List BankRange) → RunFault → Type 0
 IsNotGrownOnWith asked required fault =
-    IsNoExpectedText asked.expected fault ⊎ IsNoCheckpoint asked.state fault ⊎ HasNoReportOn asked required fault ⊎ (fault ≡ runs.Memory)
+    IsNoExpectedText asked.expected fault
+    ⊎ (((expected : List Expected) × IsExpectedText asked.expected expected) × IsNotKnownIn asked.state fault)
+    ⊎ HasNoReportOn asked required fault ⊎ (fault ≡ runs.Memory)
 
 -- Why nothing is shown: the text spells no registers; or one of these, where it spells some or is not given.
 abbrev pub IsNotGrownOn : GrowthOn → RunFault → Type 0

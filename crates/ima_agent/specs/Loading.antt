@@ -1,5 +1,5 @@
 -- What loading takes from a source, and why an input is not loaded.
-use Rattle.std.specs.Prelude.{◌≡◌, ℕ, ◌+◌, ◌<◌, ◌⊎◌, Bool, true, List, length, codes, Option, None, Some, is_some, ⊤, Result, Ok, Err, IfSome, IsTrue, String, string_bytes}
+use Rattle.std.specs.Prelude.{◌≡◌, ℕ, ◌+◌, ◌<◌, ◌⊎◌, Bool, true, List, [], ◌∷◌, ◌++◌, length, codes, Option, None, Some, is_some, ⊤, Result, Ok, Err, IfSome, IsTrue, String, string_bytes}
 use Rattle.std.specs.Global.{Global}
 use Rattle.byte_streams.specs.declared.pieces.ReadFault.{ReadFault}
 use Rattle.byte_streams.specs.declared.pieces.ReadFault.TheVariants as reads
@@ -43,9 +43,19 @@ pub record Inputs : Type 0 where
 abbrev pub untold : Inputs
 untold = record { held = λ name. None; may_fail = λ name. true }
 
--- The files that were replaced, one after another, each by its name and all bytes that it was given; `None` if this is not told.
+-- A file that was replaced: its name, that of the file beside it which was renamed, and all bytes that it was given.
+pub record Replaced : Type 0 where
+  pub name : List ℕ
+  pub beside : List ℕ
+  pub bytes : List ℕ
+
+-- The files that were replaced, one after another; `None` if this is not told.
 abbrev pub Saved : Type 0
-Saved = Option (List (List ℕ × List ℕ))
+Saved = Option (List Replaced)
+
+-- One more file was replaced, and no other; where it is told which were.
+abbrev pub HasReplaced : Saved → Saved → Replaced → Type 0
+HasReplaced old new file = IfSome old (λ earlier. new ≡ Some (earlier ++ file ∷ []))
 
 -- These are all bytes of the input of this name, if they are told.
 abbrev pub Holds : Inputs → Option (List ℕ) → List ℕ → Type 0

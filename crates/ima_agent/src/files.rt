@@ -2,8 +2,7 @@
 
 ghost use Rattle.std.specs.Prelude.{◌≡◌, ◌<◌, length, List, ℕ, None, Some, Option, option_map, IfOk, IfSome, IsErr, IsErrOf, IsTrue, OnErr, OnOk, ⊤};
 ghost use Rattle.ima_agent.specs.Hashing.{IsHashOfAll};
-ghost use Rattle.ima_agent.specs.Growing.{HasSaved};
-ghost use Rattle.ima_agent.specs.Loading.{GivesAll, HasFailed, Inputs, Saved, untold};
+ghost use Rattle.ima_agent.specs.Loading.{GivesAll, HasFailed, HasReplaced, Inputs, Saved, untold};
 
 use crate::loading::LoadFault;
 use byte_streams::{Failed, Source};
@@ -40,7 +39,8 @@ pub trait Files {
     /// old one is removed, and synced, and then that is renamed: so whoever opens the file gets all it held before, or all of these bytes.
     /// No two callers may do this to one file at once. Fails if the system refuses any of this; the file beside it may then be left.
     fn replace(&mut self, name: &str, beside: &str, bytes: &[u8]) -> Result<(), Failed>
-        ensures replaced { OnOk result (HasSaved (saved self.old) (saved self.new) (Some name.now) bytes.now) }
+        ensures replaced { OnOk result (HasReplaced (saved self.old) (saved self.new)
+            (record { name = name.now; beside = beside.now; bytes = bytes.now })) }
         ensures kept { OnErr result (saved self.new ≡ saved self.old) }
         ensures told { told self.new ≡ told self.old };
 

@@ -2,6 +2,7 @@
 
 ghost use Rattle.std.specs.Prelude.{◌≡◌, ◌⊎◌, ℕ, List, [], Some, true, false, option_map, IfOk, IfSome, IfErr, IsTrue, OnErr, OnOk};
 ghost use Rattle.boot_verdict.specs.declared.checkpoint.Checkpoint.{Checkpoint as CheckpointOf};
+ghost use Rattle.growing_lists.specs.CheckpointData.{IsCounted};
 ghost use Rattle.growing_lists.specs.CheckpointTexts.{checkpoint_text};
 ghost use Rattle.boot_verdict.specs.Checkpoints.{IsCheckpoint, most_after};
 ghost use Rattle.growing_lists.specs.Sessions.{HasTaken, IsOfBoot};
@@ -23,7 +24,10 @@ use crate::verifying::verdict_fault;
 use boot_verdict::{Checkpoint, Expected, Report, Requirement, read_expected};
 use byte_streams::{Failed, Source};
 use command_line::{Extent, Growing};
-use growing_lists::{CheckpointFault, ResumeFault, Session, read_checkpoint, write_checkpoint};
+use growing_lists::{
+    CheckpointFault, ResumeFault, Session, counted_checkpoint_is_possible, read_checkpoint,
+    write_checkpoint,
+};
 use ima_list::laws::{entries_to_the_end_are_the_reading, no_bytes_have_two_readings};
 use std::alloc::{AllocError, Global};
 
@@ -124,6 +128,7 @@ fn grown_with<F: Files>(
     let mut session = session_of(&log, known)?;
     let seeks = seeks_front(asked.extent, requirement, &expected);
     let judged = judged_from(alloc, &mut session, &mut list, asked.list, &expected, seeks)?;
+    counted_checkpoint_is_possible(session.checkpoint());
     let output = judged_output(alloc, &judged, requirement, form)?;
     save(alloc, files, asked.save, session.checkpoint())?;
     Ok(output)
@@ -206,6 +211,7 @@ pub(crate) fn session_of(log: &[u8], known: Option<Checkpoint>) -> Result<Sessio
     ensures boot { IfOk result (λ _. IfSome known (IsOfBoot log.now)) }
     ensures entries { IfOk result (λ session. session.known.entries ≡ entries_taken known) }
     ensures most { IfOk result (λ session. most_after session.known input_limit ≡ most_more known) }
+    ensures counted { IfOk result (λ session. IfSome known IsCounted → IsCounted session.known) }
     ensures fault { IfErr result (λ fault. HasLogFault log.now fault ⊎ ((fault ≡ runs.Checkpoint OtherBoot) × IsOfOtherBoot log.now known)) }
 {
     match known {
@@ -219,6 +225,7 @@ fn session_before(log: &[u8]) -> Result<Session<'_>, RunFault>
     ensures taken { IfOk result (HasTaken log.now []) }
     ensures entries { IfOk result (λ session. session.known.entries ≡ 0) }
     ensures most { IfOk result (λ session. most_after session.known input_limit ≡ input_limit) }
+    ensures counted { IfOk result (λ session. IsCounted session.known) }
     ensures fault { IfErr result (HasLogFault log.now) }
 {
     entries_to_the_end_are_the_reading();
@@ -234,7 +241,7 @@ fn session_after(log: &[u8], known: Checkpoint) -> Result<Session<'_>, RunFault>
     ensures taken { IfOk result (λ session. (taken : List ℕ) → IsCheckpoint taken known → HasTaken log.now taken session) }
     ensures known { IfOk result (λ session. session.known ≡ known) }
     ensures boot { IfOk result (λ _. IsOfBoot log.now known) }
-    ensures fault { IfErr result (λ fault. HasLogFault log.now fault ⊎ ((fault ≡ runs.Checkpoint OtherBoot) × (IsOfBoot log.now known → ⊥))) }
+    ensures fault { IfErr result (λ fault. HasLogFault log.now fault ⊎ ((fault ≡ runs.Checkpoint OtherBoot) × IsOfOtherBoot log.now (Some known))) }
 {
     match Session::resumed(log, known) {
         Ok(session) => Ok(session),

@@ -3,8 +3,7 @@
 ghost use Rattle.std.specs.Prelude.{◌≡◌, ◌⊎◌, false, true, option_map, IfOk, IfErr};
 ghost use Rattle.boot_verdict.specs.declared.checkpoint.Checkpoint.{Checkpoint as CheckpointOf};
 ghost use Rattle.growing_lists.specs.CheckpointTexts.{checkpoint_text};
-ghost use Rattle.ima_agent.specs.Growing.{IsNoCheckpoint};
-ghost use Rattle.ima_agent.specs.GrowingOn.{IsKnownIn, IsNotGrownOn, IsNotGrownOnWith, ShowsGrownOn, ShowsGrownOnWith, growth_on};
+ghost use Rattle.ima_agent.specs.GrowingOn.{IsKnownIn, IsNotGrownOn, IsNotGrownOnWith, IsNotKnownIn, ShowsGrownOn, ShowsGrownOnWith, growth_on};
 ghost use Rattle.ima_agent.specs.parts.GrowingOn.{IsNotJudgedOn, JudgesOn, JudgesWholeOn};
 
 use crate::fault::RunFault;
@@ -16,7 +15,7 @@ use crate::verifying::first_cause;
 use boot_verdict::{Checkpoint, Expected, Report, Requirement, read_expected};
 use byte_streams::SliceSource;
 use command_line::Extent;
-use growing_lists::{Session, write_checkpoint};
+use growing_lists::{Session, counted_checkpoint_is_possible, write_checkpoint};
 use std::alloc::Global;
 
 /// What is asked of a list that grows: bytes in memory, of any size.
@@ -91,7 +90,7 @@ fn grown_with(
 // The checkpoint whose text this is, if it is not empty.
 fn known_in(alloc: Global, state: &[u8]) -> Result<Option<Checkpoint>, RunFault>
     ensures known { IfOk result (IsKnownIn state.now) }
-    ensures fault { IfErr result (IsNoCheckpoint state.now) }
+    ensures fault { IfErr result (IsNotKnownIn state.now) }
 {
     if state.is_empty() {
         return Ok(None);
@@ -130,7 +129,9 @@ fn whole_on(
     ensures fault { IfErr result (IsNotJudgedOn false more.now expected.now session.old) }
 {
     let mut source = SliceSource::new(more);
-    match session.more(alloc, &mut source, u64::MAX) {
+    let taken = session.more(alloc, &mut source, u64::MAX);
+    counted_checkpoint_is_possible(session.checkpoint());
+    match taken {
         Ok(()) => Ok(report_of(alloc, session, expected)?),
         Err(fault) => Err(first_cause(fault)),
     }
@@ -147,7 +148,9 @@ fn front_on(
     ensures fault { IfErr result (IsNotJudgedOn true more.now expected.now session.old) }
 {
     let mut source = SliceSource::new(more);
-    match session.confirm(alloc, &mut source, u64::MAX, expected) {
+    let confirmed = session.confirm(alloc, &mut source, u64::MAX, expected);
+    counted_checkpoint_is_possible(session.checkpoint());
+    match confirmed {
         Ok(Some(front)) => Ok(Judged::Front(front)),
         Ok(None) => Ok(Judged::Whole(report_of(alloc, session, expected)?)),
         Err(fault) => Err(first_cause(fault)),
