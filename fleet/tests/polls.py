@@ -354,7 +354,10 @@ def test_stale(polls, verdicts):
         ("the last poll ended long ago", "UPDATE ends SET time = '2020-01-01T00:00:00.000+00:00'", stale),
         ("the last poll ended at no time", "UPDATE ends SET time = 'now and then'", stale),
         ("no poll ended", "DELETE FROM ends", stale),
-        ("the last poll has not ended", "INSERT INTO polls (time) VALUES ('now')", stale),
+        ("a poll that runs", "INSERT INTO polls (time) VALUES ('now')", bad),
+        ("a poll that ran for an hour", "INSERT INTO polls (time) VALUES ('now'); DELETE FROM ends", stale),
+        ("a poll that runs, and has recorded a machine", "INSERT INTO polls (time) VALUES ('now'); UPDATE verdicts SET poll = (SELECT "
+         "max(number) FROM polls) WHERE machine = 'machine 0'", bad),
         ("a run that is no poll ended", "UPDATE ends SET poll = NULL", stale),
         ("a poll that recorded nothing ended", "DELETE FROM verdicts", {None}),
     ):
