@@ -21,6 +21,10 @@ NONE = "none"
 # Why a machine is refused whose inputs the library takes. Its own lines begin with `refused:`.
 NOTHING_EXPECTED = "nothing to compare: no register is expected"
 
+# The register that IMA alone extends. A machine is refused whose log extends it: entries that were cut from the list could be there.
+LIST_REGISTER = 10
+IN_LOG = "log: its events extend register 10, as IMA alone may"
+
 # The library's line on a checkpoint that is not as it was made, and why no verdict goes on from one of a longer list.
 DAMAGED = "refused: checkpoint fault 1"
 SHORTER = "list: it is shorter than at the checkpoint"
@@ -70,9 +74,8 @@ def without_path(text: str, path: str) -> str:
 def required_verdict(log: bytes, measurements: bytes, expected: bytes, require: str) -> Any:
     """The library's verdict where these registers are required. Its rows stay in the report: to read them takes longer than to hash the
     inputs."""
-    import ima_verify
+    from ima_verify import report
 
-    report = getattr(ima_verify, "report", ima_verify.verify)  # (the package had only this at first)
     if require == NONE:
         return report(log, measurements, expected)
     return report(log, measurements, expected, require=require)
@@ -92,6 +95,7 @@ def require_fitness(require: str, is_poll: bool) -> None:
 
     Else there is an ImportError, or a ValueError. The library reads that text before the inputs."""
     import ima_verify
+    from ima_verify import log_extends  # noqa: F401
 
     if is_poll:
         from ima_verify import Session  # noqa: F401
@@ -210,6 +214,8 @@ def verdict_on(paths: Sequence[str], require: str, is_poll: bool = False, checkp
         return {**fields, "verdict": "unreadable", "cause": SHORTER}
     if not verdict.compared:
         return {**fields, "verdict": "refused", "cause": NOTHING_EXPECTED}
+    if ima_verify.log_extends(log, LIST_REGISTER):
+        return {**fields, "verdict": "refused", "cause": IN_LOG}
     return {**fields, **verdict_fields(verdict), **next_checkpoint}
 
 

@@ -40,7 +40,7 @@ from ._results import (
 __all__ = [
     "Algorithm", "BootAggregate", "BytesLike", "Entries", "Entry", "Event", "Events", "Kind", "LibraryError", "ListVerdict",
     "LogAlgorithm", "Place", "PlaceRow", "Places", "Refused", "Register", "Report", "Row", "Session", "State", "Unconfirmed", "Verdict",
-    "entries", "events", "expected", "list_registers", "locate", "registers", "replay", "report", "show", "verify", "version",
+    "entries", "events", "expected", "list_registers", "locate", "log_extends", "registers", "replay", "report", "show", "verify", "version",
 ]
 
 Text = Union[BytesLike, str]
@@ -258,6 +258,17 @@ def show(measurements: BytesLike) -> bytes:
 def _room_of_entries(size: int) -> int:
     """Room for the entries of a list of this size: an entry's text is at most twice as long as the entry."""
     return 2 * size + 1024
+
+
+def log_extends(log: BytesLike, register: int) -> bool:
+    """Whether events of a firmware event log extend this register of a bank, in less time than `registers` takes.
+
+    A log whose events extend register 10, which IMA alone does, may hold entries that were cut from the list.
+
+    >>> ima_verify.log_extends(log, 4), ima_verify.log_extends(log, 10)
+    (True, False)
+    """
+    return _answers.read_whether_changed(*_answer_of(_library.loaded().ima_verify_registers_json, (log,), _ROOM), register)
 
 
 def _room_of_lines(data: BytesLike) -> int:

@@ -35,6 +35,10 @@ _MATCH = re.compile(
     f'"registers":\\[({_MATCHING_ROW}(?:,{_MATCHING_ROW})*)\\],"verdict":"match"}}\n'.encode()
 )
 
+# Registers as libraries write them.
+_VALUE = '{"bank":"sha(?:1|256|384|512)","register":(?:1?[0-9]|2[0-3]),"value":"[0-9a-f]+"}'
+_REGISTERS = re.compile(f'{{"registers":\\[(?:{_VALUE}(?:,{_VALUE})*)?\\]}}\n'.encode())
+
 # How a checkpoint begins.
 _CHECKPOINT, _CHECKPOINT_VERSION = b"ima-agent checkpoint ", b"1\n"
 _COUNTS = re.compile(_CHECKPOINT + _CHECKPOINT_VERSION + f"entries {_NUMBER}\nbytes {_NUMBER}\n".encode())
@@ -138,6 +142,13 @@ def read_registers(status: int, text: bytes) -> Tuple[Register, ...]:
     with _reading(status, text):
         _require(status == DONE)
         return tuple(map(_register_of, _member(_result_of(text), "registers", list)))
+
+
+def read_whether_changed(status: int, text: bytes, register: int) -> bool:
+    """Whether an answer states this register, of any bank."""
+    if status == DONE and _REGISTERS.fullmatch(text):
+        return f'"register":{register},'.encode() in text
+    return any(row.register == register for row in read_registers(status, text))
 
 
 def read_entries(status: int, text: bytes, is_empty: bool) -> Entries:

@@ -17,6 +17,8 @@ sys.path[:0] = [str(ROOT / "bindings/python"), str(ROOT / "bench")]
 import ima_verify
 import inputs
 from ima_verify import Algorithm, BootAggregate, Entry, Event, Kind, Place, PlaceRow, Register, Row, State
+from reference.log import EV_NO_ACTION, read_log
+from reference.log import Event as LogEvent
 from reference.measurement_list import list_spelling, list_text, read_list
 from reference.registers import SHA1, SHA256
 from reference.verdict import locate
@@ -70,6 +72,17 @@ class Sample(unittest.TestCase):
         with self.assertRaisesRegex(ima_verify.Refused, "^refused: replay fault 1 at entry 5$"):
             ima_verify.report(LOG, CHANGED, EXPECTED)
         self.assertRaises(ValueError, ima_verify.report, LOG, LIST, EXPECTED, require="")
+
+    def test_log_extends_what_its_events_extend(self):
+        extended = {register.register for register in registers_in(REGISTERS)}
+        self.assertEqual({number for number in range(25) if ima_verify.log_extends(LOG, number)}, extended)
+        log = read_log(LOG)
+        for kind, is_extended in ((inputs.EV_EVENT_TAG, True), (EV_NO_ACTION, False)):
+            event = LogEvent(10, kind, {SHA256.identifier: bytes(32)}, b"")
+            self.assertIs(ima_verify.log_extends(log._replace(events=[*log.events, event]).spelling(), 10), is_extended)
+        self.assertFalse(ima_verify.log_extends(log._replace(events=[]).spelling(), 0))
+        for data in (b"", LOG[:-1]):
+            self.assertRaises(ima_verify.Refused, ima_verify.log_extends, data, 10)
 
     def test_registers_are_those_of_the_sample(self):
         self.assertEqual(ima_verify.registers(LOG), registers_in(REGISTERS))
