@@ -13,6 +13,7 @@ use Rattle.ima_agent.specs.declared.fault.RunFault.TheVariants as runs
 use Rattle.json_texts.specs.JsonValues.{line_of}
 use Rattle.json_texts.specs.RegisterJson.{expected_json}
 use Rattle.ima_agent.specs.Faults.{fault_of_expected}
+use Rattle.ima_agent.specs.Loading.{Inputs, IsInputFault, OfInput}
 use Rattle.ima_agent.specs.declared.output.Form.{Form}
 use Rattle.ima_agent.specs.declared.output.Form.TheVariants as forms
 
@@ -68,6 +69,14 @@ IsNotPrintedFor registers text fault = IsNotPrinted text fault ⊎ StatesNoneWit
 -- The range that is requested is none.
 abbrev pub IsRangeFault : Option (List ℕ) → RunFault → Type 0
 IsRangeFault registers fault = (fault ≡ runs.Usage) × SpellsNoRange registers
+
+-- Why nothing is shown of what the text of this input states within the range that is requested: that is none; or it is one, and the input
+-- was not loaded, or gives no registers.
+abbrev pub IsExpectingFault : Inputs → List ℕ → Option (List ℕ) → RunFault → Type 0
+IsExpectingFault inputs name registers fault =
+    IsRangeFault registers fault
+    ⊎ (((range : RegisterRange) × IsRequested registers range)
+    × (IsInputFault inputs (Some name) fault ⊎ OfInput inputs (Some name) (λ text. IsNotPrintedFor registers text fault)))
 
 -- ---- of bytes in memory
 

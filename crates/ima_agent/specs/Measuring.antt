@@ -16,7 +16,7 @@ use Rattle.measure_book.specs.declared.origin.Origin.{Origin}
 use Rattle.measure_book.specs.declared.fault.BookFault.{BookFault}
 use Rattle.measure_book.specs.declared.gathers.GatherFault.{GatherFault}
 use Rattle.measure_book.specs.Operations.{BookOp, BookOutcome, measure, refused}
-use Rattle.measure_book.specs.Books.{BookState, exported}
+use Rattle.measure_book.specs.Books.{BookState, exported, IsBook}
 use Rattle.hash_workers.specs.declared.fault.AgentFault.{AgentFault}
 use Rattle.hash_workers.specs.declared.fault.AgentFault.TheVariants as agents
 use Rattle.hash_workers.specs.Batches.{IsBatchOf}
@@ -101,7 +101,7 @@ pub record IsSetOut (log : List ℕ) (manner : Manner) (table : List Row) (event
   pub limit_is : origin.limit ≡ manner.limit
 
 -- What is shown is printed of a book that starts with the registers after this log, and in which the files of these names are
--- measured, each under its name with all that it holds.
+-- measured, each under its name with all that it holds: its list is what the records add, and its registers are the list's replay.
 pub record ShowsMeasured (held : Contents) (log : List ℕ) (manner : Manner) (print : Printing) (names : List (List ℕ)) (shown : List ℕ)
     : Type 0 where
   pub table : List Row
@@ -112,6 +112,7 @@ pub record ShowsMeasured (held : Contents) (log : List ℕ) (manner : Manner) (p
   pub set_out : IsSetOut log manner table events origin
   pub reset_is : IsReset (algs_in table) (startup_locality events) reset
   pub measured : HasMeasured origin (length names) (IsFileMeasure held names manner.alg) manner.workers book
+  pub book_is : IsBook book
   pub text_is : shown ≡ printed print reset book
 
 -- ---- why nothing is shown

@@ -17,7 +17,7 @@ use Rattle.ima_agent.specs.JsonOutputs.{IsJsonOutputFor}
 use Rattle.ima_agent.specs.JsonPlans.{plain_of}
 use Rattle.ima_agent.specs.JsonShowing.{FailsAfterEntries, RunsOutAfterEvents}
 use Rattle.ima_agent.specs.Loading.{Inputs, IsInputFault, OfInput, Saved}
-use Rattle.ima_agent.specs.Expecting.{IsNotPrintedFor, IsRangeFault, ShowsExpected}
+use Rattle.ima_agent.specs.Expecting.{IsExpectingFault, ShowsExpected}
 use Rattle.ima_agent.specs.Growing.{IsGrownFault, ShowsAndSaves, ShowsGrowth, growth}
 use Rattle.ima_agent.specs.ListVerifying.{IsListReportFaultWith, ShowsListReport}
 use Rattle.ima_agent.specs.Locating.{ShowsPlaces}
@@ -110,8 +110,7 @@ IsPlainFaultOf inputs (Locate log list expected) fault =
 IsPlainFaultOf inputs (LocateRequired log list expected required) fault =
     IsFaultWith (string_bytes required) (IsReportFault inputs (string_bytes log) (string_bytes list) (string_bytes expected)) fault
 IsPlainFaultOf inputs (Expected printed registers) fault =
-    IsRangeFault (option_map string_bytes registers) fault ⊎ IsInputFault inputs (Some (string_bytes printed)) fault
-    ⊎ OfInput inputs (Some (string_bytes printed)) (λ text. IsNotPrintedFor (option_map string_bytes registers) text fault)
+    IsExpectingFault inputs (string_bytes printed) (option_map string_bytes registers) fault
 IsPlainFaultOf inputs (RegistersAfter log) fault =
     IsInputFault inputs (Some (string_bytes log)) fault
     ⊎ OfInput inputs (Some (string_bytes log)) (λ bytes. IsNoLogFor bytes fault)
@@ -128,10 +127,10 @@ IsPlainFaultOf inputs (Json plan) fault = ⊥
 IsPlainFaultOf inputs (Help text) fault = ⊥
 IsPlainFaultOf inputs Version fault = fault ≡ runs.Memory
 
--- The fault may come of the plan with `--json`: one of the same without it. But a damaged list or log is shown as far as it goes.
+-- The fault may come of the plan with `--json`: one of the same without it. But a damaged log is shown as far as it goes, and any list.
 abbrev pub IsJsonFaultOf : Inputs → JsonPlan → RunFault → Type 0
 IsJsonFaultOf inputs (jsons.Events log) fault = IsInputFault inputs (Some (string_bytes log)) fault
-IsJsonFaultOf inputs (jsons.Show list) fault = IsInputFault inputs (Some (string_bytes list)) fault
+IsJsonFaultOf inputs (jsons.Show list) fault = ⊥
 IsJsonFaultOf inputs plan fault = IsPlainFaultOf inputs (plain_of plan) fault
 
 -- The fault may come of the plan, with these inputs.

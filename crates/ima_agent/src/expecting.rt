@@ -1,11 +1,11 @@
 //! Expected registers, written from what tpm2-tools printed.
 
-ghost use Rattle.std.specs.Prelude.{◌≡◌, ◌⊎◌, List, ℕ, Option, Some, option_map, IfOk, IfErr};
+ghost use Rattle.std.specs.Prelude.{◌≡◌, List, ℕ, Option, Some, option_map, IfOk, IfErr};
 ghost use Rattle.std.specs.List.{list_any};
 ghost use Rattle.boot_verdict.specs.RegisterRanges.{is_within};
 ghost use Rattle.boot_verdict.specs.WrittenTexts.{expected_text};
-ghost use Rattle.ima_agent.specs.Expecting.{IsNotExpectedOn, IsNotPrintedFor, IsRangeFault, IsRequested, ShowsExpected, ShowsExpectedIn, expected_in, range_text};
-ghost use Rattle.ima_agent.specs.Loading.{IsInputFault, OfInput};
+ghost use Rattle.ima_agent.specs.Expecting.{IsExpectingFault, IsNotExpectedOn, IsNotPrintedFor, IsRangeFault, IsRequested, ShowsExpected, ShowsExpectedIn, expected_in, range_text};
+ghost use Rattle.ima_agent.specs.Loading.{OfInput};
 
 use crate::fault::RunFault;
 use crate::files::Files;
@@ -27,9 +27,7 @@ pub(crate) fn expected_from<F: Files>(
 ) -> Result<Vec<u8>, RunFault>
     ensures shown { IfOk result (λ shown. OfInput (F.told files.old) (Some printed.now)
         (λ text. ShowsExpectedIn form (option_map (λ text. text.now) registers.entry) text shown.items)) }
-    ensures fault { IfErr result (λ fault. IsRangeFault (option_map (λ text. text.now) registers.entry) fault
-        ⊎ IsInputFault (F.told files.old) (Some printed.now) fault
-        ⊎ OfInput (F.told files.old) (Some printed.now) (λ text. IsNotPrintedFor (option_map (λ text. text.now) registers.entry) text fault)) }
+    ensures fault { IfErr result (IsExpectingFault (F.told files.old) printed.now (option_map (λ text. text.now) registers.entry)) }
     ensures saved { F.saved files.new ≡ F.saved files.old }
 {
     let range = range_of(registers)?;

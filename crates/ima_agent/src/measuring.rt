@@ -1,6 +1,7 @@
 //! Measures files into the registers of a log.
 
 ghost use Rattle.std.specs.Prelude.{◌≡◌, ◌<◌, ◌⊎◌, ◌^◌, length, map, string_bytes, Some, IfOk, IfErr, IfSome, IfNone};
+ghost use Rattle.measure_book.specs.Books.{IsBook};
 ghost use Rattle.measure_book.specs.Operations.{book_outcome_of};
 ghost use Rattle.ima_agent.specs.Loading.{IsInputFault, OfInput};
 ghost use Rattle.ima_agent.specs.Measuring.{AreAllDone, HasMeasured, IsFileFault, IsFileMeasure, IsFirstRefusal, IsFirstRefused, IsMeasuringFault, IsRecordingFault, ShowsMeasured, all_names, failing_in, files_in, printed};
@@ -345,14 +346,14 @@ fn printed(
     book: &Book,
     reset: &Banks,
 ) -> Result<Vec<u8>, AllocError>
-    ensures { IfOk result (λ text. text.items ≡ printed print reset.now book.now) }
+    ensures text { IfOk result (λ text. text.items ≡ printed print reset.now book.now) }
+    ensures book { IsBook book.now }
 {
+    let banks = book.banks();
     match print {
         Printing::Text(print) => text_printed(alloc, print, book, reset),
         Printing::Json(JsonPrint::Entries) => entry_lines(alloc, book.entries()),
-        Printing::Json(JsonPrint::Registers) => {
-            registers_in(alloc, Form::Json, book.banks(), reset)
-        }
+        Printing::Json(JsonPrint::Registers) => registers_in(alloc, Form::Json, banks, reset),
     }
 }
 

@@ -17,4 +17,4 @@ returns-in_err-text-clause-shown g c =
 pub returns-in_err-text-clause-fault : goal.returns-in_err-text-clause-fault
 returns-in_err-text-clause-fault g c =
     let p = err_from_is_err_and c.from_residual-in_err-text.result c.from_residual-in_err-text.ensures.1 in
-    rw (p.1, p.2) (inr (inl c.in_err-text.ensures.fault))
+    rw (p.1, p.2) (inr ((c.in_ok-range.range, c.in_ok-range.ensures.range), inl c.in_err-text.ensures.fault))

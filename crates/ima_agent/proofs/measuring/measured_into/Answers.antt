@@ -42,5 +42,6 @@ returns-clause-shown g c =
       };
       reset_is = c.reset_registers.ensures read.table read.events viewed;
       measured = measured_as_named _ c.args.names.now _ _ _ c.in_ok-book.ensures.book;
-      text_is = c.in_ok-printed.ensures;
+      book_is = c.in_ok-printed.ensures.book;
+      text_is = c.in_ok-printed.ensures.text;
     }
