@@ -1,13 +1,16 @@
 -- clap's matches, and what is read from them.
-use Rattle.std.proofs.Common.{◌≡◌, ℕ, List, [], map, true, false, Option, None, Some, Bor, refl, sym, ap, ◌∙◌}
-use Rattle.std.specs.Prelude.{is_some, option_map, unwrap_or}
-use Rattle.std.specs.Str.Parse.{digits_value, without_leading_plus}
-use Rattle.clap.specs.Words.{Text, all_of, is_simple, matched_of, one_text, raw_values, rows_of}
+use Rattle.std.proofs.Common.{◌≡◌, ◌⊎◌, ℕ, List, [], ◌∷◌, map, true, false, Option, None, Some, Bor, String, string_bytes, refl, sym, ap, subst, ◌∙◌, inl, inr}
+use Rattle.std.specs.Prelude.{is_some, option_map, slice_get, unwrap_or}
+use Rattle.std.specs.Global.{Global}
+use Rattle.std.proofs.lemmas.Option.{same_Some}
+use Rattle.clap.specs.Words.{Text, all_of, is_simple, matched_of, raw_values, rows_of}
 use Rattle.clap.specs.declared.parser.matches.Found.{Found}
 use Rattle.clap.specs.declared.parser.matches.MatchedArg.{MatchedArg}
 use Rattle.clap.proofs.OnLiterals.{clap_on_literals}
-use Rattle.clap.proofs.WalkLemmas.{one_text-rows, raw_values-rows}
-use Rattle.command_line.specs.Commands.{HasNumber, Parsers, commands}
+use Rattle.clap.proofs.WalkLemmas.{raw_values-rows}
+use Rattle.command_line.specs.Commands.{AreNotTaken, IsMatched, Parsers, commands}
+use Rattle.command_line.specs.Plans.{HasHelpWord, IsAskedBy, IsHelp, IsOfCommand}
+use Rattle.command_line.specs.declared.plan.Plan.{Plan}
 
 pub commands_are_simple : (parsers : Parsers) → is_simple (commands parsers) ≡ true
 unfolding clap_on_literals
@@ -27,15 +30,13 @@ no_values f id missing = sym (raw_values-rows f id) ∙ go (matched_of f id) mis
     go None e = refl
     go (Some found) e = cc
 
--- The number that was read from a text.
-pub number_read : (f : Found) (id : Text) (n : ℕ) (P : Text → Type 0) → (one_text f id ≡ None → ⊥) → ((t : Text) → one_text f id ≡ Some t → P t)
-    → ((t : Text) → P t → n ≡ digits_value 10 (without_leading_plus t)) → HasNumber id (rows_of f) n
-number_read f id n P some reads value = go (one_text f id) refl
-  where
-    go : (o : Option Text) → one_text f id ≡ o → HasNumber id (rows_of f) n
-    go None e = absurd (some e)
-    go (Some t) e = record {
-      text = t;
-      has = sym (one_text-rows f id) ∙ e;
-      number_is = sym (value t (reads t e));
-    }
+-- The first argument is the command, and the plan is of it; or the help is asked for.
+pub asked_by : (words : List (String Global)) (word : String Global) (command : List ℕ) (plan : Plan) → Some word ≡ slice_get words 0
+    → command ≡ string_bytes word
+    → (IsOfCommand command plan × IsMatched (map string_bytes words) plan)
+    ⊎ (HasHelpWord words × IsHelp plan × AreNotTaken (map string_bytes words)) → IsAskedBy words plan
+asked_by [] word command plan first is asked = let clash = first in cc
+asked_by (first ∷ rest) word command plan here is (inl matched) =
+    let named = is ∙ ap string_bytes (same_Some word first here) in
+    inl (subst (λ (name : List ℕ). IsOfCommand name plan) named matched.0, matched.1)
+asked_by (first ∷ rest) word command plan here is (inr help) = inr (inl help)

@@ -3,9 +3,10 @@
 use Rattle.std.specs.Prelude.{◌≡◌, ℕ, Bool, false, true, List, [], ◌∷◌, codes, map, option_map, unwrap_or, Option, None, Some, String, string_bytes}
 use Rattle.std.specs.Global.{Global}
 use Rattle.std.specs.List.{fold}
-use Rattle.std.specs.Str.Parse.{digits_value, without_leading_plus}
-use Rattle.clap.specs.Words.{App, Row, Rule, Text, all_of, first_of, new_app, new_rule, one_of, subcommand_of, with_rule, with_subcommand}
+use Rattle.std.specs.Str.Parse.{IsNumeral, digits_value, without_leading_plus}
+use Rattle.clap.specs.Words.{App, Row, Rule, Text, all_of, first_of, new_app, new_rule, subcommand_of, with_rule, with_subcommand}
 use Rattle.clap.specs.Lexer.{usize_max}
+use Rattle.clap.specs.Takes.{takes}
 use Rattle.clap.specs.declared.builder.ArgAction.TheVariants.{Append, SetTrue, Version as show_version}
 use Rattle.clap.specs.declared.builder.ValueParser.{ValueParser}
 use Rattle.pcr_banks.specs.Hashing.{name_of}
@@ -175,7 +176,8 @@ extent_value Front = codes "true"
 -- The first value of this name is a number in decimal.
 pub record HasNumber (id : Text) (rows : List Row) (number : ℕ) : Type 0 where
   pub text : Text
-  pub has : one_of id rows ≡ Some text
+  pub has : first_of id rows ≡ Some text
+  pub numeral : IsNumeral 10 (without_leading_plus text)
   pub number_is : digits_value 10 (without_leading_plus text) ≡ number
 
 -- The matches have these options and names of a measurement.
@@ -307,6 +309,11 @@ pub record HasValuesIn (found : Option (Text × List Row)) (plan : Plan) : Type 
   pub rows_are : option_map (λ command. command.1) found ≡ Some rows
   pub json_is : first_of (codes "json") rows ≡ Some (flag_value (is_json plan))
   pub values : HasValues rows plan
+
+-- By its own definition clap does not take the arguments. (Of `measure` and `replay`, some of whose options go only with others, that says
+-- nothing.)
+abbrev pub AreNotTaken : List Text → Type 0
+AreNotTaken words = (parsers : Parsers) × (takes (commands parsers) words ≡ true → ⊥)
 
 -- The plan has the options and names that the arguments match.
 pub record IsMatched (words : List Text) (plan : Plan) : Type 0 where

@@ -2,7 +2,7 @@
 use Rattle.std.specs.Prelude.{◌≡◌, ℕ, ◌≤◌, ◌<◌, ◌^◌, ◌⊎◌, ◌||◌, ◌==◌, Bool, IsTrue, List, [], ◌∷◌, bytes_eq, codes, map, String, string_bytes, vec_len}
 use Rattle.std.specs.List.{list_any, starts_with}
 use Rattle.std.specs.Global.{Global}
-use Rattle.command_line.specs.Commands.{IsMatched}
+use Rattle.command_line.specs.Commands.{AreNotTaken, IsMatched}
 use Rattle.command_line.specs.declared.json_plan.JsonPlan.{JsonPlan}
 use Rattle.command_line.specs.declared.json_plan.JsonPlan.TheVariants as jsons
 use Rattle.command_line.specs.declared.plan.Plan.{Plan}
@@ -90,10 +90,10 @@ BeginsWithVersion [] = ⊥
 BeginsWithVersion (word ∷ words) = string_bytes word ≡ codes "--version"
 
 -- Without arguments the plan is `Registers`: the log on standard input. Otherwise the first argument is the command and all match
--- its options and names, or one of them requests help; or the first is `--version`.
+-- its options and names; or they are not taken, and one of them requests help; or the first is `--version`.
 abbrev pub IsAskedBy : List (String Global) → Plan → Type 0
 IsAskedBy [] plan = plan ≡ Registers
 IsAskedBy (word ∷ words) plan =
     (IsOfCommand (string_bytes word) plan × IsMatched (map string_bytes (word ∷ words)) plan)
-    ⊎ (HasHelpWord (word ∷ words) × IsHelp plan)
+    ⊎ (HasHelpWord (word ∷ words) × IsHelp plan × AreNotTaken (map string_bytes (word ∷ words)))
     ⊎ (BeginsWithVersion (word ∷ words) × (plan ≡ Version))

@@ -218,8 +218,8 @@ fn print_of(matches: &ArgMatches) -> Result<Print, WordsFault>
 fn workers_of(matches: &ArgMatches) -> Result<usize, WordsFault>
     ensures { IfOk result (λ workers. HasNumber (codes "workers") (rows_of (found_of matches.now)) workers × (1 ≤ workers) × (workers ≤ 8)) }
 {
-    match matches.get_one("workers") {
-        Some(workers) if workers != 0 && workers <= MOST_WORKERS => Ok(workers),
+    match text_of(matches, "workers")?.parse() {
+        Ok(workers) if workers != 0 && workers <= MOST_WORKERS => Ok(workers),
         _ => Err(WordsFault::Usage),
     }
 }
@@ -228,8 +228,8 @@ fn workers_of(matches: &ArgMatches) -> Result<usize, WordsFault>
 fn limit_of(matches: &ArgMatches) -> Result<u32, WordsFault>
     ensures { IfOk result (λ limit. HasNumber (codes "limit") (rows_of (found_of matches.now)) limit × (1 ≤ limit)) }
 {
-    match matches.get_one("limit") {
-        Some(limit) if limit != 0 => Ok(limit),
+    match text_of(matches, "limit")?.parse() {
+        Ok(limit) if limit != 0 => Ok(limit),
         _ => Err(WordsFault::Usage),
     }
 }

@@ -1,10 +1,11 @@
 //! Reads the command line.
 
 ghost use Rattle.std.specs.Prelude.{◌≡◌, ◌⊎◌, List, [], None, Ok, codes, drop, map, string_bytes, IfOk};
+ghost use Rattle.clap.specs.Values.{kind_of};
 ghost use Rattle.clap.specs.Words.{Row, found_of, rows_of, subcommand_rows_of};
 ghost use Rattle.command_line.specs.parts.Commands.{IsCommand};
 ghost use Rattle.command_line.specs.parts.Plans.{IsTextPlan};
-ghost use Rattle.command_line.specs.Commands.{HasEvidence, HasGrowth, HasValuesIn, IsGivenAs, IsMatched, Parsers, commands};
+ghost use Rattle.command_line.specs.Commands.{AreNotTaken, HasEvidence, HasGrowth, HasValuesIn, IsGivenAs, IsMatched, Parsers, commands};
 ghost use Rattle.std.specs.Vec.Iter.{into_iter_items};
 ghost use Rattle.command_line.specs.Plans.{BeginsWithVersion, HasHelpWord, IsAskedBy, IsHelp, IsOfCommand, IsWithinRanges, asks_help};
 ghost use Rattle.std.specs.List.{list_any};
@@ -35,8 +36,8 @@ const NO_JSON_OF_BYTES: &str = "error: invalid value 'binary' for '--print <P>' 
 ///
 /// Fails with `Usage` if the arguments are not those of a command, and with `Memory` if memory runs out.
 pub fn read_words(alloc: Global, words: &[String]) -> Result<Plan, WordsFault>
-    // The first argument is the command, the arguments match its options and names, and these are within their ranges; or one of
-    // them requests help; or the first is `--version`.
+    // The first argument is the command, the arguments match its options and names, and these are within their ranges; or they are not
+    // taken, and one of them requests help; or the first is `--version`.
     ensures asked { IfOk result (λ plan. IsAskedBy words.now plan × IsWithinRanges plan) }
     // Without arguments the plan is `Registers`, whatever memory there is.
     ensures none { words.now ≡ [] → result ≡ Ok Registers }
@@ -109,7 +110,7 @@ pub fn words_after_name(alloc: Global, words: Args) -> Result<Vec<String>, Alloc
 
 // The plan of the command of this name, or the help that the arguments request.
 fn plan_in(alloc: Global, words: &[String], command: &str) -> Result<Plan, WordsFault>
-    ensures { IfOk result (λ plan. ((IsOfCommand command.now plan × IsMatched (map string_bytes words.now) plan) ⊎ (HasHelpWord words.now × IsHelp plan)) × IsWithinRanges plan) }
+    ensures { IfOk result (λ plan. ((IsOfCommand command.now plan × IsMatched (map string_bytes words.now) plan) ⊎ (HasHelpWord words.now × IsHelp plan × AreNotTaken (map string_bytes words.now))) × IsWithinRanges plan) }
 {
     let algs = Alg::ALL.map(Alg::name);
     let templates = Template::ALL.map(Template::name);
@@ -128,7 +129,7 @@ fn plan_by<'a>(
     program: Command<'a>,
 ) -> Result<Plan, WordsFault>
     requires { (parsers : Parsers) × IsCommand (commands parsers) program }
-    ensures { IfOk result (λ plan. ((IsOfCommand command.now plan × IsMatched (map string_bytes words.now) plan) ⊎ (HasHelpWord words.now × IsHelp plan)) × IsWithinRanges plan) }
+    ensures { IfOk result (λ plan. ((IsOfCommand command.now plan × IsMatched (map string_bytes words.now) plan) ⊎ (HasHelpWord words.now × IsHelp plan × AreNotTaken (map string_bytes words.now))) × IsWithinRanges plan) }
 {
     match program.try_get_matches_from(words) {
         Ok(matches) => plan_of(alloc, command, &matches),
@@ -329,7 +330,7 @@ fn asks_help(word: &String) -> bool
 
 // The help, if it was requested; else `Usage`, or `Memory` if memory ran out.
 fn help_of(alloc: Global, words: &[String], error: &Error) -> Result<Plan, WordsFault>
-    ensures { IfOk result (λ plan. HasHelpWord words.now × IsHelp plan) }
+    ensures { IfOk result (λ plan. HasHelpWord words.now × IsHelp plan × (kind_of error.now ≡ ErrorKind.DisplayHelp)) }
 {
     match error.kind() {
         ErrorKind::DisplayHelp if has_help_word(words) => {
