@@ -23,7 +23,7 @@ from reference.verdict import locate, verdict
 MOST_BYTES = 64 * 1024 * 1024
 MOST_SECONDS = 300
 START_CALLS = 41
-START_LIMIT = 0.050
+START_LIMIT = 0.400
 POLL_LIMIT = 0.1  # of the time of `verify` of the whole list
 STREAMED_LIMIT = 8  # MiB that a long list may take above an empty one
 

@@ -24,11 +24,11 @@ def backend_of(project):
 
 
 def build(folder, module, member):
-    """Packs the project in the current folder."""
+    """Packs the project in the current folder, for all to read, whatever mode the backend gives its file."""
     backend = importlib.import_module(module)
     for part in filter(None, member.split(".")):
         backend = getattr(backend, part)
-    backend.build_wheel(folder)
+    Path(folder, backend.build_wheel(folder)).chmod(0o644)
 
 
 def python_with(module):
