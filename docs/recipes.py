@@ -424,7 +424,7 @@ def other_keys(machine, public):
         assert machine.run("tpm2_flushcontext", "--transient-object") == machine.run(*words) == 0
         assert machine.run("tpm2_readpublic", "-c", "other.ctx", "-f", "tss", "-o", "other.pub") == 0
         yield what, machine.folder.joinpath("other.pub").read_bytes(), False
-    for what, number, byte in (("no attributes", 9, 0), ("a key that may decrypt, too", 7, 7)):
+    for what, number, byte in (("no attributes", 9, 0), ("a key that may decrypt, too", 7, 7), ("one that signs X.509, too", 7, 13)):
         yield what, public[:number] + bytes([byte]) + public[number + 1 :], False
     yield "a key that no TPM has", public[:-1] + bytes([public[-1] ^ 1]), True
     yield "another hash of names", public[:5] + b"\x0c" + public[6:], True
