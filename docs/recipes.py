@@ -96,6 +96,7 @@ PATHS_SHOWN = {
     "ima-ngv2": (with_length(b"verity:sha256:\0" + UNKNOWN) + with_length(b"/a\0"), {"path": "/a"}),
     "a path that is not UTF-8": (D_NG + with_length(b"/\xff\0"), {"path_hex": "2fff"}),
     "a path that is not ASCII": (D_NG + with_length(b"/\xc3\xa9\0"), {"path_hex": "2fc3a9"}),
+    "a path that a terminal obeys": (D_NG + with_length(b"/\x7f\x1b[2J\0"), {"path": "/\x7f\x1b[2J"}),
     "an empty path": (D_NG + with_length(b"\0"), {"path": ""}),
     "a path of 4,095 bytes": (D_NG + with_length(b"a" * 4095 + b"\0"), {"path": "a" * 4095}),
     "a path without a NUL": (D_NG + with_length(b"/a"), {"path": None}),
@@ -306,6 +307,7 @@ def compared(recipes):
         ("no log", {"kept/firmware.log": whole}), ("no log before", {"firmware.log": whole}),
     ):
         yield what, recipes.fails(EVENTS, files)
+        yield f"{what}, and events that a machine sent", recipes.fails(EVENTS, files | {"before.events": b"", "firmware.events": b""})
     yield "a program that dies", recipes.fails(EVENTS, {"kept/firmware.log": whole, "firmware.log": whole}, DYING)
 
 
@@ -342,8 +344,9 @@ def paths(recipes):
         wanted = {**{name: value for name, value in entry.as_json(1).items() if name != "payload"}, **path}
         yield what, recipes.shown(PATHS, of_list(FIRST, entry)) == [wanted]
     violation = of_template(b"ima-modsig", PATHS_SHOWN["ima-ngv2"][0])._replace(template_digest=VIOLATION)
-    wanted = {name: value for name, value in violation.as_json(1).items() if name != "payload"} | {"path": None}
-    yield "a violation", recipes.shown(PATHS, of_list(FIRST, violation)) == [wanted]
+    for what, entry in (("a violation", violation), ("a template's name that a terminal obeys", of_template("ima-\u009b".encode(), b""))):
+        wanted = {name: value for name, value in entry.as_json(1).items() if name != "payload"} | {"path": None}
+        yield what, recipes.shown(PATHS, of_list(FIRST, entry)) == [wanted]
     for what, files in (("an empty list", of_list()), ("no such entry", of_list(FIRST))):
         yield what, recipes.run(PATHS, files) == (4, b"")
     for what, files in damaged_lists():
