@@ -1,9 +1,10 @@
 #!/usr/bin/env python3
-"""Runs the guide's recipes with jq, as they stand on the page, on lists and logs that try to evade them.
+"""Runs the guide's recipes with jq, as they are on the page, on lists and logs that try to evade them; and its check of a key from afar,
+on emulated TPMs.
 
-docs/recipes.py PROGRAM: the program that the recipes call as ./ima-agent. What a recipe shows is due as JSON, by `reference/`, or it has
-to fail: of an empty, a cut and a missing input, and of a program that dies after its last line. Where bash or jq is not installed, none is
-tried, which is told. The last line is 'N passed, M failed'."""
+docs/recipes.py PROGRAM: the program that is installed as `ima-agent`. What a recipe shows is due as JSON, by `reference/`, or it has to
+fail: with an empty, a cut and a missing input, and with a program that dies after its last line. Each runs in a folder in which a machine
+left an `ima-agent` and a `known.txt` of its own. What lacks a tool is not tried, which is said. The last line is 'N passed, M failed'."""
 
 import json
 import os
@@ -15,30 +16,35 @@ import tempfile
 from pathlib import Path
 
 ROOT = Path(__file__).resolve().parent.parent
-sys.path.insert(0, str(ROOT))
+sys.path[:0] = [str(ROOT), str(ROOT / "attest")]
 
+from emulated import TOOLS as TPM_TOOLS
+from emulated import emulated
 from reference.fields import with_length
 from reference.log import EV_NO_ACTION, read_log
 from reference.measurement_list import IMA, IMA_NG, IMA_SIG, VIOLATION, Entry, entry_of, list_spelling
 from reference.registers import BY_NAME, SHA1
 
 TOOLS = ("bash", "jq")
+KEY_TOOLS = ("swtpm", "openssl", "tpm2_print", "tpm2_makecredential", "tpm2_activatecredential", *TPM_TOOLS)
 BLOCK = re.compile(r"^```sh\n(.*?)^```$", re.MULTILINE | re.DOTALL)
 # What only the recipe's block has.
-JUDGE, TAKE, EVENTS, AGGREGATE, PATHS = "--rawfile known", "> known.txt", "diff before.events", "--arg aggregate", 'select(has("payload"))'
+JUDGE, TAKE, EVENTS, AGGREGATE, PATHS = "--rawfile known", "--argjson confirmed", "diff before.events", "--arg aggregate", 'select(has("payload"))'
 IMA_ALONE, MEASURED = "$2 == 10", "--files-from names"
+KEY, PUBLIC, CHALLENGE, ANSWER = "tpm2_createek", "tpm2_getekcertificate", "tpm2_makecredential", "tpm2_activatecredential"
 
 SAMPLE = ROOT / "samples/real-boot"
 LOG = read_log((SAMPLE / "firmware.log").read_bytes())
 SHA256 = BY_NAME["sha256"]
 KNOWN, UNKNOWN = SHA256.hash(b"known"), SHA256.hash(b"unknown")
-SUMS = f"{KNOWN.hex()}  /usr/bin/ls\n".encode()
+WEAK, LONG = SHA1.hash(b"known"), BY_NAME["sha512"].hash(b"known")
+SUMS = "".join(f"{digest.hex()}  /usr/bin/ls\n" for digest in (KNOWN, WEAK, LONG)).encode()
 SAYS_KNOWN = b"ima-ng sha256:%s" % KNOWN.hex().encode()
 FIRST = entry_of(IMA_NG, SHA256, SHA256.hash(b"registers"), b"boot_aggregate")
 
 
-def measured(digest, path=b"/usr/bin/ls", template=IMA_NG):
-    return entry_of(template, SHA256, digest, path)
+def measured(digest, path=b"/usr/bin/ls", template=IMA_NG, algorithm=SHA256):
+    return entry_of(template, algorithm, digest, path)
 
 
 def of_template(name, payload):
@@ -57,6 +63,7 @@ PASSED_OVER = {
     "a known digest, and a path with a space": measured(KNOWN, b"/usr/bin/ls " + UNKNOWN.hex().encode()),
     "a known digest, and a path with a line feed": measured(KNOWN, b'/x\n{"judged":2}'),
     "a known digest, and a path that is not UTF-8": measured(KNOWN, b"/\xff"),
+    "a known digest by SHA-512": measured(LONG, algorithm=BY_NAME["sha512"]),
 }
 SHOWN = {
     "an unknown digest": measured(UNKNOWN),
@@ -64,10 +71,15 @@ SHOWN = {
     "an unknown digest, and a path that is not UTF-8": measured(UNKNOWN, b"/\xff\n"),
     "an unknown digest, and a path that a terminal obeys": measured(UNKNOWN, "/\x1b[2J\x7f\u009b\u2028\u202e".encode()),
     "an unknown digest in ima": entry_of(IMA, SHA1, SHA1.hash(b"unknown"), b"/usr/bin/ls"),
+    "a known digest by SHA-1": measured(WEAK, algorithm=SHA1),
+    "a known digest by SHA-1 in ima": entry_of(IMA, SHA1, WEAK, b"/usr/bin/ls"),
+    "a known digest by SHA-1 in ima-sig": measured(WEAK, template=IMA_SIG, algorithm=SHA1),
     "a known digest in register 1": measured(KNOWN)._replace(register=1),
     "a known digest in register 11": measured(KNOWN)._replace(register=11),
     "a known digest in an entry that is not genuine": measured(UNKNOWN)._replace(payload=measured(KNOWN).payload),
     "a violation that states a known digest": measured(KNOWN)._replace(template_digest=VIOLATION),
+    "a violation without fields": of_template(b"x", b"/usr/bin/ls")._replace(template_digest=VIOLATION),
+    "a violation with a path that is not UTF-8": measured(KNOWN, b"/\xff")._replace(template_digest=VIOLATION),
     "a renamed template": of_template(b"ima-xg", UNKNOWN_PAYLOAD),
     "a renamed template, and a known digest": of_template(b"ima-xg", measured(KNOWN).payload),
     "a template without a name": of_template(b"", UNKNOWN_PAYLOAD),
@@ -84,6 +96,7 @@ PATHS_SHOWN = {
     "ima-ngv2": (with_length(b"verity:sha256:\0" + UNKNOWN) + with_length(b"/a\0"), {"path": "/a"}),
     "a path that is not UTF-8": (D_NG + with_length(b"/\xff\0"), {"path_hex": "2fff"}),
     "a path that is not ASCII": (D_NG + with_length(b"/\xc3\xa9\0"), {"path_hex": "2fc3a9"}),
+    "a path that a terminal obeys": (D_NG + with_length(b"/\x7f\x1b[2J\0"), {"path": "/\x7f\x1b[2J"}),
     "an empty path": (D_NG + with_length(b"\0"), {"path": ""}),
     "a path of 4,095 bytes": (D_NG + with_length(b"a" * 4095 + b"\0"), {"path": "a" * 4095}),
     "a path without a NUL": (D_NG + with_length(b"/a"), {"path": None}),
@@ -96,33 +109,51 @@ PATHS_SHOWN = {
 }
 
 
-def is_confirmed(entry):
-    return entry.is_genuine and not entry.is_violation and entry.register == 10
+def makes_known(number, entry):
+    """Whether the digest of an entry is confirmed, that of a file, and one that no two files can be made to have."""
+    is_confirmed = number > 0 and entry.is_genuine and not entry.is_violation and entry.register == 10
+    return bool(is_confirmed and entry.fields() and entry.fields().algorithm is not SHA1)
+
+
+def shown(number, entry):
+    """What is shown of an entry: of a violation nothing that no register confirms."""
+    told = entry.as_json(number)
+    return {name: told[name] for name in ("entry", "register", "violation")} if entry.is_violation else told
 
 
 class Recipes:
-    """The recipes, in a folder where they find the program."""
+    """The recipes, in a folder with what a machine sent; what the verifier keeps and what is installed are elsewhere."""
 
-    def __init__(self, program, folder):
-        self.program, self.folder = program, folder
+    def __init__(self, program, top):
+        self.program, self.folder, self.kept, self.installed = program, top / "sent", top / "kept", top / "bin"
         self.blocks = BLOCK.findall((ROOT / "docs/guide.md").read_text())
+        for made in (self.folder, self.kept, self.installed):
+            made.mkdir()
 
     def block(self, mark):
         [block] = [block for block in self.blocks if mark in block]
         return block
 
+    def put(self, files):
+        """These files alone, those of `kept/` where the verifier keeps them, beside what a machine left to be taken for another's."""
+        for path in (*self.folder.iterdir(), *self.kept.iterdir()):
+            path.unlink()
+        left = {"ima-agent": b"#!/bin/sh\nexit 0\n", "known.txt": b"%s  /usr/bin/ls\n" % UNKNOWN.hex().encode()}
+        for name, data in (left | files).items():
+            path = self.kept / name[5:] if name.startswith("kept/") else self.folder / name
+            path.write_bytes(data)
+        self.folder.joinpath("ima-agent").chmod(0o755)
+
     def run(self, mark, files, agent="", **settings):
         """The status and the output of the recipe with this mark, of these files; `agent` is what the program's output passes through,
         `settings` what the environment has beside the caller's."""
         block = self.block(mark)
-        for path in self.folder.iterdir():
-            path.unlink()
-        for name, data in files.items():
-            (self.folder / name).write_bytes(data)
-        script = self.folder / "ima-agent"
+        self.put(files)
+        script = self.installed / "ima-agent"
         script.write_text(f'#!/bin/sh\n"{self.program}" "$@"{agent}\n')
         script.chmod(0o755)
-        done = subprocess.run(["bash", "-c", block], cwd=self.folder, env={**os.environ, **settings}, stdin=subprocess.DEVNULL,
+        own = {"PATH": f"{self.installed}:{os.environ['PATH']}", "known": str(self.kept / "known.txt"), "before": str(self.kept)}
+        done = subprocess.run(["bash", "-c", block], cwd=self.folder, env={**os.environ, **own, **settings}, stdin=subprocess.DEVNULL,
                               capture_output=True, timeout=60)
         return done.returncode, done.stdout
 
@@ -154,23 +185,26 @@ FOREIGN = " | sed 's/.*/{}/'"
 
 def judged(recipes):
     """The recipe for known digests."""
-    sums = {"known.txt": SUMS}
+    sums = {"kept/known.txt": SUMS}
     for what, entry in (PASSED_OVER | SHOWN).items():
-        rest = [entry.as_json(1)] if what in SHOWN else []
-        yield what, recipes.shown(JUDGE, of_list(FIRST, entry) | sums) == [FIRST.as_json(0), *rest, {"judged": 2}]
+        rest = [shown(1, entry)] if what in SHOWN else []
+        yield what, recipes.shown(JUDGE, of_list(FIRST, entry) | sums) == [shown(0, FIRST), *rest, {"judged": 2}]
     known = measured(KNOWN)
+    yield "a known digest as the first entry", recipes.shown(JUDGE, of_list(known, known) | sums) == [shown(0, known), {"judged": 2}]
     for what, text, is_known in (
         ("no sums", b"", False), ("sums of white space", b" \n\n  \n", False), ("a sum without a name", KNOWN.hex().encode(), True),
         ("a part of a sum", SUMS[1:], False), ("a known digest as a name", b"0  %s\n" % KNOWN.hex().encode(), False),
         ("sums that are not UTF-8", b"00  \xff\n" + SUMS, True),
     ):
-        rest = [] if is_known else [known.as_json(0)]
-        yield what, recipes.shown(JUDGE, of_list(known) | {"known.txt": text}) == [*rest, {"judged": 1}]
-    yield "sums, and payloads without digests", recipes.shown(
-        JUDGE, of_list(of_template(b"x", b"")) | {"known.txt": b"\n null\nnull\n"}) == [of_template(b"x", b"").as_json(0), {"judged": 1}]
+        rest = [] if is_known else [shown(1, known)]
+        yield what, recipes.shown(JUDGE, of_list(FIRST, known) | {"kept/known.txt": text}) == [shown(0, FIRST), *rest, {"judged": 2}]
+    bare = of_template(b"x", b"")
+    yield "sums, and payloads without digests", recipes.shown(JUDGE, of_list(FIRST, bare) | {"kept/known.txt": b"\n null\nnull\n"}) == [
+        shown(0, FIRST), shown(1, bare), {"judged": 2}]
     for what, files in (*damaged_lists(), ("an empty list", of_list())):
         yield what, recipes.fails(JUDGE, files | sums)
     yield "no sums", recipes.fails(JUDGE, of_list(known))
+    yield "no name of sums", recipes.fails(JUDGE, of_list(known) | sums, known="")
     yield "a program that dies", recipes.fails(JUDGE, of_list(known) | sums, DYING)
     yield "an entry that is left out", recipes.fails(JUDGE, of_list(FIRST, known) | sums, " | sed 1d")
     yield "another program's JSON", recipes.fails(JUDGE, of_list(known) | sums, FOREIGN)
@@ -181,48 +215,62 @@ def taken(recipes):
     """The digests of an earlier boot."""
     entries = [FIRST, *PASSED_OVER.values(), *SHOWN.values()]
     whole = {"confirmed": str(len(entries))}
-    known = [entry.as_json(0) for entry in entries if is_confirmed(entry) and entry.fields()]
-    is_done = recipes.run(TAKE, {"before.list": list_spelling(entries)}, **whole) == (0, b"")
-    sums = (recipes.folder / "known.txt").read_bytes()
+    known = [entry.as_json(0) for number, entry in enumerate(entries) if makes_known(number, entry)]
+    is_done = recipes.run(TAKE, {"kept/ima.list": list_spelling(entries)}, **whole) == (0, b"")
+    sums = (recipes.kept / "known.txt").read_bytes()
     *lines, end = [line.split("  ", 1) for line in sums.decode().split("\n")]
     found = [[digest, json.loads(f'"{path}"')] for digest, path in lines]
     wanted = [[line["digest"], line.get("path", line.get("path_hex"))] for line in known]
     yield "an earlier list", is_done and end == [""] and found == wanted
-    rest = [entry.as_json(number) for number, entry in enumerate(entries) if not (is_confirmed(entry) and entry.fields())]
-    shown = recipes.shown(JUDGE, {"ima.list": list_spelling(entries), "known.txt": sums})
-    yield "what an earlier list makes known", shown == [*rest, {"judged": len(entries)}]
+    rest = [shown(number, entry) for number, entry in enumerate(entries) if not makes_known(number, entry)]
+    found = recipes.shown(JUDGE, {"ima.list": list_spelling(entries), "kept/known.txt": sums})
+    yield "what an earlier list makes known", found == [*rest, {"judged": len(entries)}]
     for what, files in damaged_lists():
-        yield what, recipes.fails(TAKE, {"before.list": data for data in files.values()}, **whole)
+        yield what, recipes.fails(TAKE, {"kept/ima.list": data for data in files.values()}, **whole)
     for what, agent in (("that dies", DYING), ("with other JSON", FOREIGN)):
-        yield f"a program {what}", recipes.fails(TAKE, {"before.list": list_spelling(entries)}, agent, **whole)
-    went_on = {"before.list": list_spelling([FIRST, measured(KNOWN), measured(UNKNOWN)])}
-    front = [FIRST.fields().digest.hex(), KNOWN.hex()]
+        yield f"a program {what}", recipes.fails(TAKE, {"kept/ima.list": list_spelling(entries)}, agent, **whole)
+    grown = {"kept/ima.list": list_spelling([FIRST, measured(KNOWN), measured(UNKNOWN)])}
     for what, confirmed, wanted in (
-        ("an entry after the confirmed front", "2", front), ("a front of one entry", "1", front[:1]), ("a front of none", "0", []),
-        ("no verdict with a front", "null", []), ("the whole list", "3", [*front, UNKNOWN.hex()]),
+        ("an entry after the confirmed prefix", "2", [KNOWN.hex()]), ("a prefix of one entry", "1", []), ("a prefix of none", "0", []),
+        ("no verdict with a prefix", "null", []), ("the whole list", "3", [KNOWN.hex(), UNKNOWN.hex()]),
     ):
-        is_done = recipes.run(TAKE, went_on, confirmed=confirmed) == (0, b"")
-        sums = (recipes.folder / "known.txt").read_text()
+        is_done = recipes.run(TAKE, grown, confirmed=confirmed) == (0, b"")
+        sums = (recipes.kept / "known.txt").read_text()
         yield what, is_done and [line.split("  ")[0] for line in sums.splitlines()] == wanted
-    for what, confirmed in (("no front", ""), ("a line of a report", "confirmed 2 of 3 entries"), ("words", "2 of 3")):
-        is_refused = recipes.fails(TAKE, went_on, confirmed=confirmed)
-        yield what, is_refused and not (recipes.folder / "known.txt").read_bytes()
+    for what, confirmed in (("no prefix", ""), ("a line of a report", "confirmed 2 of 3 entries"), ("words", "2 of 3")):
+        is_refused = recipes.fails(TAKE, grown, confirmed=confirmed)
+        yield what, is_refused and not (recipes.kept / "known.txt").read_bytes()
 
 
 def extended(recipes):
-    """Whether events of a log extend register 10."""
-    whole, event = LOG.spelling(), LOG.events[0]._replace(register=10, type=6)
-    for what, events, wanted in (
-        ("no such event", [], 0), ("such an event", [event], 1), ("two", [event, event], 1), ("one before the others", None, 1),
-        ("an event that extends nothing", [event._replace(type=EV_NO_ACTION)], 0),
-        ("an event of register 1, with a line as data", [event._replace(register=1, data=b"\n1 10 x\n")], 0),
+    """Whether log and list keep to their own registers."""
+    whole, event, entries = LOG.spelling(), LOG.events[0]._replace(register=10, type=6), of_list(FIRST, measured(KNOWN))
+    for what, events, is_good in (
+        ("no such event", [], True), ("such an event", [event], False), ("two", [event, event], False), ("one before the others", None, False),
+        ("an event that extends nothing", [event._replace(type=EV_NO_ACTION)], True),
+        ("an event of register 1, with a line as data", [event._replace(register=1, data=b"\n1 10 x\n")], True),
     ):
         log = LOG._replace(events=[event, *LOG.events] if events is None else [*LOG.events, *events])
-        yield what, recipes.run(IMA_ALONE, {"firmware.log": log.spelling()}) == (wanted, b"")
+        wanted = (0, b"true\n") if is_good else (1, b"")
+        yield what, recipes.run(IMA_ALONE, {"firmware.log": log.spelling()} | entries) == wanted
+    other = measured(KNOWN)._replace(register=9)
+    for what, *listed in (
+        ("an entry of register 9", FIRST, other), ("a first entry of another", other, FIRST), ("one between others", FIRST, other, FIRST),
+        ("an entry of register 0", FIRST, other._replace(register=0)), ("of register 11", FIRST, other._replace(register=11)),
+        ("a violation of register 9", FIRST, other._replace(template_digest=VIOLATION)), ("no entry",),
+        ("an entry of register 9 that is not genuine", FIRST, other._replace(payload=UNKNOWN_PAYLOAD)),
+        ("an entry that says 10 in its path", FIRST, measured(KNOWN, b'/x","register":10}')._replace(register=9)),
+    ):
+        yield what, recipes.run(IMA_ALONE, of_list(*listed) | {"firmware.log": whole}) == (1, b"false\n")
+    for what, files in damaged_lists():
+        yield what, recipes.run(IMA_ALONE, {"firmware.log": whole} | files)[0] != 0
     for what, files in (("no log", {}), ("an empty log", {"firmware.log": b""}), ("a cut log", {"firmware.log": whole[:-1]}),
                         ("a log cut after its header", {"firmware.log": whole[:40]}), ("another file", {"firmware.log": b"10 10 10\n"})):
-        yield what, recipes.fails(IMA_ALONE, files)
-    yield "a program that dies", recipes.fails(IMA_ALONE, {"firmware.log": whole}, DYING)
+        yield what, recipes.fails(IMA_ALONE, files | entries)
+    for command in ("registers", "show"):
+        dying = f"; [ $1 != {command} ] || kill -9 $$"
+        yield f"a program that dies in {command}", recipes.fails(IMA_ALONE, {"firmware.log": whole} | entries, dying)
+    yield "a program that shows nothing", recipes.run(IMA_ALONE, {"firmware.log": whole} | entries, " | sed -n '/^{/!p'")[0] != 0
 
 
 def measures(recipes):
@@ -248,18 +296,19 @@ def compared(recipes):
     """The events of two boots."""
     whole, more = LOG.spelling(), LOG._replace(events=[LOG.events[0], *LOG.events]).spelling()
     lines = [f"> {json.dumps({k: v for k, v in LOG.events[0].as_json(1).items() if k != 'event'}, separators=(',', ':'))}"]
-    yield "the same events", recipes.run(EVENTS, {"before.log": whole, "firmware.log": whole}) == (0, b"")
-    status, output = recipes.run(EVENTS, {"before.log": whole, "firmware.log": more})
+    yield "the same events", recipes.run(EVENTS, {"kept/firmware.log": whole, "firmware.log": whole}) == (0, b"")
+    status, output = recipes.run(EVENTS, {"kept/firmware.log": whole, "firmware.log": more})
     yield "one event more", status == 1 and [line for line in output.decode().splitlines() if line[0] in "<>"] == lines
-    status, output = recipes.run(EVENTS, {"before.log": more, "firmware.log": whole})
+    status, output = recipes.run(EVENTS, {"kept/firmware.log": more, "firmware.log": whole})
     yield "one event less", status == 1 and output.count(b"\n< ") == 1
     for what, files in (
-        ("a cut log", {"before.log": whole, "firmware.log": whole[:-1]}), ("a cut log before", {"before.log": whole[:-1], "firmware.log": whole}),
-        ("two cut logs", {"before.log": whole[:-1], "firmware.log": whole[:-1]}), ("two empty logs", {"before.log": b"", "firmware.log": b""}),
-        ("no log", {"before.log": whole}), ("no log before", {"firmware.log": whole}),
+        ("a cut log", {"kept/firmware.log": whole, "firmware.log": whole[:-1]}), ("a cut log before", {"kept/firmware.log": whole[:-1], "firmware.log": whole}),
+        ("two cut logs", {"kept/firmware.log": whole[:-1], "firmware.log": whole[:-1]}), ("two empty logs", {"kept/firmware.log": b"", "firmware.log": b""}),
+        ("no log", {"kept/firmware.log": whole}), ("no log before", {"firmware.log": whole}),
     ):
         yield what, recipes.fails(EVENTS, files)
-    yield "a program that dies", recipes.fails(EVENTS, {"before.log": whole, "firmware.log": whole}, DYING)
+        yield f"{what}, and events that a machine sent", recipes.fails(EVENTS, files | {"before.events": b"", "firmware.events": b""})
+    yield "a program that dies", recipes.fails(EVENTS, {"kept/firmware.log": whole, "firmware.log": whole}, DYING)
 
 
 def aggregated(recipes):
@@ -294,6 +343,10 @@ def paths(recipes):
         entry = of_template(b"ima-modsig", payload)
         wanted = {**{name: value for name, value in entry.as_json(1).items() if name != "payload"}, **path}
         yield what, recipes.shown(PATHS, of_list(FIRST, entry)) == [wanted]
+    violation = of_template(b"ima-modsig", PATHS_SHOWN["ima-ngv2"][0])._replace(template_digest=VIOLATION)
+    for what, entry in (("a violation", violation), ("a template's name that a terminal obeys", of_template("ima-\u009b".encode(), b""))):
+        wanted = {name: value for name, value in entry.as_json(1).items() if name != "payload"} | {"path": None}
+        yield what, recipes.shown(PATHS, of_list(FIRST, entry)) == [wanted]
     for what, files in (("an empty list", of_list()), ("no such entry", of_list(FIRST))):
         yield what, recipes.run(PATHS, files) == (4, b"")
     for what, files in damaged_lists():
@@ -302,19 +355,133 @@ def paths(recipes):
         yield f"a program {what}", recipes.fails(PATHS, of_list(of_template(b"x", b"")), agent)
 
 
+class Vendor:
+    """A maker of TPMs, or who claims to be one: an authority that gives certificates."""
+
+    def __init__(self, folder, name):
+        self.folder, self.key, self.certificate = folder, folder / f"{name}.key", folder / f"{name}.crt"
+        subprocess.run(["openssl", "req", "-x509", "-newkey", "rsa:2048", "-nodes", "-subj", f"/CN={name}", "-days", "2",
+                        "-keyout", self.key, "-out", self.certificate], check=True, capture_output=True)
+
+    def certify(self, public):
+        """The certificate of a TPM with this endorsement key."""
+        given = subprocess.run(["openssl", "x509", "-new", "-force_pubkey", public, "-subj", "/CN=TPM", "-days", "2", "-outform", "der",
+                                "-CA", self.certificate, "-CAkey", self.key], check=True, capture_output=True)
+        return given.stdout
+
+
+class Machine:
+    """A folder of a machine with an emulated TPM, where blocks of the guide and other tools are run."""
+
+    def __init__(self, recipes, folder, environment):
+        self.recipes, self.folder, self.environment = recipes, folder, environment
+        folder.mkdir()
+
+    def run(self, *words):
+        return subprocess.run(words, cwd=self.folder, env=self.environment, capture_output=True, timeout=60).returncode
+
+    def block(self, mark):
+        """The status of a block, with room for its objects, as Linux makes it at /dev/tpmrm0."""
+        return self.run("tpm2_flushcontext", "--transient-object") or self.run("bash", "-c", self.recipes.block(mark))
+
+    def begin(self, vendor):
+        """Makes the key, gives the TPM a certificate of its own, and shows what the verifier gets."""
+        assert self.block(KEY) == 0 and self.run("tpm2_readpublic", "-c", "ek.ctx", "-f", "pem", "-o", "ek.pem") == 0
+        certificate = vendor.certify(self.folder / "ek.pem")
+        self.folder.joinpath("certificate").write_bytes(certificate)
+        flags = "platformcreate|ppwrite|ppread|ownerread|authread|no_da"
+        assert self.run("tpm2_nvdefine", "0x1c00002", "-C", "p", "-s", str(len(certificate)), "-a", flags) == 0
+        assert self.run("tpm2_nvwrite", "0x1c00002", "-C", "p", "-i", "certificate") == 0
+        is_done = self.block(PUBLIC) == 0
+        return is_done, {name: self.folder.joinpath(name).read_bytes() for name in ("AK.pub", "ek.der")}
+
+    def answers(self, credential):
+        """Whether the TPM opens a credential to the verifier's secret."""
+        self.folder.joinpath("answer").unlink(missing_ok=True)
+        self.folder.joinpath("credential").write_bytes(credential)
+        status, answer = self.block(ANSWER), self.folder / "answer"
+        return status == 0 and answer.read_bytes() == self.recipes.folder.joinpath("secret").read_bytes()
+
+
+def is_taken(recipes, machine, vendor, sent, **settings):
+    """Whether the verifier makes a credential, and whether the machine's TPM opens it."""
+    status, _ = recipes.run(CHALLENGE, sent, vendor=str(vendor.certificate), TPM2TOOLS_TCTI="none", **settings)
+    credential = recipes.folder / "credential"
+    if status or not credential.exists():
+        return False, False
+    return True, machine.answers(credential.read_bytes())
+
+
+def is_key_of(recipes, machine):
+    """Whether the key that the verifier keeps is the one at the machine's handle."""
+    return recipes.folder.joinpath("AK.pem").read_bytes() == machine.folder.joinpath("AK.pem").read_bytes()
+
+
+def other_keys(machine, public):
+    """Public areas that are not that of the machine's key, and whether the verifier makes a credential for one."""
+    for what, flags in (
+        ("a key that signs anything", "fixedtpm|fixedparent|sensitivedataorigin|userwithauth|sign"),
+        ("a key that can be copied", "sensitivedataorigin|userwithauth|restricted|sign"),
+    ):
+        words = ["tpm2_createprimary", "-C", "o", "-G", "rsa2048:rsassa-sha256:null", "-a", flags, "-c", "other.ctx"]
+        assert machine.run("tpm2_flushcontext", "--transient-object") == machine.run(*words) == 0
+        assert machine.run("tpm2_readpublic", "-c", "other.ctx", "-f", "tss", "-o", "other.pub") == 0
+        yield what, machine.folder.joinpath("other.pub").read_bytes(), False
+    for what, number, byte in (("no attributes", 9, 0), ("a key that may decrypt, too", 7, 7), ("one that signs X.509, too", 7, 13)):
+        yield what, public[:number] + bytes([byte]) + public[number + 1 :], False
+    yield "a key that no TPM has", public[:-1] + bytes([public[-1] ^ 1]), True
+    yield "another hash of names", public[:5] + b"\x0c" + public[6:], True
+    yield "a byte more", public + b"\0", True
+    yield from (("a byte less", public[:-1], False), ("no public area", b"", False))
+
+
+def kept(recipes):
+    """A key from afar."""
+    home = recipes.folder.parent
+    vendor, stranger = Vendor(home, "vendor"), Vendor(home, "stranger")
+    with emulated() as first, emulated() as second:
+        machine, other = Machine(recipes, home / "first", first), Machine(recipes, home / "second", second)
+        (is_done, sent), (_, foreign) = machine.begin(vendor), other.begin(vendor)
+        yield "the blocks of the machine", is_done
+        yield "the machine's key", is_taken(recipes, machine, vendor, sent) == (True, True) and is_key_of(recipes, machine)
+        left = {"AK.pem": other.folder.joinpath("AK.pem").read_bytes(), "secret": b"secret", "answer": b"secret"}
+        yield "a key beside it", is_taken(recipes, machine, vendor, sent | left) == (True, True) and is_key_of(recipes, machine)
+        yield "another TPM's certificate", is_taken(recipes, machine, vendor, sent | {"ek.der": foreign["ek.der"]}) == (True, False)
+        yield "another TPM's key", is_taken(recipes, machine, vendor, sent | {"AK.pub": foreign["AK.pub"]}) == (True, False)
+        for what, public, is_challenged in other_keys(machine, sent["AK.pub"]):
+            yield what, is_taken(recipes, machine, vendor, sent | {"AK.pub": public}) == (is_challenged, False)
+        own = {"ek.der": stranger.certify(machine.folder / "ek.pem")}
+        yield "a certificate of a stranger", is_taken(recipes, machine, vendor, sent | own) == (False, False)
+        trusted = {"SSL_CERT_FILE": str(stranger.certificate), "SSL_CERT_DIR": str(trusting(home, stranger))}
+        yield "whom the system trusts", is_taken(recipes, machine, vendor, sent | own, **trusted) == (False, False)
+        for name in ("AK.pub", "ek.der"):
+            rest = {each: data for each, data in sent.items() if each != name}
+            yield f"no {name}", is_taken(recipes, machine, vendor, rest) == (False, False)
+
+
+def trusting(folder, authority):
+    """A folder of certificates that a system trusts, as OpenSSL names them."""
+    made = folder / "trusted"
+    made.mkdir()
+    name = subprocess.run(["openssl", "x509", "-in", authority.certificate, "-noout", "-hash"], check=True, capture_output=True, text=True)
+    shutil.copy(authority.certificate, made / f"{name.stdout.strip()}.0")
+    return made
+
+
 def main():
     [program] = sys.argv[1:]
-    lacking = [tool for tool in TOOLS if not shutil.which(tool)]
     passed = failed = 0
     with tempfile.TemporaryDirectory() as name:
         recipes = Recipes(Path(program).resolve(), Path(name))
-        for tried in () if lacking else (extended, judged, taken, measures, compared, aggregated, paths):
+        for tried in (extended, judged, taken, measures, compared, aggregated, paths, kept):
+            needed = (*TOOLS, *KEY_TOOLS) if tried is kept else TOOLS
+            if lacking := [tool for tool in needed if not shutil.which(tool)]:
+                print(f"not tried: {tried.__doc__} {' and '.join(lacking)} not installed")
+                continue
             for what, is_right in tried(recipes):
                 passed, failed = passed + is_right, failed + (not is_right)
                 if not is_right:
                     print(f"{tried.__doc__} {what}")
-    if lacking:
-        print(f"not tried: {' and '.join(lacking)} not installed")
     print(f"{passed} passed, {failed} failed")
     return bool(failed)
 

@@ -13,6 +13,9 @@
  * A verdict speaks of the registers that are expected, and of no others. If no register is expected,
  * ima_verify_verdict still says `match`; so call ima_verify_required, and say which registers it must cover.
  *
+ * A verdict is about the machine's boot only if no event of the log extends register 10 and each entry of the list
+ * names register 10: look into what ima_verify_registers and ima_verify_entries_json give.
+ *
  * Pointers. None may be null, `out` and `needed` included, even where its size is 0: give the address of any
  * byte then. To ask for the size alone, give `out` such an address, and an `out_size` of 0. Nothing may change
  * an input during a call. Inputs may overlap each other, and calls may share them; `out` and `needed` may
@@ -29,8 +32,8 @@
  * `{"fault":{"kind":"memory","message":"failed: memory"}}`, of 55 bytes.
  *
  * A call keeps no event of a log and no entry of a list, but the text that it gives. That of
- * ima_verify_events_json grows with the log: so limit the size of what comes from elsewhere (a firmware's log
- * has some 100 KB). A text of ima_verify_show or ima_verify_entries_json that is longer than `out_size` is
+ * ima_verify_events_json grows with the log: limit the size of what comes from elsewhere (a firmware's log has
+ * some 100 KB). A text of ima_verify_show or ima_verify_entries_json that is longer than `out_size` is
  * counted, and no more of it is kept than that and one entry's line. A call takes more than 64 KiB of stack:
  * give a thread at least 256 KiB.
  *
