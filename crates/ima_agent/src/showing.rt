@@ -26,7 +26,10 @@ use pcr_banks::Banks;
 use std::alloc::{AllocError, Global};
 
 /// The lines of the registers that differ from their reset values after the log in hexadecimal on standard input.
-pub(crate) fn shown_registers<F: AgentFiles>(alloc: Global, files: &mut F) -> Result<Vec<u8>, RunFault>
+pub(crate) fn shown_registers<F: AgentFiles>(
+    alloc: Global,
+    files: &mut F,
+) -> Result<Vec<u8>, RunFault>
     ensures shown { IfOk result (λ shown. OfInput (F.told files.old) None (λ text. ShowsRegisters text shown.items)) }
     ensures fault { IfErr result (λ fault. IsInputFault (F.told files.old) None fault
         ⊎ OfInput (F.told files.old) None (λ text. IsRefusedFor text fault)) }
