@@ -79,7 +79,7 @@ def is_told(found, wanted, name, command):
     if wanted[0] > 1 and found == wanted:
         return True
     words, kind = command.words, "read"
-    if command.saved and name == f"{command.saved}.new".encode():
+    if command.saved and name == f"{command.saved}.0.new".encode():
         kind, name = "write", command.saved.encode()
     line = b"failed: %s %s\n" % (kind.encode(), name)
     if "--json" in words:

@@ -4,6 +4,7 @@ import json
 import os
 import re
 import shutil
+import stat
 import subprocess
 from pathlib import Path
 from typing import Callable, NamedTuple
@@ -41,6 +42,9 @@ from .verdict import confirmed_front, front_report, list_report, places, report_
 
 MOST_BYTES = 64 << 20
 LONGEST_PATH = 4095
+# How many names there are for the file beside one that is saved, and the mode of one that its user alone reads and writes.
+MOST_BESIDE = 100
+PRIVATE = 0o600
 
 
 class Unanswered(Exception):
@@ -88,13 +92,36 @@ class Inputs:
     def save(self, name, data):
         """Makes a file of these bytes, or leaves what has the name as it is ('Going on from a checkpoint'). It is not synced, which nothing here
         can tell."""
-        beside = f"{name}.new"
         try:
-            with open(beside, "wb", opener=lambda path, flags: os.open(path, flags, 0o666, dir_fd=self.folder)) as file:
-                file.write(data)
-            os.rename(beside, name, src_dir_fd=self.folder, dst_dir_fd=self.folder)
+            beside, file = self.created_beside(name, self.mode_in_place_of(name))
+            try:
+                with file:
+                    file.write(data)
+                os.rename(beside, name, src_dir_fd=self.folder, dst_dir_fd=self.folder)
+            except OSError:
+                os.unlink(beside, dir_fd=self.folder)
+                raise
         except (OSError, ValueError):
             raise not_written(name) from None
+
+    def mode_in_place_of(self, name):
+        """The mode of the file that takes the place of what has the name."""
+        try:
+            present = os.stat(name, dir_fd=self.folder, follow_symlinks=False).st_mode
+        except FileNotFoundError:
+            return PRIVATE
+        if not stat.S_ISREG(present):
+            raise OSError(f"{name} is no regular file")
+        return PRIVATE & present
+
+    def created_beside(self, name, mode):
+        """A new file beside that of the name, with its own name, the first that nothing has."""
+        for beside in (f"{name}.{number}.new" for number in range(MOST_BESIDE)):
+            try:
+                return beside, open(beside, "xb", opener=lambda path, flags: os.open(path, flags, mode, dir_fd=self.folder))
+            except FileExistsError:
+                continue
+        raise FileExistsError(name)
 
     def limited(self, name, data):
         return data[: self.most_bytes], too_long(name) if len(data) > self.most_bytes else None

@@ -6,7 +6,7 @@ ghost use Rattle.ima_agent.specs.Loading.{input_name};
 ghost use Rattle.agent_tests.specs.Devices.{held};
 
 use byte_streams::{Failed, SliceSource, Source, VecSink};
-use ima_agent::{Files, LoadFault, SharedFiles, hash_from, run};
+use ima_agent::{AgentFiles, Files, LoadFault, SharedFiles, hash_from, run};
 use pcr_banks::{Alg, Digest};
 use std::alloc::{AllocError, Global};
 use std::sync::Wait;
@@ -80,8 +80,6 @@ impl<'a> PieceFiles<'a> {
 impl<'a> Files for PieceFiles<'a> {
     type Src = MemorySource<'a>;
 
-    type Shared = Self;
-
     // The bytes of each file but the one that is to fail. That one may, and a file that is none of these.
     ghost told = { λ files. record {
       held = λ name. held files.files.now files.failing.now (input_name name);
@@ -92,9 +90,13 @@ impl<'a> Files for PieceFiles<'a> {
         self.opened = self.opened.saturating_add(1);
         self.open(name.unwrap_or("-")).ok_or(Failed)
     }
+}
+
+impl AgentFiles for PieceFiles<'_> {
+    type Shared = Self;
 
     /// Takes the bytes, and keeps none.
-    fn replace(&mut self, _name: &str, _beside: &str, _bytes: &[u8]) -> Result<(), Failed> {
+    fn replace(&mut self, _name: &str, _bytes: &[u8]) -> Result<(), Failed> {
         Ok(())
     }
 
@@ -126,7 +128,7 @@ pub fn words_of(alloc: Global, words: &[&str]) -> Result<Vec<String>, AllocError
 }
 
 /// What the program answers and writes.
-pub fn ran<R: Threads + Wait + Sync + AllocGlobal, F: Files>(
+pub fn ran<R: Threads + Wait + Sync + AllocGlobal, F: AgentFiles>(
     rt: &R,
     words: &[String],
     files: &mut F,
@@ -138,7 +140,7 @@ pub fn ran<R: Threads + Wait + Sync + AllocGlobal, F: Files>(
 
 /// The same; once more where an allocation was refused, which shows as the status 3 without the whole line of an input that could
 /// not be taken.
-pub fn answered<R: Threads + Wait + Sync + AllocGlobal, F: Files>(
+pub fn answered<R: Threads + Wait + Sync + AllocGlobal, F: AgentFiles>(
     rt: &R,
     words: &[String],
     files: &mut F,

@@ -301,7 +301,7 @@ all_taken start text now left taken known alg more have stands active is =
 active_at : (known : Banks) (alg : Alg) (r : ℕ) (value : Option (List ℕ)) → value_at known alg r ≡ value → is_some value ≡ true
     → is_active known alg ≡ true
 active_at known alg r None is some = absurd cc
-active_at known alg r (Some v) is some = active_bank alg (bank_of known alg) r v is
+active_at known alg r (Some v) is some = active_bank (bank_of known alg) r v is
 
 -- A bank that has a first register is active.
 first_active : (known : Banks) (alg : Alg) → is_some (value_at known alg 0) ≡ true → is_active known alg ≡ true

@@ -18,18 +18,18 @@ use Rattle.growing_lists.specs.Sessions.{IsOfBoot}
 
 -- ---- the same data
 
-active_by : (alg : Alg) (one two : Option (List (List ℕ))) → (IsTrue (is_some one) → IsSome (in_bank alg one 0))
-    → (IsTrue (is_some two) → IsSome (in_bank alg two 0)) → in_bank alg one 0 ≡ in_bank alg two 0 → is_some one ≡ is_some two
-active_by alg None None one two same = refl
-active_by alg (Some bank) (Some other) one two same = refl
-active_by alg None (Some other) one two same = absurd (false≢true (subst (λ (value : Option (List ℕ)). IsSome value) (sym same) (two refl)))
-active_by alg (Some bank) None one two same = absurd (false≢true (subst (λ (value : Option (List ℕ)). IsSome value) same (one refl)))
+active_by : (one two : Option (List (List ℕ))) → (IsTrue (is_some one) → IsSome (in_bank one 0))
+    → (IsTrue (is_some two) → IsSome (in_bank two 0)) → in_bank one 0 ≡ in_bank two 0 → is_some one ≡ is_some two
+active_by None None one two same = refl
+active_by (Some bank) (Some other) one two same = refl
+active_by None (Some other) one two same = absurd (false≢true (subst (λ (value : Option (List ℕ)). IsSome value) (sym same) (two refl)))
+active_by (Some bank) None one two same = absurd (false≢true (subst (λ (value : Option (List ℕ)). IsSome value) same (one refl)))
 
 -- Banks with the same values are active together.
 active_together : (first second : Banks) → HaveValues first → HaveValues second → SameValues first second → (a : Alg)
     → is_active first a ≡ is_active second a
 active_together first second one two same a =
-    active_by a (bank_of first a) (bank_of second a) (λ on. one.whole a 0 on (omega arith)) (λ on. two.whole a 0 on (omega arith)) (same a 0)
+    active_by (bank_of first a) (bank_of second a) (λ on. one.whole a 0 on (omega arith)) (λ on. two.whole a 0 on (omega arith)) (same a 0)
 
 module _ (first second : Checkpoint) (one : IsPossible first) (two : IsPossible second) (same : SameData first second) where
   before_active : (a : Alg) → is_active first.before a ≡ is_active second.before a

@@ -1,11 +1,6 @@
 -- A list that goes on where a checkpoint is.
-use Rattle.std.proofs.Common.{◌≡◌, ℕ, ◌<◌, ltb, List, Option, option_map, refl, sym, ap, ◌∙◌, inl, inr, rules}
-use Rattle.std.proofs.lemmas.Bool.{cases_Bool}
-use Rattle.pcr_banks.specs.declared.alg.Alg.{Alg}
+use Rattle.std.proofs.Common.{◌≡◌, ℕ, List, sym, ◌∙◌}
 use Rattle.pcr_banks.specs.declared.banks.Banks.{Banks}
-use Rattle.pcr_banks.specs.Digests.{bytes_of, digest_of}
-use Rattle.pcr_banks.specs.Registers.{register_count, value_at}
-use Rattle.pcr_banks.proofs.SetLaws.{same_bytes}
 use Rattle.boot_verdict.specs.declared.checkpoint.Checkpoint.{Checkpoint}
 use Rattle.boot_log.specs.declared.header.Row.{Row as TableRow}
 use Rattle.boot_log.specs.Replaying.{IsFirmware}
@@ -50,16 +45,3 @@ same_of_boot log known registers boot firmware = record {
   active = λ a. firmware.active a ∙ sym (boot.start.active a);
   values = λ a r. firmware.values a r ∙ sym (boot.start.values a r);
 }
-
--- Where all registers that there are have the same values, all have.
-pub same_everywhere : (first second : Banks) (alg : Alg)
-    → ((r : ℕ) → r < register_count → value_at first alg r ≡ value_at second alg r) → (r : ℕ) → value_at first alg r ≡ value_at second alg r
-same_everywhere first second alg same r =
-    elim (cases_Bool (ltb r register_count)) [
-      | inl within ↦ let lt : r < register_count = search (rules, within) in same r lt
-      | inr out ↦ rw out refl
-    ]
-
--- Digests that are read tell the values.
-pub same_value : (alg : Alg) (first second : Option (List ℕ)) → option_map (digest_of alg) first ≡ option_map (digest_of alg) second → first ≡ second
-same_value alg first second same = sym (same_bytes alg first) ∙ ap (option_map bytes_of) same ∙ same_bytes alg second

@@ -222,10 +222,10 @@ ShowsGrowth inputs asked form shown status = (next : Checkpoint) × ShowsGrown i
 
 -- ---- what is saved
 
--- The file of this name, if one is given, was replaced by this text, through one beside it whose name ends in `.new`, and no other was.
+-- The file of this name, if one is given, was replaced by this text, and no other was.
 abbrev pub HasSaved : Saved → Saved → Option (List ℕ) → List ℕ → Type 0
 HasSaved old new None text = new ≡ old
-HasSaved old new (Some name) text = HasReplaced old new (record { name = name; beside = name ++ codes ".new"; bytes = text })
+HasSaved old new (Some name) text = HasReplaced old new (record { name = name; bytes = text })
 
 -- The report is shown, and the checkpoint of what it is on is saved, if that is asked for; nothing else is.
 abbrev pub ShowsAndSaves : Inputs → Growth → Form → Saved → Saved → List ℕ → ℕ → Type 0

@@ -43,10 +43,9 @@ pub record Inputs : Type 0 where
 abbrev pub untold : Inputs
 untold = record { held = λ name. None; may_fail = λ name. true }
 
--- A file that was replaced: its name, that of the file beside it which was renamed, and all bytes that it was given.
+-- A file that was replaced: its name, and all bytes that it was given.
 pub record Replaced : Type 0 where
   pub name : List ℕ
-  pub beside : List ℕ
   pub bytes : List ℕ
 
 -- The files that were replaced, one after another; `None` if this is not told.

@@ -6,7 +6,7 @@ ghost use Rattle.ima_agent.specs.parts.Verifying.{IsEvidence};
 ghost use Rattle.ima_agent.specs.Verifying.{IsReportFault};
 
 use crate::fault::RunFault;
-use crate::files::Files;
+use crate::files::AgentFiles;
 use crate::inputs::{loaded, not_read};
 use boot_verdict::{Expected, read_expected};
 use byte_streams::Failed;
@@ -24,7 +24,7 @@ pub(crate) struct Evidence<S> {
 }
 
 /// Loads the log, then loads and reads the expected registers, and then opens the list, in the files of these names.
-pub(crate) fn opened<F: Files>(
+pub(crate) fn opened<F: AgentFiles>(
     alloc: Global,
     files: &mut F,
     log: &str,

@@ -8,7 +8,7 @@ ghost use Rattle.ima_agent.specs.Expecting.{IsExpectingFault, IsNotExpectedOn, I
 ghost use Rattle.ima_agent.specs.Loading.{OfInput};
 
 use crate::fault::RunFault;
-use crate::files::Files;
+use crate::files::AgentFiles;
 use crate::inputs::loaded;
 use crate::output::Form;
 use boot_verdict::{ExpectFault, Expected, RegisterRange, read_printed, write_expected};
@@ -18,7 +18,7 @@ use std::alloc::{AllocError, Global};
 
 /// The registers, in this form, that the text in the file of this name states within the range that `registers` spells, or of all
 /// without one.
-pub(crate) fn expected_from<F: Files>(
+pub(crate) fn expected_from<F: AgentFiles>(
     alloc: Global,
     files: &mut F,
     printed: &str,

@@ -15,9 +15,7 @@ use std::alloc::Global;
 /// other fails. It may also tell which files were replaced (`saved`).
 pub trait Files {
     /// The source of one input's bytes.
-    type Src: Source + Drop;
-    /// The same files, shared by several threads.
-    type Shared: SharedFiles + Sync;
+    type Src: Source;
 
     // What the inputs hold, and which of them may fail.
     ghost told: { Self → Inputs } = { λ _. untold };
@@ -34,20 +32,28 @@ pub trait Files {
             → IsTrue ((told self.old).may_fail (option_map (λ name. name.now) name.entry))) }
         ensures told { told self.new ≡ told self.old }
         ensures saved { saved self.new ≡ saved self.old };
+}
 
-    /// Has the file of this name be exactly these bytes, whatever it was. They are written to a new file of the name `beside`, of which an
-    /// old one is removed, and synced, and then that is renamed: so whoever opens the file gets all it held before, or all of these bytes.
-    /// No two callers may do this to one file at once. Fails if the system refuses any of this; the file beside it may then be left.
-    fn replace(&mut self, name: &str, beside: &str, bytes: &[u8]) -> Result<(), Failed>
-        ensures replaced { OnOk result (HasReplaced (saved self.old) (saved self.new)
-            (record { name = name.now; beside = beside.now; bytes = bytes.now })) }
-        ensures kept { OnErr result (saved self.new ≡ saved self.old) }
-        ensures told { told self.new ≡ told self.old };
+/// Files whose sources can be let go, of which several threads read some at once, and of which one may be replaced: what a run of the
+/// program asks for.
+pub trait AgentFiles: Files<Src: Drop> {
+    /// The same files, shared by several threads.
+    type Shared: SharedFiles + Sync;
+
+    /// Has the file of this name be exactly these bytes. They are written to a new file beside it and synced, and then that is renamed: so
+    /// whoever opens the file gets all it held before, or all of these bytes. Nothing else that is there is changed. Fails if the system
+    /// refuses any of this, and if what has the name is no regular file.
+    fn replace(&mut self, name: &str, bytes: &[u8]) -> Result<(), Failed>
+        ensures replaced { OnOk result (HasReplaced (Self.saved self.old) (Self.saved self.new)
+            (record { name = name.now; bytes = bytes.now })) }
+        ensures kept { OnErr result (Self.saved self.new ≡ Self.saved self.old) }
+        ensures told { Self.told self.new ≡ Self.told self.old };
 
     /// The same files, for several threads at once.
     fn shared(&self) -> &Self::Shared
-        ensures held { (name : List ℕ) → Self.Shared.held result.now name ≡ (told self.now).held (Some name) }
-        ensures fails { (name : List ℕ) → Self.Shared.fails result.now name → IsTrue ((told self.now).may_fail (Some name)) };
+        ensures held { (name : List ℕ) → Self.Shared.held result.now name ≡ (Self.told self.now).held (Some name) }
+        ensures fails { (name : List ℕ) → Self.Shared.fails result.now name
+            → IsTrue ((Self.told self.now).may_fail (Some name)) };
 }
 
 /// Files that several threads read at once.

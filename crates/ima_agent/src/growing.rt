@@ -15,7 +15,7 @@ ghost use Rattle.ima_agent.specs.parts.Growing.{IsNotJudged, Judges, JudgesWhole
 ghost use Rattle.ima_agent.specs.Measuring.{HasLogFault};
 
 use crate::fault::{NotResumed, RunFault};
-use crate::files::Files;
+use crate::files::AgentFiles;
 use crate::grown_reports::{Judged, judged_output};
 use crate::inputs::{INPUT_LIMIT, loaded, not_read, not_written};
 use crate::output::{Form, Output};
@@ -67,7 +67,7 @@ fn asked_of(asked: &Growing) -> Asked<'_>
 
 /// The report that is asked for, in this form. What is required is read first; then the log, the expected registers and the checkpoint
 /// are loaded, and the list is replayed as it is read, without loading it. The checkpoint of what the report is on is saved last.
-pub(crate) fn grown<F: Files>(
+pub(crate) fn grown<F: AgentFiles>(
     alloc: Global,
     files: &mut F,
     asked: &Growing,
@@ -84,7 +84,7 @@ pub(crate) fn grown<F: Files>(
 }
 
 // The same of what is asked, lent.
-fn grown_as<F: Files>(
+fn grown_as<F: AgentFiles>(
     alloc: Global,
     files: &mut F,
     asked: Asked<'_>,
@@ -106,7 +106,7 @@ fn grown_as<F: Files>(
 }
 
 // The same, where these registers are required.
-fn grown_with<F: Files>(
+fn grown_with<F: AgentFiles>(
     alloc: Global,
     files: &mut F,
     asked: Asked<'_>,
@@ -144,7 +144,7 @@ struct Grounds<S> {
 }
 
 // Loads the log, then loads and reads the expected registers, and then the checkpoint, if one is asked for; and opens the list.
-fn grounds_of<F: Files>(
+fn grounds_of<F: AgentFiles>(
     alloc: Global,
     files: &mut F,
     asked: Asked<'_>,
@@ -173,7 +173,7 @@ fn grounds_of<F: Files>(
 }
 
 // The checkpoint in the file of this name, if there is one.
-fn known_from<F: Files>(
+fn known_from<F: AgentFiles>(
     alloc: Global,
     files: &mut F,
     name: Option<&str>,
@@ -335,7 +335,7 @@ pub(crate) fn report_of(
 }
 
 // Saves the checkpoint under this name, if there is one.
-fn save<F: Files>(
+fn save<F: AgentFiles>(
     alloc: Global,
     files: &mut F,
     name: Option<&str>,
@@ -352,7 +352,7 @@ fn save<F: Files>(
 }
 
 // Saves the checkpoint under this name.
-fn save_as<F: Files>(
+fn save_as<F: AgentFiles>(
     alloc: Global,
     files: &mut F,
     name: &str,
@@ -363,9 +363,7 @@ fn save_as<F: Files>(
     ensures fault { IfErr result (λ fault. IsNotWritten name.now fault ⊎ (fault ≡ runs.Memory)) }
 {
     let text = write_checkpoint(alloc, known)?;
-    let mut beside = String::from_str(alloc, name)?;
-    beside.push_str(".new")?;
-    match files.replace(name, &beside, &text) {
+    match files.replace(name, &text) {
         Ok(()) => Ok(()),
         Err(Failed) => Err(not_written(alloc, name)),
     }

@@ -6,7 +6,7 @@ ghost use Rattle.ima_agent.specs.parts.Loading.{IsLoadFaultOf};
 ghost use Rattle.ima_agent.specs.declared.fault.RunFault.{RunFault};
 
 use crate::fault::RunFault;
-use crate::files::Files;
+use crate::files::AgentFiles;
 use crate::loading::{LoadFault, load};
 use byte_streams::Source;
 use std::alloc::Global;
@@ -19,7 +19,7 @@ const STANDARD_INPUT: &str = "-";
 
 /// All bytes, at most 64 MiB, of the file of this name, or of standard input without a name. A fault names the input; standard
 /// input is `-`.
-pub(crate) fn loaded<F: Files>(
+pub(crate) fn loaded<F: AgentFiles>(
     alloc: Global,
     files: &mut F,
     name: Option<&str>,

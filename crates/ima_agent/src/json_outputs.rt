@@ -17,7 +17,7 @@ mod registers;
 
 use crate::expecting::expected_from;
 use crate::fault::RunFault;
-use crate::files::Files;
+use crate::files::AgentFiles;
 use crate::growing::grown;
 use crate::measuring::measured_as_json;
 use crate::output::{Form, Output};
@@ -37,7 +37,7 @@ use std::sync::Wait;
 use std::thread::Threads;
 
 /// The whole output for this plan, which is prepared whole.
-pub(crate) fn json_for<R: Threads + Wait + Sync, F: Files, P: Progress>(
+pub(crate) fn json_for<R: Threads + Wait + Sync, F: AgentFiles, P: Progress>(
     rt: &R,
     alloc: Global,
     plan: &JsonPlan,
@@ -75,7 +75,7 @@ pub(crate) fn json_for<R: Threads + Wait + Sync, F: Files, P: Progress>(
 }
 
 // The lines that this plan shows, with status 0.
-fn lines_for<R: Threads + Wait + Sync, F: Files, P: Progress>(
+fn lines_for<R: Threads + Wait + Sync, F: AgentFiles, P: Progress>(
     rt: &R,
     alloc: Global,
     plan: &JsonPlan,

@@ -51,7 +51,7 @@ pub use escaping::escaped;
 pub use expecting::expected_on;
 pub use explaining::{Failure, explanation};
 pub use fault::{NotResumed, RunFault};
-pub use files::{Files, SharedFiles};
+pub use files::{AgentFiles, Files, SharedFiles};
 pub use growing_on::{GrowingOn, Grown, grown_on};
 pub use hashing::hash_from;
 pub use json_outputs::{

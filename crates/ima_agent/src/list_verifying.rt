@@ -8,7 +8,7 @@ ghost use Rattle.ima_agent.specs.Requiring.{IsFaultWith};
 ghost use Rattle.ima_agent.specs.parts.Replaying.{IsNoReplayFrom};
 
 use crate::fault::RunFault;
-use crate::files::Files;
+use crate::files::AgentFiles;
 use crate::inputs::{INPUT_LIMIT, loaded, not_read};
 use crate::output::Output;
 use crate::requiring::requirement_in;
@@ -23,7 +23,7 @@ use std::alloc::{AllocError, Global};
 /// The report on the list and the expected registers in the files of these names; where the text `required` is given, it spells which
 /// registers are required. This text is read first; then the expected registers are loaded and read, and the list is replayed as it
 /// is read, without loading it.
-pub(crate) fn list_verified<F: Files>(
+pub(crate) fn list_verified<F: AgentFiles>(
     alloc: Global,
     files: &mut F,
     list: &str,
@@ -43,7 +43,7 @@ pub(crate) fn list_verified<F: Files>(
 }
 
 // The report on these files.
-fn unrequired<F: Files>(
+fn unrequired<F: AgentFiles>(
     alloc: Global,
     files: &mut F,
     list: &str,
@@ -58,7 +58,7 @@ fn unrequired<F: Files>(
 }
 
 // The same, where this text spells which registers are required.
-fn with_required<F: Files>(
+fn with_required<F: AgentFiles>(
     alloc: Global,
     files: &mut F,
     list: &str,
@@ -107,7 +107,7 @@ pub fn required_list_report_on(
 }
 
 /// The report on these files, before it is written.
-pub(crate) fn list_judged<F: Files>(
+pub(crate) fn list_judged<F: AgentFiles>(
     alloc: Global,
     files: &mut F,
     list: &str,

@@ -12,7 +12,7 @@ ghost use Rattle.ima_agent.specs.parts.Verifying.{IsNoVerdictFrom};
 
 use crate::evidence::{Evidence, opened};
 use crate::fault::RunFault;
-use crate::files::Files;
+use crate::files::AgentFiles;
 use crate::inputs::INPUT_LIMIT;
 use crate::output::Output;
 use crate::requiring::requirement_in;
@@ -26,7 +26,7 @@ use std::alloc::{AllocError, Global};
 
 /// The places of the expected registers in the log and the list, in the files of these names. The list is searched as it is read,
 /// without loading it.
-pub(crate) fn located<F: Files>(
+pub(crate) fn located<F: AgentFiles>(
     alloc: Global,
     files: &mut F,
     log: &str,
@@ -42,7 +42,7 @@ pub(crate) fn located<F: Files>(
 }
 
 /// The same, where the text `required` spells which registers are required. It is read first.
-pub(crate) fn located_with<F: Files>(
+pub(crate) fn located_with<F: AgentFiles>(
     alloc: Global,
     files: &mut F,
     log: &str,
@@ -96,7 +96,7 @@ pub fn required_places_on(
 }
 
 /// The places of the expected registers in the files of these names, before they are written.
-pub(crate) fn found<F: Files>(
+pub(crate) fn found<F: AgentFiles>(
     alloc: Global,
     files: &mut F,
     log: &str,

@@ -13,7 +13,7 @@ ghost use Rattle.ima_agent.specs.JsonPlans.{plain_of};
 ghost use Rattle.command_line.specs.Plans.{IsWithinJsonRanges, IsWithinRanges};
 
 use crate::fault::RunFault;
-use crate::files::{Files, SharedFiles};
+use crate::files::{AgentFiles, SharedFiles};
 use crate::inputs::loaded;
 use crate::json_outputs::entry_lines;
 use crate::listing::{lent, with_names_in};
@@ -139,7 +139,7 @@ impl<'a> Measuring<'a> {
 }
 
 /// Measures the files of the plan, and returns what is printed.
-pub(crate) fn measured_for<R: Threads + Wait + Sync, F: Files, P: Progress>(
+pub(crate) fn measured_for<R: Threads + Wait + Sync, F: AgentFiles, P: Progress>(
     rt: &R,
     alloc: Global,
     files: &mut F,
@@ -162,7 +162,7 @@ pub(crate) fn measured_for<R: Threads + Wait + Sync, F: Files, P: Progress>(
 }
 
 /// The same of a plan with `--json`.
-pub(crate) fn measured_as_json<R: Threads + Wait + Sync, F: Files, P: Progress>(
+pub(crate) fn measured_as_json<R: Threads + Wait + Sync, F: AgentFiles, P: Progress>(
     rt: &R,
     alloc: Global,
     files: &mut F,
@@ -187,7 +187,7 @@ pub(crate) fn measured_as_json<R: Threads + Wait + Sync, F: Files, P: Progress>(
 // Measures the files into the registers of the log, and returns what to print. The log is loaded and read first; then each
 // worker hashes one file after another, as it reads it. Fails with the fault of the first file, in their order, that cannot be
 // read, else of the first that the book refuses.
-fn measured<R: Threads + Wait + Sync, F: Files, P: Progress>(
+fn measured<R: Threads + Wait + Sync, F: AgentFiles, P: Progress>(
     rt: &R,
     alloc: Global,
     files: &mut F,
@@ -220,7 +220,7 @@ fn measured<R: Threads + Wait + Sync, F: Files, P: Progress>(
 
 /// The same of these files, and then of those named by the text of the input of this name, which is loaded and read after the
 /// log.
-fn measured_listed<R: Threads + Wait + Sync, F: Files, P: Progress>(
+fn measured_listed<R: Threads + Wait + Sync, F: AgentFiles, P: Progress>(
     rt: &R,
     alloc: Global,
     files: &mut F,

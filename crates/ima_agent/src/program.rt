@@ -13,7 +13,7 @@ ghost use Rattle.ima_agent.specs.parts.Program.{IsStreamed, IsWhole, IsNoHelp, S
 use crate::expecting::expected_from;
 use crate::explaining::Failure;
 use crate::fault::RunFault;
-use crate::files::Files;
+use crate::files::AgentFiles;
 use crate::growing::grown;
 use crate::json_outputs::json_for;
 use crate::list_verifying::list_verified;
@@ -39,7 +39,7 @@ use std::thread::Threads;
 /// Runs the program as [`run_with_progress`] does, and returns the process's exit code. If `words` is an error, the program fails
 /// as it does out of memory: with the line `failed: memory` and status 3.
 /// `main` returns it, so that the exit status has a contract.
-pub fn exit_code<R: Threads + Wait + Sync, F: Files, S: Sink, P: Progress>(
+pub fn exit_code<R: Threads + Wait + Sync, F: AgentFiles, S: Sink, P: Progress>(
     rt: &R,
     alloc: Global,
     words: io::Result<Vec<String>>,
@@ -84,7 +84,7 @@ fn exits_with(status: u8) -> ExitCode
 /// memory ran out, outcomes do not account for the book, or a device failed. After the sink fails, nothing more is written.
 ///
 /// A file is replaced only by `verify --save`: by the checkpoint of what the report is on, before the report is written. With a fault none is.
-pub fn run<R: Threads + Wait + Sync, F: Files, S: Sink>(
+pub fn run<R: Threads + Wait + Sync, F: AgentFiles, S: Sink>(
     rt: &R,
     alloc: Global,
     words: &[String],
@@ -97,7 +97,7 @@ pub fn run<R: Threads + Wait + Sync, F: Files, S: Sink>(
 }
 
 /// As [`run`]; also reports to `progress` how many files of a measurement are done, and why the run failed. The output is the same.
-pub fn run_with_progress<R: Threads + Wait + Sync, F: Files, S: Sink, P: Progress>(
+pub fn run_with_progress<R: Threads + Wait + Sync, F: AgentFiles, S: Sink, P: Progress>(
     rt: &R,
     alloc: Global,
     words: &[String],
@@ -118,7 +118,7 @@ pub fn run_with_progress<R: Threads + Wait + Sync, F: Files, S: Sink, P: Progres
 }
 
 // Does what this plan, that of the arguments, requests, and returns the exit status.
-fn run_plan<R: Threads + Wait + Sync, F: Files, S: Sink, P: Progress>(
+fn run_plan<R: Threads + Wait + Sync, F: AgentFiles, S: Sink, P: Progress>(
     rt: &R,
     alloc: Global,
     plan: Plan,
@@ -140,7 +140,7 @@ fn run_plan<R: Threads + Wait + Sync, F: Files, S: Sink, P: Progress>(
 }
 
 // The same of a plan whose output is written while its input is read.
-fn run_streamed<F: Files, S: Sink, P: Progress>(
+fn run_streamed<F: AgentFiles, S: Sink, P: Progress>(
     alloc: Global,
     plan: &Plan,
     words: &[String],
@@ -166,7 +166,7 @@ fn run_streamed<F: Files, S: Sink, P: Progress>(
 }
 
 // The same of a plan whose output is prepared whole.
-fn run_whole<R: Threads + Wait + Sync, F: Files, S: Sink, P: Progress>(
+fn run_whole<R: Threads + Wait + Sync, F: AgentFiles, S: Sink, P: Progress>(
     rt: &R,
     alloc: Global,
     plan: Plan,
@@ -261,7 +261,7 @@ fn status_after(sent: Result<(), Failed>, status: u8) -> u8
 }
 
 // The whole output for this plan.
-fn output_for<R: Threads + Wait + Sync, F: Files, P: Progress>(
+fn output_for<R: Threads + Wait + Sync, F: AgentFiles, P: Progress>(
     rt: &R,
     alloc: Global,
     plan: Plan,
@@ -296,7 +296,7 @@ fn help_of(plan: Plan) -> Result<String, Plan>
 }
 
 // The whole output for this plan, which is not to show the help.
-fn shown_for<R: Threads + Wait + Sync, F: Files, P: Progress>(
+fn shown_for<R: Threads + Wait + Sync, F: AgentFiles, P: Progress>(
     rt: &R,
     alloc: Global,
     plan: &Plan,
@@ -346,7 +346,7 @@ fn shown_for<R: Threads + Wait + Sync, F: Files, P: Progress>(
 }
 
 // The text that this plan shows, with status 0.
-fn text_for<R: Threads + Wait + Sync, F: Files, P: Progress>(
+fn text_for<R: Threads + Wait + Sync, F: AgentFiles, P: Progress>(
     rt: &R,
     alloc: Global,
     plan: &Plan,

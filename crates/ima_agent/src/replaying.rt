@@ -8,7 +8,7 @@ ghost use Rattle.ima_agent.specs.declared.output.Form.TheVariants.{Json};
 ghost use Rattle.ima_agent.specs.parts.Replaying.{AreListRegisters, IsNoReplayFrom, ShowsReplayFrom};
 
 use crate::fault::RunFault;
-use crate::files::Files;
+use crate::files::AgentFiles;
 use crate::inputs::{INPUT_LIMIT, not_read};
 use crate::output::{Form, Output};
 use crate::verifying::{first_cause, verdict_fault};
@@ -20,7 +20,7 @@ use std::alloc::{AllocError, Global};
 
 /// The registers, in this form, that differ from their reset values after the list in the file of this name, which is replayed as it
 /// is read, without loading it.
-pub(crate) fn replayed<F: Files>(
+pub(crate) fn replayed<F: AgentFiles>(
     alloc: Global,
     files: &mut F,
     list: &str,

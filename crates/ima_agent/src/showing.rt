@@ -12,7 +12,7 @@ ghost use Rattle.ima_agent.specs.Streaming.{Streams};
 ghost use Rattle.ima_agent.specs.parts.Streaming.{ShowsPlainEventsIn, ShowsPlainEventsOf};
 
 use crate::fault::RunFault;
-use crate::files::Files;
+use crate::files::AgentFiles;
 use crate::hexadecimal::{HexFault, decode_hexadecimal};
 use crate::inputs::loaded;
 use crate::streaming::StreamFault;
@@ -26,7 +26,10 @@ use pcr_banks::Banks;
 use std::alloc::{AllocError, Global};
 
 /// The lines of the registers that differ from their reset values after the log in hexadecimal on standard input.
-pub(crate) fn shown_registers<F: Files>(alloc: Global, files: &mut F) -> Result<Vec<u8>, RunFault>
+pub(crate) fn shown_registers<F: AgentFiles>(
+    alloc: Global,
+    files: &mut F,
+) -> Result<Vec<u8>, RunFault>
     ensures shown { IfOk result (λ shown. OfInput (F.told files.old) None (λ text. ShowsRegisters text shown.items)) }
     ensures fault { IfErr result (λ fault. IsInputFault (F.told files.old) None fault
         ⊎ OfInput (F.told files.old) None (λ text. IsRefusedFor text fault)) }
@@ -37,7 +40,7 @@ pub(crate) fn shown_registers<F: Files>(alloc: Global, files: &mut F) -> Result<
 }
 
 /// The lines of the registers that differ from their reset values after the log in the file of this name.
-pub(crate) fn registers_after<F: Files>(
+pub(crate) fn registers_after<F: AgentFiles>(
     alloc: Global,
     files: &mut F,
     log: &str,
@@ -52,7 +55,7 @@ pub(crate) fn registers_after<F: Files>(
 }
 
 /// Writes the lines of the header and the events of the log in the file of this name, which is looked through for its fault before.
-pub(crate) fn events_written<F: Files, S: Sink>(
+pub(crate) fn events_written<F: AgentFiles, S: Sink>(
     alloc: Global,
     files: &mut F,
     log: &str,
@@ -144,7 +147,7 @@ pub(crate) fn registers_of(log: &[u8]) -> Result<LogRegisters, RunFault>
 }
 
 /// The lines of the entries of the list in the file of this name.
-pub(crate) fn shown_list<F: Files>(
+pub(crate) fn shown_list<F: AgentFiles>(
     alloc: Global,
     files: &mut F,
     list: &str,

@@ -8,7 +8,7 @@ ghost use Rattle.ima_agent.specs.Streaming.{Streams};
 ghost use Rattle.ima_agent.specs.parts.Program.{IsStreamed, IsStreamedJson, IsWhole};
 
 use crate::fault::RunFault;
-use crate::files::Files;
+use crate::files::AgentFiles;
 use crate::json_outputs::{entries_sent, events_sent};
 use crate::showing::events_written;
 use byte_streams::{Failed, Sink};
@@ -36,7 +36,7 @@ pub(crate) fn is_streamed(plan: &Plan) -> bool
 }
 
 /// Writes the output of the plan while its input is read; at a fault of the run what comes before the fault's line.
-pub(crate) fn streamed_for<F: Files, S: Sink>(
+pub(crate) fn streamed_for<F: AgentFiles, S: Sink>(
     alloc: Global,
     plan: &Plan,
     files: &mut F,
@@ -54,7 +54,7 @@ pub(crate) fn streamed_for<F: Files, S: Sink>(
 }
 
 // The same of a plan with `--json`.
-fn streamed_json<F: Files, S: Sink>(
+fn streamed_json<F: AgentFiles, S: Sink>(
     alloc: Global,
     plan: &JsonPlan,
     files: &mut F,

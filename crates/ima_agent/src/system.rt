@@ -6,16 +6,28 @@ ghost use Rattle.byte_streams.specs.Streams.{failures_after};
 ghost use Rattle.ima_agent.specs.Loading.{GivesAll, HasFailed, untold};
 ghost use Rattle.ima_agent.specs.System.{reader_of, writer_of, reads_failed, writes_failed, read_source_state, write_sink_state, runtime_of, is_file, remaining_bytes};
 
-use crate::files::{Files, SharedFiles};
+use crate::files::{AgentFiles, Files, SharedFiles};
 use crate::hashing::hash_from;
 use crate::loading::LoadFault;
+use arrayvec::ArrayString;
 use byte_streams::{Failed, Sink, Source};
 use pcr_banks::{Alg, Digest};
 use std::alloc::Global;
+use std::fmt::Write as _;
 use std::fs::{File, OpenFile};
 use std::io::{Read, Write};
+use std::os::unix::fs::{OpenOptionsExt, PermissionsExt};
 use std::rt::Files as FileSystem;
 use std::{fs, io};
+
+// How many names there are for a file beside one that is replaced.
+const MOST_BESIDE: u32 = 100;
+
+// The size of the longest path that a system takes, in bytes (Linux, `PATH_MAX`).
+const MOST_PATH: usize = 4096;
+
+// The mode of a file that its user alone reads and writes.
+const PRIVATE: u32 = 0o600;
 
 /// A source over a `std` reader.
 ///
@@ -141,8 +153,6 @@ impl<'a, R: FileSystem + io::Input> SystemFiles<'a, R> {
 impl<R: FileSystem + io::Input + Sync> Files for SystemFiles<'_, R> {
     type Src = ReadSource<Input<R::File, R::Reader>>;
 
-    type Shared = Self;
-
     // Nothing is told of the system's files.
     ghost told = { λ _. untold };
 
@@ -165,10 +175,14 @@ impl<R: FileSystem + io::Input + Sync> Files for SystemFiles<'_, R> {
         };
         Ok(ReadSource::new(input))
     }
+}
 
-    /// Writes and syncs the file beside it, and renames that.
-    fn replace(&mut self, name: &str, beside: &str, bytes: &[u8]) -> Result<(), Failed> {
-        match replaced(self.runtime, name, beside, bytes) {
+impl<R: FileSystem + io::Input + Sync> AgentFiles for SystemFiles<'_, R> {
+    type Shared = Self;
+
+    /// Writes and syncs a new file beside it, and renames that.
+    fn replace(&mut self, name: &str, bytes: &[u8]) -> Result<(), Failed> {
+        match replaced(self.runtime, name, bytes) {
             Ok(()) => Ok(()),
             Err(_) => Err(Failed),
         }
@@ -182,14 +196,63 @@ impl<R: FileSystem + io::Input + Sync> Files for SystemFiles<'_, R> {
     }
 }
 
-// Has the file of this name be these bytes, by way of the file beside it.
-fn replaced<R: FileSystem>(rt: &R, name: &str, beside: &str, bytes: &[u8]) -> io::Result<()> {
-    // (what a run that was stopped has left; else there is nothing to remove)
-    let _ = fs::remove_file(rt, beside);
-    let mut file = File::create_new(rt, beside)?;
+// Has the file of this name be these bytes, by way of a new file beside it. That is removed if this fails.
+fn replaced<R: FileSystem>(rt: &R, name: &str, bytes: &[u8]) -> io::Result<()> {
+    let mode = mode_in_place_of(rt, name)?;
+    let (mut file, beside) = created_beside(rt, name, mode)?;
+    let renamed = match written(&mut file, bytes) {
+        Ok(()) => fs::rename(rt, beside.as_str(), name),
+        Err(fault) => Err(fault),
+    };
+    if renamed.is_err() {
+        let _ = fs::remove_file(rt, beside.as_str());
+    }
+    renamed
+}
+
+// The mode of the file that takes the place of what has this name: its user alone reads and writes it, if that one allows it. Fails if that
+// is no regular file.
+fn mode_in_place_of<R: FileSystem>(rt: &R, name: &str) -> io::Result<u32> {
+    match fs::symlink_metadata(rt, name) {
+        Ok(present) if present.is_file() => Ok(PRIVATE & present.permissions().mode()),
+        Ok(_) => Err(io::Error::from(io::ErrorKind::InvalidInput)),
+        Err(fault) if fault.kind() == io::ErrorKind::NotFound => Ok(PRIVATE),
+        Err(fault) => Err(fault),
+    }
+}
+
+// Creates a file of this mode beside that of the name, under the first of the names for it that nothing has. Returns it with its name.
+fn created_beside<R: FileSystem>(
+    rt: &R,
+    name: &str,
+    mode: u32,
+) -> io::Result<(R::File, ArrayString<MOST_PATH>)> {
+    let mut options = File::options();
+    options.write(true).create_new(true).mode(mode);
+    for number in 0..MOST_BESIDE {
+        let beside = name_beside(name, number)?;
+        match options.open(rt, beside.as_str()) {
+            Ok(file) => return Ok((file, beside)),
+            Err(fault) if fault.kind() == io::ErrorKind::AlreadyExists => {}
+            Err(fault) => return Err(fault),
+        }
+    }
+    Err(io::Error::from(io::ErrorKind::AlreadyExists))
+}
+
+// The name of a file beside that of the name, for this number.
+fn name_beside(name: &str, number: u32) -> io::Result<ArrayString<MOST_PATH>> {
+    let mut beside = ArrayString::new();
+    match write!(beside, "{name}.{number}.new") {
+        Ok(()) => Ok(beside),
+        Err(_) => Err(io::Error::from(io::ErrorKind::InvalidFilename)),
+    }
+}
+
+// Writes the bytes to the file, and syncs it.
+fn written<F: Write + OpenFile>(file: &mut F, bytes: &[u8]) -> io::Result<()> {
     file.write_all(bytes)?;
-    file.sync_all()?;
-    fs::rename(rt, beside, name)
+    file.sync_all()
 }
 
 impl<R: FileSystem> SharedFiles for SystemFiles<'_, R> {

@@ -12,7 +12,7 @@ ghost use Rattle.ima_agent.specs.Verifying.{HasVerdict, IsNoReportOn, IsReportFa
 
 use crate::evidence::{Evidence, opened};
 use crate::fault::RunFault;
-use crate::files::Files;
+use crate::files::AgentFiles;
 use crate::inputs::{INPUT_LIMIT, not_read, too_long};
 use crate::output::Output;
 use crate::requiring::requirement_in;
@@ -25,7 +25,7 @@ use std::alloc::{AllocError, Global};
 
 /// The report on the log, the list and the expected registers in the files of these names. The list is verified as it is read, without
 /// loading it.
-pub(crate) fn verified<F: Files>(
+pub(crate) fn verified<F: AgentFiles>(
     alloc: Global,
     files: &mut F,
     log: &str,
@@ -41,7 +41,7 @@ pub(crate) fn verified<F: Files>(
 }
 
 /// The same, where the text `required` spells which registers are required. It is read first.
-pub(crate) fn verified_with<F: Files>(
+pub(crate) fn verified_with<F: AgentFiles>(
     alloc: Global,
     files: &mut F,
     log: &str,
@@ -98,7 +98,7 @@ pub fn required_report_on(
 }
 
 /// The report on the files of these names, before it is written.
-pub(crate) fn judged<F: Files>(
+pub(crate) fn judged<F: AgentFiles>(
     alloc: Global,
     files: &mut F,
     log: &str,

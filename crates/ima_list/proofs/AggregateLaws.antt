@@ -85,7 +85,7 @@ joined_next old new banks alg register digest before e update =
       text = before.text ++ bytes_of digest;
       joined = joined_more (value_at banks alg) register before.text (bytes_of digest) before.joined value;
       taken = update alg before.text before.taken;
-      active = λ lt. active_bank alg (bank_of banks alg) register (bytes_of digest) value;
+      active = λ lt. active_bank (bank_of banks alg) register (bytes_of digest) value;
     }
 
 -- Where a register has no value, there is no aggregate.

@@ -4,6 +4,7 @@ pub mod PieceLaws
 pub mod KindLaws
 pub mod RowLaws
 pub mod TemplateLaws
+pub mod PartLaws
 pub mod ReplayLaws
 pub mod FieldsLaws
 pub mod AggregateLaws

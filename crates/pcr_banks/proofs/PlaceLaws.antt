@@ -6,7 +6,7 @@ use Rattle.std.proofs.lemmas.Bool.{cases_Bool, eqb-true, eq-eqb, both_ways}
 use Rattle.std.proofs.lemmas.Option.{slice_get-get_or, slice_get_past}
 use Rattle.std.proofs.lemmas.List.{get_or-set_same, get_or-set_other, length-set}
 use Rattle.pcr_banks.specs.declared.alg.Alg.{Alg}
-use Rattle.pcr_banks.specs.Registers.{register_count, ExtendsBank, extended_value, extended_by, in_bank, value_in}
+use Rattle.pcr_banks.specs.Registers.{register_count, ExtendsBank, extended_value, extended_by, in_bank}
 
 -- An item that was set is found.
 set_here : (xs : List (List ℕ)) (i : ℕ) (y : List ℕ) → i < length xs → slice_get (set xs i y) i ≡ Some y
@@ -33,40 +33,33 @@ at_set xs i r y lt =
     ]
 
 -- One register of a bank changed by this, the others as they were.
-abbrev Changes : Alg → (List ℕ → List ℕ) → List (List ℕ) → List (List ℕ) → ℕ → ℕ → Type 0
-Changes alg change registers after index r =
-    in_bank alg (Some after) r
-    ≡ cond (eqb r index) (option_map change (in_bank alg (Some registers) r)) (in_bank alg (Some registers) r)
+abbrev Changes : (List ℕ → List ℕ) → List (List ℕ) → List (List ℕ) → ℕ → ℕ → Type 0
+Changes change registers after index r =
+    in_bank (Some after) r
+    ≡ cond (eqb r index) (option_map change (in_bank (Some registers) r)) (in_bank (Some registers) r)
 
-changed : (alg : Alg) (change : List ℕ → List ℕ) (below here : Bool) (old new : List ℕ) (before : Option (List ℕ))
-    → (here ≡ true → before ≡ Some old) → value_in alg new ≡ change (value_in alg old)
-    → cond below (option_map (value_in alg) (cond here (Some new) before)) None
-    ≡ cond here (option_map change (cond below (option_map (value_in alg) before) None)) (cond below (option_map (value_in alg) before) None)
-changed alg change false true old new before is new_is = refl
-changed alg change false false old new before is new_is = refl
-changed alg change true false old new before is new_is = refl
-changed alg change true true old new before is new_is = rw (is refl) (ap (λ (v : List ℕ). Some v) new_is)
+changed : (change : List ℕ → List ℕ) (below here : Bool) (old new : List ℕ) (before : Option (List ℕ))
+    → (here ≡ true → before ≡ Some old) → new ≡ change old
+    → cond below (cond here (Some new) before) None ≡ cond here (option_map change (cond below before None)) (cond below before None)
+changed change false true old new before is new_is = refl
+changed change false false old new before is new_is = refl
+changed change true false old new before is new_is = refl
+changed change true true old new before is new_is = rw (is refl) (ap (λ (v : List ℕ). Some v) new_is)
 
-changes_one : (alg : Alg) (change : List ℕ → List ℕ) (registers : List (List ℕ)) (index : ℕ) (old new : List ℕ) → index < length registers
-    → slice_get registers index ≡ Some old → value_in alg new ≡ change (value_in alg old)
-    → (r : ℕ) → Changes alg change registers (set registers index new) index r
-changes_one alg change registers index old new lt is new_is r =
-    rw (at_set registers index r new lt) (changed alg change (ltb r register_count) (eqb r index) old new (slice_get registers r)
+-- A register set to what a change makes of its value.
+changes_one : (change : List ℕ → List ℕ) (registers : List (List ℕ)) (index : ℕ) (old new : List ℕ) → index < length registers
+    → slice_get registers index ≡ Some old → new ≡ change old → (r : ℕ) → Changes change registers (set registers index new) index r
+changes_one change registers index old new lt is new_is r =
+    rw (at_set registers index r new lt) (changed change (ltb r register_count) (eqb r index) old new (slice_get registers r)
     (λ here. let e : r ≡ index = eqb-true r index here in rw e is) new_is)
-
--- A register set to a value.
-pub set_one : (alg : Alg) (registers : List (List ℕ)) (index : ℕ) (old new value : List ℕ) → index < length registers
-    → slice_get registers index ≡ Some old → value_in alg new ≡ value
-    → (r : ℕ) → Changes alg (λ _. value) registers (set registers index new) index r
-set_one alg registers index old new value lt is new_is = changes_one alg (λ _. value) registers index old new lt is new_is
 
 -- A register extended by a digest, the others as they were.
 pub extends_one : (alg : Alg) (registers : List (List ℕ)) (index : ℕ) (old new digest : List ℕ) → index < length registers
-    → slice_get registers index ≡ Some old → value_in alg new ≡ extended_value alg (value_in alg old) digest
+    → slice_get registers index ≡ Some old → new ≡ extended_value alg old digest
     → ExtendsBank alg (Some registers) (Some (set registers index new)) index (Some digest)
 extends_one alg registers index old new digest lt is extended = record {
   active = refl;
-  values = changes_one alg (extended_by alg (Some digest)) registers index old new lt is extended;
+  values = changes_one (extended_by alg (Some digest)) registers index old new lt is extended;
 }
 
 kept : (b : Bool) (value : Option (List ℕ)) → value ≡ cond b (option_map (λ v. v) value) value
@@ -76,4 +69,4 @@ kept false value = refl
 
 -- A bank without a digest stays as it was.
 pub extends_none : (alg : Alg) (bank : Option (List (List ℕ))) (index : ℕ) → ExtendsBank alg bank bank index None
-extends_none alg bank index = record { active = refl; values = λ r. kept (eqb r index) (in_bank alg bank r) }
+extends_none alg bank index = record { active = refl; values = λ r. kept (eqb r index) (in_bank bank r) }

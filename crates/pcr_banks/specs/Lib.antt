@@ -1,6 +1,5 @@
 pub mod Hashing
 pub mod Digests
-pub mod PerAlgs
 pub mod Sets
 pub mod Registers
 pub mod Hashers

@@ -1,11 +1,11 @@
 -- The registers: their reset values, and what an extend does to them.
-use Rattle.std.specs.Prelude.{◌≡◌, ℕ, ◌-◌, ◌&&◌, Bool, if◌then◌else◌, ◌==◌, nat_lt, nat_le, List, [], ◌∷◌, ◌++◌, replicate, take, slice_get, fold, Option, Some, None, is_some, option_map, option_and_then}
+use Rattle.std.specs.Prelude.{◌≡◌, ℕ, ◌-◌, ◌&&◌, Bool, if◌then◌else◌, ◌==◌, nat_lt, nat_le, List, [], ◌∷◌, ◌++◌, replicate, slice_get, fold, Option, Some, None, is_some, option_map, option_and_then}
 use Rattle.pcr_banks.specs.declared.alg.Alg.{Alg}
+use Rattle.pcr_banks.specs.declared.alg.Alg.TheVariants.{Sha1, Sha256, Sha384, Sha512}
 use Rattle.pcr_banks.specs.declared.banks.Banks.{Banks}
 use Rattle.pcr_banks.specs.declared.sets.AlgSet.{AlgSet}
 use Rattle.pcr_banks.specs.declared.sets.PerBank.{PerBank}
 use Rattle.pcr_banks.specs.Hashing.{hash_of, size_of}
-use Rattle.pcr_banks.specs.PerAlgs.{at}
 use Rattle.pcr_banks.specs.Sets.{has_alg, digest_in}
 
 -- How many registers a bank has, numbered from 0 (PC Client Platform TPM Profile, 'PCR Attributes').
@@ -30,27 +30,25 @@ reset_value alg register locality = reset_bytes (size_of alg) register locality
 abbrev pub extended_value : Alg → List ℕ → List ℕ → List ℕ
 extended_value alg old digest = hash_of alg (old ++ digest)
 
--- The registers of the algorithm's bank, where it is active. Each is stored in as many bytes as the longest value has, and its
--- value is at the front.
+-- The registers of the algorithm's bank, where it is active.
 abbrev pub bank_of : Banks → Alg → Option (List (List ℕ))
-bank_of banks alg = at banks.banks alg
+bank_of banks Sha1 = banks.sha1
+bank_of banks Sha256 = banks.sha256
+bank_of banks Sha384 = banks.sha384
+bank_of banks Sha512 = banks.sha512
 
 abbrev pub is_active : Banks → Alg → Bool
 is_active banks alg = is_some (bank_of banks alg)
 
--- The value at the front of the stored bytes.
-abbrev pub value_in : Alg → List ℕ → List ℕ
-value_in alg bytes = take (size_of alg) bytes
-
 -- The value of a bank's register, where both exist.
-abbrev pub in_bank : Alg → Option (List (List ℕ)) → ℕ → Option (List ℕ)
-in_bank alg bank register =
-    if nat_lt register register_count then option_and_then (λ registers. option_map (value_in alg) (slice_get registers register)) bank
+abbrev pub in_bank : Option (List (List ℕ)) → ℕ → Option (List ℕ)
+in_bank bank register =
+    if nat_lt register register_count then option_and_then (λ registers. slice_get registers register) bank
     else None
 
 -- The value of a register, where its bank is active and the register exists.
 abbrev pub value_at : Banks → Alg → ℕ → Option (List ℕ)
-value_at banks alg register = in_bank alg (bank_of banks alg) register
+value_at banks alg register = in_bank (bank_of banks alg) register
 
 -- The active banks are those of these algorithms, and each register has its reset value after a start from the locality.
 pub record IsReset (algs : AlgSet) (locality : ℕ) (banks : Banks) : Type 0 where
@@ -66,8 +64,8 @@ extended_by alg (Some digest) old = extended_value alg old digest
 -- One bank before and after an extend of a register by the digest: no other register changes.
 pub record ExtendsBank (alg : Alg) (old new : Option (List (List ℕ))) (register : ℕ) (digest : Option (List ℕ)) : Type 0 where
   pub active : is_some new ≡ is_some old
-  pub values : (r : ℕ) → in_bank alg new r
-      ≡ (if r == register then option_map (extended_by alg digest) (in_bank alg old r) else in_bank alg old r)
+  pub values : (r : ℕ) → in_bank new r
+      ≡ (if r == register then option_map (extended_by alg digest) (in_bank old r) else in_bank old r)
 
 -- All banks before and after an extend of a register, each by its digest among these.
 pub record Extends (old new : Banks) (register : ℕ) (digests : PerBank) : Type 0 where

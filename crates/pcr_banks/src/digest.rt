@@ -8,7 +8,7 @@ use crate::Alg;
 use hex::FromHex;
 
 /// The size of the largest digest in bytes, that of SHA-512 (FIPS 180-4).
-pub(crate) const MOST_BYTES: usize = 64;
+const MOST_BYTES: usize = 64;
 
 /// The largest number of hexadecimal digits in a digest, and the size of the buffer for [`Digest::hex_into`].
 pub const MOST_DIGITS: usize = 2 * MOST_BYTES;

@@ -1,6 +1,6 @@
 //! Laws: consequences of the definitions, each the contract of a function that does nothing, or only reads.
 
-ghost use Rattle.std.specs.Prelude.{◌≡◌, ◌↔◌, ◌⊎◌, ℕ, ◌<◌, Bool, List, length, count_by, IsTrue, IsSome, IfSome};
+ghost use Rattle.std.specs.Prelude.{◌≡◌, ◌↔◌, ◌⊎◌, ℕ, ◌<◌, Bool, List, length, count_by, Some, is_some, IsTrue, IsSome, IfSome};
 ghost use Rattle.std.specs.List.{list_all, list_any};
 ghost use Rattle.std.specs.Option.{ForSome};
 ghost use Rattle.hex.specs.Hex.{IsBytes};
@@ -11,9 +11,10 @@ ghost use Rattle.pcr_banks.specs.declared.sets.PerBank.{PerBank};
 ghost use Rattle.pcr_banks.specs.Hashing.{all_algs, same_alg, size_of};
 ghost use Rattle.pcr_banks.specs.Digests.{alg_of, bytes_of};
 ghost use Rattle.pcr_banks.specs.Sets.{has_alg, digest_for};
-ghost use Rattle.pcr_banks.specs.Registers.{extended_by_all, is_active, register_count, value_at};
+ghost use Rattle.pcr_banks.specs.Registers.{extended_by_all, in_bank, is_active, register_count, value_at};
 ghost use Rattle.pcr_banks.specs.Binding.{ExtendsBreakHash};
 
+use crate::banks::Bank;
 use crate::{Alg, Banks, Digest, REGISTERS};
 
 /// [`Alg::ALL`](crate::Alg::ALL) is `all_algs`, which lists each algorithm once. A test passes for every algorithm if and only
@@ -38,6 +39,32 @@ pub fn sets_are_what_they_have()
         → ((a : Alg) → digest_for first a ≡ digest_for second a) → first ≡ second }
 {}
 
+/// Two [`Banks`](crate::Banks) with the same active algorithms and the same value in each register are equal.
+pub fn banks_are_what_they_hold(first: &Banks, second: &Banks)
+    ensures { ((a : Alg) → is_active first.now a ≡ is_active second.now a)
+        → ((a : Alg) (r : ℕ) → value_at first.now a r ≡ value_at second.now a r) → first.now ≡ second.now }
+{
+    bank_is_what_it_holds(&first.sha1, &second.sha1);
+    bank_is_what_it_holds(&first.sha256, &second.sha256);
+    bank_is_what_it_holds(&first.sha384, &second.sha384);
+    bank_is_what_it_holds(&first.sha512, &second.sha512);
+}
+
+// As `banks_are_what_they_hold`, for one bank.
+fn bank_is_what_it_holds<const N: usize>(first: &Option<Bank<N>>, second: &Option<Bank<N>>)
+    ensures { is_some first.now ≡ is_some second.now → ((r : ℕ) → in_bank first.now r ≡ in_bank second.now r)
+        → first.now ≡ second.now }
+{
+    if let (Some(first), Some(second)) = (first, second) {
+        registers_are_what_they_hold(first, second);
+    }
+}
+
+// As `banks_are_what_they_hold`, for the registers of one bank.
+fn registers_are_what_they_hold<const N: usize>(first: &Bank<N>, second: &Bank<N>)
+    ensures { ((r : ℕ) → in_bank (Some first.now) r ≡ in_bank (Some second.now) r) → first.now ≡ second.now }
+{}
+
 /// If a register has a value, the value is as long as a hash of its bank's algorithm.
 pub fn register_has_the_size_of_a_hash(banks: &Banks, alg: Alg, register: u32)
     ensures { ForSome (value_at banks.now alg register) (λ value. length value ≡ size_of alg) }
@@ -60,7 +87,7 @@ pub fn registers_have_hashes(banks: &Banks)
     bank_has_hashes(banks, Alg::Sha512);
 }
 
-// The same of one bank.
+// As `registers_have_hashes`, for one bank.
 fn bank_has_hashes(banks: &Banks, alg: Alg)
     ensures whole { (register : ℕ) → register < register_count → IsTrue (is_active banks.now alg)
         → IsSome (value_at banks.now alg register) }
@@ -72,7 +99,7 @@ fn bank_has_hashes(banks: &Banks, alg: Alg)
     }
 }
 
-// The same of one register.
+// As `registers_have_hashes`, for one register.
 fn register_has_a_hash(banks: &Banks, alg: Alg, index: u32)
     ensures whole { IsTrue (is_active banks.now alg) → index < register_count → IsSome (value_at banks.now alg index) }
     ensures hash { IfSome (value_at banks.now alg index) (λ value. (length value ≡ size_of alg) × IsBytes value) }

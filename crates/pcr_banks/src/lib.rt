@@ -8,12 +8,10 @@ mod banks;
 mod digest;
 mod hashing;
 pub mod laws;
-mod per_alg;
 mod sets;
 
 pub use alg::Alg;
 pub use banks::{Banks, REGISTERS};
 pub use digest::{Digest, MOST_DIGITS};
 pub use hashing::{Hasher, hash};
-pub use per_alg::PerAlg;
 pub use sets::{AlgSet, PerBank};

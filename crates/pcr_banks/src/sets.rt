@@ -5,13 +5,15 @@ ghost use Rattle.pcr_banks.specs.Hashing.{all_algs, same_alg};
 ghost use Rattle.pcr_banks.specs.Digests.{alg_of, bytes_of};
 ghost use Rattle.pcr_banks.specs.Sets.{has_alg, digest_for, digest_in};
 
-use crate::per_alg::PerAlg;
 use crate::{Alg, Digest};
 
 /// A set of algorithms.
 #[derive(Clone, Copy, PartialEq, Eq)]
 pub struct AlgSet {
-    has: PerAlg<bool>,
+    sha1: bool,
+    sha256: bool,
+    sha384: bool,
+    sha512: bool,
 }
 
 impl AlgSet {
@@ -20,7 +22,10 @@ impl AlgSet {
         ensures { (a : Alg) → has_alg result a ≡ false }
     {
         AlgSet {
-            has: PerAlg::all(false),
+            sha1: false,
+            sha256: false,
+            sha384: false,
+            sha512: false,
         }
     }
 
@@ -28,7 +33,12 @@ impl AlgSet {
     pub fn with(mut self, alg: Alg) -> Self
         ensures { (a : Alg) → has_alg result a ≡ (same_alg a alg || has_alg self a) }
     {
-        self.has.set(alg, true);
+        match alg {
+            Alg::Sha1 => self.sha1 = true,
+            Alg::Sha256 => self.sha256 = true,
+            Alg::Sha384 => self.sha384 = true,
+            Alg::Sha512 => self.sha512 = true,
+        }
         self
     }
 
@@ -36,7 +46,12 @@ impl AlgSet {
     pub fn has(self, alg: Alg) -> bool
         ensures { result ≡ has_alg self alg }
     {
-        *self.has.get(alg)
+        match alg {
+            Alg::Sha1 => self.sha1,
+            Alg::Sha256 => self.sha256,
+            Alg::Sha384 => self.sha384,
+            Alg::Sha512 => self.sha512,
+        }
     }
 
     /// Whether the set is empty.
@@ -57,7 +72,10 @@ impl AlgSet {
 /// For each algorithm, a digest or none.
 #[derive(Clone, Copy, PartialEq, Eq)]
 pub struct PerBank {
-    digests: PerAlg<Option<Digest>>,
+    pub(crate) sha1: Option<[u8; 20]>,
+    pub(crate) sha256: Option<[u8; 32]>,
+    pub(crate) sha384: Option<[u8; 48]>,
+    pub(crate) sha512: Option<[u8; 64]>,
 }
 
 impl PerBank {
@@ -67,29 +85,26 @@ impl PerBank {
         ensures bytes { (a : Alg) → digest_in result a ≡ None }
     {
         PerBank {
-            digests: PerAlg::all(None),
+            sha1: None,
+            sha256: None,
+            sha384: None,
+            sha512: None,
         }
     }
 
-    /// Calls `digest` for each algorithm and keeps the result for that algorithm. No contract requires a digest to be of the
-    /// algorithm that it is kept for; the caller ensures that.
-    pub fn of<F: Fn(Alg) -> Option<Digest> + Drop>(digest: F) -> Self
-        requires { F.IsAlwaysCallable digest }
-        ensures { (a : Alg) → F.post digest a (digest_for result a) }
-    {
-        PerBank {
-            digests: PerAlg::of(digest),
-        }
-    }
-
-    /// The same digests, with this one set for its algorithm.
+    /// These digests, with this one set for its algorithm.
     pub fn with(mut self, digest: Digest) -> Self
         ensures digest { (a : Alg) → digest_for result a
             ≡ (if same_alg a (alg_of digest) then Some digest else digest_for self a) }
         ensures bytes { (a : Alg) → digest_in result a
             ≡ (if same_alg a (alg_of digest) then Some (bytes_of digest) else digest_in self a) }
     {
-        self.digests.set(digest.alg(), Some(digest));
+        match digest {
+            Digest::Sha1(bytes) => self.sha1 = Some(bytes),
+            Digest::Sha256(bytes) => self.sha256 = Some(bytes),
+            Digest::Sha384(bytes) => self.sha384 = Some(bytes),
+            Digest::Sha512(bytes) => self.sha512 = Some(bytes),
+        }
         self
     }
 
@@ -97,13 +112,11 @@ impl PerBank {
     pub fn get(self, alg: Alg) -> Option<Digest>
         ensures { result ≡ digest_for self alg }
     {
-        *self.digests.get(alg)
-    }
-
-    // As `get`, by reference.
-    pub(crate) fn digest(&self, alg: Alg) -> &Option<Digest>
-        ensures { result.now ≡ digest_for self.now alg }
-    {
-        self.digests.get(alg)
+        match alg {
+            Alg::Sha1 => self.sha1.map(Digest::Sha1),
+            Alg::Sha256 => self.sha256.map(Digest::Sha256),
+            Alg::Sha384 => self.sha384.map(Digest::Sha384),
+            Alg::Sha512 => self.sha512.map(Digest::Sha512),
+        }
     }
 }

@@ -6,7 +6,7 @@ ghost use Rattle.ima_agent.specs.Streaming.{Streams};
 ghost use Rattle.ima_agent.specs.parts.Streaming.{IsStreamFaultOf, SendsEntriesOf};
 
 use crate::fault::RunFault;
-use crate::files::Files;
+use crate::files::AgentFiles;
 use crate::inputs::{INPUT_LIMIT, not_read, too_long};
 use crate::streaming::StreamFault;
 use byte_streams::{Failed, Sink, Source};
@@ -17,7 +17,7 @@ use std::alloc::{AllocError, Global};
 
 /// Sends the lines of the entries of the list in the file of this name while it is read; of a damaged one those of the entries before
 /// its fault.
-pub(crate) fn entries_sent<F: Files, S: Sink>(
+pub(crate) fn entries_sent<F: AgentFiles, S: Sink>(
     alloc: Global,
     files: &mut F,
     list: &str,

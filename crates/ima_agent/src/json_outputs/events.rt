@@ -8,7 +8,7 @@ ghost use Rattle.ima_agent.specs.declared.fault.RunFault.TheVariants.{Memory};
 ghost use Rattle.ima_agent.specs.parts.Streaming.{ShowsEventsIn};
 
 use crate::fault::RunFault;
-use crate::files::Files;
+use crate::files::AgentFiles;
 use crate::inputs::loaded;
 use crate::output::Output;
 use crate::streaming::StreamFault;
@@ -19,7 +19,7 @@ use std::alloc::{AllocError, Global};
 
 /// Sends the line of the algorithms that the log in the file of this name declares, and the lines of its events while they are read; of a
 /// damaged one those before its fault.
-pub(crate) fn events_sent<F: Files, S: Sink>(
+pub(crate) fn events_sent<F: AgentFiles, S: Sink>(
     alloc: Global,
     files: &mut F,
     log: &str,

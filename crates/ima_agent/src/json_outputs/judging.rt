@@ -11,7 +11,7 @@ ghost use Rattle.ima_agent.specs.ListVerifying.{IsListReportFault};
 ghost use Rattle.ima_agent.specs.Verifying.{IsReportFault};
 
 use crate::fault::RunFault;
-use crate::files::Files;
+use crate::files::AgentFiles;
 use crate::list_verifying::list_judged;
 use crate::locating::found;
 use crate::output::Output;
@@ -23,7 +23,7 @@ use std::alloc::{AllocError, Global};
 
 /// The line of the report on the log, the list and the expected registers in the files of these names. Where the text `required` is
 /// given, it spells which registers are required, and is read first.
-pub(super) fn report<F: Files>(
+pub(super) fn report<F: AgentFiles>(
     alloc: Global,
     files: &mut F,
     log: &str,
@@ -47,7 +47,7 @@ pub(super) fn report<F: Files>(
 }
 
 // The same, where these registers are required.
-fn report_with<F: Files>(
+fn report_with<F: AgentFiles>(
     alloc: Global,
     files: &mut F,
     log: &str,
@@ -82,7 +82,7 @@ pub(super) fn report_line(
 
 /// The line of the places of the expected registers in the log and the list, in the files of these names. Where the text `required` is
 /// given, it spells which registers are required, and is read first.
-pub(super) fn places<F: Files>(
+pub(super) fn places<F: AgentFiles>(
     alloc: Global,
     files: &mut F,
     log: &str,
@@ -106,7 +106,7 @@ pub(super) fn places<F: Files>(
 }
 
 // The same, where these registers are required.
-fn places_with<F: Files>(
+fn places_with<F: AgentFiles>(
     alloc: Global,
     files: &mut F,
     log: &str,
@@ -141,7 +141,7 @@ pub(super) fn places_line(
 
 /// The line of the report on the list and the expected registers in the files of these names. Where the text `required` is
 /// given, it spells which registers are required, and is read first.
-pub(super) fn list_report<F: Files>(
+pub(super) fn list_report<F: AgentFiles>(
     alloc: Global,
     files: &mut F,
     list: &str,
@@ -164,7 +164,7 @@ pub(super) fn list_report<F: Files>(
 }
 
 // The same, where these registers are required.
-fn list_report_with<F: Files>(
+fn list_report_with<F: AgentFiles>(
     alloc: Global,
     files: &mut F,
     list: &str,

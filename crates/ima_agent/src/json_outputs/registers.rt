@@ -6,7 +6,7 @@ ghost use Rattle.ima_agent.specs.Loading.{IsInputFault, OfInput};
 ghost use Rattle.ima_agent.specs.Showing.{IsNoLogFor};
 
 use crate::fault::RunFault;
-use crate::files::Files;
+use crate::files::AgentFiles;
 use crate::inputs::loaded;
 use crate::output::{Form, Output};
 use crate::replaying::registers_in;
@@ -14,7 +14,7 @@ use crate::showing::registers_of;
 use std::alloc::Global;
 
 /// The line of the registers that differ from their reset values after the log in the file of this name.
-pub(super) fn log_registers<F: Files>(
+pub(super) fn log_registers<F: AgentFiles>(
     alloc: Global,
     files: &mut F,
     log: &str,

@@ -21,5 +21,5 @@ returns-clause-whole c = λ r lt active. (c.loop-register.invariant r (omega (ar
 
 pub returns-clause-hashes : goal.returns-clause-hashes
 returns-clause-hashes c =
-    all_values c.args.alg (bank_of c.args.banks.now c.args.alg) (λ (value : List ℕ). (length value ≡ size_of c.args.alg) × IsBytes value)
+    all_values (bank_of c.args.banks.now c.args.alg) (λ (value : List ℕ). (length value ≡ size_of c.args.alg) × IsBytes value)
     (λ r lt. (c.loop-register.invariant r (omega (arith, lt))).1)
