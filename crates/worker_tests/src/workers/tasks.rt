@@ -141,10 +141,10 @@ fn rise(batch: &Batch, worker: u32) -> bool {
 /// Whether the receipts, each with the operation of its task and with the answer of the record at its place, are for each record after
 /// the first.
 fn name_each(outcomes: &[Outcome], tasks: &[Task], book: &Book) -> bool {
-    let mut count = 1;
+    let mut count: usize = 1;
     for (outcome, task) in outcomes.iter().zip(tasks) {
         if let Outcome::Done(receipt) = outcome {
-            count += 1;
+            count = count.saturating_add(1);
             let Some(record) = book.records().get(receipt.place as usize) else {
                 return false;
             };
@@ -162,7 +162,7 @@ fn name_each(outcomes: &[Outcome], tasks: &[Task], book: &Book) -> bool {
 /// Whether no two receipts have one place.
 fn have_own_places(outcomes: &[Outcome]) -> bool {
     for (index, outcome) in outcomes.iter().enumerate() {
-        for other in &outcomes[..index] {
+        for other in outcomes.iter().take(index) {
             match (outcome, other) {
                 (Outcome::Done(one), Outcome::Done(other)) if one.place == other.place => {
                     return false;
@@ -206,10 +206,10 @@ fn differ_by_one(first: &Result<Batch, AgentFault>, second: &Result<Batch, Agent
     let (Ok(first), Ok(second)) = (first, second) else {
         return first.is_err();
     };
-    let mut lacking = 0;
+    let mut lacking: usize = 0;
     for (one, other) in first.outcomes.iter().zip(&second.outcomes) {
         match (one, other) {
-            (Outcome::Refused(BookFault::Memory), _) => lacking += 1,
+            (Outcome::Refused(BookFault::Memory), _) => lacking = lacking.saturating_add(1),
             (Outcome::Refused(fault), Outcome::Refused(other)) if fault == other => (),
             (Outcome::Done(_), Outcome::Done(_)) => (),
             _ => return false,
