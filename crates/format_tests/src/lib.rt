@@ -1,12 +1,16 @@
-//! Tests of what only a caller of the libraries reaches: lists in pieces, entries that are made and written, sinks that fail, and single
-//! calls with a refused allocation. How logs and lists are read and shown is in `cases/`. Each test holds with any one allocation
-//! refused too.
+//! Tests of what only a caller of the libraries reaches: hash values, whole logs that are read, lists in pieces, entries that are made and
+//! written, sinks that fail, and single calls with a refused allocation. How the program reads and shows logs and lists is in `cases/`.
+//! Each test holds with any one allocation refused too.
 #![tactic(auto)]
 
 #[cfg(test)]
 mod cuts;
 #[cfg(test)]
+mod hashes;
+#[cfg(test)]
 mod laws;
+#[cfg(test)]
+mod logs;
 #[cfg(test)]
 mod made;
 #[cfg(test)]

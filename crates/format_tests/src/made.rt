@@ -1,15 +1,17 @@
-//! Entries that are made, by templates and with signatures, and what is written and hashed of them.
+//! Entries that are made, by templates and with signatures, and what is written, hashed, shown and copied of them.
 
 use crate::pieces::repeated;
 use ima_list::{Entry, EntryFault, Sig, Template};
 use pcr_banks::{Alg, hash};
 use std::alloc::{AllocError, Global};
+use std::process::Abort;
 use std::test::Fail;
 use test_kit::books::copied_sig;
 use test_kit::lists::{
-    MEASUREMENT, SIGNED, THREE_BYTES, VIOLATION, list_of, sig_of, spelling_of, spellings,
+    MEASUREMENT, MEASUREMENT_LINE, OTHER_TEMPLATE, OTHER_TEMPLATE_LINE, SIGNED, THREE_BYTES,
+    VIOLATION, VIOLATION_LINE, list_of, sig_of, spelling_of, spellings,
 };
-use test_kit::once_more;
+use test_kit::{copied, joined, once_more};
 
 /// The entry of `/bin/sh`, measured with the SHA-1 of `abc` in the template `ima`.
 const OF_IMA: &[u8] = b"\x0a\x00\x00\x00\
@@ -226,35 +228,101 @@ fn each_allocation_refused_in_violation(rt: HostRuntime) -> Result<(), Fail> {
     Ok(())
 }
 
-/// Lists of one entry, which are read and written back.
+/// Lists of two entries, which are read and written back one after the other.
 #[test]
 fn each_allocation_refused_in_read_list_and_write_entry(rt: HostRuntime) -> Result<(), Fail> {
     let alloc = rt.alloc();
-    for bytes in [OF_IMA, MEASUREMENT, SIGNED, VIOLATION, EMPTY] {
-        let entries = list_of(alloc, bytes)?;
-        assert_eq!(rt; spellings(alloc, &entries)?.as_slice(), bytes);
+    for two in [[MEASUREMENT, VIOLATION], [OF_IMA, EMPTY], [EMPTY, SIGNED]] {
+        let bytes = joined(alloc, &two)?;
+        let entries = list_of(alloc, &bytes)?;
+        assert_eq!(rt; entries.len(), 2);
+        assert_eq!(rt; spellings(alloc, &entries)?.as_slice(), bytes.as_slice());
     }
     Ok(())
 }
 
-/// An entry's hashed bytes.
-fn hashed_of(alloc: Global, entry: &Entry) -> Result<Vec<u8>, AllocError> {
-    let mut bytes = Vec::new(alloc);
-    once_more(AllocError, || entry.hashed_bytes(&mut bytes))?;
-    Ok(bytes)
+/// The lines of [`OF_IMA`], [`UNSIGNED`] and [`SIGNED`]: the digits of the template digest and of the file's, and the signature's.
+const LINE_OF_IMA: &[u8] = b"10 30e3a853f12bf247a79b73e61d54fd3b0d841422 ima \
+    a9993e364706816aba3e25717850c26c9cd0d89d /bin/sh\n";
+
+const UNSIGNED_LINE: &[u8] = b"10 ffb8dc2f2f8c5ac2cd367f14f94881c5f5f9797c ima-sig \
+    sha256:ba7816bf8f01cfea414140de5dae2223b00361a396177a9cb410ff61f20015ad /bin/sh \n";
+
+const SIGNED_LINE: &[u8] = b"10 a46f5e1f6d522345537b5d5bdf6666492827b4f2 ima-sig \
+    sha256:ba7816bf8f01cfea414140de5dae2223b00361a396177a9cb410ff61f20015ad /bin/sh 030204\n";
+
+/// What an entry appends to a vector.
+#[derive(Clone, Copy)]
+enum Part {
+    Hashed,
+    Line,
+}
+
+fn append(entry: &Entry, part: Part, out: &mut Vec<u8>) -> Result<(), AllocError> {
+    match part {
+        Part::Hashed => entry.hashed_bytes(out),
+        Part::Line => entry.line(out),
+    }
+}
+
+/// What a vector has before something is appended to it.
+const BEFORE: &[u8] = b"before";
+
+/// The entry of this spelling appends these bytes to a vector, which is as before where memory was refused.
+fn assert_appends(
+    rt: &impl Abort,
+    alloc: Global,
+    spelling: &[u8],
+    part: Part,
+    appended: &[u8],
+) -> Result<(), Fail> {
+    let entry = entry_of(alloc, spelling)?;
+    let mut out = copied(alloc, BEFORE)?;
+    if append(&entry, part, &mut out).is_err() {
+        assert_eq!(rt; out.as_slice(), BEFORE);
+        append(&entry, part, &mut out)?;
+    }
+    assert_eq!(rt; out.strip_prefix(BEFORE), Some(appended));
+    Ok(())
 }
 
 /// The payload, of which `ima` has the path filled to 256 bytes and no length.
 #[test]
 fn each_allocation_refused_in_hashed_bytes(rt: HostRuntime) -> Result<(), Fail> {
-    let alloc = rt.alloc();
     for (spelling, hashed) in [
         (OF_IMA, HASHED_OF_IMA),
         (MEASUREMENT, &MEASUREMENT[38..]),
         (VIOLATION, &VIOLATION[38..]),
     ] {
+        assert_appends(&rt, rt.alloc(), spelling, Part::Hashed, hashed)?;
+    }
+    Ok(())
+}
+
+#[test]
+fn each_allocation_refused_in_line(rt: HostRuntime) -> Result<(), Fail> {
+    for (spelling, line) in [
+        (OF_IMA, LINE_OF_IMA),
+        (MEASUREMENT, MEASUREMENT_LINE),
+        (VIOLATION, VIOLATION_LINE),
+        (UNSIGNED, UNSIGNED_LINE),
+        (SIGNED, SIGNED_LINE),
+        (OTHER_TEMPLATE, OTHER_TEMPLATE_LINE),
+    ] {
+        assert_appends(&rt, rt.alloc(), spelling, Part::Line, line)?;
+    }
+    Ok(())
+}
+
+/// The last bytes of the spelling, so many. The entry keeps them.
+#[test]
+fn each_allocation_refused_in_payload_copy(rt: HostRuntime) -> Result<(), Fail> {
+    let alloc = rt.alloc();
+    for (spelling, size) in [(MEASUREMENT, 56), (VIOLATION, 55), (SIGNED, 63), (EMPTY, 0)] {
         let entry = entry_of(alloc, spelling)?;
-        assert_eq!(rt; hashed_of(alloc, &entry)?.as_slice(), hashed);
+        let copy = once_more(AllocError, || entry.payload_copy())?;
+        assert!(rt; copy.len() == size && spelling.ends_with(&copy));
+        assert_eq!(rt; spelling_of(alloc, &entry)?.as_slice(), spelling);
     }
     Ok(())
 }

@@ -14,10 +14,6 @@ pub const AFTER_OPENING: &[u8] =
 /// PCR 10 after this entry and the measurement of `/bin/sh` with the content `abc`.
 pub const AFTER_TWO: &[u8] = b"5fcef84d490a160058b8f1b7e33abea9f2df325f2b7ccb294d1d28f3459db9d5";
 
-/// PCR 10 in the template `ima-sig` after the boot aggregate of registers at reset, and `/bin/sh` with the content `abc`, without
-/// a signature and with [`THREE_BYTES`](crate::lists::THREE_BYTES).
-pub const AFTER_SIGNED: &[u8] = b"e6c150967e16f38eba5623c9195907955f304a32182c5359ccd7d59e055103f4";
-
 /// An origin with banks of SHA-256 alone after a start from locality 0, the template `ima-ng` and SHA-256.
 pub fn origin(limit: u32) -> Origin {
     Origin {

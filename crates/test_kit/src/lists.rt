@@ -33,7 +33,17 @@ pub const VIOLATION: &[u8] = b"\x0a\x00\x00\x00\
 pub const VIOLATION_LINE: &[u8] = b"10 0000000000000000000000000000000000000000 ima-ng \
     sha256:0000000000000000000000000000000000000000000000000000000000000000 /etc/x\n";
 
-/// The line of the measurement where its template has the name `ima-xx`: its payload has no fields that are known.
+/// The measurement with the name `ima-xx` in place of its template's: its payload has no fields that are known.
+pub const OTHER_TEMPLATE: &[u8] = b"\x0a\x00\x00\x00\
+    \x83\xfd\xff\x31\x51\x75\x58\x71\x57\xed\x3a\xa6\x04\xe7\xf9\xec\x63\xca\x0b\x42\
+    \x06\x00\x00\x00ima-xx\
+    \x38\x00\x00\x00\
+    \x28\x00\x00\x00sha256:\x00\
+    \xba\x78\x16\xbf\x8f\x01\xcf\xea\x41\x41\x40\xde\x5d\xae\x22\x23\
+    \xb0\x03\x61\xa3\x96\x17\x7a\x9c\xb4\x10\xff\x61\xf2\x00\x15\xad\
+    \x08\x00\x00\x00/bin/sh\x00";
+
+/// The line of this entry.
 pub const OTHER_TEMPLATE_LINE: &[u8] = b"10 83fdff315175587157ed3aa604e7f9ec63ca0b42 ima-xx \
     28000000736861323536\
     3a00ba7816bf8f01cfea414140de5dae2223b00361a396177a9cb410ff61f20015ad\

@@ -25,8 +25,10 @@ pub enum Deed {
     Read(Alg, u32),
 }
 
-/// An operation, and what becomes of it: the place of its record and the answer, or why it is refused.
-pub type Row = (Deed, Result<(u32, Answer), BookFault>);
+/// What becomes of an operation: the place of its record and the answer, or why it is refused.
+pub type End = Result<(u32, Answer), BookFault>;
+
+pub type Row = (Deed, End);
 
 const ZEROS: [u8; 320] = [0; 320];
 
@@ -36,11 +38,15 @@ pub const AGGREGATE: Deed = Deed::Measure(b"boot_aggregate", &ZEROS);
 /// `/bin/sh` is measured twice with the content `abc`, and once empty.
 pub const THREE: [Row; 3] = [FIRST, SECOND, THIRD];
 
-pub const FIRST: Row = (Deed::Measure(b"/bin/sh", b"abc"), Ok((1, Answer::Added(1))));
+pub const FIRST: Row = (SHELL, Ok((1, Answer::Added(1))));
 
-pub const SECOND: Row = (Deed::Measure(b"/bin/sh", b"abc"), Ok((2, Answer::Known(1))));
+pub const SECOND: Row = (SHELL, Ok((2, Answer::Known(1))));
 
-pub const THIRD: Row = (Deed::Measure(b"/bin/sh", b""), Ok((3, Answer::Added(2))));
+pub const THIRD: Row = (EMPTY_SHELL, Ok((3, Answer::Added(2))));
+
+pub const SHELL: Deed = Deed::Measure(b"/bin/sh", b"abc");
+
+pub const EMPTY_SHELL: Deed = Deed::Measure(b"/bin/sh", b"");
 
 /// The operation; once more where an allocation was refused.
 pub fn op_of(alloc: Global, deed: &Deed) -> Result<Op, AllocError> {
@@ -75,7 +81,7 @@ pub fn with_room<T: Drop>(alloc: Global, count: usize) -> Result<Vec<T>, AllocEr
     }
 }
 
-fn ops_of(alloc: Global, rows: &[Row]) -> Result<Vec<Op>, AllocError> {
+pub fn ops_of(alloc: Global, rows: &[Row]) -> Result<Vec<Op>, AllocError> {
     let mut ops = with_room(alloc, rows.len())?;
     for (deed, _) in rows {
         ops.push(op_of(alloc, deed)?)?;
@@ -116,51 +122,26 @@ pub fn gathered(
     }
 }
 
-/// A new book and what becomes of these operations; or that memory ran out for the book or an operation.
-fn run_once(alloc: Global, origin: Origin, ops: &[Op]) -> Result<(Book, Vec<Outcome>), BookFault> {
-    let mut book = Book::open(alloc, origin)?;
-    let outcomes = book.run(ops)?;
-    if outcomes.contains(&Outcome::Refused(BookFault::Memory)) {
-        return Err(BookFault::Memory);
+/// Whether the book's record at this place is of this operation and answer.
+pub fn is_recorded(book: &Book, place: u32, op: &Op, answer: Answer) -> bool {
+    match book.records().get(place as usize) {
+        Some(record) => record.op == *op && record.answer == answer,
+        None => false,
     }
-    Ok((book, outcomes))
 }
 
-fn is_end(outcome: &Outcome, end: &Result<(u32, Answer), BookFault>) -> bool {
+/// Whether the operation was refused for this cause, or its receipt and the book's record have this place, operation and answer.
+pub fn is_end(book: &Book, op: &Op, outcome: &Outcome, end: &End) -> bool {
     match (outcome, end) {
         (Outcome::Done(done), Ok((place, answer))) => {
-            done.place == *place && done.answer == *answer
+            done.place == *place
+                && done.answer == *answer
+                && done.op == *op
+                && is_recorded(book, *place, op, *answer)
         }
         (Outcome::Refused(found), Err(fault)) => found == fault,
         _ => false,
     }
-}
-
-fn are_ends(outcomes: &[Outcome], rows: &[Row]) -> bool {
-    for (outcome, (_, end)) in outcomes.iter().zip(rows) {
-        if !is_end(outcome, end) {
-            return false;
-        }
-    }
-    outcomes.len() == rows.len()
-}
-
-/// A new book on which the operations were run, each of which became what its row says. Where an allocation was refused they are
-/// run on another book.
-pub fn run_on_new(
-    rt: &impl Abort,
-    alloc: Global,
-    origin: Origin,
-    rows: &[Row],
-) -> Result<Book, BookFault> {
-    let ops = ops_of(alloc, rows)?;
-    let ran = match run_once(alloc, origin, &ops) {
-        Err(BookFault::Memory) => run_once(alloc, origin, &ops),
-        answer => answer,
-    };
-    let (book, outcomes) = ran?;
-    assert!(rt; are_ends(&outcomes, rows));
-    Ok(book)
 }
 
 /// What becomes of the operation on this book. Where an allocation was refused it is done by another call.
@@ -181,7 +162,8 @@ pub fn play(
 ) -> Result<(), AllocError> {
     for (number, (deed, end)) in rows.iter().enumerate() {
         let op = op_of(alloc, deed)?;
-        assert!(rt; is_end(&outcome_on(book, &op), end), "row {number}");
+        let outcome = outcome_on(book, &op);
+        assert!(rt; is_end(book, &op, &outcome, end), "row {number}");
     }
     Ok(())
 }

@@ -4,3 +4,4 @@
 mod exports;
 mod gathers;
 mod operations;
+mod runs;

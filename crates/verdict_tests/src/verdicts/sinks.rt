@@ -1,10 +1,10 @@
 //! Texts that are sent to sinks that fail at each write.
 
-use super::texts::{Text, expected, places, report};
+use super::texts::{Text, book, expected, places, report};
 use pcr_banks::{Alg, AlgSet, Banks, Digest, PerBank};
 use std::process::Abort;
 use std::test::Fail;
-use test_kit::samples::{EXPECTED, PLACES, REPORT};
+use test_kit::samples::{EXPECTED, LIST, PLACES, REPORT};
 use test_kit::sinks::PieceSink;
 
 /// Each write of a text that is reached fails in turn, where a write takes so many bytes at most; and then none.
@@ -44,6 +44,13 @@ fn verdicts_to_failing_sinks(rt: HostRuntime) -> Result<(), Fail> {
     assert_sent(&rt, &Text::Report(&report), REPORT);
     let places = places(rt.alloc(), &expected)?;
     assert_sent(&rt, &Text::Places(&places), PLACES);
+    Ok(())
+}
+
+#[test]
+fn exports_to_failing_sinks(rt: HostRuntime) -> Result<(), Fail> {
+    let book = book(rt.alloc())?;
+    assert_sent(&rt, &Text::List(&book), LIST);
     Ok(())
 }
 

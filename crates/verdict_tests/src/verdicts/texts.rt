@@ -1,19 +1,25 @@
-//! Verdicts on the samples, and their texts.
+//! Verdicts on the samples, the book that makes their list, and the texts of all this.
 
 use boot_verdict::{
     ExpectFault, Expected, Located, RegisterRange, Report, VerifyFault, locate, read_expected,
     verify, write_expected, write_places, write_registers, write_report,
 };
 use byte_streams::{Failed, Sink, VecSink};
+use measure_book::{Book, ExportFault};
 use pcr_banks::Banks;
 use std::alloc::Global;
+use std::test::Fail;
+use test_kit::books::{applied, measure, opened, origin};
+use test_kit::logs::log_of;
 use test_kit::once_more;
+use test_kit::registers::sha256;
 use test_kit::samples::{EXPECTED, LIST, LOG};
 
 /// What has a text.
 #[derive(Drop)]
 pub enum Text<'a> {
     Expected(&'a Vec<Expected>),
+    List(&'a Book),
     Places(&'a Vec<Located>),
     Registers(&'a Banks, &'a Banks),
     Report(&'a Report),
@@ -24,6 +30,10 @@ impl Text<'_> {
     pub fn send<S: Sink>(&self, sink: &mut S) -> Result<(), Failed> {
         match self {
             Text::Expected(expected) => write_expected(expected, RegisterRange::all(), sink),
+            Text::List(book) => match book.export(sink) {
+                Ok(()) => Ok(()),
+                Err(ExportFault::Sink) => Err(Failed),
+            },
             Text::Places(located) => write_places(located, sink),
             Text::Registers(now, start) => write_registers(now, start, sink),
             Text::Report(report) => write_report(report, sink),
@@ -53,4 +63,16 @@ pub fn report(alloc: Global, expected: &[Expected]) -> Result<Report, VerifyFaul
 /// The places in the samples; once more where an allocation was refused.
 pub fn places(alloc: Global, expected: &[Expected]) -> Result<Vec<Located>, VerifyFault> {
     once_more(VerifyFault::Memory, || locate(alloc, LOG, LIST, expected))
+}
+
+/// A book that starts with the registers after the log, and makes the list.
+pub fn book(alloc: Global) -> Result<Book, Fail> {
+    let mut origin = origin(100);
+    origin.start = log_of(alloc, LOG)?.registers();
+    let mut book = opened(alloc, origin)?;
+    for content in [b"abc".as_slice(), b""] {
+        let op = measure(alloc, b"/bin/sh", sha256(content))?;
+        applied(&mut book, &op)?;
+    }
+    Ok(book)
 }

@@ -2,12 +2,15 @@
 
 use hash_workers::{AgentFault, Batch, Job, NoGate, measure_files};
 use ima_list::Sig;
-use measure_book::{Answer, BookFault, Origin, Outcome};
+use measure_book::{Answer, Book, BookFault, Op, Origin, Outcome};
 use pcr_banks::Alg;
 use std::alloc::{AllocError, Global};
+use std::process::Abort;
 use std::sync::Wait;
 use std::thread::Threads;
+use test_kit::books::{applied, opened};
 use test_kit::copied;
+use test_kit::registers::sha256;
 
 /// How many jobs a batch may have.
 const MOST_JOBS: usize = 0xFFFF_FFFF;
@@ -70,8 +73,9 @@ fn jobs_of(alloc: Global, tasks: &[Task]) -> Result<Vec<Job>, AllocError> {
     Ok(jobs)
 }
 
-/// The batch of these jobs; once more where an allocation was refused.
-pub fn batch_of<R: Threads + Wait + Sync>(
+/// The batch of these jobs, which accounts for them. Where an allocation was refused, that one is looked at too, and then they are
+/// recorded once more.
+pub fn batch_of<R: Threads + Wait + Sync + Abort>(
     rt: &R,
     alloc: Global,
     origin: Origin,
@@ -83,11 +87,135 @@ pub fn batch_of<R: Threads + Wait + Sync>(
         return Err(AgentFault::Memory);
     }
     let first = measure_files(rt, alloc, origin, &jobs, workers, &NoGate);
-    if has_run_out(&first) {
-        measure_files(rt, alloc, origin, &jobs, workers, &NoGate)
-    } else {
-        first
+    assert!(rt; accounts(alloc, &first, tasks, workers)?);
+    if !has_run_out(&first) {
+        return first;
     }
+    let second = measure_files(rt, alloc, origin, &jobs, workers, &NoGate);
+    assert!(rt; accounts(alloc, &second, tasks, workers)?);
+    assert!(rt; differ_by_one(&first, &second));
+    second
+}
+
+/// Whether the batch, if there is one, has an outcome and a worker of each job, names each record after the first by one receipt, has
+/// the receipts of each worker in their order, and a book that one caller alone would have made.
+fn accounts(
+    alloc: Global,
+    batch: &Result<Batch, AgentFault>,
+    tasks: &[Task],
+    workers: usize,
+) -> Result<bool, BookFault> {
+    let Ok(batch) = batch else {
+        return Ok(true);
+    };
+    for worker in &batch.by {
+        if *worker as usize >= workers || !rise(batch, *worker) {
+            return Ok(false);
+        }
+    }
+    let are_counted = batch.by.len() == tasks.len() && batch.outcomes.len() == tasks.len();
+    Ok(
+        are_counted
+            && name_each(&batch.outcomes, tasks, &batch.book)
+            && is_of_one_caller(alloc, &batch.book)?,
+    )
+}
+
+/// Whether the places of this worker's receipts rise with its jobs, from 1 on.
+fn rise(batch: &Batch, worker: u32) -> bool {
+    let mut last = 0;
+    for (outcome, by) in batch.outcomes.iter().zip(&batch.by) {
+        match outcome {
+            Outcome::Done(receipt) if *by == worker => {
+                if receipt.place <= last {
+                    return false;
+                }
+                last = receipt.place;
+            }
+            _ => (),
+        }
+    }
+    true
+}
+
+/// Whether the receipts, each with the operation of its task and with the answer of the record at its place, are for each record after
+/// the first.
+fn name_each(outcomes: &[Outcome], tasks: &[Task], book: &Book) -> bool {
+    let mut count: usize = 1;
+    for (outcome, task) in outcomes.iter().zip(tasks) {
+        if let Outcome::Done(receipt) = outcome {
+            count = count.saturating_add(1);
+            let Some(record) = book.records().get(receipt.place as usize) else {
+                return false;
+            };
+            if !is_of(&receipt.op, task)
+                || record.op != receipt.op
+                || record.answer != receipt.answer
+            {
+                return false;
+            }
+        }
+    }
+    count == book.records().len() && have_own_places(outcomes)
+}
+
+/// Whether no two receipts have one place.
+fn have_own_places(outcomes: &[Outcome]) -> bool {
+    for (index, outcome) in outcomes.iter().enumerate() {
+        for other in outcomes.iter().take(index) {
+            match (outcome, other) {
+                (Outcome::Done(one), Outcome::Done(other)) if one.place == other.place => {
+                    return false;
+                }
+                _ => (),
+            }
+        }
+    }
+    true
+}
+
+/// Whether the operation is the task's, by SHA-256.
+fn is_of(op: &Op, task: &Task) -> bool {
+    match (op, task) {
+        (Op::Measure { path, digest, sig }, Task::File(name, content)) => {
+            path.as_slice() == *name && *digest == sha256(content) && sig.bytes().is_empty()
+        }
+        (Op::Violation { path }, Task::Violation(name)) => path.as_slice() == *name,
+        (Op::Read { alg, register }, Task::Read(other_alg, other_register)) => alg == other_alg
+            && register == other_register,
+        _ => false,
+    }
+}
+
+/// Whether another book, on which the recorded operations are done one by one, has these records, this list and these registers.
+fn is_of_one_caller(alloc: Global, book: &Book) -> Result<bool, BookFault> {
+    let mut other = opened(alloc, *book.origin())?;
+    for record in book.records().iter().skip(1) {
+        applied(&mut other, &record.op)?;
+    }
+    Ok(
+        other.records() == book.records()
+            && other.entries() == book.entries()
+            && other.banks() == book.banks(),
+    )
+}
+
+/// Whether the first batch, if there is one, has one job at most that found no memory, and each other one was done or refused as in
+/// the second.
+fn differ_by_one(first: &Result<Batch, AgentFault>, second: &Result<Batch, AgentFault>) -> bool {
+    let (Ok(first), Ok(second)) = (first, second) else {
+        return first.is_err();
+    };
+    let mut lacking: usize = 0;
+    for (one, other) in first.outcomes.iter().zip(&second.outcomes) {
+        match (one, other) {
+            (Outcome::Refused(BookFault::Memory), _) => lacking = lacking.saturating_add(1),
+            (Outcome::Refused(fault), Outcome::Refused(other)) if fault == other => (),
+            (Outcome::Done(_), Outcome::Done(_)) => (),
+            _ => return false,
+        }
+    }
+    lacking <= 1
 }
 
 /// Whether memory ran out, for the batch or for a job.

@@ -1,13 +1,11 @@
 //! Books that are exported.
 
-use super::operations::{AFTER_THREE, assert_example};
-use crate::books::deeds::THREE;
+use super::runs::AFTER_THREE;
 use ima_list::{ListFault, ReplayFault, VecSink, replay};
 use measure_book::{Book, ExportFault};
-use pcr_banks::{Alg, Digest};
-use std::alloc::{AllocError, Global};
+use pcr_banks::{Alg, Banks};
+use std::alloc::Global;
 use std::test::Fail;
-use test_kit::books::origin;
 use test_kit::joined;
 use test_kit::lists::{MEASUREMENT, list_of};
 use test_kit::registers::{sha256_of, start};
@@ -22,7 +20,7 @@ pub const OPENING: &[u8] = b"\x0a\x00\x00\x00\
     \x08\xce\x16\xa1\x71\xbd\xa6\x95\x1a\xec\xd9\x5e\xe1\x30\x7d\x61\
     \x0f\x00\x00\x00boot_aggregate\x00";
 
-const EMPTY: &[u8] = b"\x0a\x00\x00\x00\
+pub const EMPTY: &[u8] = b"\x0a\x00\x00\x00\
     \xdf\x64\x96\xba\x01\x6d\xb6\x52\x04\x47\x7d\xb1\x3f\xa7\x71\x23\x7e\x42\xc7\x14\
     \x06\x00\x00\x00ima-ng\
     \x38\x00\x00\x00\
@@ -30,8 +28,6 @@ const EMPTY: &[u8] = b"\x0a\x00\x00\x00\
     \xe3\xb0\xc4\x42\x98\xfc\x1c\x14\x9a\xfb\xf4\xc8\x99\x6f\xb9\x24\
     \x27\xae\x41\xe4\x64\x9b\x93\x4c\xa4\x95\x99\x1b\x78\x52\xb8\x55\
     \x08\x00\x00\x00/bin/sh\x00";
-
-const AFTER_EACH_OF_THREE: [&[u8]; 3] = [OPENING, MEASUREMENT, EMPTY];
 
 /// The book's export; into another sink once more where an allocation was refused.
 fn export_of(alloc: Global, book: &Book) -> Result<Vec<u8>, ExportFault> {
@@ -47,36 +43,35 @@ fn exported(alloc: Global, book: &Book) -> Result<Vec<u8>, ExportFault> {
     Ok(sink.into_bytes())
 }
 
-/// Whether the book's export is these spellings, joined.
-pub fn exports(alloc: Global, book: &Book, spellings: &[&[u8]]) -> Result<bool, AllocError> {
-    let text = joined(alloc, spellings)?;
-    match export_of(alloc, book) {
-        Ok(found) => Ok(found.as_slice() == text.as_slice()),
-        Err(ExportFault::Sink) => Err(AllocError),
-    }
-}
-
-/// PCR 10 after the replay, from the registers at reset, of the list that the bytes are.
-fn replayed(alloc: Global, bytes: &[u8]) -> Result<Result<Option<Digest>, ReplayFault>, ListFault> {
+/// The registers after the replay of the list that the bytes are.
+fn replayed(
+    alloc: Global,
+    start: Banks,
+    bytes: &[u8],
+) -> Result<Result<Banks, ReplayFault>, ListFault> {
     let list = list_of(alloc, bytes)?;
-    Ok(match replay(start(), &list) {
-        Ok(banks) => Ok(banks.read(Alg::Sha256, 10)),
-        Err(fault) => Err(fault),
-    })
+    Ok(replay(start, &list))
 }
 
-/// What is exported reads back and replays to the book's register; with its last byte changed it does not.
+/// Whether the book's export is these spellings, joined, which read back and replay to the book's registers.
+pub fn exports(alloc: Global, book: &Book, spellings: &[&[u8]]) -> Result<bool, Fail> {
+    let text = joined(alloc, spellings)?;
+    let found = export_of(alloc, book)?;
+    let banks = replayed(alloc, book.origin().start, &text)?;
+    Ok(found.as_slice() == text.as_slice() && banks.ok() == Some(*book.banks()))
+}
+
+/// With the last byte of an entry changed, an export is replayed no more.
 #[test]
 fn export_replays(rt: HostRuntime) -> Result<(), Fail> {
     let alloc = rt.alloc();
-    let list = &AFTER_EACH_OF_THREE;
-    assert_example(&rt, alloc, origin(100), &THREE, 4, list, AFTER_THREE)?;
-    let mut text = joined(alloc, list)?;
-    let value = sha256_of(AFTER_THREE)?;
-    assert!(rt; replayed(alloc, &text)? == Ok(Some(value)));
+    let mut text = joined(alloc, &[OPENING, MEASUREMENT, EMPTY])?;
+    let banks = replayed(alloc, start(), &text)?.ok().ok_or("no registers")?;
+    assert!(rt; banks.read(Alg::Sha256, 10) == Some(sha256_of(AFTER_THREE)?));
     if let Some(last) = text.last_mut() {
         *last = 1;
     }
-    assert!(rt; replayed(alloc, &text)? == Err(ReplayFault::BadTemplateDigest { entry: 2 }));
+    let fault = replayed(alloc, start(), &text)?.err();
+    assert!(rt; fault == Some(ReplayFault::BadTemplateDigest { entry: 2 }));
     Ok(())
 }

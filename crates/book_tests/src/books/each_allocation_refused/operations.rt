@@ -1,26 +1,15 @@
-//! Operations that are done or refused, and books that are not opened.
+//! Operations that are done or refused one by one, and books that are not opened.
 
 use super::exports::{OPENING, exports};
-use crate::books::deeds::{AGGREGATE, Deed, FIRST, Row, THREE, is_book, op_of, play, run_on_new};
+use crate::books::deeds::{Deed, Row, is_book, is_recorded, op_of, play};
 use ima_list::Template;
-use measure_book::{Answer, Book, BookFault, ExportFault, Op, Origin};
-use pcr_banks::{Alg, AlgSet, Banks, Digest};
+use measure_book::{Answer, Book, BookFault, Origin};
+use pcr_banks::{Alg, AlgSet, Banks};
 use std::alloc::Global;
 use std::process::Abort;
 use std::test::Fail;
 use test_kit::books::{AFTER_OPENING, AFTER_TWO, opened, origin};
-use test_kit::devices::ShortSink;
 use test_kit::lists::{MEASUREMENT, SIGNED, THREE_BYTES, VIOLATION};
-
-/// PCR 10 after the boot aggregate and the measurement of `/bin/sh` with the content `abc`, and empty.
-pub const AFTER_THREE: &[u8] = b"8969ed91a785f4fbb88b785dd3e6cf2d5bf6d1ba1550c61a202e9d644685bf9c";
-
-/// The value of SHA-256 whose digits are [`AFTER_TWO`].
-const VALUE_AFTER_TWO: Digest = Digest::Sha256(
-    *b"\
-    \x5f\xce\xf8\x4d\x49\x0a\x16\x00\x58\xb8\xf1\xb7\xe3\x3a\xbe\xa9\
-    \xf2\xdf\x32\x5f\x2b\x7c\xcb\x29\x4d\x1d\x28\xf3\x45\x9d\xb9\xd5",
-);
 
 /// The operations are done one by one on a new book, each of which becomes what its row says. Then the book has so many records, its
 /// list is these spellings, and PCR 10 has the value of these digits.
@@ -32,28 +21,11 @@ pub fn assert_example(
     records: usize,
     list: &[&[u8]],
     digits: &[u8],
-) -> Result<(), BookFault> {
+) -> Result<(), Fail> {
     let mut book = opened(alloc, origin)?;
     play(rt, alloc, &mut book, rows)?;
     assert!(rt; is_book(&book, records, list.len(), digits));
     assert!(rt; exports(alloc, &book, list)?);
-    Ok(())
-}
-
-/// Whether record 0 is this operation, whose entry was added.
-fn begins_with(book: &Book, op: &Op) -> bool {
-    match book.records().first() {
-        Some(first) => first.op == *op && first.answer == Answer::Added(0),
-        None => false,
-    }
-}
-
-#[test]
-fn three_operations(rt: HostRuntime) -> Result<(), Fail> {
-    let alloc = rt.alloc();
-    let book = run_on_new(&rt, alloc, origin(100), &THREE)?;
-    assert!(rt; is_book(&book, 4, 3, AFTER_THREE));
-    assert!(rt; begins_with(&book, &op_of(alloc, &AGGREGATE)?));
     Ok(())
 }
 
@@ -140,48 +112,6 @@ fn of_ima(alg: Alg) -> Origin {
     }
 }
 
-const REFUSED_BETWEEN: [Row; 3] = [
-    (Deed::Measure(b"/bin/sh", b"abc"), Ok((1, Answer::Added(1)))),
-    (Deed::Violation(b"/etc/\0x"), Err(BookFault::NulInPath)),
-    (
-        Deed::Read(Alg::Sha256, 10),
-        Ok((2, Answer::Value(VALUE_AFTER_TWO))),
-    ),
-];
-
-/// The longest path, and one that is longer.
-const LONG: [u8; 4095] = [b'a'; 4095];
-
-const LONGER: [u8; 4096] = [b'a'; 4096];
-
-const AFTER_THE_RUN: [Row; 5] = [
-    (AGGREGATE, Ok((3, Answer::Known(0)))),
-    (Deed::Measure(b"", b"abc"), Ok((4, Answer::Added(2)))),
-    (Deed::Measure(&LONG, b"abc"), Ok((5, Answer::Added(3)))),
-    (Deed::Measure(&LONGER, b"abc"), Err(BookFault::PathTooLong)),
-    (
-        Deed::Read(Alg::Sha256, 0),
-        Ok((6, Answer::Value(Digest::Sha256([0; 32])))),
-    ),
-];
-
-#[test]
-fn run_with_refusal_between(rt: HostRuntime) -> Result<(), Fail> {
-    let alloc = rt.alloc();
-    let mut book = run_on_new(&rt, alloc, origin(100), &REFUSED_BETWEEN)?;
-    assert!(rt; is_book(&book, 3, 2, AFTER_TWO));
-    play(&rt, alloc, &mut book, &AFTER_THE_RUN)?;
-    assert!(rt; stops_after_a_hundred_bytes(&book));
-    Ok(())
-}
-
-/// Whether a sink that fails after a hundred bytes of the export has taken these, all but the last of the first entry's.
-fn stops_after_a_hundred_bytes(book: &Book) -> bool {
-    let mut sink = ShortSink::new(100);
-    let ended = book.export(&mut sink);
-    ended == Err(ExportFault::Sink) && sink.failures() == 1 && sink.bytes() == &OPENING[..100]
-}
-
 /// The spellings of a book of SHA-512: of the boot aggregate of registers at reset, the SHA-512 of 640 zero bytes, of `/bin/sh` with
 /// the content `abc`, and of a violation of `/etc/x`.
 const OF_SHA512: [&[u8]; 3] = [
@@ -249,7 +179,8 @@ fn sha512_bank_in_a_book(rt: HostRuntime) -> Result<(), Fail> {
     let origin = of_sha512(Template::ImaNg);
     assert_example(&rt, alloc, origin, &BY_SHA512, 3, &OF_SHA512, AFTER_SHA512)?;
     let book = opened(alloc, origin)?;
-    assert!(rt; begins_with(&book, &op_of(alloc, &AGGREGATE_OF_SHA512)?));
+    let aggregate = op_of(alloc, &AGGREGATE_OF_SHA512)?;
+    assert!(rt; is_recorded(&book, 0, &aggregate, Answer::Added(0)));
     Ok(())
 }
 
