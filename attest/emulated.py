@@ -88,13 +88,15 @@ def wait_for(emulator, environment):
 
 
 @contextmanager
-def emulated():
-    """An emulated TPM with the sample boot: the environment of tools that talk to it."""
+def emulated(measurements=None):
+    """An emulated TPM with the sample boot, or another list after its log: the environment of tools that talk to it."""
+    if measurements is None:
+        measurements = (BOOT / "ima.list").read_bytes()
     with tempfile.TemporaryDirectory() as folder:
         emulator, environment = started(folder)
         try:
             wait_for(emulator, environment)
-            words = [*event_extensions(), *entry_extensions((BOOT / "ima.list").read_bytes())]
+            words = [*event_extensions(), *entry_extensions(measurements)]
             subprocess.run(["tpm2_pcrextend", *words], env=environment, check=True)
             yield environment
         finally:
