@@ -33,7 +33,7 @@ CHECKPOINTS = "SELECT machine, checkpoint FROM checkpoints"
 
 # Reads a list in an object store that is a class of fsspec, from some bytes on, and prints the ranges that it is asked for.
 RANGES = """
-import fsspec
+import fsspec, math
 from fleet_verify.work import read_input
 from fsspec.spec import AbstractBufferedFile, AbstractFileSystem
 DATA = bytes(range(251)) * 80_000
@@ -47,7 +47,7 @@ class Store(AbstractFileSystem):
 fsspec.register_implementation("store", Store)
 for start in (0, 1_000_003, len(DATA) - 1, len(DATA), len(DATA) + 1):
     asked = []
-    data = read_input("store://list", start)
+    data = read_input("store://list", math.inf, start)
     assert data == (None if start > len(DATA) else DATA[start:])
     print(*asked)
 """
