@@ -25,9 +25,11 @@ NONE = "none"
 # Why a machine is refused whose inputs the library takes. Its own lines begin with `refused:`.
 NOTHING_EXPECTED = "nothing to compare: no register is expected"
 
-# The register that IMA alone extends. A machine is refused whose log extends it: entries that were cut from the list could be there.
+# The register that IMA alone extends, and no other. A machine is refused whose log extends it: entries that were cut from the list could be
+# there. One is refused whose list extends another: events that were cut from the log could be there, or entries confirmed by no register.
 LIST_REGISTER = 10
 IN_LOG = "log: its events extend register 10, as IMA alone may"
+IN_LIST = "list: its entries extend another register than 10, as IMA may not"
 
 # Why a file is not read, or not to its end.
 NOT_REGULAR = "it is no regular file"
@@ -105,7 +107,7 @@ def require_fitness(require: str, is_poll: bool) -> None:
 
     Else there is an ImportError, or a ValueError. The library reads that text before the inputs."""
     import ima_verify
-    from ima_verify import log_extends  # noqa: F401
+    from ima_verify import list_registers, log_extends  # noqa: F401
 
     if is_poll:
         from ima_verify import Session  # noqa: F401
@@ -215,11 +217,19 @@ def read_inputs(paths: Sequence[str], limit: float, start: int) -> Tuple[Fields,
     return fields, inputs
 
 
+def extends_others(measurements: bytes) -> bool:
+    """Whether an entry of a list is of another register than IMA's, which then, after the list alone, is not at its reset value. (`entries`
+    of the library would make an object of each.)"""
+    from ima_verify import list_registers
+
+    return any(found.register != LIST_REGISTER for found in list_registers(measurements))
+
+
 def verdict_on(
     paths: Sequence[str], require: str, limit: float, is_poll: bool = False, checkpoint: Optional[bytes] = None
 ) -> Fields:
-    """The fields of the row of a machine with these paths, in a poll with the next checkpoint. Of the list only what follows the
-    checkpoint is read, if there is one."""
+    """The fields of the row of a machine with these paths, in a poll, if it matches, with the next checkpoint. Of the list only what follows
+    the checkpoint is read, if there is one."""
     import ima_verify
 
     fields, inputs = read_inputs(paths, limit, list_start(checkpoint))
@@ -233,7 +243,8 @@ def verdict_on(
         if is_poll:
             session = session_on(log, expected, require, checkpoint)
             verdict = session.more(measurements or b"")
-            next_checkpoint["checkpoint"] = session.state.decode()
+            if verdict.matches:
+                next_checkpoint["checkpoint"] = session.state.decode()
         else:
             assert measurements is not None
             verdict = required_verdict(log, measurements, expected, require)
@@ -247,6 +258,8 @@ def verdict_on(
         return {**fields, "verdict": "refused", "cause": NOTHING_EXPECTED}
     if ima_verify.log_extends(log, LIST_REGISTER):
         return {**fields, "verdict": "refused", "cause": IN_LOG}
+    if extends_others(measurements):
+        return {**fields, "verdict": "refused", "cause": IN_LIST}
     return {**fields, **verdict_fields(verdict), **next_checkpoint}
 
 
