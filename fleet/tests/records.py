@@ -134,7 +134,7 @@ def test_other_paths(tools, check, fleet):
     """Verdicts of which a path is another are refused, whichever of the three."""
     table, machines = tools.folder / "all match.db", tools.folder / "moved.tsv"
     *lines, last = fleet.table.read_text().splitlines()
-    name, paths = last.split("\t")[0], [str(path) for path in list(fleet.files.values())[-1]]
+    name, *paths = last.split("\t")
     for part in range(3):
         moved = [f"{path}.other" if number == part else path for number, path in enumerate(paths)]
         machines.write_text("".join(f"{line}\n" for line in (*lines, "\t".join([name, *moved]))))
