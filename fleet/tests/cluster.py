@@ -14,6 +14,7 @@ from typing import Optional, Tuple
 ROOT = Path(__file__).resolve().parents[2]
 SECONDS = 240  # (a limit for what is to come: the computer may have much else to do)
 REQUIRE = "sha256:0-10"  # of all runs that ask for nothing else
+SHARED = ("--progress", "1", "--deadline", str(SECONDS))  # (a machine may wait at a gate)
 
 
 def python_with_dask():
@@ -91,13 +92,13 @@ class Processes:
         gate.unlink()
 
     def client(self, *words, said="clients", output=subprocess.PIPE, **given):
-        return self.start([ROOT / "fleet/verify.py", "--require", REQUIRE, "--progress", "1", *words], said, output, **given)
+        return self.start([ROOT / "fleet/verify.py", "--require", REQUIRE, *SHARED, *words], said, output, **given)
 
     def verify(self, *words, require: Optional[str] = REQUIRE, seconds: float = SECONDS, **given: str) -> Tuple[int, str, str]:
         """The status of a run, and what it printed on both streams. It has no `--require` if that is None."""
         words = [*words, *([] if require is None else [f"--require={require}"])]
         ended = subprocess.run(
-            [self.python, ROOT / "fleet/verify.py", "--progress", "1", *map(str, words)],
+            [self.python, ROOT / "fleet/verify.py", *SHARED, *map(str, words)],
             env={**self.environment, **given}, cwd=self.folder, text=True, capture_output=True, timeout=seconds,
         )
         with open(self.folder / "clients", "a") as clients:
