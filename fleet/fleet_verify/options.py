@@ -80,6 +80,10 @@ def add_options(parser: argparse.ArgumentParser) -> None:
         help="how many machines are in flight at most (default: 16000, and no more than take each thread of a worker half a second)",
     )
     parser.add_argument(
+        "--deadline", metavar="SECONDS", type=positive, default=60,
+        help="how long a worker may take for a machine, which is unreadable then (default: 60)",
+    )
+    parser.add_argument(
         "--patience", metavar="SECONDS", type=positive, default=600,
         help="give up if no machine is done for so long (default: 600)",
     )

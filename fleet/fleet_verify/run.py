@@ -146,7 +146,10 @@ class Run:
         machines = [
             (machine.places, None if checkpoint is None else checkpoint.decode("latin-1")) for machine, checkpoint in batch.tasks
         ]
-        request = {"machines": machines, "require": self.options.require, "is_poll": self.options.poll, "seconds": BATCH_SECONDS}
+        request = {
+            "machines": machines, "require": self.options.require, "is_poll": self.options.poll, "seconds": BATCH_SECONDS,
+            "deadline": self.options.deadline,
+        }
         batch.future = self.connection.client.submit(
             verify_batch, json.dumps(request), key=f"{self.name}-{next(self.numbers)}", retries=TRIES - 1, pure=False,
         )

@@ -12,7 +12,7 @@ VERDICTS = ("match", "differ", "refused", "unreadable", "failed")
 
 # Marks a file as a table of verdicts, and says which form its tables have.
 _APPLICATION = 0x494D4156
-_FORM = 5
+_FORM = 6
 _SECONDS = 60
 
 _TABLES = f"""
@@ -75,13 +75,19 @@ class Verdicts:
             self.connection.execute(query).fetchone()[0]
             for query in ("PRAGMA application_id", "PRAGMA user_version", "SELECT count(*) FROM sqlite_master")
         )
-        if (application, form, tables) == (0, 0, 0):
-            self.connection.executescript(_TABLES)
-        elif application != _APPLICATION:
+        is_new = (application, form, tables) == (0, 0, 0)
+        if not is_new and application != _APPLICATION:
             raise BadVerdicts("it is another file of SQLite")
-        elif form != _FORM:
+        if not is_new and form != _FORM:
             raise BadVerdicts("another version of this program made it: take another TABLE")
+        self.connection.execute("PRAGMA journal_mode = WAL")  # (else who reads the table holds up who writes it)
+        if is_new:
+            self.connection.executescript(_TABLES)
         self.connection.execute("PRAGMA foreign_keys = ON")
+
+    def close(self) -> None:
+        """Ends the use of the table, which then is one file again if nobody else has it open."""
+        self.connection.close()
 
     def recorded(self, machines: Sequence[Machine], is_poll: bool) -> Dict[str, str]:
         """The verdict of each machine that has one, by name. All rows must be of these machines, with the same paths, and given

@@ -6,7 +6,8 @@ import signal
 import sqlite3
 import sys
 import time
-from typing import Dict, List, Sequence, Tuple
+from contextlib import closing, contextmanager
+from typing import Dict, Iterator, Sequence
 
 from .connection import Connection, connect
 from .ending import SIGNALLED, SIGNALS, CannotGoOn, NotStarted, complain, stop_simply
@@ -105,38 +106,45 @@ def judge(options: argparse.Namespace) -> None:
         raise NotStarted(fault) from None
 
 
-def open_tables(options: argparse.Namespace) -> Tuple[List[Machine], Verdicts, Dict[str, str]]:
-    """The machines, the table of verdicts, and by name the verdict of each machine that has one."""
+@contextmanager
+def refusing(path: str) -> Iterator[None]:
+    """Nothing is started with this table, if something is wrong with it."""
     try:
-        machines = read_machines(options.machines)
-    except (OSError, BadTable) as fault:
-        raise NotStarted(f"{options.machines}: {fault}") from None
-    try:
-        table = Verdicts(options.table, options.require)
-        if options.poll:
-            table.require_whole()
-        recorded = table.recorded(machines, options.poll)
-        if options.again is None:
-            table.require_no_end()
-    except (sqlite3.Error, BadVerdicts) as fault:
-        raise NotStarted(f"{options.table}: {fault}") from None
-    return machines, table, recorded
+        yield
+    except (OSError, sqlite3.Error, BadTable, BadVerdicts) as fault:
+        raise NotStarted(f"{path}: {fault}") from None
+
+
+def recorded_in(table: Verdicts, machines: Sequence[Machine], options: argparse.Namespace) -> Dict[str, str]:
+    """By name the verdict of each machine that has one in the table, with which this run may go on."""
+    if options.poll:
+        table.require_whole()
+    recorded = table.recorded(machines, options.poll)
+    if options.again is None:
+        table.require_no_end()
+    return recorded
 
 
 def verify_fleet(options: argparse.Namespace) -> int:
     """Verifies what is to be verified, prints how many machines have each verdict, and gives the exit status."""
     judge(options)
-    machines, table, recorded = open_tables(options)
-    standing, since = table.standing(options.again or [])
-    if standing:
-        complain(f"verdicts that stand from earlier runs: {standing}, the oldest since {since}; --again gives new ones", 0)
-    try:
-        asyncio.run(run(options, table, machines, recorded))
-    finally:
-        stop_simply()
-    counts = table.counts()
-    if sum(counts.values()) != len(machines):
-        raise CannotGoOn("another run records in this table")
-    print("".join(f"{kind} {counts[kind]}\n" for kind in VERDICTS), end="", flush=True)
-    table.end(now())  # (not before, so that the same command goes on until the counts are told)
+    with refusing(options.machines):
+        machines = read_machines(options.machines)
+    with refusing(options.table):
+        table = Verdicts(options.table, options.require)
+    with closing(table):
+        with refusing(options.table):
+            recorded = recorded_in(table, machines, options)
+        standing, since = table.standing(options.again or [])
+        if standing:
+            complain(f"verdicts that stand from earlier runs: {standing}, the oldest since {since}; --again gives new ones", 0)
+        try:
+            asyncio.run(run(options, table, machines, recorded))
+        finally:
+            stop_simply()
+        counts = table.counts()
+        if sum(counts.values()) != len(machines):
+            raise CannotGoOn("another run records in this table")
+        print("".join(f"{kind} {counts[kind]}\n" for kind in VERDICTS), end="", flush=True)
+        table.end(now())  # (not before, so that the same command goes on until the counts are told)
     return 0 if counts["match"] == len(machines) else 1

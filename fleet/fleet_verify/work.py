@@ -4,10 +4,14 @@ import hashlib
 import json
 import os
 import re
+import stat
+import threading
 import time
 from datetime import datetime, timezone
+from functools import partial
+from queue import Empty, SimpleQueue
 from types import FunctionType
-from typing import Any, Dict, List, Optional, Sequence, Tuple
+from typing import Any, Callable, Dict, Iterator, List, Optional, Sequence, Tuple
 
 PARTS = ("log", "list", "expected")
 FILES = ("firmware.log", "ima.list", "expected.txt")
@@ -21,9 +25,17 @@ NONE = "none"
 # Why a machine is refused whose inputs the library takes. Its own lines begin with `refused:`.
 NOTHING_EXPECTED = "nothing to compare: no register is expected"
 
-# The register that IMA alone extends. A machine is refused whose log extends it: entries that were cut from the list could be there.
+# The register that IMA alone extends, and no other. A machine is refused whose log extends it: entries that were cut from the list could be
+# there. One is refused whose list extends another: events that were cut from the log could be there, or entries confirmed by no register.
 LIST_REGISTER = 10
 IN_LOG = "log: its events extend register 10, as IMA alone may"
+IN_LIST = "list: its entries extend another register than 10, as IMA may not"
+
+# Why a file is not read, or not to its end.
+NOT_REGULAR = "it is no regular file"
+LATE = "no answer in time"
+# How much longer than a machine may take its answer is waited for: where a file is only slow, that says which.
+GRACE_SECONDS = 1.0
 
 # The library's line on a checkpoint that is not as it was made, and why no verdict goes on from one of a longer list.
 DAMAGED = "refused: checkpoint fault 1"
@@ -95,7 +107,7 @@ def require_fitness(require: str, is_poll: bool) -> None:
 
     Else there is an ImportError, or a ValueError. The library reads that text before the inputs."""
     import ima_verify
-    from ima_verify import log_extends  # noqa: F401
+    from ima_verify import list_registers, log_extends  # noqa: F401
 
     if is_poll:
         from ima_verify import Session  # noqa: F401
@@ -119,40 +131,59 @@ def list_start(checkpoint: Optional[bytes]) -> int:
         return 0
 
 
-def read_input(path: str, start: int = 0) -> Optional[bytes]:
-    """The bytes of an input from this one on, but at most one more than are allowed; None if there are fewer before."""
+def read_input(path: str, limit: float, start: int = 0) -> Optional[bytes]:
+    """The bytes of an input from this one on, but at most one more than are allowed; None if there are fewer before. A local file must be a
+    regular one: to open another may take for ever."""
     if path.startswith("/"):
-        return read_file(path, start)
+        return read_file(path, limit, start)
     import fsspec
+    from fsspec.implementations.local import LocalFileSystem
 
-    with fsspec.open(path, "rb") as file:
+    place = fsspec.open(path, "rb")
+    if isinstance(place.fs, LocalFileSystem):
+        require_regular(os.stat(place.path))
+    with place as file:
         if start:
             file.seek(0, os.SEEK_END)
             if file.tell() < start:
                 return None
             file.seek(start)
-        data: bytes = file.read(MOST_BYTES + 1)
-        return data
+        return read_rest(file.read, MOST_BYTES + 1, limit)
 
 
-def read_file(path: str, start: int) -> Optional[bytes]:
-    """The same of a file, by calls of the system: to make the objects of `open` takes longer than to read a short one. (Memory is asked for
-    by the file's size, and more only of one that grew, or has none.)"""
-    file = os.open(path, os.O_RDONLY | os.O_CLOEXEC)
+def read_file(path: str, limit: float, start: int) -> Optional[bytes]:
+    """What `read_input` gives of a file, by calls of the system: to make the objects of `open` takes longer than to read a short one. (Memory
+    is asked for by the file's size, and more only of one that grew, or has none.)"""
+    file = os.open(path, os.O_RDONLY | os.O_CLOEXEC | os.O_NONBLOCK | os.O_NOCTTY)
     try:
-        rest = os.fstat(file).st_size - start
+        about = os.fstat(file)
+        require_regular(about)
+        rest = about.st_size - start
         if start:
             if rest < 0:
                 return None
             os.lseek(file, start, os.SEEK_SET)
-        pieces = [os.read(file, min(max(rest, 0), MOST_BYTES) + 1)]
-        left = MOST_BYTES + 1 - len(pieces[0])
-        while left and (piece := os.read(file, min(left, PIECE))):
-            pieces.append(piece)
-            left -= len(piece)
-        return b"".join(pieces)
+        return read_rest(partial(os.read, file), min(max(rest, 0), MOST_BYTES) + 1, limit)
     finally:
         os.close(file)
+
+
+def require_regular(about: os.stat_result) -> None:
+    if not stat.S_ISREG(about.st_mode):
+        raise OSError(NOT_REGULAR)
+
+
+def read_rest(read: Callable[[int], bytes], first: int, limit: float) -> bytes:
+    """What a file gives, of which one call may read less than it asks for, until it ends; but at most one byte more than is allowed. The
+    first call asks for so many bytes, and none comes after this time."""
+    pieces = [read(first)]
+    left = MOST_BYTES + 1 - len(pieces[0])
+    while pieces[-1] and left > 0:
+        if time.monotonic() > limit:
+            raise TimeoutError(LATE)
+        pieces.append(read(min(left, PIECE)))
+        left -= len(pieces[-1])
+    return b"".join(pieces)
 
 
 def verdict_fields(verdict: Any) -> Fields:
@@ -166,7 +197,7 @@ def verdict_fields(verdict: Any) -> Fields:
     }
 
 
-def read_inputs(paths: Sequence[str], start: int) -> Tuple[Fields, List[Optional[bytes]]]:
+def read_inputs(paths: Sequence[str], limit: float, start: int) -> Tuple[Fields, List[Optional[bytes]]]:
     """What a machine's row says of its inputs, of the list from this byte on, and the bytes of each; or a row that says which is none.
 
     There is None in place of a list that has fewer bytes before."""
@@ -174,7 +205,7 @@ def read_inputs(paths: Sequence[str], start: int) -> Tuple[Fields, List[Optional
     inputs: List[Optional[bytes]] = []
     for part, path in zip(PARTS, paths):
         try:
-            data = read_input(path, start if part == "list" else 0)
+            data = read_input(path, limit, start if part == "list" else 0)
         except (MemoryError, ImportError):
             raise
         except Exception as fault:  # whatever the driver of an object store raises
@@ -186,12 +217,22 @@ def read_inputs(paths: Sequence[str], start: int) -> Tuple[Fields, List[Optional
     return fields, inputs
 
 
-def verdict_on(paths: Sequence[str], require: str, is_poll: bool = False, checkpoint: Optional[bytes] = None) -> Fields:
-    """The fields of the row of a machine with these paths, in a poll with the next checkpoint. Of the list only what follows the
-    checkpoint is read, if there is one."""
+def extends_others(measurements: bytes) -> bool:
+    """Whether an entry of a list is of another register than IMA's, which then, after the list alone, is not at its reset value. (`entries`
+    of the library would make an object of each.)"""
+    from ima_verify import list_registers
+
+    return any(found.register != LIST_REGISTER for found in list_registers(measurements))
+
+
+def verdict_on(
+    paths: Sequence[str], require: str, limit: float, is_poll: bool = False, checkpoint: Optional[bytes] = None
+) -> Fields:
+    """The fields of the row of a machine with these paths, in a poll, if it matches, with the next checkpoint. Of the list only what follows
+    the checkpoint is read, if there is one."""
     import ima_verify
 
-    fields, inputs = read_inputs(paths, list_start(checkpoint))
+    fields, inputs = read_inputs(paths, limit, list_start(checkpoint))
     fields["interface_version"] = ima_verify.version()
     if not inputs:
         return fields
@@ -202,7 +243,8 @@ def verdict_on(paths: Sequence[str], require: str, is_poll: bool = False, checkp
         if is_poll:
             session = session_on(log, expected, require, checkpoint)
             verdict = session.more(measurements or b"")
-            next_checkpoint["checkpoint"] = session.state.decode()
+            if verdict.matches:
+                next_checkpoint["checkpoint"] = session.state.decode()
         else:
             assert measurements is not None
             verdict = required_verdict(log, measurements, expected, require)
@@ -216,30 +258,61 @@ def verdict_on(paths: Sequence[str], require: str, is_poll: bool = False, checkp
         return {**fields, "verdict": "refused", "cause": NOTHING_EXPECTED}
     if ima_verify.log_extends(log, LIST_REGISTER):
         return {**fields, "verdict": "refused", "cause": IN_LOG}
+    if extends_others(measurements):
+        return {**fields, "verdict": "refused", "cause": IN_LIST}
     return {**fields, **verdict_fields(verdict), **next_checkpoint}
 
 
-def polled_verdict(paths: Sequence[str], require: str, checkpoint: Optional[bytes]) -> Fields:
+def polled_verdict(paths: Sequence[str], require: str, limit: float, checkpoint: Optional[bytes]) -> Fields:
     """The fields of the row of a machine in a poll, from the checkpoint on only if that gives a match.
 
     Else the verdict is that on the whole list, which may be of another boot. No damaged checkpoint is passed over."""
     if checkpoint is not None:
-        fields = verdict_on(paths, require, True, checkpoint)
+        fields = verdict_on(paths, require, limit, True, checkpoint)
         if fields["verdict"] == "match" or fields.get("cause") == DAMAGED:
             return fields
-    return verdict_on(paths, require, True)
+    return verdict_on(paths, require, limit, True)
 
 
-def answer_on(paths: Sequence[str], checkpoint: Optional[str], require: str, is_poll: bool) -> Fields:
-    """The fields of the row of a machine; or UNFIT or TROUBLED in place of a verdict, and why."""
+def answer_on(paths: Sequence[str], checkpoint: Optional[str], require: str, is_poll: bool, seconds: float) -> Fields:
+    """The fields of the row of a machine, whose files are read in so many seconds; or UNFIT or TROUBLED in place of a verdict, and why."""
+    limit = time.monotonic() + seconds
     try:
         if is_poll:
-            return polled_verdict(paths, require, None if checkpoint is None else checkpoint.encode("latin-1"))
-        return verdict_on(paths, require)
+            return polled_verdict(paths, require, limit, None if checkpoint is None else checkpoint.encode("latin-1"))
+        return verdict_on(paths, require, limit)
     except ImportError as fault:  # of the package, the library, or the driver of an object store: no verdict on the machine
         return {"verdict": UNFIT, "cause": cause_of(fault)}
     except Exception as fault:
         return {"verdict": TROUBLED, "cause": cause_of(fault)}
+
+
+def answer_machines(asked: Fields, came: "SimpleQueue[Optional[Fields]]") -> None:
+    """Puts the answers on the first machines of a batch into this queue, each when it is there: on one at least, and on no other after the
+    batch's time. Then comes None."""
+    start = time.monotonic()
+    for places, checkpoint in asked["machines"]:
+        answer = answer_on(paths_of(places), checkpoint, asked["require"], asked["is_poll"], asked["deadline"])
+        came.put({**answer, "places": places, "time": now()})
+        if answer["verdict"] == UNFIT or time.monotonic() - start > asked["seconds"]:
+            break
+    came.put(None)
+
+
+def answers_in_time(asked: Fields) -> Iterator[Fields]:
+    """The answers on the first machines of a batch, by a thread of their own. A machine on which none comes in time is the last: no thread can
+    be stopped, so this one is left, and what it answers later is dropped."""
+    came: "SimpleQueue[Optional[Fields]]" = SimpleQueue()
+    threading.Thread(target=answer_machines, args=(asked, came), daemon=True).start()
+    for places, _ in asked["machines"]:
+        try:
+            answer = came.get(timeout=asked["deadline"] + GRACE_SECONDS)
+        except Empty:
+            yield {"verdict": "unreadable", "cause": f"TimeoutError: {LATE}", "places": places, "time": now()}
+            return
+        if answer is None:
+            return
+        yield answer
 
 
 def verify_batch(request: str) -> str:
@@ -248,18 +321,13 @@ def verify_batch(request: str) -> str:
     The first line is JSON, where `seconds` is what they took. Each other line is a report, in the order of the answers that have one."""
     from distributed import get_worker
 
-    asked = json.loads(request)
     answers: List[Fields] = []
     reports: List[str] = []
     start = time.monotonic()
-    for places, checkpoint in asked["machines"]:
-        answer = answer_on(paths_of(places), checkpoint, asked["require"], asked["is_poll"])
+    for answer in answers_in_time(json.loads(request)):
         if answer["verdict"] in REPORTED:
             reports.append(answer.pop("report"))
-        answer.update(places=places, time=now())
         answers.append(answer)
-        if answer["verdict"] == UNFIT or time.monotonic() - start > asked["seconds"]:
-            break
     told = {"worker": get_worker().address, "answers": answers, "seconds": time.monotonic() - start}
     return "\n".join([json.dumps(told), *reports])
 

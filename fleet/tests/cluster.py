@@ -14,6 +14,7 @@ from typing import Optional, Tuple
 ROOT = Path(__file__).resolve().parents[2]
 SECONDS = 240  # (a limit for what is to come: the computer may have much else to do)
 REQUIRE = "sha256:0-10"  # of all runs that ask for nothing else
+SHARED = ("--progress", "1", "--deadline", str(SECONDS))  # (a machine may wait at a gate)
 
 
 def python_with_dask():
@@ -72,12 +73,12 @@ class Processes:
         """A SIGTERM ends this program as an error does, so that it ends what it started."""
         signal.signal(signal.SIGTERM, lambda *_: sys.exit(1))
 
-    def start(self, words, said="errors", **given):
-        """Starts a process of this Python. What it writes to standard error goes to the file of the name `said`."""
+    def start(self, words, said="errors", output=subprocess.PIPE, **given):
+        """Starts a process of this Python. What it writes to standard error goes to the file of the name `said`, and its output there."""
         with open(self.folder / said, "a") as errors:
             process = subprocess.Popen(
                 [self.python, *map(str, words)], env={**self.environment, **given}, cwd=self.folder, text=True,
-                stdin=subprocess.DEVNULL, stdout=subprocess.PIPE, stderr=errors, start_new_session=True,
+                stdin=subprocess.DEVNULL, stdout=output, stderr=errors, start_new_session=True,
             )
         self.started.append(process)
         return process
@@ -90,14 +91,14 @@ class Processes:
         yield
         gate.unlink()
 
-    def client(self, *words, said="clients", **given):
-        return self.start([ROOT / "fleet/verify.py", "--require", REQUIRE, "--progress", "1", *words], said, **given)
+    def client(self, *words, said="clients", output=subprocess.PIPE, **given):
+        return self.start([ROOT / "fleet/verify.py", "--require", REQUIRE, *SHARED, *words], said, output, **given)
 
     def verify(self, *words, require: Optional[str] = REQUIRE, seconds: float = SECONDS, **given: str) -> Tuple[int, str, str]:
         """The status of a run, and what it printed on both streams. It has no `--require` if that is None."""
         words = [*words, *([] if require is None else [f"--require={require}"])]
         ended = subprocess.run(
-            [self.python, ROOT / "fleet/verify.py", "--progress", "1", *map(str, words)],
+            [self.python, ROOT / "fleet/verify.py", *SHARED, *map(str, words)],
             env={**self.environment, **given}, cwd=self.folder, text=True, capture_output=True, timeout=seconds,
         )
         with open(self.folder / "clients", "a") as clients:

@@ -3,15 +3,18 @@ NOTED_CALLS, a line each.
 
 A machine is known by its number, that of the empty lines at the end of its expected registers. The machines DEADLY kill their
 worker, the machine LARGE gets no memory, and on the machine LYING the worker answers that it matches, whatever the report says. While
-there is a file GATE, the machines from the number that it has on wait."""
+there is a file GATE, the machines from the number that it has on wait. Of an object `stuck://` nothing ever comes."""
 
 import dataclasses
 import os
 import signal
+import threading
 import time
 from pathlib import Path
 
+import fsspec
 import ima_verify
+from fsspec.spec import AbstractFileSystem
 
 SECONDS = 0.01
 if not hasattr(ima_verify, "unnoted"):  # (Dask may load this twice)
@@ -62,4 +65,12 @@ def note(number):
         raise MemoryError
 
 
+class Stuck(AbstractFileSystem):
+    """An object store that never answers."""
+
+    def _open(self, path, mode, **given):
+        threading.Event().wait()
+
+
 ima_verify.report, ima_verify.Session = noted, Noted
+fsspec.register_implementation("stuck", Stuck, clobber=True)

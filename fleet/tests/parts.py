@@ -17,7 +17,7 @@ from fleet_verify.work import verify_batch
 folder, require = sys.argv[1:]
 paths = [f"{folder}/{file}" for file in ("firmware.log", "ima.list", "expected.txt")]
 for seconds in (0, 1000):
-    request = {"machines": [(paths, None)] * 5, "require": require, "is_poll": False, "seconds": seconds}
+    request = {"machines": [(paths, None)] * 5, "require": require, "is_poll": False, "seconds": seconds, "deadline": 60}
     told, *reports = verify_batch(json.dumps(request)).split("\\n")
     print([answer["verdict"] for answer in json.loads(told)["answers"]], len(reports))
 """
@@ -102,7 +102,7 @@ class Client:
         pass
 async def stop(table, seconds):
     client, verdicts = Client(), Verdicts(table, "none")
-    options = SimpleNamespace(in_flight=2, poll=False, require="none", patience=600)
+    options = SimpleNamespace(in_flight=2, poll=False, require="none", patience=600, deadline=60)
     show = SimpleNamespace(show=lambda *_: None)
     ledger = Ledger(verdicts, MACHINES, {}, False, lambda *_: None)
     running = asyncio.create_task(Run(client, ledger, show, options).verify())
@@ -142,12 +142,13 @@ CAUSES_WANTED = [
 
 # Prints the paths of machines in folders, and what is said of the last, which has no such file.
 FOLDERS = """
+import math
 from fleet_verify.machines import Machine
 from fleet_verify.work import read_inputs
 for folder in ("/", "/srv/boot/", "s3://bucket/", "s3://bucket/x", "file:///"):
     machine = Machine("machine", (folder,))
     print(machine.paths[0])
-print(read_inputs(machine.paths, 0)[0]["cause"])
+print(read_inputs(machine.paths, math.inf, 0)[0]["cause"])
 """
 FOLDERS_WANTED = [
     "/firmware.log", "/srv/boot/firmware.log", "s3://bucket/firmware.log", "s3://bucket/x/firmware.log", "file:///firmware.log",

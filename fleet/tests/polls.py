@@ -18,6 +18,7 @@ from tables import change, query, rows_of
 
 sys.path.append(str(ROOT / "bench"))
 import inputs  # noqa: E402
+from reference.log import Event  # noqa: E402
 from reference.measurement_list import list_spelling  # noqa: E402
 from reference.registers import SHA256  # noqa: E402
 
@@ -28,12 +29,14 @@ FILES = (("firmware.log", "ima.list", "expected.txt"), ("log", "list", "expected
 GONE = "list: FileNotFoundError: [Errno 2] No such file or directory"
 DAMAGED = "refused: checkpoint fault 1"
 NOTHING = "nothing to compare: no register is expected"
+IN_LOG = "log: its events extend register 10, as IMA alone may"
+IN_LIST = "list: its entries extend another register than 10, as IMA may not"
 ROWS = "SELECT machine, verdict, cause, list_from, list_sha256 FROM verdicts"
 CHECKPOINTS = "SELECT machine, checkpoint FROM checkpoints"
 
 # Reads a list in an object store that is a class of fsspec, from some bytes on, and prints the ranges that it is asked for.
 RANGES = """
-import fsspec
+import fsspec, math
 from fleet_verify.work import read_input
 from fsspec.spec import AbstractBufferedFile, AbstractFileSystem
 DATA = bytes(range(251)) * 80_000
@@ -47,7 +50,7 @@ class Store(AbstractFileSystem):
 fsspec.register_implementation("store", Store)
 for start in (0, 1_000_003, len(DATA) - 1, len(DATA), len(DATA) + 1):
     asked = []
-    data = read_input("store://list", start)
+    data = read_input("store://list", math.inf, start)
     assert data == (None if start > len(DATA) else DATA[start:])
     print(*asked)
 """
@@ -63,15 +66,19 @@ Verdicts(sys.argv[1], "sha256:0-10")
 KINDS = {
     10: "restarted, shorter", 20: "restarted, longer", 30: "restarted, other log", 40: "tampered before", 50: "tampered after",
     60: "gone", 70: "ahead", 80: "damaged", 90: "damaged, shorter", 100: "other version", 110: "no text", 120: "lost",
-    130: "still", 140: "emptied", 150: "expects nothing", 160: "cut",
+    130: "still", 140: "emptied", 150: "expects nothing", 160: "cut", 170: "hiding", 180: "hiding later", 190: "other register",
+    5: "expects less",
 }
 
 
 class Boot:
-    """A log, and the entries that follow it; `first` tells apart boots with the same log."""
+    """A log, and the entries that follow it; `first` tells apart boots with the same log. In one that hides entries the log has one of
+    these as an event."""
 
-    def __init__(self, events, first):
+    def __init__(self, events, first, hides=False):
         log = inputs.made_log([SHA256], events)
+        if hides:
+            log.events.append(Event(10, inputs.EV_EVENT_TAG, {SHA256.identifier: SHA256.hash(b"hidden")}, b""))
         measurements = list(inputs.made_measurements(first + MOST_ENTRIES))[first:]
         self.read_log, self.log, self.entries = log, log.spelling(), inputs.made_entries(log, measurements)
 
@@ -82,8 +89,13 @@ class Boot:
     def expected(self, count):
         return inputs.expected_text(inputs.expected_after(self.read_log, self.entries[:count]))
 
+    def with_other_register(self, front, count):
+        """A list whose entries are of another register than IMA's after the first ones, and the registers that it makes."""
+        entries = self.entries[:front] + [entry._replace(register=11) for entry in self.entries[front:count]]
+        return list_spelling(entries), inputs.expected_text(inputs.expected_after(self.read_log, entries))
 
-BOOT, AGAIN, OTHER = Boot(24, 0), Boot(24, 1000), Boot(25, 2000)
+
+BOOT, AGAIN, OTHER, HIDING = Boot(24, 0), Boot(24, 1000), Boot(25, 2000), Boot(24, 0, hides=True)
 
 
 @dataclass
@@ -133,6 +145,8 @@ class Growing:
             boot, count = AGAIN, 5
         elif poll == 3 and self.kind.startswith("restarted"):
             boot, count = (OTHER if "log" in self.kind else AGAIN), MOST_ENTRIES
+        elif self.kind == "hiding" or poll == 3 and self.kind == "hiding later":
+            boot = HIDING
         measurements, expected = boot.list(count), boot.expected(count)
         if poll == 3 and self.kind == "cut":  # (while the registers stay as they were at the checkpoint)
             measurements, expected = boot.list(self.count(2) - 1), boot.expected(self.count(2))
@@ -145,6 +159,10 @@ class Growing:
             measurements = b""
         if poll == 3 and self.kind == "expects nothing":
             expected = b""
+        if poll == 3 and self.kind == "expects less":
+            expected = b"".join(expected.splitlines(keepends=True)[:10])
+        if poll == 3 and self.kind == "other register":
+            measurements, expected = boot.with_other_register(self.count(2), count)
         return boot.log, measurements, expected + self.number * b"\n"
 
     def write(self, poll):
@@ -160,12 +178,21 @@ class Growing:
         found = (0, None) if start is None else (start, hashlib.sha256(data[start:]).hexdigest())
         return (self.name, verdict, cause, *found)
 
+    def early_row(self, poll):
+        """What must come of it at the first or the second poll."""
+        if self.kind == "hiding":
+            return self.row("refused", IN_LOG, poll=poll)
+        if poll == 2 and self.kind == "ahead":
+            return self.row("differ", poll=poll)
+        return self.row(start=self.start(poll), poll=poll)
+
     def third_row(self):
         """What must come of it at the third poll."""
         before = self.start(3)
         refused = {
             "tampered after": (self.replay_fault, 0), "damaged": (DAMAGED, before),
             "damaged, shorter": (DAMAGED, before), "no text": (DAMAGED, 0), "expects nothing": (NOTHING, 0),
+            "hiding": (IN_LOG, 0), "hiding later": (IN_LOG, 0), "other register": (IN_LIST, 0),
         }
         if self.kind in refused:
             cause, start = refused[self.kind]
@@ -173,9 +200,9 @@ class Growing:
             return (*row[:4], None) if self.kind == "damaged, shorter" else row
         if self.kind == "gone":
             return self.row("unreadable", GONE, None)
-        if self.kind in ("emptied", "cut"):
+        if self.kind in ("emptied", "cut", "expects less"):
             return self.row("differ")
-        is_whole = self.kind.startswith("restarted") or self.kind in ("other version", "lost")
+        is_whole = self.kind.startswith("restarted") or self.kind in ("other version", "lost", "ahead")
         return self.row(start=0 if is_whole else before)
 
     def whole_row(self):
@@ -184,7 +211,9 @@ class Growing:
             return self.row("refused", self.replay_fault)
         if self.kind == "expects nothing":
             return self.row("refused", NOTHING)
-        return self.row("differ" if self.kind in ("emptied", "cut") else "match")
+        if self.kind in ("hiding", "hiding later", "other register", "emptied", "cut", "expects less"):
+            return self.third_row()
+        return self.row()
 
 
 @dataclass
@@ -215,7 +244,7 @@ class Polls:
         told = errors if status > 1 else ""
         self.check(f"{title}: status and counts", (status, output, told), (0 if counts["match"] == len(rows) else 1, lines, ""))
         self.check(f"{title}: verdicts, and what was read of the lists", dict(keyed(query(verdicts, ROWS))), dict(keyed(rows)))
-        kept = {name for name, verdict, cause, *_ in rows if verdict in ("match", "differ") or cause == DAMAGED}
+        kept = {name for name, verdict, cause, *_ in rows if verdict == "match" or cause == DAMAGED}
         self.check(f"{title}: who has a checkpoint", {name for name, _ in query(verdicts, CHECKPOINTS)}, kept)
 
     def check_changes(self, title, verdicts, wanted):
@@ -273,13 +302,12 @@ def test_ranges(polls):
 
 def test_growth(polls, verdicts):
     polls.write(1)
-    first = [machine.row(poll=1) for machine in polls.machines]
+    first = [machine.early_row(1) for machine in polls.machines]
     polls.check_poll("the first poll", verdicts, first)
     polls.check_changes("the first poll", verdicts, [row[:3] for row in first])
     polls.write(2)
-    second = [machine.row(start=machine.start(2), poll=2) for machine in polls.machines if machine.kind != "ahead"]
+    polls.check_poll("the second poll", verdicts, [machine.early_row(2) for machine in polls.machines])
     (ahead,) = (machine for machine in polls.machines if machine.kind == "ahead")
-    polls.check_poll("the second poll", verdicts, [*second, ahead.row("differ", poll=2)])
     polls.check_changes("the second poll", verdicts, [(ahead.name, "differ", None)])
 
 

@@ -1,13 +1,14 @@
 """What a table of verdicts has, for the tests."""
 
 import sqlite3
+from contextlib import closing
 
-from cluster import SECONDS
+from cluster import REQUIRE, SECONDS
 
 
 def query(table, text, *values):
     """The answer of SQLite; an empty one, if there is no such table yet."""
-    with sqlite3.connect(table, timeout=SECONDS) as connection:
+    with closing(sqlite3.connect(table, timeout=SECONDS)) as connection:
         try:
             return connection.execute(text, values).fetchall()
         except sqlite3.OperationalError:
@@ -16,8 +17,14 @@ def query(table, text, *values):
 
 def change(table, text, *values):
     """Changes a table by another hand than that of fleet/verify.py."""
-    with sqlite3.connect(table, timeout=SECONDS) as connection:
+    with closing(sqlite3.connect(table, timeout=SECONDS)) as connection, connection:
         connection.execute(text, values)
+
+
+def record_beside(table, name, verdict):
+    """Records a verdict by another hand."""
+    text = "INSERT INTO verdicts (machine, verdict, required, log, list, expected, time) VALUES (?, ?, ?, '', '', '', 'now')"
+    change(table, text, name, verdict, REQUIRE)
 
 
 def rows_of(table):
