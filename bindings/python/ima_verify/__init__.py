@@ -281,14 +281,13 @@ def are_apart(log: BytesLike, measurements: BytesLike) -> bool:
     """Whether no event of the log extends register 10, which IMA alone does, and no entry of the list names another.
 
     Otherwise all registers can match though entries were moved from the list into the log, or events from the log into the list. Each part of
-    a list that grows can be asked about by itself. A list is refused as by `list_registers`.
+    a list that grows can be asked about by itself. Inputs are refused as by `registers` and `list_registers`.
 
     >>> ima_verify.are_apart(log, measurements), ima_verify.are_apart(log, bytes([9]) + measurements[1:])
     (True, False)
     """
-    if log_extends(log, _LIST_REGISTER):
-        return False
-    return all(found.register == _LIST_REGISTER for found in list_registers(measurements))
+    in_log, of_list = log_extends(log, _LIST_REGISTER), list_registers(measurements)
+    return not in_log and all(found.register == _LIST_REGISTER for found in of_list)
 
 
 def _room_of_lines(data: BytesLike) -> int:
