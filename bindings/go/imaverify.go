@@ -5,7 +5,7 @@
 // /sys/kernel/security/ima/binary_runtime_measurements, and lines as `sha256 10 <64 hexadecimal digits>` hold.
 //
 // Say which registers a verdict must cover: VerifyRequired(log, list, expected, "sha256:0-10"). That of Verify covers only those that
-// expected names; one on none is no match. Of a log and a list for which AreApart is false a match says nothing. Entries and Events go
+// expected names; one on none is no match. A match covers only a log and a list that are apart (AreApart). Entries and Events go
 // through the inputs themselves. A Session is for a list that grows, and for one that went on after the expected registers were read.
 //
 // A refused input gives an error of the type *RefusedError, and a requirement or a range that is not of its form ErrMalformed; if memory

@@ -241,7 +241,8 @@ func TestLogAndListAreApart(t *testing.T) {
 	event := func(kind int) []byte {
 		return joined(number(10), number(kind), number(1), []byte{0x0b, 0}, ones, ones[:12], number(0))
 	}
-	equal(t, []interface{}{areApart(t, joined(bootLog, event(13)), bootList), areApart(t, joined(bootLog, event(3)), bootList)}, []interface{}{false, true})
+	equal(t, areApart(t, joined(bootLog, event(13)), bootList), false)
+	equal(t, areApart(t, joined(bootLog, event(3)), bootList), true)
 	for _, wrong := range []struct {
 		log, list []byte
 		line      string
@@ -460,7 +461,8 @@ func TestEntriesLongerThanTheBufferTakeASecondCall(t *testing.T) {
 
 func TestRoomOfLongInputsIsPositiveAndLimited(t *testing.T) {
 	const most = 1 << 30
-	for _, size := range []int{0, 1, 1 << 20, 1<<28 - 257, 1 << 28, 1<<29 - 513, 1 << 29, math.MaxInt32, math.MaxInt/4 + 1, math.MaxInt/2 + 1, math.MaxInt} {
+	for _, size := range []int{0, 1, 1 << 20, 1<<28 - 257, 1 << 28, 1<<29 - 513, 1 << 29, math.MaxInt32, math.MaxInt/4 + 1, math.MaxInt/2 + 1,
+		math.MaxInt} {
 		for _, room := range []int{roomOfEntries(size), roomOfLines(size)} {
 			equal(t, room >= 1024 && room <= most && (room == most || room > size), true)
 		}

@@ -13,7 +13,7 @@ bytes-like type; a bytearray, or other memory that can be written, may not chang
 (True, 99)
 
 Say which registers a verdict must cover, as here. Without `require` only those count that `expected` names; a verdict on none is no match.
-Of a log and a list that are not `are_apart` a match says nothing. `entries(measurements)` and `events(log)` go through the inputs themselves.
+A match covers only a log and a list that are apart (`are_apart`). `entries(measurements)` and `events(log)` go through the inputs themselves.
 A `Session` is for a list that grows, and for one that went on after the expected registers were read.
 
 An input that is refused raises `Refused`, and a `require` or `registers` that is not of its form ValueError; if memory runs out, that

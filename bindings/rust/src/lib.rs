@@ -14,9 +14,9 @@
 //! # }
 //! ```
 //!
-//! Say which registers a verdict must cover: that of [`verify`] covers only those that `expected` names; one on none is no match. Of a log and
-//! a list that not [`are_apart`] a match says nothing. [`entries`] and [`events`] go through the inputs themselves. A [`Session`] is for a list that grows, and for one that went on after the
-//! expected registers were read.
+//! Say which registers a verdict must cover: that of [`verify`] covers only those that `expected` names; one on none is no match. A match covers
+//! only a log and a list that are apart ([`are_apart`]). [`entries`] and [`events`] go through the inputs themselves. A [`Session`] is for a list
+//! that grows, and for one that went on after the expected registers were read.
 //!
 //! Any number of threads may call at once.
 

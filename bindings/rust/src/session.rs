@@ -42,20 +42,20 @@ impl Session {
         Self { log: log.to_vec(), expected: expected.to_vec(), require: None, prefix: false, reached: Checkpoint::default() }
     }
 
-    /// The same, where these registers must be among the expected ones, as of [`verify_required`](crate::verify_required); `none` requires
+    /// A session for which these registers must be among the expected ones, as of [`verify_required`](crate::verify_required); `none` requires
     /// nothing, too. From a text that is not of its form, such as an empty one, `more` gives [`Error::Malformed`].
     pub fn require(self, registers: &str) -> Self {
         Self { require: Some(registers.to_owned()), ..self }
     }
 
-    /// The same, where the verdict is that on the confirmed front, if there is one: the list's first entries, as few as give a match. What
+    /// A session whose verdict is that on the confirmed front, if there is one: the list's first entries, as few as give a match. What
     /// comes after them may be new since the registers were read, or damaged; [`Verdict::confirmed`] says how many entries they are, and
     /// [`Verdict::unconfirmed`] what is wrong after them.
     pub fn prefix(self) -> Self {
         Self { prefix: true, ..self }
     }
 
-    /// The same, going on from the state of an earlier session, with a log of the same boot; the expected registers may be others. A state
+    /// A session that goes on from the state of an earlier one, with a log of the same boot; the expected registers may be others. A state
     /// that is not whole, and so an empty one, is refused with [`Kind::Checkpoint`](crate::Kind::Checkpoint), here or by `more`.
     ///
     /// A state is trusted: who can write it can choose the verdict. Never take it from the machine that is judged.
