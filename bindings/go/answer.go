@@ -123,40 +123,43 @@ func (a answer) line() string {
 	return string(bytes.TrimSuffix(a.text, []byte("\n")))
 }
 
-// The verdict on a whole list.
+// The verdict on a whole list. On no registers it is no match, though the report says that it is.
 func (a answer) verdict() (Verdict, error) {
 	return read(a, func(r *reader, o object) Verdict {
-		v := a.verdictIn(r, o)
+		v := a.verdictIn(r, o, true)
 		r.require(v.Confirmed == 0)
 		return v
 	})
 }
 
-func (a answer) verdictIn(r *reader, o object) Verdict {
+// The verdict of a report, where one on no registers may say that it is a match, or may not.
+func (a answer) verdictIn(r *reader, o object, mayMatchNothing bool) Verdict {
 	v := Verdict{Events: r.number(o, "events", math.MaxUint64), Locality: uint8(r.number(o, "locality", math.MaxUint8)),
 		Entries: r.number(o, "entries", math.MaxUint64), Rows: r.rows(o), JSON: a.line()}
 	v.BootAggregate = oneOf(r, o, "boot_aggregate", BootAggregateGood, BootAggregateWrong, BootAggregateNoBank, BootAggregateMissing)
-	v.Matches = r.matches(a.status, o, v.Rows, v.BootAggregate == BootAggregateGood)
+	isGood := v.BootAggregate == BootAggregateGood && (len(v.Rows) > 0 || mayMatchNothing)
+	v.Matches = r.matches(a.status, o, v.Rows, isGood) && len(v.Rows) > 0
 	v.Confirmed, v.Unconfirmed = r.front(o, v.Entries)
 	return v
 }
 
-// The verdict on a list that has so many bytes after a checkpoint, and the next checkpoint, which is of the list that the report is on: of
-// the confirmed front, which only a report of a call that asks for it has, and then exactly if its verdict is a match, else of the whole
-// list.
+// The verdict on a list that has so many bytes after a checkpoint, and the next checkpoint. Only a match has one: of the confirmed front,
+// which the report of a call that asks for it has then, or of the whole list. After any other verdict it is the one before.
 func (a answer) more(state []byte, from checkpoint, size uint64, hasFront bool) (Verdict, checkpoint, error) {
 	reached, isState := checkpointIn(state)
 	v, err := read(a, func(r *reader, o object) Verdict {
-		v := a.verdictIn(r, o)
-		r.require(isState && (v.Confirmed != 0) == (hasFront && a.status == done))
+		v := a.verdictIn(r, o, false)
+		r.require((v.Confirmed != 0) == (hasFront && v.Matches))
+		if !v.Matches {
+			r.require(len(state) == 0 && from.entries <= v.Entries)
+			reached = from
+			return v
+		}
 		entries, least, end := v.Entries, from.bytes+size, from.bytes+size
 		if v.Confirmed != 0 {
 			entries, least = v.Confirmed, from.bytes
 		}
-		r.require(from.entries <= entries && reached.entries == entries && least <= reached.bytes && reached.bytes <= end)
-		if !v.Matches { // (no register confirms anything if there is none)
-			v.Confirmed, v.Unconfirmed = 0, nil
-		}
+		r.require(isState && from.entries <= entries && reached.entries == entries && least <= reached.bytes && reached.bytes <= end)
 		return v
 	})
 	return v, reached, err
@@ -166,20 +169,20 @@ func (a answer) more(state []byte, from checkpoint, size uint64, hasFront bool) 
 func (a answer) listVerdict() (ListVerdict, error) {
 	return read(a, func(r *reader, o object) ListVerdict {
 		v := ListVerdict{Entries: r.number(o, "entries", math.MaxUint64), Rows: r.rows(o), JSON: a.line()}
-		v.Matches = r.matches(a.status, o, v.Rows, v.Entries > 0)
+		v.Matches = r.matches(a.status, o, v.Rows, v.Entries > 0 && len(v.Rows) > 0)
 		return v
 	})
 }
 
 func (a answer) places() (Places, error) {
 	return read(a, func(r *reader, o object) Places {
-		p, located := Places{JSON: a.line()}, true
-		for _, o := range member[[]object](r, o, "registers") {
+		rows := member[[]object](r, o, "registers")
+		p := Places{Located: len(rows) > 0, JSON: a.line()}
+		for _, o := range rows {
 			row := r.placeRow(o)
-			p.Rows, located = append(p.Rows, row), located && row.Place.isReached()
+			p.Rows, p.Located = append(p.Rows, row), p.Located && row.Place.isReached()
 		}
-		r.require(member[bool](r, o, "located") == located && a.status == statusOf(located))
-		p.Located = located && len(p.Rows) > 0
+		r.require(member[bool](r, o, "located") == p.Located && a.status == statusOf(p.Located))
 		return p
 	})
 }

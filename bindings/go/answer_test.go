@@ -226,12 +226,20 @@ func TestReportOfNoRegistersIsNoMatch(t *testing.T) {
 	text := strings.Replace(report, matchingRow, "", 1)
 	verdict, err := of(done, text).verdict()
 	equal(t, []interface{}{verdict.Matches, verdict.Compared(), verdict.JSON + "\n", err}, []interface{}{false, 0, text, nil})
-	alone, err := of(done, strings.Replace(listReport, matchingRow, "", 1)).listVerdict()
+	checkUnexpected(t, readVerdict(differs, text), text)
+	checkUnexpected(t, readVerdict(differs, strings.Replace(text, `"verdict":"match"`, `"verdict":"differ"`, 1)), text)
+	// (no other text on no registers says that it is well)
+	onNothing := strings.Replace(listReport, matchingRow, "", 1)
+	alone, err := of(differs, strings.Replace(onNothing, "match", "differ", 1)).listVerdict()
 	equal(t, []interface{}{alone.Matches, alone.Compared(), err}, []interface{}{false, 0, nil})
-	none := `{"registers":[],"located":true}` + "\n"
-	places, err := of(done, none).places()
+	nowhere, located := `{"registers":[],"located":false}`+"\n", `{"registers":[],"located":true}`+"\n"
+	places, err := of(differs, nowhere).places()
 	equal(t, []interface{}{places.Located, len(places.Rows), err}, []interface{}{false, 0, nil})
-	checkUnexpected(t, readPlaces(differs, none), none)
+	for _, status := range []int32{done, differs} {
+		checkUnexpected(t, readListVerdict(status, onNothing), onNothing)
+		checkUnexpected(t, readPlaces(status, located), located)
+	}
+	checkUnexpected(t, readPlaces(done, nowhere), nowhere)
 	for _, wrong := range []string{`{}`, `""`, `null`} {
 		text := strings.Replace(report, "["+matchingRow+"]", wrong, 1)
 		checkUnexpected(t, readVerdict(done, text), text)
@@ -489,6 +497,34 @@ func TestErrorsSayWhatIsWrong(t *testing.T) {
 func TestNoMemoryIsItsError(t *testing.T) {
 	for _, text := range []string{memoryFault, entryLine + memoryFault, "failed: memory\n", ""} {
 		equal(t, answered(outOfMemory, text, uint64(len(text))), ErrOutOfMemory)
+	}
+}
+
+func TestAnswerThatIsCutAtALinesEndIsNone(t *testing.T) {
+	text := entryLine + otherLine + listFault
+	for size := 0; size < len(text); size++ {
+		checkUnexpected(t, readEntries(refused, text[:size]), text[:size])
+	}
+	// What has no room for its last lines is told to be longer than the room.
+	for _, size := range []int{len(entryLine), len(entryLine + otherLine)} {
+		for _, status := range []int32{done, refused} {
+			given, err := ask(size, func(out []byte, needed *length) int32 {
+				*needed = length(len(text))
+				copy(out, text)
+				return status
+			})
+			checkUnexpected(t, err, text[:size])
+			equal(t, len(given.text), 0)
+		}
+		calls := 0
+		given, err := ask(1, func(out []byte, needed *length) int32 {
+			calls++
+			*needed = length(size + calls - 1)
+			copy(out, text)
+			return map[bool]int32{true: tooShort, false: done}[calls == 1]
+		})
+		checkUnexpected(t, err, text[:size])
+		equal(t, []interface{}{len(given.text), calls}, []interface{}{0, 2})
 	}
 }
 

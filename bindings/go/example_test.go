@@ -87,6 +87,15 @@ func ExampleListRegisters() {
 	// sha512 10
 }
 
+func ExampleAreApart() {
+	log, list := read("firmware.log"), read("ima.list")
+	fmt.Println(imaverify.AreApart(log, list))
+	fmt.Println(imaverify.AreApart(log, append([]byte{9}, list[1:]...))) // the first entry names register 9
+	// Output:
+	// true <nil>
+	// false <nil>
+}
+
 func ExampleShow() {
 	text, err := imaverify.Show(read("ima.list"))
 	if err != nil {
@@ -145,8 +154,9 @@ func ExampleListing_Fault() {
 }
 
 func ExampleSession() {
-	firmware, list := read("firmware.log"), read("ima.list")
-	first, err := imaverify.NewSession(firmware, nil)
+	firmware, list, expected := read("firmware.log"), read("ima.list"), read("expected.txt")
+	ofFirmware := bytes.Join(bytes.SplitAfter(expected, []byte("\n"))[:10], nil)
+	first, err := imaverify.NewSession(firmware, ofFirmware, imaverify.Require("sha256:0-9"))
 	if err != nil {
 		log.Fatal(err)
 	}
@@ -154,14 +164,14 @@ func ExampleSession() {
 	fmt.Println(verdict.Matches, verdict.Entries, err)
 
 	options := []imaverify.Option{imaverify.Require("sha256:0-10"), imaverify.Prefix(), imaverify.Resume(first.State())}
-	later, err := imaverify.NewSession(firmware, read("expected.txt"), options...)
+	later, err := imaverify.NewSession(firmware, expected, options...)
 	if err != nil {
 		log.Fatal(err) // such as "refused: checkpoint fault 1", of the type *imaverify.RefusedError
 	}
 	verdict, err = later.More(append(list[later.Offset():], "cut"...))
 	fmt.Println(verdict.Matches, verdict.Confirmed, verdict.Unconfirmed.Line, err)
 	// Output:
-	// false 1 <nil>
+	// true 1 <nil>
 	// true 99 unconfirmed: list fault 1 at entry 99 <nil>
 }
 

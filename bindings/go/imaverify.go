@@ -5,8 +5,8 @@
 // /sys/kernel/security/ima/binary_runtime_measurements, and lines as `sha256 10 <64 hexadecimal digits>` hold.
 //
 // Say which registers a verdict must cover: VerifyRequired(log, list, expected, "sha256:0-10"). That of Verify covers only those that
-// expected names; one on none is no match. Entries and Events go through the inputs themselves. A Session is for a list that grows, and for
-// one that went on after the expected registers were read.
+// expected names; one on none is no match. A match covers only a log and a list that are apart (AreApart). Entries and Events go
+// through the inputs themselves. A Session is for a list that grows, and for one that went on after the expected registers were read.
 //
 // A refused input gives an error of the type *RefusedError, and a requirement or a range that is not of its form ErrMalformed; if memory
 // runs out, it is ErrOutOfMemory; what the library's header does not describe gives an *UnexpectedError. With any error the result is
@@ -273,8 +273,8 @@ func Version() uint32 {
 	return libraryVersion()
 }
 
-// Verify gives the verdict on a firmware event log, a measurement list and the expected registers that a text states. Nothing is required;
-// a verdict on no registers is no match, whatever its JSON says.
+// Verify gives the verdict on a firmware event log, a measurement list and the expected registers that a text states. Nothing is required. A
+// verdict on no registers is no match, though its JSON is what the program prints, which is one.
 func Verify(log, list, expected []byte) (Verdict, error) {
 	return askFor(answer.verdict, room, false, func(out []byte, needed *length) int32 { return callVerify(log, list, expected, out, needed) })
 }
@@ -329,6 +329,28 @@ func ListRegisters(list []byte) ([]Register, error) {
 	return askFor(answer.registers, room, false, func(out []byte, needed *length) int32 { return callListRegisters(list, out, needed) })
 }
 
+// The register that IMA alone extends.
+const listRegister = 10
+
+// AreApart says whether no event of the log extends register 10, which IMA alone does, and no entry of the list names another. Otherwise
+// all registers can match though entries were moved from the list into the log, or events from the log into the list. Each part of a list
+// that grows can be asked about by itself. Inputs are refused as by Registers and ListRegisters; with an error it says false.
+func AreApart(log, list []byte) (bool, error) {
+	ofLog, err := Registers(log)
+	if err != nil {
+		return false, err
+	}
+	ofList, err := ListRegisters(list)
+	areApart := err == nil
+	for _, extended := range ofLog {
+		areApart = areApart && extended.Register != listRegister
+	}
+	for _, extended := range ofList {
+		areApart = areApart && extended.Register == listRegister
+	}
+	return areApart, err
+}
+
 // Entries gives the entries of a measurement list, one after another by Next, each with whether it is genuine. Of a damaged list the
 // entries before the fault come, and then its *RefusedError, which Fault knows from the start.
 func Entries(list []byte) (*Listing[Entry], error) {
@@ -358,10 +380,20 @@ func Show(list []byte) ([]byte, error) {
 
 // Room for the entries of a list of this size: an entry's text is at most twice as long as the entry.
 func roomOfEntries(size int) int {
-	return 2*size + 1024
+	return roomFor(size, 2)
 }
 
 // Room for most entries or events as JSON. (A control byte of a path takes six; then a second call is needed.)
 func roomOfLines(size int) int {
-	return 4*size + 1024
+	return roomFor(size, 4)
+}
+
+// The most room that is made before the library says how much is needed.
+const mostRoomUnasked = 1 << 30
+
+func roomFor(size, times int) int {
+	if size > (mostRoomUnasked-1024)/times {
+		return mostRoomUnasked
+	}
+	return times*size + 1024
 }

@@ -4,6 +4,7 @@ import (
 	"bytes"
 	"errors"
 	"fmt"
+	"math"
 	"os"
 	"path/filepath"
 	"reflect"
@@ -218,6 +219,51 @@ func TestRegistersAfterTheListAlone(t *testing.T) {
 }
 
 // Without a requirement all expected registers count, and no others.
+func areApart(t *testing.T, log, list []byte) bool {
+	t.Helper()
+	found, err := AreApart(log, list)
+	equal(t, err, nil)
+	return found
+}
+
+func TestLogAndListAreApart(t *testing.T) {
+	for _, cut := range []int{0, 1, 50, 99} {
+		equal(t, []interface{}{areApart(t, bootLog, bootList[:ends[cut]]), areApart(t, bootLog, bootList[ends[cut]:])}, []interface{}{true, true})
+	}
+	for _, register := range []byte{0, 9, 11, 17, 23} {
+		for _, place := range []int{0, 1, 50, 93, 98} { // (93 is a violation)
+			list := clone(bootList)
+			list[ends[place]] = register
+			equal(t, areApart(t, bootLog, list), false)
+		}
+	}
+	// (an event of register 10, and one that extends nothing)
+	event := func(kind int) []byte {
+		return joined(number(10), number(kind), number(1), []byte{0x0b, 0}, ones, ones[:12], number(0))
+	}
+	equal(t, areApart(t, joined(bootLog, event(13)), bootList), false)
+	equal(t, areApart(t, joined(bootLog, event(3)), bootList), true)
+	for _, wrong := range []struct {
+		log, list []byte
+		line      string
+	}{{bootLog[:len(bootLog)-1], bootList, "refused: log fault 1 at event 24"}, {bootLog, changed, "refused: replay fault 1 at entry 5"},
+		{bootLog, bootList[:len(bootList)-1], "refused: list fault 1 at entry 98"}} {
+		found, err := AreApart(wrong.log, wrong.list)
+		equal(t, []interface{}{found, fmt.Sprint(err)}, []interface{}{false, wrong.line})
+	}
+}
+
+func TestLogOfAnyOneBankMayExtendRegister10(t *testing.T) {
+	// (a header of one algorithm, and an event of register 10; by the specification of logs)
+	for id, size := range map[int]int{4: 20, 11: 32, 12: 48, 13: 64} {
+		algorithm := []byte{byte(id), 0}
+		spec := joined([]byte("Spec ID Event03\x00"), number(0), []byte{0, 2, 0, 2}, number(1), algorithm, []byte{byte(size), 0, 0})
+		header := joined(number(0), number(3), zeros, withLength(spec))
+		event := joined(number(10), number(13), number(1), algorithm, make([]byte, size), number(0))
+		equal(t, []interface{}{areApart(t, header, bootList), areApart(t, joined(header, event), bootList)}, []interface{}{true, false})
+	}
+}
+
 func TestRegistersThatAreExpectedHaveRows(t *testing.T) {
 	var all []Row
 	text := "\r\n"
@@ -379,7 +425,7 @@ func TestInputsWithoutBytes(t *testing.T) {
 		// (on nothing, there is no match)
 		equal(t, verify(t, bootLog, bootList, empty), Verdict{Events: 24, Entries: 99, BootAggregate: BootAggregateGood,
 			JSON: `{"events":24,"locality":0,"entries":99,"boot_aggregate":"good","registers":[],"verdict":"match"}`})
-		equal(t, locate(t, bootLog, bootList, empty), Places{nil, false, `{"registers":[],"located":true}`})
+		equal(t, locate(t, bootLog, bootList, empty), Places{nil, false, `{"registers":[],"located":false}`})
 	}
 }
 
@@ -411,6 +457,17 @@ func TestEntriesLongerThanTheBufferTakeASecondCall(t *testing.T) {
 		equal(t, entry.File.Path, path)
 	}
 	equal(t, len(found), 3)
+}
+
+func TestRoomOfLongInputsIsPositiveAndLimited(t *testing.T) {
+	const most = 1 << 30
+	for _, size := range []int{0, 1, 1 << 20, 1<<28 - 257, 1 << 28, 1<<29 - 513, 1 << 29, math.MaxInt32, math.MaxInt/4 + 1, math.MaxInt/2 + 1,
+		math.MaxInt} {
+		for _, room := range []int{roomOfEntries(size), roomOfLines(size)} {
+			equal(t, room >= 1024 && room <= most && (room == most || room > size), true)
+		}
+	}
+	equal(t, []int{roomOfEntries(1000), roomOfLines(1000)}, []int{3024, 5024})
 }
 
 func TestFirstBufferIsLargeEnough(t *testing.T) {

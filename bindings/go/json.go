@@ -112,14 +112,14 @@ func (r *reader) rows(o object) []Row {
 	return rows
 }
 
-// Whether a report is a match of at least one register. Its status, its verdict and its rows say the same.
+// Whether a report is a match: of what is good before its rows, and of each of these. Its status and its verdict say the same.
 func (r *reader) matches(status int32, o object, rows []Row, isGood bool) bool {
 	matches := isGood
 	for _, row := range rows {
 		matches = matches && row.State == StateMatch
 	}
 	r.require((oneOf(r, o, "verdict", "match", "differ") == "match") == matches && status == statusOf(matches))
-	return matches && len(rows) > 0
+	return matches
 }
 
 func (r *reader) placeRow(o object) PlaceRow {

@@ -18,16 +18,17 @@ type Session struct {
 // Option is one of a session: Require, Prefix or Resume.
 type Option func(s *Session) error
 
-// Require names the registers that must be among the expected ones, as VerifyRequired does. An empty text is ErrMalformed.
+// Require names the registers that must be among the expected ones, as VerifyRequired does, where "none" requires nothing, too. From a text
+// that is not of its form, such as an empty one, More gives ErrMalformed.
 func Require(registers string) Option {
 	return func(s *Session) error {
-		if registers == "" {
-			return ErrMalformed
-		}
 		s.require = registers
 		return nil
 	}
 }
+
+// What a session requires without the option Require.
+const nothingRequired = "none"
 
 // Prefix has the verdict be that on the confirmed front, if there is one: the list's first entries, as few as give a match. What comes after
 // them may be new since the registers were read, or damaged; the verdict's Confirmed says how many entries they are, and its Unconfirmed
@@ -57,7 +58,7 @@ func Resume(state []byte) Option {
 // NewSession gives a session on a list, of which nothing is known unless it is resumed. The firmware event log and the expected registers
 // are as of Verify, and copied.
 func NewSession(log, expected []byte, options ...Option) (*Session, error) {
-	s := &Session{log: clone(log), expected: clone(expected)}
+	s := &Session{log: clone(log), expected: clone(expected), require: nothingRequired}
 	for _, option := range options {
 		if err := option(s); err != nil {
 			return nil, err
@@ -66,10 +67,11 @@ func NewSession(log, expected []byte, options ...Option) (*Session, error) {
 	return s, nil
 }
 
-// More gives the verdict on the list that the state covers, followed by these bytes, which may be none. Then the state covers the list that
-// this verdict is on: the confirmed front, if there is one, else the whole list, whether it is a match or not.
+// More gives the verdict on the list that the state covers, followed by these bytes, which may be none. If it is a match, the state then
+// covers the list that it is on: the confirmed front, with Prefix, else the whole list.
 //
-// Numbers of entries, also of a refusal, are those of the whole list. With an error the session stays as it was.
+// Numbers of entries, also of a refusal, are those of the whole list. With an error, and after a verdict that is no match, the session stays
+// as it was, and these bytes come again.
 func (s *Session) More(data []byte) (Verdict, error) {
 	return s.more(len(data), func(outs [][]byte, needed []length) int32 {
 		return callMore(s.log, s.reached.text, data, s.expected, []byte(s.require), s.prefix, outs[0], &needed[0], outs[1], &needed[1])
@@ -80,7 +82,7 @@ func (s *Session) More(data []byte) (Verdict, error) {
 func (s *Session) more(size int, call func(outs [][]byte, needed []length) int32) (Verdict, error) {
 	given, texts, err := askForTexts([]int{room, room}, call)
 	if err == nil {
-		err = given.refusal(s.require != "")
+		err = given.refusal(s.require != nothingRequired)
 	}
 	if err != nil {
 		return Verdict{}, err
@@ -92,12 +94,12 @@ func (s *Session) more(size int, call func(outs [][]byte, needed []length) int32
 	return verdict, err
 }
 
-// State is where the session is: what to keep, and to Resume another from. It is nil before the first verdict on a list from its start.
+// State is where the session is: what to keep, and to Resume another from. It is nil before the first match on a list from its start.
 func (s *Session) State() []byte {
 	return clone(s.reached.text)
 }
 
-// Offset is how many bytes of the list the state covers: More takes those that follow. Those after a confirmed front come again.
+// Offset is how many bytes of the list the state covers: More takes those that follow.
 func (s *Session) Offset() uint64 {
 	return s.reached.bytes
 }

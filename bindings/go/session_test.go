@@ -4,7 +4,6 @@ import (
 	"bytes"
 	"crypto/sha256"
 	"encoding/binary"
-	"encoding/hex"
 	"fmt"
 	"strings"
 	"sync"
@@ -68,11 +67,18 @@ func more(t *testing.T, s *Session, data []byte) Verdict {
 	return verdict
 }
 
+// The state after so many entries, which are confirmed; after none it is made by hand, since no verdict on none is a match.
 func stateAfter(t *testing.T, count int) []byte {
 	t.Helper()
-	s := session(t, bootLog, nil)
+	s := session(t, bootLog, tenthAfter(count))
 	more(t, s, bootList[:ends[count]])
-	return s.State()
+	if count > 0 {
+		return s.State()
+	}
+	before, _, _ := strings.Cut(string(stateAfter(t, 1)), "after\n")
+	_, before, _ = strings.Cut(before, "before\n")
+	counts := checkpointName + checkpointVersion + "entries 0\nbytes 0\nboot_aggregate none\n"
+	return sealed([]byte(counts + "before\n" + before + "after\n" + before + "sha256 "))
 }
 
 func resumed(t *testing.T, count int) []Option {
@@ -112,20 +118,41 @@ func checkNoState(t *testing.T, state []byte, number uint64) {
 func TestListInTwoPartsIsAsTheWhole(t *testing.T) {
 	equal(t, tenthAfter(99), bootTPM)
 	for _, cut := range cuts {
-		s := session(t, bootLog, bootTPM)
+		s := session(t, bootLog, tenthAfter(cut))
 		equal(t, []interface{}{s.State() == nil, s.Offset()}, []interface{}{true, uint64(0)})
-		equal(t, more(t, s, bootList[:ends[cut]]), verify(t, bootLog, bootList[:ends[cut]], bootTPM))
-		equal(t, []interface{}{s.State(), s.Offset()}, []interface{}{stateAfter(t, cut), uint64(ends[cut])})
-		equal(t, more(t, s, bootList[ends[cut]:]), verify(t, bootLog, bootList, bootTPM))
-		equal(t, s.Offset(), uint64(len(bootList)))
+		first := more(t, s, bootList[:ends[cut]])
+		equal(t, first, verify(t, bootLog, bootList[:ends[cut]], tenthAfter(cut)))
+		equal(t, []interface{}{first.Matches, s.Offset(), s.State() == nil}, []interface{}{cut > 0, uint64(ends[cut]), cut == 0})
+		later := session(t, bootLog, bootTPM, Resume(stateAfter(t, cut)))
+		equal(t, more(t, later, bootList[ends[cut]:]), verify(t, bootLog, bootList, bootTPM))
+		equal(t, []interface{}{later.State(), later.Offset()}, []interface{}{stateAfter(t, 99), uint64(len(bootList))})
+	}
+}
+
+func TestOnlyAMatchMovesTheSession(t *testing.T) {
+	for _, cut := range cuts {
+		for _, options := range [][]Option{nil, {Prefix()}} {
+			s := session(t, bootLog, bootTPM, append(options, resumed(t, cut)...)...)
+			before := s.State()
+			for end := cut; end < 99; end += 7 {
+				equal(t, more(t, s, bootList[ends[cut]:ends[end]]).Matches, false)
+				equal(t, []interface{}{s.State(), s.Offset()}, []interface{}{before, uint64(ends[cut])})
+			}
+			equal(t, more(t, s, bootList[ends[cut]:]).Matches, true)
+			equal(t, []interface{}{s.State(), s.Offset()}, []interface{}{stateAfter(t, 99), uint64(len(bootList))})
+			equal(t, more(t, s, bootList[ends[98]:]).Matches, options != nil)
+			equal(t, []interface{}{s.State(), s.Offset()}, []interface{}{stateAfter(t, 99), uint64(len(bootList))})
+		}
 	}
 }
 
 func TestListInManyParts(t *testing.T) {
-	s := session(t, bootLog, bootTPM, Require("sha256:0-10"))
-	for count := 1; count < len(ends); count++ {
+	s := session(t, bootLog, tenthAfter(1), Require("sha256:0-10"))
+	equal(t, more(t, s, bootList[:ends[1]]).Matches, true)
+	for count := 2; count < len(ends); count++ {
+		s = session(t, bootLog, tenthAfter(count), Require("sha256:0-10"), Resume(s.State()))
 		verdict := more(t, s, bootList[ends[count-1]:ends[count]])
-		equal(t, []interface{}{verdict.Entries, verdict.Matches, s.Offset()}, []interface{}{uint64(count), count == 99, uint64(ends[count])})
+		equal(t, []interface{}{verdict.Entries, verdict.Matches, s.Offset()}, []interface{}{uint64(count), true, uint64(ends[count])})
 	}
 	for _, nothing := range [][]byte{nil, {}} {
 		equal(t, more(t, s, nothing), verifyRequired(t, bootLog, bootList, bootTPM, "sha256:0-10"))
@@ -140,7 +167,7 @@ func TestAnotherSessionGoesOnFromTheState(t *testing.T) {
 		equal(t, []interface{}{s.State(), s.Offset()}, []interface{}{state, uint64(ends[cut])})
 		equal(t, more(t, s, bootList[ends[cut]:]).Rows[10].State, StateDiffer)
 		later := session(t, bootLog, bootTPM, Resume(s.State()), Require("sha256:0-23"))
-		equal(t, more(t, later, nil), verifyRequired(t, bootLog, bootList, bootTPM, "sha256:0-23"))
+		equal(t, more(t, later, bootList[ends[cut]:]), verifyRequired(t, bootLog, bootList, bootTPM, "sha256:0-23"))
 	}
 }
 
@@ -184,7 +211,7 @@ func TestInputsOfASessionAreCopied(t *testing.T) {
 func TestSessionsAtOnceGiveWhatTheyGiveAlone(t *testing.T) {
 	var wanted []Verdict
 	for _, cut := range cuts {
-		wanted = append(wanted, verify(t, bootLog, bootList[:ends[cut]], bootTPM))
+		wanted = append(wanted, verify(t, bootLog, bootList[:ends[cut]], tenthAfter(cut)))
 	}
 	var group sync.WaitGroup
 	for thread := 0; thread < 8; thread++ {
@@ -192,13 +219,17 @@ func TestSessionsAtOnceGiveWhatTheyGiveAlone(t *testing.T) {
 		go func() {
 			defer group.Done()
 			for round := 0; round < 10; round++ {
-				s, err := NewSession(bootLog, bootTPM)
+				var options []Option
 				for k, cut := range cuts {
 					var verdict Verdict
+					s, err := NewSession(bootLog, tenthAfter(cut), options...)
 					if err == nil {
 						verdict, err = s.More(bootList[s.Offset():ends[cut]])
 					}
 					equal(t, []interface{}{verdict, err}, []interface{}{wanted[k], nil})
+					if verdict.Matches {
+						options = []Option{Resume(s.State())}
+					}
 				}
 			}
 		}()
@@ -214,16 +245,35 @@ func TestRequiredRegistersOfASession(t *testing.T) {
 		missing := []Row{{AlgorithmSHA1, 10, StateMissing, nil}, {AlgorithmSHA256, 23, StateMissing, nil}}
 		equal(t, []interface{}{verdict.Matches, verdict.Compared(), verdict.Rows[23:], verdict.Confirmed}, []interface{}{false, 23, missing, uint64(0)})
 	}
-	_, err := NewSession(bootLog, bootTPM, Require(""))
-	equal(t, err, ErrMalformed)
-	for _, wrong := range []string{"sha256", "sha256:24", "sha256:10-0", "sha256:0-10,", " ", "\xff"} {
-		s := session(t, nil, []byte("x"), Require(wrong))
-		_, err := s.More(nil)
-		equal(t, []interface{}{err, s.State() == nil}, []interface{}{ErrMalformed, true})
+	for _, wrong := range []string{"", "sha256", "sha256:24", "sha256:10-0", "sha256:0-10,", " ", "None", "none ", "\xff"} {
+		for _, s := range []*Session{session(t, nil, []byte("x"), Require(wrong)), session(t, bootLog, bootTPM, Require(wrong))} {
+			_, err := s.More(bootList)
+			equal(t, []interface{}{err, s.State() == nil}, []interface{}{ErrMalformed, true})
+		}
 	}
-	for _, options := range [][]Option{nil, {Prefix()}} {
-		verdict := more(t, session(t, bootLog, nil, options...), bootList)
+	for _, options := range [][]Option{nil, {Prefix()}, {Resume(stateAfter(t, 50))}} {
+		s := session(t, bootLog, nil, options...)
+		verdict := more(t, s, bootList[s.Offset():])
 		equal(t, []interface{}{verdict.Matches, verdict.Confirmed, len(verdict.Rows)}, []interface{}{false, uint64(0), 0})
+		equal(t, []interface{}{verdict.BootAggregate, strings.HasSuffix(verdict.JSON, `"verdict":"differ"}`)}, []interface{}{BootAggregateGood, true})
+	}
+}
+
+func TestRequirementOfAResumedSessionHolds(t *testing.T) {
+	ten := bootTPM[:bytes.Index(bootTPM, []byte("sha256 10 "))]
+	for _, cut := range []int{0, 1, 50, 99} {
+		resume, require := Resume(stateAfter(t, cut)), Require("sha256:0-10")
+		for _, options := range [][]Option{{resume, require}, {require, resume}, {require, Prefix(), resume}, {require, resume, Prefix()},
+			{resume, Prefix(), require}, {Prefix(), require, resume}} {
+			s := session(t, bootLog, ten, options...)
+			for k := 0; k < 2; k++ {
+				verdict := more(t, s, bootList[ends[cut]:])
+				equal(t, []interface{}{verdict.Matches, verdict.Rows[10:]}, []interface{}{false, []Row{{AlgorithmSHA256, 10, StateMissing, nil}}})
+			}
+		}
+		for _, options := range [][]Option{{resume, Require("sha256:0-9")}, {resume}, {Require("none"), resume}} {
+			equal(t, more(t, session(t, bootLog, ten, options...), bootList[ends[cut]:]).Matches, true)
+		}
 	}
 }
 
@@ -256,7 +306,7 @@ func TestSessionGoesOnFromTheFront(t *testing.T) {
 		equal(t, later.Offset(), uint64(len(bootList)))
 	}
 	early := session(t, bootLog, tenthAfter(50), Prefix(), Resume(stateAfter(t, 97)))
-	equal(t, []interface{}{more(t, early, bootList[ends[97]:]).Matches, early.Offset()}, []interface{}{false, uint64(len(bootList))})
+	equal(t, []interface{}{more(t, early, bootList[ends[97]:]).Matches, early.Offset()}, []interface{}{false, uint64(ends[97])})
 }
 
 func TestDamageAfterTheFrontIsTold(t *testing.T) {
@@ -294,7 +344,7 @@ func TestListWithoutAFrontIsAsWithoutPrefix(t *testing.T) {
 		checkSessionRefuses(t, s, forged(5), RefusedError{"refused: replay fault 1 at entry 5", KindReplay, 1, 5, true})
 		checkSessionRefuses(t, s, bootList[:len(bootList)-1], RefusedError{"refused: list fault 1 at entry 98", KindList, 1, 98, true})
 		equal(t, more(t, s, bootList), verify(t, bootLog, bootList, nowhere))
-		equal(t, s.State(), stateAfter(t, 99))
+		equal(t, s.State() == nil, true)
 	}
 }
 
@@ -330,19 +380,21 @@ func TestStateThatIsNotWholeIsRefused(t *testing.T) {
 }
 
 func TestStateOfAnotherBootIsRefused(t *testing.T) {
-	digest, _ := hex.DecodeString("96a296d224f285c67bee93c30f8a309157f0daa35dc5b87e410b78630a09cfc7") // of its first event
-	other := clone(bootLog)
-	other[bytes.Index(other, digest)] ^= 1
-	s := session(t, other, bootTPM)
-	more(t, s, bootList)
+	// (another event, of register 16, which is in no boot aggregate: the list matches)
+	other := joined(bootLog, number(16), number(13), number(1), []byte{0x0b, 0}, ones, ones[:12], number(0))
+	s := session(t, other, bootTPM[:bytes.Index(bootTPM, []byte("sha256 11 "))], Require("sha256:0-10"))
+	equal(t, more(t, s, bootList).Matches, true)
 	checkNoState(t, s.State(), 3)
 	fault := RefusedError{Line: "refused: checkpoint fault 3", Kind: KindCheckpoint, Number: 3}
 	checkSessionRefuses(t, session(t, other, bootTPM, Resume(stateAfter(t, 99))), nil, fault)
 }
 
 func TestStateOfAnotherListGivesNoMatch(t *testing.T) {
-	foreign := session(t, bootLog, nil)
-	more(t, foreign, append(clone(bootList[:ends[50]]), bootList[ends[51]:ends[60]]...))
+	other := joined(bootList[:ends[50]], bootList[ends[51]:ends[60]])
+	_, values := listed(other)
+	expected := fmt.Sprintf("%ssha256 10 %x\n", bootTPM[:bytes.Index(bootTPM, []byte("sha256 10 "))], values[59])
+	foreign := session(t, bootLog, []byte(expected))
+	equal(t, more(t, foreign, other).Matches, true)
 	for _, cut := range []int{50, 51, 59, 60} {
 		for _, options := range [][]Option{{Resume(foreign.State())}, {Prefix(), Resume(foreign.State())}} {
 			equal(t, more(t, session(t, bootLog, bootTPM, options...), bootList[ends[cut]:]).Matches, false)
@@ -360,7 +412,7 @@ func TestSecondCallHasRoomForBothTexts(t *testing.T) {
 		calls := 0
 		given, texts, err := askForTexts(rooms, func(outs [][]byte, needed []length) int32 {
 			calls++
-			return callMore(bootLog, nil, bootList, bootTPM, nil, false, outs[0], &needed[0], outs[1], &needed[1])
+			return callMore(bootLog, nil, bootList, bootTPM, []byte(nothingRequired), false, outs[0], &needed[0], outs[1], &needed[1])
 		})
 		equal(t, []interface{}{err, texts[0], string(given.text)}, []interface{}{nil, state, line})
 		equal(t, calls, map[bool]int{true: 2, false: 1}[rooms[0] < len(state) || rooms[1] < len(line)])
@@ -375,10 +427,17 @@ const (
 )
 
 var (
-	front          = strings.Replace(report, `"entries":3,`, `"entries":5,"confirmed":3,`, 1)
+	front              = strings.Replace(report, `"entries":3,`, `"entries":5,"confirmed":3,`, 1)
+	differingOnNothing = strings.NewReplacer(matchingRow, "", `"verdict":"match"`, `"verdict":"differ"`).Replace(report)
+
 	frontAndReplay = strings.Replace(front, `"confirmed":3,`, `"confirmed":3,`+replayMember, 1)
 	frontAndList   = strings.Replace(front, `"confirmed":3,`, `"confirmed":3,`+listMember, 1)
 )
+
+// The state that goes with a status: only a match has one.
+func stateOf(status int32) string {
+	return map[bool]string{true: stateText, false: ""}[status == done]
+}
 
 // What a session makes of an answer to a call with so many bytes, whose texts have the sizes that are said, or their own.
 func (s *Session) given(size int, status int32, state, text string, sizes ...uint64) (Verdict, error) {
@@ -421,22 +480,27 @@ func TestRightAnswersToSessionsAreRead(t *testing.T) {
 		fault     *Unconfirmed
 	}{
 		{done, report, false, 0, nil}, {differs, differing, false, 0, nil}, {differs, differing, true, 0, nil}, {done, front, true, 3, nil},
+		{differs, differingOnNothing, false, 0, nil}, {differs, differingOnNothing, true, 0, nil},
 		{done, frontAndReplay, true, 3, &Unconfirmed{"unconfirmed: replay fault 1 at entry 4", KindReplay, 1, 4}},
 		{done, frontAndList, true, 3, &Unconfirmed{"unconfirmed: list fault 1 at entry 5", KindList, 1, 5}},
 		{done, strings.Replace(report, `"entries":3,`, `"entries":3,"confirmed":3,`, 1), true, 3, nil},
 	} {
-		s := session(t, nil, nil)
+		s, state, offset := session(t, nil, nil), stateOf(right.status), uint64(300)
 		s.prefix = right.hasFront
-		verdict, err := s.given(300, right.status, stateText, right.text)
+		if right.status != done {
+			offset = 0
+		}
+		verdict, err := s.given(300, right.status, state, right.text)
 		equal(t, []interface{}{err, verdict.Matches, verdict.Confirmed, verdict.Unconfirmed},
 			[]interface{}{nil, right.status == done, right.confirmed, right.fault})
-		equal(t, []interface{}{string(s.State()), s.Offset()}, []interface{}{stateText, uint64(300)})
+		equal(t, []interface{}{string(s.State()), s.Offset()}, []interface{}{state, offset})
 	}
 }
 
 func TestFrontThatCannotBeIsNone(t *testing.T) {
-	read := func(status int32, text string) error { return sessionError(t, status, stateText, text, true) }
+	read := func(status int32, text string) error { return sessionError(t, status, stateOf(status), text, true) }
 	checkChanges(t, read, done, front, [][2]string{
+		{matchingRow, ``},
 		{`"confirmed":3`, `"confirmed":6`}, {`"confirmed":3`, `"confirmed":0`}, {`"confirmed":3`, `"confirmed":-3`},
 		{`"confirmed":3`, `"confirmed":3.5`}, {`"confirmed":3`, `"confirmed":"3"`}, {`"confirmed":3`, `"confirmed":true`},
 		{`"confirmed":3`, `"confirmed":null`}, {`"confirmed":3`, `"confirmed":4`}, {`"confirmed":3`, `"confirmed":2`}, {`"confirmed":3,`, ``},
@@ -449,7 +513,7 @@ func TestFrontThatCannotBeIsNone(t *testing.T) {
 		for _, entries := range []string{`"entries":3,`, `"entries":5,`} {
 			text := strings.Replace(differing, `"entries":3,`, entries+told, 1)
 			checkUnexpected(t, read(differs, text), text)
-			checkUnexpected(t, sessionError(t, differs, stateText, text, false), text)
+			checkUnexpected(t, sessionError(t, differs, "", text, false), text)
 			checkUnexpected(t, readVerdict(differs, text), text)
 		}
 	}
@@ -484,8 +548,11 @@ func TestStateThatIsNotThatOfTheReportIsNone(t *testing.T) {
 	} {
 		state := strings.Replace(stateText, change[0], change[1], 1)
 		checkUnexpected(t, sessionError(t, done, state, report, false), report)
-		checkUnexpected(t, sessionError(t, differs, state, differing, false), differing)
 		checkUnexpected(t, sessionError(t, done, state, front, true), front)
+	}
+	for _, state := range []string{stateText, "x", "\n"} { // (only a match has one)
+		checkUnexpected(t, sessionError(t, differs, state, differing, false), differing)
+		checkUnexpected(t, sessionError(t, differs, state, differing, true), differing)
 	}
 	none := strings.Replace(front, `"confirmed":3`, `"confirmed":0`, 1)
 	for _, wrong := range []struct {
@@ -511,13 +578,25 @@ func TestStateThatIsNotThatOfTheReportIsNone(t *testing.T) {
 		_, err := s.given(0, done, strings.Replace(stateText, "300", "400", 1), text)
 		checkUnexpected(t, err, text)
 	}
+	_, err = session(t, nil, nil, Resume([]byte(later))).given(0, differs, "", differing)
+	checkUnexpected(t, err, differing)
+}
+
+func TestReportToASessionOnNoRegistersIsNoMatch(t *testing.T) {
+	for text, hasFront := range map[string]bool{report: false, front: true} {
+		nothing := strings.Replace(text, matchingRow, "", 1)
+		for _, status := range []int32{done, differs} {
+			checkUnexpected(t, sessionError(t, status, stateOf(status), nothing, hasFront), nothing)
+		}
+	}
+	checkUnexpected(t, sessionError(t, done, stateText, differingOnNothing, false), differingOnNothing)
 }
 
 func TestFailuresLeaveTheSessionAsItWas(t *testing.T) {
 	for _, wrong := range []answer{of(done, ""), of(done, "{}\n"), of(done, report[:len(report)-1]), of(differs, report), of(done, differing),
 		of(refused, report), of(outOfMemory, report), of(tooShort, report), of(5, report), of(-1, report), of(done, listFault),
 		of(refused, memoryFault), of(outOfMemory, listFault), of(refused, malformed)} {
-		checkUnexpected(t, sessionError(t, wrong.status, stateText, string(wrong.text), false), string(wrong.text))
+		checkUnexpected(t, sessionError(t, wrong.status, stateOf(wrong.status), string(wrong.text), false), string(wrong.text))
 	}
 	fault := `{"fault":{"kind":"checkpoint","number":3,"message":"refused: checkpoint fault 3"}}` + "\n"
 	wanted := RefusedError{Line: "refused: checkpoint fault 3", Kind: KindCheckpoint, Number: 3}

@@ -12,9 +12,9 @@ bytes-like type; a bytearray, or other memory that can be written, may not chang
 >>> verdict.matches, verdict.entries
 (True, 99)
 
-Say which registers a verdict must cover, as here. Without `require` only those count that `expected` names; a verdict on none is no match,
-whatever its `json` says. `entries(measurements)` and `events(log)` go through the inputs themselves. A `Session` is for a list that grows,
-and for one that went on after the expected registers were read.
+Say which registers a verdict must cover, as here. Without `require` only those count that `expected` names; a verdict on none is no match.
+A match covers only a log and a list that are apart (`are_apart`). `entries(measurements)` and `events(log)` go through the inputs themselves.
+A `Session` is for a list that grows, and for one that went on after the expected registers were read.
 
 An input that is refused raises `Refused`, and a `require` or `registers` that is not of its form ValueError; if memory runs out, that
 is MemoryError; an answer that the library's header does not describe raises `LibraryError`. Nothing else that the library answers is
@@ -27,6 +27,7 @@ The shared library is the file that the environment variable IMA_VERIFY_LIBRARY 
 folder, else what the system's loader finds as `libima_verify.so.1`. It is loaded by the first call, which raises ImportError if it cannot
 be used."""
 
+import operator
 from enum import Enum
 from typing import Callable, Optional, Sequence, Tuple, Union
 
@@ -40,7 +41,8 @@ from ._results import (
 __all__ = [
     "Algorithm", "BootAggregate", "BytesLike", "Entries", "Entry", "Event", "Events", "Kind", "LibraryError", "ListVerdict",
     "LogAlgorithm", "Place", "PlaceRow", "Places", "Refused", "Register", "Report", "Row", "Session", "State", "Unconfirmed", "Verdict",
-    "entries", "events", "expected", "list_registers", "locate", "log_extends", "registers", "replay", "report", "show", "verify", "version",
+    "are_apart", "entries", "events", "expected", "list_registers", "locate", "log_extends", "registers", "replay", "report", "show",
+    "verify", "version",
 ]
 
 Text = Union[BytesLike, str]
@@ -48,10 +50,15 @@ _Function = Callable[..., int]
 
 
 class _Default(Enum):
-    """What `require` is if it is not given. None is not: a setting that lacks it must not come to require nothing."""
+    """What `require` is if it is not given, with the word by which a session requires nothing.
 
-    NOTHING = "nothing"
+    None is not: a setting that lacks it must not come to require nothing. Nor is an empty text, which is passed on and refused."""
 
+    NOTHING = "none"
+
+
+# The register that IMA alone extends.
+_LIST_REGISTER = 10
 
 # 4 banks have 96 registers, and no row of these has more than 256 bytes. (A checkpoint has each register twice, in at most 140 bytes.)
 _ROOM = 32 * 1024
@@ -72,8 +79,8 @@ def verify(
     """The verdict on a firmware event log, a measurement list and the expected registers that a text states.
 
     `require` names the registers that must be among these, as `sha256:0-10` or `sha256:0-7,sha1:10`. Each that is not has a row whose
-    state is MISSING, and then the verdict is no match. None is a TypeError. If it is not given, nothing is required; a verdict on no
-    registers is no match.
+    state is MISSING, and then the verdict is no match. None is a TypeError. If it is not given, nothing is required. A verdict on no
+    registers is no match, though its `json` is what the program prints, which is one.
 
     >>> verdict = ima_verify.verify(log, measurements, expected, require="sha256:0-10,sha1:10")
     >>> verdict.matches, [(row.algorithm.value, row.register) for row in verdict.rows if row.state is ima_verify.State.MISSING]
@@ -97,8 +104,8 @@ def report(
 class Session:
     """Verdicts on a measurement list that grows: each is on all of the list so far, but only what is new of it is given.
 
-    `log` and `expected` are as of `verify`, and so is `require`, but that an empty one is a ValueError here. With `prefix` the verdict is that
-    on the confirmed front, if there is one: the list's first entries, as few as give a match. What comes after them may be new since the
+    `log` and `expected` are as of `verify`, and so is `require`, where `none` requires nothing, too. With `prefix` the verdict is that on
+    the confirmed front, if there is one: the list's first entries, as few as give a match. What comes after them may be new since the
     registers were read, or damaged; `confirmed` of the verdict says how many entries they are, and `unconfirmed` what is wrong after them.
 
     `state` is that of an earlier session, to go on from with a log of the same boot; `expected` may be another. Without it, or if it is None,
@@ -124,17 +131,16 @@ class Session:
             raise TypeError(f"prefix is True or False, and not {prefix!r}")
         self._log, self._expected = _copy_of(log), _copy_of(_bytes_of(expected))
         self._request = None if isinstance(require, _Default) else require
-        self._require = b"" if isinstance(require, _Default) else _copy_of(_bytes_of(require))
-        if self._request is not None and not self._require:
-            raise ValueError(f"not of its form: {require!r}")
+        self._require = _copy_of(_bytes_of(require.value if isinstance(require, _Default) else require))
         self._prefix = prefix
         self._reached = _answers.START if state is None else _answers.read_state(_copy_of(state))
 
     def more(self, data: BytesLike) -> Verdict:
-        """The verdict on the list that the state covers, followed by these bytes, which may be none. Then the state covers the list that
-        this verdict is on: the confirmed front, if there is one, else the whole list, whether it is a match or not.
+        """The verdict on the list that the state covers, followed by these bytes, which may be none. If it is a match, the state then covers
+        the list that it is on: the confirmed front, with `prefix`, else the whole list.
 
-        Numbers of entries, also of a refusal, are those of the whole list. If there is no verdict, the session stays as it was."""
+        Numbers of entries, also of a refusal, are those of the whole list. After a refusal, and after a verdict that is no match, the session
+        stays as it was, and these bytes come again."""
         start, function = self._reached, _library.loaded().ima_verify_more_json
         inputs = self._log, start.text, data, self._expected, self._require
         status, (state, text) = _library.ask_for_texts(function, inputs, (self._prefix,), (_ROOM, _ROOM))
@@ -144,12 +150,12 @@ class Session:
 
     @property
     def state(self) -> Optional[bytes]:
-        """Where the session is: what to keep, and to give another as its `state`. None before the first verdict on a list from its start."""
+        """Where the session is: what to keep, and to give another as its `state`. None before the first match on a list from its start."""
         return self._reached.text or None
 
     @property
     def offset(self) -> int:
-        """How many bytes of the list the state covers: `more` takes those that follow. Those after a confirmed front come again."""
+        """How many bytes of the list the state covers: `more` takes those that follow."""
         return self._reached.bytes
 
 
@@ -263,12 +269,25 @@ def _room_of_entries(size: int) -> int:
 def log_extends(log: BytesLike, register: int) -> bool:
     """Whether events of a firmware event log extend this register of a bank, in less time than `registers` takes.
 
-    A log whose events extend register 10, which IMA alone does, may hold entries that were cut from the list.
-
     >>> ima_verify.log_extends(log, 4), ima_verify.log_extends(log, 10)
     (True, False)
     """
+    if not 0 <= operator.index(register) < _answers.REGISTERS:
+        raise ValueError(f"no register: {register!r}")
     return _answers.read_whether_changed(*_answer_of(_library.loaded().ima_verify_registers_json, (log,), _ROOM), register)
+
+
+def are_apart(log: BytesLike, measurements: BytesLike) -> bool:
+    """Whether no event of the log extends register 10, which IMA alone does, and no entry of the list names another.
+
+    Otherwise all registers can match though entries were moved from the list into the log, or events from the log into the list. Each part of
+    a list that grows can be asked about by itself. Inputs are refused as by `registers` and `list_registers`.
+
+    >>> ima_verify.are_apart(log, measurements), ima_verify.are_apart(log, bytes([9]) + measurements[1:])
+    (True, False)
+    """
+    in_log, of_list = log_extends(log, _LIST_REGISTER), list_registers(measurements)
+    return not in_log and all(found.register == _LIST_REGISTER for found in of_list)
 
 
 def _room_of_lines(data: BytesLike) -> int:

@@ -76,9 +76,11 @@ def _reading(status: int, text: bytes) -> Iterator[None]:
 
 
 def read_verdict(status: int, text: bytes) -> Verdict:
-    """The verdict on a whole list that a report states."""
+    """The verdict on a whole list that a report states. On no registers it is no match, though the report says that it is."""
     with _reading(status, text):
-        return _verdict_of(status, text, False)[0]
+        verdict = _verdict_of(status, text, may_match_nothing=True)
+        _require(verdict.confirmed is None)
+        return verdict
 
 
 def read_report(status: int, text: bytes) -> Report:
@@ -97,11 +99,16 @@ def read_more(
 ) -> Tuple[Verdict, Checkpoint]:
     """The verdict that a report states on a list that has more bytes after a checkpoint, so many, and the next checkpoint.
 
-    That is of the list that the report is on: of the confirmed front, which only a report of a call that asks for it has, and then exactly
-    if its verdict is a match, else of the whole list."""
+    Only a match has a next one: of the confirmed front, which the report of a call that asks for it has then, or of the whole list. After any
+    other verdict it is the one before."""
     with _reading(status, text):
-        verdict, confirmed = _verdict_of(status, text, has_front)
-        reached, end = _checkpoint_in(state), start.bytes + size
+        verdict = _verdict_of(status, text, may_match_nothing=False)
+        confirmed, end = verdict.confirmed, start.bytes + size
+        _require((confirmed is not None) == (has_front and verdict.matches))
+        if not verdict.matches:
+            _require(not state and start.entries <= verdict.entries)
+            return verdict, start
+        reached = _checkpoint_in(state)
         if reached is None:
             raise ValueError(state)
         _require(start.entries <= reached.entries == (verdict.entries if confirmed is None else confirmed))
@@ -124,7 +131,7 @@ def read_list_verdict(status: int, text: bytes) -> ListVerdict:
     with _reading(status, text):
         report = _result_of(text)
         entries, rows = _number(report, "entries"), _rows_of(report)
-        return ListVerdict(entries, rows, _matches(status, report, rows, entries > 0), text[:-1].decode())
+        return ListVerdict(entries, rows, _matches(status, report, rows, entries > 0 and bool(rows)), text[:-1].decode())
 
 
 def read_places(status: int, text: bytes) -> Places:
@@ -132,9 +139,9 @@ def read_places(status: int, text: bytes) -> Places:
     with _reading(status, text):
         answer = _result_of(text)
         rows = tuple(map(_place_row_of, _member(answer, "registers", list)))
-        located = all(row.place not in (Place.NOWHERE, Place.ABSENT, Place.MISSING) for row in rows)
+        located = bool(rows) and all(row.place not in (Place.NOWHERE, Place.ABSENT, Place.MISSING) for row in rows)
         _require(_member(answer, "located", bool) == located and status == (DONE if located else DIFFERS))
-        return Places(rows, located and bool(rows), text[:-1].decode())
+        return Places(rows, located, text[:-1].decode())
 
 
 def read_registers(status: int, text: bytes) -> Tuple[Register, ...]:
@@ -256,17 +263,14 @@ def _checkpoint_in(text: bytes) -> Optional[Checkpoint]:
     return found if found and found.entries <= found.bytes <= MOST_BYTES else None
 
 
-def _verdict_of(status: int, text: bytes, has_front: bool) -> Tuple[Verdict, Optional[int]]:
-    """The verdict that a report states, and how many entries its confirmed front has: that it has one stands in no other report than one
-    that is asked for it, and of these in each that is a match."""
+def _verdict_of(status: int, text: bytes, may_match_nothing: bool) -> Verdict:
+    """The verdict that a report states, where one on no registers may say that it is a match, or may not."""
     report = _result_of(text)
     aggregate, rows = BootAggregate(report["boot_aggregate"]), _rows_of(report)
-    matches = _matches(status, report, rows, aggregate is BootAggregate.GOOD)
+    is_good = aggregate is BootAggregate.GOOD and (bool(rows) or may_match_nothing)
+    matches = _matches(status, report, rows, is_good) and bool(rows)
     events, locality, entries = _number(report, "events"), _number(report, "locality", 255), _number(report, "entries")
-    confirmed, unconfirmed = _front_of(report, entries)
-    _require((confirmed is not None) == (has_front and status == DONE))
-    told = (confirmed, unconfirmed) if matches else (None, None)  # (no register confirms anything if there is none)
-    return Verdict(events, locality, entries, aggregate, rows, matches, text[:-1].decode(), *told), confirmed
+    return Verdict(events, locality, entries, aggregate, rows, matches, text[:-1].decode(), *_front_of(report, entries))
 
 
 def _front_of(report: Object, entries: int) -> Tuple[Optional[int], Optional[Unconfirmed]]:
@@ -297,10 +301,10 @@ def _rows_of(report: Object) -> Tuple[Row, ...]:
 
 
 def _matches(status: int, report: Object, rows: Tuple[Row, ...], is_good: bool) -> bool:
-    """Whether a report is a match of at least one register. Its status, its verdict and its rows say the same."""
+    """Whether a report is a match: of what is good before its rows, and of each of these. Its status and its verdict say the same."""
     matches = is_good and all(row.state is State.MATCH for row in rows)
     _require((status, report["verdict"]) == ((DONE, "match") if matches else (DIFFERS, "differ")))
-    return matches and bool(rows)
+    return matches
 
 
 def _row_of(row: Object) -> Row:

@@ -3,6 +3,7 @@
 import ctypes
 import functools
 import os
+import sys
 from ctypes import c_bool, c_char, c_int32, c_size_t, c_uint32, c_void_p
 from pathlib import Path
 from typing import Any, Callable, List, Sequence, Tuple, Union
@@ -87,7 +88,7 @@ def ask_for_texts(
     function is called once more."""
     words = [*(word for data in inputs for word in _argument(data)), *switches]
     status, sizes, outs = _call(function, words, rooms)
-    if status == TOO_SHORT and UNSET not in sizes and any(size > room for size, room in zip(sizes, rooms)):
+    if status == TOO_SHORT and max(sizes) <= sys.maxsize and any(size > room for size, room in zip(sizes, rooms)):
         status, sizes, outs = _call(function, words, [max(pair) for pair in zip(sizes, rooms)])
     if status == TOO_SHORT or any(size > len(out) for size, out in zip(sizes, outs)):
         lengths = [len(out) for out in outs]

@@ -198,18 +198,26 @@ class Answers(unittest.TestCase):
         self.check_wrong(_answers.read_verdict, 0, LACKING.replace(b'"differ"', b'"match"'))
 
     def test_report_of_no_registers_is_no_match(self):
-        row = b'{"bank":"sha256","register":10,"state":"match"}'
-        for read, report in ((_answers.read_verdict, REPORT), (_answers.read_list_verdict, LIST_REPORT)):
-            verdict = read(0, report.replace(row, b""))
+        row, match, differ = b'{"bank":"sha256","register":10,"state":"match"}', b'"verdict":"match"', b'"verdict":"differ"'
+        # (the program's report of `verify` on no registers is a match; no other is)
+        for read, report, status, word, wrong_word in (
+            (_answers.read_verdict, REPORT, 0, match, differ), (_answers.read_list_verdict, LIST_REPORT, 1, differ, match),
+        ):
+            text = report.replace(row, b"").replace(match, word)
+            verdict = read(status, text)
             self.assertEqual((verdict.rows, verdict.compared, verdict.matches, bool(verdict)), ((), 0, False, False))
-            self.assertIn('"verdict":"match"', verdict.json)
+            self.assertIn(word.decode(), verdict.json)
+            self.check_wrong(read, 1 - status, text)
+            self.check_wrong(read, status, text.replace(word, wrong_word))
+            self.check_wrong(read, 1 - status, text.replace(word, wrong_word))
             for wrong in (b"{}", b'""', b"null"):
                 self.check_wrong(read, 0, report.replace(b"[%b]" % row, wrong))
         found = _answers.read_report(0, REPORT.replace(row, b""))
         self.assertEqual((found.compared, found.matches, bool(found)), (0, False, False))
-        places = _answers.read_places(0, b'{"registers":[],"located":true}\n')
+        places = _answers.read_places(1, b'{"registers":[],"located":false}\n')
         self.assertEqual((places.rows, places.located, bool(places)), ((), False, False))
-        self.check_wrong(_answers.read_places, 1, b'{"registers":[],"located":true}\n')
+        for status, word in ((0, b"false"), (0, b"true"), (1, b"true")):
+            self.check_wrong(_answers.read_places, status, b'{"registers":[],"located":%b}\n' % word)
 
     def test_right_reports_on_a_list_alone_are_read(self):
         verdict = _answers.read_list_verdict(0, LIST_REPORT)
@@ -242,6 +250,14 @@ class Answers(unittest.TestCase):
         self.check_wrong(_answers.read_places, 1, PLACES)
         self.check_wrong(_answers.read_places, 0, NOT_LOCATED)
         self.check_wrong(_answers.read_places, 0, LACKING_PLACES)
+
+    def test_register_of_any_bank_is_found(self):
+        for bank, digits in ((b"sha1", 40), (b"sha256", 64), (b"sha384", 96), (b"sha512", 128)):
+            row = b'{"bank":"%b","register":10,"value":"%b"}' % (bank, digits * b"a")
+            for text in (b'{"registers":[%b]}\n' % row, b'{"registers": [%b]}\n' % row):  # (as libraries write it, and as they may)
+                self.assertEqual([number for number in range(24) if _answers.read_whether_changed(0, text, number)], [10])
+        for text in (b'{"registers":[]}\n', b'{"registers": []}\n'):
+            self.assertFalse(_answers.read_whether_changed(0, text, 10))
 
     def test_wrong_answers_are_no_registers_and_no_lines(self):
         self.check_changes(_answers.read_registers, 0, REGISTERS, (
@@ -479,7 +495,7 @@ class Failures(unittest.TestCase):
     def test_sizes_that_cannot_be_are_errors(self):
         for status, text, needed in (
             (0, ASCII, len(ASCII)), (4, b"", 50), (4, b"", 100), (4, b"", 101), (4, b"", "unset"), (0, b"", "unset"),
-            (2, b"", "unset"),
+            (2, b"", "unset"), (4, b"", 1 << 63), (4, b"", (1 << 64) - 2),
         ):
             with self.assertRaises(ima_verify.LibraryError, msg=f"{status} {needed}"):
                 _library.ask(answering(status, text, needed), (LOG,), 100)
@@ -495,11 +511,11 @@ class Failures(unittest.TestCase):
 class Loading(unittest.TestCase):
     """Where the library is found, and libraries that cannot be used."""
 
-    def calling(self, library, **settings):
+    def calling(self, library, folder=None, **settings):
         environment = {**os.environ, "PYTHONPATH": str(ROOT / "bindings/python"), "IMA_VERIFY_LIBRARY": library, **settings}
         program = "import ima_verify; from ima_verify import _library; print(ima_verify.version(), _library.loaded()._name)"
         words = [sys.executable, "-B", "-c", program]
-        return subprocess.run(words, env=environment, stdout=subprocess.PIPE, stderr=subprocess.PIPE, timeout=60)
+        return subprocess.run(words, cwd=folder, env=environment, stdout=subprocess.PIPE, stderr=subprocess.PIPE, timeout=60)
 
     def test_library_of_the_system_is_found_by_its_loader(self):
         with tempfile.TemporaryDirectory() as name:
@@ -511,10 +527,13 @@ class Loading(unittest.TestCase):
 
     def test_named_library_goes_first(self):
         with tempfile.TemporaryDirectory() as name:
-            named = Path(name, "other.so")
-            named.symlink_to(Path(_library._file()).resolve())
-            ended = self.calling(str(named))
-        self.assertEqual(ended.stdout.decode(), f"{ima_verify.version()} {named}\n")
+            named, packed = Path(name, "other.so"), Path(name, "ima_verify/libima_verify.so")
+            shutil.copytree(ROOT / "bindings/python/ima_verify", packed.parent, ignore=shutil.ignore_patterns("*.so", "__pycache__"))
+            for file in (named, packed):
+                file.symlink_to(Path(_library._file()).resolve())
+            for library, used in ((str(named), named), ("", packed)):
+                ended = self.calling(library, name, PYTHONPATH=name)  # (the package of the folder that it runs in goes first)
+                self.assertEqual(ended.stdout.decode(), f"{ima_verify.version()} {used}\n")
 
     def test_library_of_an_earlier_version(self):
         later = ima_verify.version() + 1

@@ -19,8 +19,9 @@ import inputs
 from ima_verify import Algorithm, BootAggregate, Entry, Event, Kind, Place, PlaceRow, Register, Row, State
 from reference.log import EV_NO_ACTION, read_log
 from reference.log import Event as LogEvent
+from reference.measurement_list import Entry as ListEntry
 from reference.measurement_list import list_spelling, list_text, read_list
-from reference.registers import SHA1, SHA256
+from reference.registers import ALGORITHMS, SHA1, SHA256
 from reference.verdict import locate
 
 SAMPLE = ROOT / "samples/real-boot"
@@ -75,7 +76,7 @@ class Sample(unittest.TestCase):
 
     def test_log_extends_what_its_events_extend(self):
         extended = {register.register for register in registers_in(REGISTERS)}
-        self.assertEqual({number for number in range(25) if ima_verify.log_extends(LOG, number)}, extended)
+        self.assertEqual({number for number in range(24) if ima_verify.log_extends(LOG, number)}, extended)
         log = read_log(LOG)
         for kind, is_extended in ((inputs.EV_EVENT_TAG, True), (EV_NO_ACTION, False)):
             event = LogEvent(10, kind, {SHA256.identifier: bytes(32)}, b"")
@@ -83,6 +84,18 @@ class Sample(unittest.TestCase):
         self.assertFalse(ima_verify.log_extends(log._replace(events=[]).spelling(), 0))
         for data in (b"", LOG[:-1]):
             self.assertRaises(ima_verify.Refused, ima_verify.log_extends, data, 10)
+        for wrong in (10.0, "10", b"10", None):
+            self.assertRaises(TypeError, ima_verify.log_extends, LOG, wrong)
+        for wrong in (-1, 24):
+            self.assertRaises(ValueError, ima_verify.log_extends, LOG, wrong)
+
+    def test_log_of_any_one_bank_may_extend_register_10(self):
+        for bank in ALGORITHMS:
+            log = inputs.made_log([bank], 12)
+            event = LogEvent(10, inputs.EV_EVENT_TAG, {bank.identifier: bytes(bank.size)}, b"")
+            hiding = log._replace(events=[*log.events, event])
+            found = [(ima_verify.log_extends(data.spelling(), 10), ima_verify.are_apart(data.spelling(), LIST)) for data in (log, hiding)]
+            self.assertEqual(found, [(False, True), (True, False)])
 
     def test_registers_are_those_of_the_sample(self):
         self.assertEqual(ima_verify.registers(LOG), registers_in(REGISTERS))
@@ -117,6 +130,42 @@ class Sample(unittest.TestCase):
     def test_version_is_that_of_the_header(self):
         header = (ROOT / "include/ima_verify.h").read_text()
         self.assertGreaterEqual(ima_verify.version(), int(header.split("#define IMA_VERIFY_VERSION ")[1].split()[0]))
+
+
+class Apart(unittest.TestCase):
+    """Whether register 10 is the list's alone, and the list's only one."""
+
+    ENTRIES = read_list(LIST)
+
+    def test_sample_is_apart_and_so_is_each_part_of_its_list(self):
+        for count in (0, 1, 50, 99):
+            for part in (self.ENTRIES[:count], self.ENTRIES[count:]):
+                self.assertTrue(ima_verify.are_apart(LOG, list_spelling(part)))
+
+    def test_entry_of_another_register_is_found(self):
+        for place in (0, 1, 50, 93, 98):  # (93 is a violation)
+            for register in (0, 9, 11, 17, 23):
+                entry = self.ENTRIES[place]._replace(register=register)
+                listed = list_spelling([*self.ENTRIES[:place], entry, *self.ENTRIES[place + 1:]])
+                self.assertIs(ima_verify.are_apart(LOG, listed), False)
+        listed = list_spelling([entry._replace(register=11) for entry in self.ENTRIES])
+        self.assertIs(ima_verify.are_apart(LOG, listed), False)
+
+    def test_event_moved_into_the_list_matches_but_is_found(self):
+        log = inputs.made_log([SHA256], 12)
+        moved, left = log.events[-1], log._replace(events=log.events[:-1])
+        entries = inputs.made_entries(left, inputs.made_measurements(5))
+        entries.append(ListEntry(moved.register, hashlib.sha1(moved.data).digest(), b"x", moved.data))
+        expected = inputs.expected_text(inputs.expected_after(left, entries))
+        self.assertTrue(ima_verify.verify(left.spelling(), list_spelling(entries), expected, require="sha256:0-10"))
+        self.assertFalse(ima_verify.are_apart(left.spelling(), list_spelling(entries)))
+        self.assertTrue(ima_verify.are_apart(log.spelling(), list_spelling(entries[:-1])))
+
+    def test_inputs_are_refused(self):
+        for log, listed, line in ((LOG[:-1], LIST, "log fault 1 at event 24"), (LOG, LIST[:-1], "list fault 1 at entry 98"),
+                                  (LOG, CHANGED, "replay fault 1 at entry 5")):
+            with self.assertRaisesRegex(ima_verify.Refused, f"^refused: {line}$"):
+                ima_verify.are_apart(log, listed)
 
 
 class Required(unittest.TestCase):
@@ -566,7 +615,7 @@ class EmptyInputs(unittest.TestCase):
             self.assertEqual((verdict.compared, verdict.matches, verdict.boot_aggregate), (0, False, BootAggregate.GOOD))
             self.assertEqual((verdict.rows, verdict.entries), ((), 99))
             self.assertEqual((places.rows, places.located), ((), False))
-            self.assertEqual(places.json, '{"registers":[],"located":true}')
+            self.assertEqual((verdict.json[-18:], places.json), ('"verdict":"match"}', '{"registers":[],"located":false}'))
             self.assertFalse(verdict or places)
 
 

@@ -19,8 +19,10 @@ sys.path[:0] = [str(ROOT / "bindings/python"), str(ROOT / "bench")]
 
 import ima_verify
 import inputs
-from ima_verify import Algorithm, BootAggregate, Kind, Session, State, Unconfirmed, _answers, _library
-from reference.measurement_list import read_list
+from ima_verify import Algorithm, BootAggregate, Kind, Row, Session, State, Unconfirmed, _answers, _library
+from reference.checkpoint import before_a_list
+from reference.log import read_log
+from reference.measurement_list import list_spelling, read_list
 from reference.registers import ALGORITHMS, SHA256
 
 LOG, LIST, EXPECTED = ((ROOT / "samples/real-boot" / name).read_bytes() for name in ("firmware.log", "ima.list", "expected.txt"))
@@ -30,6 +32,8 @@ ENDS = [sum(len(entry.spelling()) for entry in ENTRIES[:count]) for count in ran
 CUTS = 0, 1, 2, 50, 97, 98, 99
 LONGER = LIST + LIST[ENDS[98]:]
 OTHER_LOG = inputs.made_log([SHA256], 24).spelling()
+# The expected registers of the firmware alone.
+TEN = b"".join(EXPECTED.splitlines(True)[:10])
 
 STATE = b"ima-agent checkpoint 1\nentries 3\nbytes 300\nboot_aggregate none\n"
 REPORT = (b'{"events":1,"locality":0,"entries":3,"boot_aggregate":"good",'
@@ -44,13 +48,18 @@ MEMORY = b'{"fault":{"kind":"memory","message":"failed: memory"}}\n'
 FAULT = b'{"fault":{"kind":"checkpoint","number":3,"message":"refused: checkpoint fault 3"}}\n'
 
 
+def register_after(number, entries):
+    """The line of an expected register that entries alone extend."""
+    value = bytes(32)
+    for entry in entries:
+        value = hashlib.sha256(value + entry.digest_of(SHA256)).digest()
+    return f"sha256 {number} {value.hex()}\n".encode()
+
+
 def tenth_after(count):
     """The expected registers of the sample, with register 10 as it is after so many entries."""
-    value = bytes(32)
-    for entry in ENTRIES[:count]:
-        value = hashlib.sha256(value + entry.digest_of(SHA256)).digest()
     lines = EXPECTED.splitlines(True)
-    return b"".join([*lines[:10], f"sha256 10 {value.hex()}\n".encode(), *lines[11:]])
+    return b"".join([*lines[:10], register_after(10, ENTRIES[:count]), *lines[11:]])
 
 
 def changed(place):
@@ -59,10 +68,9 @@ def changed(place):
     return LIST[:at] + bytes([LIST[at] ^ 1]) + LIST[at + 1:]
 
 
-def state_after(count, log=LOG, data=LIST):
-    session = Session(log, "")
-    session.more(data[:ENDS[count]])
-    return session.state
+def state_after(count, log=LOG, entries=ENTRIES):
+    """The state after so many entries, by the reference."""
+    return before_a_list(read_log(log).registers()).following(entries[:count]).text()
 
 
 def sealed(text):
@@ -99,32 +107,51 @@ class Growing(Refusing):
     def test_list_in_two_parts_is_as_the_whole(self):
         whole = ima_verify.verify(LOG, LIST, EXPECTED)
         for cut in CUTS:
-            session = Session(LOG, EXPECTED)
+            session = Session(LOG, tenth_after(cut))
             self.assertEqual((session.state, session.offset), (None, 0))
             first = session.more(LIST[:ENDS[cut]])
-            self.assertEqual((first.entries, first.matches, bool(first)), (cut, cut == 99, cut == 99))
-            self.assertEqual(first, ima_verify.verify(LOG, LIST[:ENDS[cut]], EXPECTED))
-            self.assertEqual((session.offset, session.state.splitlines()[1]), (ENDS[cut], b"entries %d" % cut))
-            self.assertEqual(session.more(LIST[ENDS[cut]:]), whole)
-            self.assertEqual(session.offset, len(LIST))
+            self.assertEqual((first.entries, first.matches, bool(first)), (cut, cut > 0, cut > 0))
+            self.assertEqual(first, ima_verify.verify(LOG, LIST[:ENDS[cut]], tenth_after(cut)))
+            self.assertEqual((session.state, session.offset), (state_after(cut), ENDS[cut]) if cut else (None, 0))
+            later = Session(LOG, EXPECTED, state=session.state)
+            self.assertEqual(later.more(LIST[ENDS[cut]:]), whole)
+            self.assertEqual((later.state, later.offset), (state_after(99), len(LIST)))
             self.assertEqual((whole.confirmed, whole.unconfirmed), (None, None))
 
     def test_list_in_many_parts(self):
-        session, required = Session(LOG, EXPECTED, require="sha256:0-10"), []
+        state = None
         for count, (start, end) in enumerate(zip(ENDS, ENDS[1:]), 1):
+            session = Session(LOG, tenth_after(count), require="sha256:0-10", state=state)
             verdict = session.more(memoryview(LIST)[start:end])
-            self.assertEqual((verdict.entries, session.offset), (count, end))
-            required.append(verdict.matches)
-        self.assertEqual(required, 98 * [False] + [True])
+            self.assertEqual((verdict.matches, verdict.entries, session.offset), (True, count, end))
+            state = session.state
         self.assertEqual(verdict, ima_verify.verify(LOG, LIST, EXPECTED, require="sha256:0-10"))
         self.assertEqual(session.more(b""), verdict)
         self.assertEqual(session.more(bytearray(LIST[ENDS[98]:])), ima_verify.verify(LOG, LONGER, EXPECTED, require="sha256:0-10"))
 
     def test_state_is_the_same_however_the_list_came(self):
-        session = Session(LOG, EXPECTED)
-        for start, end in zip(CUTS, CUTS[1:]):
-            session.more(LIST[ENDS[start]:ENDS[end]])
-            self.assertEqual(session.state, state_after(end))
+        for prefix in (False, True):
+            state = None
+            for start, end in zip(CUTS, CUTS[1:]):
+                session = Session(LOG, tenth_after(end), prefix=prefix, state=state)
+                self.assertTrue(session.more(LIST[ENDS[start]:ENDS[end]]))
+                state = session.state
+                self.assertEqual(state, state_after(end))
+
+    def test_only_a_match_moves_the_session(self):
+        for cut in CUTS:
+            for prefix in (False, True):
+                state = state_after(cut) if cut else None
+                session = Session(LOG, EXPECTED, prefix=prefix, state=state)
+                for end in range(cut, 99, 7):
+                    self.assertFalse(session.more(LIST[ENDS[cut]:ENDS[end]]))
+                    self.assertEqual((session.state, session.offset), (state, ENDS[cut]))
+                self.assertTrue(session.more(LIST[ENDS[cut]:]))
+                self.assertEqual((session.state, session.offset), (state_after(99), len(LIST)))
+            self.assertEqual(session.more(LIST[ENDS[98]:]).confirmed, 99)
+            session = Session(LOG, EXPECTED, state=session.state)
+            self.assertFalse(session.more(LIST[ENDS[98]:]))
+            self.assertEqual((session.state, session.offset), (state_after(99), len(LIST)))
 
     def test_another_session_goes_on_from_the_state(self):
         for cut in CUTS:
@@ -134,7 +161,7 @@ class Growing(Refusing):
                 verdict = session.more(LIST[ENDS[cut]:])
                 self.assertEqual((verdict.entries, verdict.rows[10].state), (99, State.DIFFER))
                 later = Session(LOG, EXPECTED.decode(), state=session.state, require=b"sha256:0-23")
-                self.assertEqual(later.more(b""), ima_verify.verify(LOG, LIST, EXPECTED, require="sha256:0-23"))
+                self.assertEqual(later.more(LIST[ENDS[cut]:]), ima_verify.verify(LOG, LIST, EXPECTED, require="sha256:0-23"))
 
     def test_nothing_new_gives_the_verdict_again(self):
         for cut in CUTS:
@@ -187,20 +214,25 @@ class Growing(Refusing):
             self.assertRaises(TypeError, Session, LOG, EXPECTED, prefix=wrong)
 
     def test_session_is_copied_and_pickled_with_its_state(self):
-        session = Session(LOG, EXPECTED, require="sha256:10", prefix=True)
-        session.more(LIST[:ENDS[50]])
+        session = Session(LOG, tenth_after(50), require="sha256:10", prefix=True)
+        session.more(LIST[:ENDS[60]])
         for again in (copy.copy(session), copy.deepcopy(session), pickle.loads(pickle.dumps(session))):
-            self.assertEqual((again.state, again.offset), (session.state, ENDS[50]))
-            self.assertEqual(again.more(LIST[ENDS[50]:]).confirmed, 99)
+            self.assertEqual((again.state, again.offset), (state_after(50), ENDS[50]))
+            verdict = again.more(LIST[ENDS[50]:])
+            self.assertEqual((verdict.confirmed, verdict.entries), (50, 99))
         self.assertEqual(session.offset, ENDS[50])
 
     def test_sessions_at_once_give_what_they_give_alone(self):
-        wanted, right = [ima_verify.verify(LOG, LIST[:ENDS[cut]], EXPECTED) for cut in CUTS], []
+        wanted, right = [ima_verify.verify(LOG, LIST[:ENDS[cut]], tenth_after(cut)) for cut in CUTS], []
 
         def run():
             for _ in range(10):
-                session = Session(LOG, EXPECTED)
-                right.append([session.more(LIST[ENDS[start]:ENDS[end]]) for start, end in zip((0, *CUTS), CUTS)] == wanted)
+                verdicts, state = [], None
+                for start, end in zip((0, *CUTS), CUTS):
+                    session = Session(LOG, tenth_after(end), state=state)
+                    verdicts.append(session.more(LIST[ENDS[start]:ENDS[end]]))
+                    state = session.state
+                right.append(verdicts == wanted)
 
         threads = [threading.Thread(target=run) for _ in range(8)]
         for thread in threads:
@@ -220,24 +252,44 @@ class Required(Refusing):
             verdict = session.more(LIST)
             missing = [(row.algorithm, row.register) for row in verdict.rows if row.state is State.MISSING]
             self.assertEqual(missing, [(Algorithm.SHA1, 10), (Algorithm.SHA256, 23)])
-            self.assertEqual((verdict.matches, verdict.compared, verdict.confirmed, session.offset), (False, 23, None, len(LIST)))
+            self.assertEqual((verdict.matches, verdict.compared, verdict.confirmed, session.offset), (False, 23, None, 0))
+
+    def test_requirement_of_a_resumed_session_holds(self):
+        for cut in (0, 1, 50, 99):
+            for prefix in (False, True):
+                given = {"prefix": prefix, "state": state_after(cut)}
+                session = Session(LOG, TEN, require="sha256:0-10", **given)
+                for _ in range(2):
+                    verdict = session.more(LIST[ENDS[cut]:])
+                    self.assertEqual(verdict.rows[10:], (Row(Algorithm.SHA256, 10, State.MISSING),))
+                    self.assertEqual((verdict.matches, session.state), (False, given["state"]))
+                self.assertTrue(Session(LOG, TEN, require="sha256:0-9", **given).more(LIST[ENDS[cut]:]))
 
     def test_requirement_is_given_and_of_its_form(self):
-        for wrong in ("", b"", bytearray(), memoryview(b"")):
-            with self.assertRaisesRegex(ValueError, "^not of its form: "):
-                Session(LOG, EXPECTED, require=wrong)
-        for wrong in ("sha256", "sha256:24", "sha256:10-0", "sha256:0-10,", " ", "none", "\u00e4", "\ud800", b"\xff"):
-            session = Session(b"", "x", require=wrong)
-            with self.assertRaises(ValueError) as caught:
-                session.more(b"x")
-            self.assertEqual((str(caught.exception), session.state), (f"not of its form: {wrong!r}", None))
+        for wrong in ("", b"", bytearray(), memoryview(b""), "sha256", "sha256:24", "sha256:10-0", "sha256:0-10,", " ", "None", "none ", "\u00e4",
+                      "\ud800", b"\xff"):
+            for log, expected, data in ((b"", "x", b"x"), (LOG, EXPECTED, LIST)):
+                session = Session(log, expected, require=wrong)
+                with self.assertRaises(ValueError) as caught:
+                    session.more(data)
+                self.assertEqual((str(caught.exception), session.state), (f"not of its form: {wrong!r}", None))
         for wrong in (None, 5, 0, False, ["sha256:10"]):
             self.assertRaises(TypeError, Session, LOG, EXPECTED, require=wrong)
 
+    def test_nothing_is_required_by_default_and_by_its_word(self):
+        for given in ({}, {"require": "none"}, {"require": b"none"}):
+            for prefix in (False, True):
+                session = Session(LOG, TEN, prefix=prefix, **given)
+                self.assertEqual((bool(session.more(LIST)), session.offset), (True, ENDS[1] if prefix else len(LIST)))
+
     def test_verdict_on_no_registers_is_no_match(self):
         for prefix in (False, True):
-            verdict = Session(LOG, "", prefix=prefix).more(LIST)
-            self.assertEqual((verdict.matches, verdict.confirmed, verdict.rows, bool(verdict)), (False, None, (), False))
+            for state in (None, state_after(50)):
+                session = Session(LOG, "", prefix=prefix, state=state)
+                verdict = session.more(LIST[session.offset:])
+                self.assertEqual((verdict.matches, verdict.confirmed, verdict.rows, bool(verdict)), (False, None, (), False))
+                self.assertEqual((verdict.boot_aggregate, verdict.json[-19:]), (BootAggregate.GOOD, '"verdict":"differ"}'))
+                self.assertEqual(session.state, state)
 
 
 class Front(Refusing):
@@ -289,11 +341,11 @@ class Front(Refusing):
             self.check_refused(session, LIST[:-1], Kind.LIST, 1, 98, "refused: list fault 1 at entry 98")
             verdict = session.more(LIST)
             self.assertEqual((verdict.matches, verdict.entries, verdict.confirmed, verdict.unconfirmed), (False, 99, None, None))
-            self.assertEqual(session.state, state_after(99))
+            self.assertIsNone(session.state)
 
     def test_front_never_has_fewer_entries_than_the_state(self):
         session = Session(LOG, tenth_after(50), prefix=True, state=state_after(97))
-        self.assertEqual((bool(session.more(LIST[ENDS[97]:])), session.offset), (False, len(LIST)))
+        self.assertEqual((bool(session.more(LIST[ENDS[97]:])), session.offset), (False, ENDS[97]))
 
     def test_fault_within_the_front_is_refused(self):
         for place in (0, 5, 96):
@@ -317,6 +369,16 @@ class Page(unittest.TestCase):
         self.assertEqual(self.judge(tenth_after(50), None, lambda start: LIST[start:ENDS[60]]), wanted)
         self.assertEqual(self.judge(tenth_after(60), wanted[1], lambda start: changed(61)[start:])[:2], (True, state_after(60)))
         self.assertEqual(self.judge(EXPECTED, wanted[1], lambda start: LIST[start:ENDS[98]]), (False, wanted[1], ""))
+
+    def test_front_that_is_not_apart_from_the_log_is_no_state(self):
+        listed = list_spelling([*ENTRIES[:40], ENTRIES[40]._replace(register=11), *ENTRIES[41:]])
+        expected = TEN + register_after(10, [*ENTRIES[:40], *ENTRIES[41:60]]) + register_after(11, ENTRIES[40:41])
+        verdict = Session(LOG, expected, require="sha256:0-10", prefix=True).more(listed)
+        self.assertEqual((verdict.matches, verdict.confirmed), (True, 60))
+        for state in (None, state_after(30)):
+            with self.assertRaisesRegex(ValueError, "PCR 10"):
+                self.judge(expected, state, lambda start: listed[start:])
+        self.assertTrue(self.judge(tenth_after(40), None, lambda start: listed[start:])[0])
 
 
 class States(Refusing):
@@ -350,18 +412,15 @@ class States(Refusing):
             self.check_no_state(sealed(state.replace(old, new, 1)), 1)
 
     def test_state_of_another_boot_is_refused(self):
-        other = Session(OTHER_LOG, "")
-        other.more(LIST)
-        self.check_no_state(other.state, 3)
+        self.check_no_state(state_after(99, OTHER_LOG), 3)
         session = Session(OTHER_LOG, EXPECTED, state=state_after(99))
         self.check_refused(session, b"", Kind.CHECKPOINT, 3, None, "refused: checkpoint fault 3")
 
     def test_state_of_another_list_gives_no_match(self):
-        foreign = Session(LOG, "")
-        foreign.more(LIST[:ENDS[50]] + LIST[ENDS[51]:ENDS[60]])
+        foreign = state_after(59, entries=[*ENTRIES[:50], *ENTRIES[51:]])
         for cut in (50, 51, 59, 60):
             for prefix in (False, True):
-                session = Session(LOG, EXPECTED, prefix=prefix, state=foreign.state)
+                session = Session(LOG, EXPECTED, prefix=prefix, state=foreign)
                 self.assertFalse(session.more(LIST[ENDS[cut]:]))
 
     def test_state_of_no_entries_is_one(self):
@@ -400,16 +459,19 @@ class Buffers(unittest.TestCase):
     def test_first_buffers_are_large_enough(self):
         four = inputs.made_log(ALGORITHMS, 24).spelling()
         every_register = "".join(f"{bank.value} {number} {2 * bank.digest_size * '1'}\n" for bank in Algorithm for number in range(24)).encode()
-        _, (state, report), sizes = self.ask((ima_verify._ROOM, ima_verify._ROOM), inputs=(four, b"", LIST, every_register, b""))
-        self.assertEqual(len(sizes), 1)
-        self.assertLess(len(state), ima_verify._ROOM)
-        self.assertGreater(len(state), 4 * len(state_after(99)))
+        _, (state, report), sizes = self.ask((ima_verify._ROOM, ima_verify._ROOM), inputs=(four, b"", LIST, every_register, b"none"))
+        self.assertEqual((len(sizes), state), (1, b""))
         self.assertGreater(len(report), 10_000)
+        longest = state_after(99, four)
+        self.assertLess(len(longest), ima_verify._ROOM)
+        self.assertGreater(len(longest), 4 * len(state_after(99)))
 
 
-def answering(status, state, text, needed=None):
-    """A function in place of the library's that gives this, whatever it is asked."""
+def answering(status, state, text, needed=None, asked=None):
+    """A function in place of the library's that gives this, whatever it is asked. What it requires is noted."""
     def function(*words):
+        if asked is not None:
+            asked.append(words[8])
         for data, (out, room, size), told in zip((state, text), (words[-6:-3], words[-3:]), needed or (len(state), len(text))):
             buffer = (ctypes.c_char * room).from_address(ctypes.addressof(out._obj))
             buffer[:min(len(data), room)] = data[:room]
@@ -424,14 +486,16 @@ class Answers(unittest.TestCase):
     """What a library may answer a session, and what not."""
 
     def check_right(self, status, text, has_front, *wanted):
-        with answering(status, STATE, text):
+        with answering(status, b"" if status else STATE, text):
             session = Session(b"", b"", prefix=has_front)
             verdict = session.more(300 * b"x")
         self.assertEqual((verdict.matches, verdict.entries, verdict.confirmed, verdict.unconfirmed), wanted)
-        self.assertEqual((session.state, session.offset), (STATE, 300))
+        self.assertEqual((session.state, session.offset), (None, 0) if status else (STATE, 300))
 
-    def check_wrong(self, status, text, has_front=False, state=STATE, size=300, needed=None, error=ima_verify.LibraryError):
+    def check_wrong(self, status, text, has_front=False, state=None, size=300, needed=None, error=ima_verify.LibraryError):
         """There is no verdict, and the session stays as it was, also if it has been used."""
+        if state is None:
+            state = b"" if status else STATE  # (as it has to be)
         for earlier in (None, STATE):
             with answering(status, state, text, needed):
                 session = Session(b"", b"", prefix=has_front, state=earlier)
@@ -508,8 +572,10 @@ class Answers(unittest.TestCase):
             STATE.replace(b"bytes 300\n", b""),
         ):
             self.check_wrong(0, REPORT, state=state)
-            self.check_wrong(1, DIFFERING, state=state)
             self.check_wrong(0, FRONT, True, state=state)
+        for state in (STATE, STATE[:-1], b"x", b"\n"):  # (only a match has one)
+            self.check_wrong(1, DIFFERING, state=state)
+            self.check_wrong(1, DIFFERING, True, state=state)
         for text, state, size in (
             (REPORT, STATE.replace(b"300", b"2"), 2), (FRONT, STATE.replace(b"300", b"2"), 2),  # (fewer bytes than entries)
             (FRONT.replace(b'"confirmed":3', b'"confirmed":0'), STATE.replace(b"entries 3", b"entries 0"), 300),
@@ -528,10 +594,32 @@ class Answers(unittest.TestCase):
     def test_report_on_fewer_entries_than_the_state_has_is_none(self):
         later = STATE.replace(b"entries 3", b"entries 4").replace(b"300", b"400")
         for status, text, has_front in ((0, REPORT, False), (1, DIFFERING, False), (0, FRONT, True)):
-            with answering(status, STATE.replace(b"300", b"400"), text):
+            with answering(status, b"" if status else STATE.replace(b"300", b"400"), text):
                 session = Session(b"", b"", prefix=has_front, state=later)
                 self.assertRaises(ima_verify.LibraryError, session.more, b"")
             self.assertEqual(session.state, later)
+
+    def test_report_of_no_registers_is_no_match(self):
+        row = b'{"bank":"sha256","register":10,"state":"match"}'
+        for text, has_front in ((REPORT, False), (FRONT, True)):
+            self.check_wrong(0, text.replace(row, b""), has_front)
+            self.check_wrong(1, text.replace(row, b""), has_front)
+        differing = REPORT.replace(row, b"").replace(b'"verdict":"match"', b'"verdict":"differ"')
+        for has_front in (False, True):
+            self.check_wrong(0, differing, has_front)
+            self.check_right(1, differing, has_front, False, 3, None, None)
+
+    def test_what_is_required_crosses_as_it_is(self):
+        asked, wanted = [], []
+        for given, crosses in (({}, b"none"), ({"require": ""}, b""), ({"require": b""}, b""), ({"require": "none"}, b"none"),
+                               ({"require": "sha256:0-10"}, b"sha256:0-10"), ({"require": bytearray(b"x")}, b"x")):
+            for state in (None, STATE):
+                with answering(0, STATE.replace(b"300", b"600"), REPORT, asked=asked):
+                    session = Session(b"", b"", state=state, **given)
+                    for _ in range(2):
+                        session.more((600 - session.offset) * b"x")
+                wanted += 2 * [crosses]
+        self.assertEqual(asked, wanted)
 
     def test_wrong_answers_are_no_verdicts(self):
         for status, text in ((0, b""), (0, b"\n"), (0, b"{}\n"), (0, REPORT[:-1]), (1, REPORT), (0, DIFFERING), (2, REPORT), (3, REPORT), (4, REPORT),
@@ -549,6 +637,8 @@ class Answers(unittest.TestCase):
             self.check_wrong(0, REPORT, needed=needed)
             self.check_wrong(4, REPORT, needed=needed)
         self.check_wrong(4, REPORT, needed=(1 << 62, 1), error=MemoryError)
+        for needed in ((1 << 63, 1), (1, 1 << 63), ((1 << 64) - 2, 1)):
+            self.check_wrong(4, REPORT, needed=needed)
 
     def test_refusals_of_states_are_read(self):
         for number in (1, 2, 3):

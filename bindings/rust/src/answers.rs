@@ -17,39 +17,41 @@ pub(crate) struct Answer {
 }
 
 impl Answer {
-    /// The verdict on a whole list.
+    /// The verdict on a whole list. On no registers it is no match, though the report says that it is.
     pub(crate) fn verdict(self) -> Result<Verdict, Error> {
-        self.read(|answer| answer.report().filter(|verdict| verdict.confirmed.is_none()))
+        self.read(|answer| answer.report(true).filter(|verdict| verdict.confirmed.is_none()))
     }
 
-    /// The verdict on a list that has so many bytes after a checkpoint, and the next checkpoint, which is of the list that the report is on:
-    /// of the confirmed front, which only a report of a call that asks for it has, and then exactly if its verdict is a match, else of the
-    /// whole list.
+    /// The verdict on a list that has so many bytes after a checkpoint, and the next checkpoint. Only a match has one: of the confirmed front,
+    /// which the report of a call that asks for it has then, or of the whole list. After any other verdict there is none.
     pub(crate) fn more(
         self,
         state: Vec<u8>,
         from: &Checkpoint,
         size: u64,
         has_front: bool,
-    ) -> Result<(Verdict, Checkpoint), Error> {
+    ) -> Result<(Verdict, Option<Checkpoint>), Error> {
         self.read(|answer| {
-            let (mut verdict, reached) = (answer.report()?, Checkpoint::of(state)?);
+            let verdict = answer.report(false)?;
             let (end, confirmed) = (from.bytes.checked_add(size)?, verdict.confirmed);
-            let has_right_front = confirmed.is_some() == (has_front && answer.status == DONE);
+            (confirmed.is_some() == (has_front && verdict.matches)).then_some(())?;
+            let entries = confirmed.unwrap_or(verdict.entries);
+            if !verdict.matches {
+                return (state.is_empty() && from.entries <= entries).then_some((verdict, None));
+            }
+            let reached = Checkpoint::of(state)?;
             let is_right_end =
                 if confirmed.is_some() { (from.bytes..=end).contains(&reached.bytes) } else { reached.bytes == end };
-            let entries = confirmed.unwrap_or(verdict.entries);
-            (has_right_front && is_right_end && from.entries <= entries && entries == reached.entries).then_some(())?;
-            if !verdict.matches {
-                (verdict.confirmed, verdict.unconfirmed) = (None, None); // (no register confirms anything if there is none)
-            }
-            Some((verdict, reached))
+            (is_right_end && from.entries <= entries && entries == reached.entries).then_some((verdict, Some(reached)))
         })
     }
 
-    fn report(&self) -> Option<Verdict> {
+    /// The verdict of a report, where one on no registers may say that it is a match, or may not.
+    fn report(&self, may_match_nothing: bool) -> Option<Verdict> {
         let Report { events, locality, boot_aggregate, confirmed, unconfirmed, rest } = object(&self.text)?;
-        let matches = self.matches(&rest, boot_aggregate == BootAggregate::Good)?;
+        let has_rows = !rest.registers.is_empty();
+        let is_good = boot_aggregate == BootAggregate::Good && (has_rows || may_match_nothing);
+        let matches = self.matches(&rest, is_good)? && has_rows;
         let (entries, rows, json) = (rest.entries, rest.registers, self.line()?);
         confirmed.map_or(unconfirmed.is_none(), |confirmed| (1..=entries).contains(&confirmed)).then_some(())?;
         let unconfirmed = match unconfirmed {
@@ -63,7 +65,7 @@ impl Answer {
     pub(crate) fn list_verdict(self) -> Result<ListVerdict, Error> {
         self.read(|answer| {
             let report: ListReport = object(&answer.text)?;
-            let matches = answer.matches(&report, report.entries > 0)?;
+            let matches = answer.matches(&report, report.entries > 0 && !report.registers.is_empty())?;
             Some(ListVerdict { entries: report.entries, rows: report.registers, matches, json: answer.line()? })
         })
     }
@@ -72,8 +74,8 @@ impl Answer {
         self.read(|answer| {
             let PlacesLine { registers: rows, located, .. } = object(&answer.text)?;
             let are_reached = rows.iter().all(|row| !matches!(row.place, Place::Nowhere | Place::Absent | Place::Missing));
-            let says = located == are_reached && answer.says(located);
-            says.then_some(Places { located: located && !rows.is_empty(), rows, json: answer.line()? })
+            let says = located == (are_reached && !rows.is_empty()) && answer.says(located);
+            says.then_some(Places { located, rows, json: answer.line()? })
         })
     }
 
@@ -182,7 +184,7 @@ impl Answer {
         self.status == if all { DONE } else { DIFFERS }
     }
 
-    /// Whether a report is a match of at least one register. Its status, its verdict and its rows say the same.
+    /// Whether a report is a match: of what is good before its rows, and of each of these. Its status and its verdict say the same.
     fn matches(&self, report: &ListReport, is_good: bool) -> Option<bool> {
         let rows = &report.registers;
         let matches = is_good && rows.iter().all(|row| row.state == State::Match);
@@ -191,7 +193,7 @@ impl Answer {
             _ => true,
         });
         let says = self.says(matches) && matches == (report.verdict == Said::Match);
-        (says && fit).then_some(matches && !rows.is_empty())
+        (says && fit).then_some(matches)
     }
 
     pub(crate) fn unexpected(&self) -> Error {

@@ -14,9 +14,9 @@
 //! # }
 //! ```
 //!
-//! Say which registers a verdict must cover: that of [`verify`] covers only those that `expected` names; one on none is no match.
-//! [`entries`] and [`events`] go through the inputs themselves. A [`Session`] is for a list that grows, and for one that went on after the
-//! expected registers were read.
+//! Say which registers a verdict must cover: that of [`verify`] covers only those that `expected` names; one on none is no match. A match covers
+//! only a log and a list that are apart ([`are_apart`]). [`entries`] and [`events`] go through the inputs themselves. A [`Session`] is for a list
+//! that grows, and for one that went on after the expected registers were read.
 //!
 //! Any number of threads may call at once.
 
@@ -469,7 +469,7 @@ pub fn version() -> u32 {
 
 /// The verdict on a firmware event log, a measurement list and the expected registers that a text states.
 ///
-/// Nothing is required; a verdict on no registers is no match, whatever its `json` says.
+/// Nothing is required. A verdict on no registers is no match, though its `json` is what the program prints, which is one.
 pub fn verify(log: &[u8], list: &[u8], expected: &[u8]) -> Result<Verdict, Error> {
     ask_for(false, |out| library::verify(log, list, expected, out))?.verdict()
 }
@@ -527,6 +527,30 @@ pub fn registers(log: &[u8]) -> Result<Vec<Register>, Error> {
 /// The registers, in banks of all algorithms, that differ from their reset values after a measurement list without a log.
 pub fn list_registers(list: &[u8]) -> Result<Vec<Register>, Error> {
     ask_for(false, |out| library::list_registers(list, out))?.registers()
+}
+
+/// The register that IMA alone extends.
+const LIST_REGISTER: u8 = 10;
+
+/// Whether no event of the log extends register 10, which IMA alone does, and no entry of the list names another.
+///
+/// Otherwise all registers can match though entries were moved from the list into the log, or events from the log into the list. Each part
+/// of a list that grows can be asked about by itself. Inputs are refused as by [`registers`] and [`list_registers`].
+///
+/// ```
+/// # fn main() -> Result<(), Box<dyn std::error::Error>> {
+/// # let sample = |name| std::fs::read(format!("../../samples/real-boot/{name}"));
+/// # let (log, mut list) = (sample("firmware.log")?, sample("ima.list")?);
+/// assert!(ima_verify::are_apart(&log, &list)?);
+/// list[0] = 9; // (the first entry's register)
+/// assert!(!ima_verify::are_apart(&log, &list)?);
+/// # Ok(())
+/// # }
+/// ```
+pub fn are_apart(log: &[u8], list: &[u8]) -> Result<bool, Error> {
+    let (of_log, of_list) = (registers(log)?, list_registers(list)?);
+    let in_log = of_log.iter().any(|extended| extended.register == LIST_REGISTER);
+    Ok(!in_log && of_list.iter().all(|extended| extended.register == LIST_REGISTER))
 }
 
 /// The entries of a measurement list, one after another, each with whether it is genuine.

@@ -282,13 +282,21 @@ fn wrong_reports_on_a_list_alone_are_no_verdicts() {
 fn report_of_no_registers_is_no_match() {
     let text = REPORT.replace(ROW, "");
     let verdict = answer(DONE, &text).verdict().unwrap();
-    assert_eq!((verdict.matches, verdict.compared(), verdict.json + "\n"), (false, 0, text));
-    let alone = answer(DONE, LIST_REPORT.replace(ROW, "")).list_verdict().unwrap();
+    assert_eq!((verdict.matches, verdict.compared(), verdict.json + "\n"), (false, 0, text.clone()));
+    assert!(is_unexpected(answer(DIFFERS, &text).verdict()));
+    assert!(is_unexpected(answer(DIFFERS, text.replace("match", "differ")).verdict()));
+    // (no other text on no registers says that it is well)
+    let on_nothing = LIST_REPORT.replace(ROW, "");
+    let alone = answer(DIFFERS, on_nothing.replace("match", "differ")).list_verdict().unwrap();
     assert_eq!((alone.matches, alone.compared()), (false, 0));
-    let none = "{\"registers\":[],\"located\":true}\n";
-    let places = answer(DONE, none).places().unwrap();
+    let (nowhere, located) = ("{\"registers\":[],\"located\":false}\n", "{\"registers\":[],\"located\":true}\n");
+    let places = answer(DIFFERS, nowhere).places().unwrap();
     assert_eq!((places.located, places.rows.len()), (false, 0));
-    assert!(is_unexpected(answer(DIFFERS, none).places()));
+    assert!(is_unexpected(answer(DONE, nowhere).places()));
+    for status in [DONE, DIFFERS] {
+        assert!(is_unexpected(answer(status, &on_nothing).list_verdict()));
+        assert!(is_unexpected(answer(status, located).places()));
+    }
     for wrong in ["{}", "\"\"", "null"] {
         assert!(is_unexpected(answer(DONE, REPORT.replace(&format!("[{ROW}]"), wrong)).verdict()), "{wrong}");
     }

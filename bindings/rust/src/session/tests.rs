@@ -23,6 +23,19 @@ fn differing() -> String {
     REPORT.replace(r#""good""#, r#""wrong""#).replace(r#""verdict":"match""#, r#""verdict":"differ""#)
 }
 
+fn on_nothing(report: &str) -> String {
+    report.replace(r#"{"bank":"sha256","register":10,"state":"match"}"#, "")
+}
+
+/// The state that goes with a status: only a match has one.
+fn state_of(status: i32) -> &'static str {
+    if status == DONE {
+        STATE
+    } else {
+        ""
+    }
+}
+
 fn front() -> String {
     REPORT.replace(ENTRIES, r#""entries":5,"confirmed":3,"#)
 }
@@ -85,15 +98,18 @@ fn right_answers_are_read() {
         (DONE, REPORT.to_owned(), false, None, None),
         (DIFFERS, differing(), false, None, None),
         (DIFFERS, differing(), true, None, None),
+        (DIFFERS, on_nothing(&differing().replace("wrong", "good")), false, None, None),
+        (DIFFERS, on_nothing(&differing().replace("wrong", "good")), true, None, None),
         (DONE, front(), true, Some(3), None),
         (DONE, whole_front(), true, Some(3), None),
         (DONE, front_and(REPLAY), true, Some(3), fault("unconfirmed: replay fault 1 at entry 4", Kind::Replay, 4)),
         (DONE, front_and(LIST), true, Some(3), fault("unconfirmed: list fault 1 at entry 5", Kind::List, 5)),
     ] {
         let mut session = session(None, prefix);
-        let verdict = session.answered(300, (status, texts(STATE, &text))).unwrap();
+        let verdict = session.answered(300, (status, texts(state_of(status), &text))).unwrap();
         assert_eq!((verdict.matches, verdict.confirmed, verdict.unconfirmed), (status == DONE, confirmed, unconfirmed));
-        assert_eq!((session.state(), session.offset()), (Some(STATE.as_bytes()), 300));
+        let reached = if status == DONE { (Some(STATE.as_bytes()), 300) } else { (None, 0) };
+        assert_eq!((session.state(), session.offset()), reached);
         assert_eq!(format!("{}\n", verdict.json), text);
     }
 }
@@ -120,14 +136,14 @@ fn front_that_cannot_be_is_none() {
             (r#""state":"match""#, r#""state":"missing""#),
         ],
     );
-    check_unexpected(DIFFERS, STATE, &front(), true);
+    check_unexpected(DIFFERS, "", &front(), true);
     check_unexpected(DONE, STATE, REPORT, true); // (a whole list that matches has a front, too)
     let both = format!("{CONFIRMED}{REPLAY}");
     for told in [CONFIRMED, &both, REPLAY, r#""confirmed":null,"#, r#""unconfirmed":null,"#] {
         for entries in [ENTRIES, r#""entries":5,"#] {
             let text = differing().replace(ENTRIES, &format!("{entries}{told}"));
-            check_unexpected(DIFFERS, STATE, &text, true);
-            check_unexpected(DIFFERS, STATE, &text, false);
+            check_unexpected(DIFFERS, "", &text, true);
+            check_unexpected(DIFFERS, "", &text, false);
             assert!(!is_whole(DIFFERS, &text));
         }
     }
@@ -190,8 +206,11 @@ fn state_that_is_not_that_of_the_report_is_none() {
         let state = STATE.replacen(old, new, 1);
         assert_ne!(state, STATE);
         check_unexpected(DONE, &state, REPORT, false);
-        check_unexpected(DIFFERS, &state, &differing(), false);
         check_unexpected(DONE, &state, &front(), true);
+    }
+    for state in [STATE, "x", "\n"] {
+        check_unexpected(DIFFERS, state, &differing(), false); // (only a match has one)
+        check_unexpected(DIFFERS, state, &differing(), true);
     }
     let none = front().replace(r#""confirmed":3"#, r#""confirmed":0"#);
     for (text, old, new, size) in [
@@ -213,6 +232,18 @@ fn state_that_is_not_that_of_the_report_is_none() {
     for (text, prefix) in [(REPORT.to_owned(), false), (front(), true)] {
         assert!(session(Some(&later), prefix).answered(0, (DONE, texts(&STATE.replace("300", "400"), &text))).is_err());
     }
+    assert!(session(Some(&later), false).answered(0, (DIFFERS, texts("", &differing()))).is_err());
+}
+
+#[test]
+fn report_of_no_registers_is_no_match() {
+    for (text, prefix) in [(REPORT.to_owned(), false), (front(), true)] {
+        for status in [DONE, DIFFERS] {
+            check_unexpected(status, state_of(status), &on_nothing(&text), prefix);
+        }
+        let differing = on_nothing(&text).replace(r#""verdict":"match""#, r#""verdict":"differ""#);
+        check_unexpected(DONE, STATE, &differing, prefix);
+    }
 }
 
 #[test]
@@ -233,7 +264,7 @@ fn failures_leave_the_session_as_it_was() {
         (REFUSED, "{\"fault\":{\"kind\":\"command_line\",\"message\":\"refused: command line\"}}\n"), // (nothing was required)
         (OUT_OF_MEMORY, FAULT),
     ] {
-        check_unexpected(status, STATE, text, false);
+        check_unexpected(status, state_of(status), text, false);
     }
     let line = "refused: checkpoint fault 3".to_owned();
     let wanted = Error::Refused { line, kind: Kind::Checkpoint, number: 3, place: None };
@@ -273,7 +304,7 @@ fn second_call_has_room_for_both_texts() {
     let Verdict { json, .. } = session.more(&data).unwrap();
     assert_eq!(verify(&log, &data, &expected).unwrap().json, json);
     let (state, line) = (session.state().unwrap(), format!("{json}\n"));
-    let inputs = More { log: &log, state: b"", data: &data, expected: &expected, require: b"", prefix: false };
+    let inputs = More { log: &log, state: b"", data: &data, expected: &expected, require: b"none", prefix: false };
     let sizes = (state.len(), line.len());
     for (next, out) in [(1, 1), (1, 40_000), (40_000, 1), (sizes.0 - 1, sizes.1), (sizes.0, sizes.1 - 1), sizes, (40_000, 40_000)]
     {

@@ -1,7 +1,7 @@
 //! What the crate answers about the sample, one boot whose registers were read from the TPM after the list, and about changes
 //! of it.
 
-use crate::{expected as expected_from, list_registers, locate, locate_required, registers, replay_required, show};
+use crate::{are_apart, expected as expected_from, list_registers, locate, locate_required, registers, replay_required, show};
 use crate::{verify, verify_required, version};
 use crate::{Algorithm, BootAggregate, Error, Kind, Place, PlaceRow, Register, Row, State, Verdict};
 use std::sync::Barrier;
@@ -331,7 +331,7 @@ fn inputs_without_bytes() {
         assert_eq!((verdict.matches, verdict.compared(), verdict.boot_aggregate), (false, 0, BootAggregate::Good));
         assert_eq!(verdict.rows, []);
         let places = locate(&log(), &list(), empty.as_bytes()).unwrap();
-        let json = r#"{"registers":[],"located":true}"#;
+        let json = r#"{"registers":[],"located":false}"#;
         assert_eq!((places.located, places.rows.len(), places.json.as_str()), (false, 0, json));
     }
 }
@@ -362,6 +362,46 @@ fn registers_after_the_list_alone() {
     assert_eq!(list_registers(&[]).unwrap(), []);
     let wanted = refused("refused: replay fault 1 at entry 5", Kind::Replay, 1, Some(5));
     assert_eq!(list_registers(&changed()).unwrap_err(), wanted);
+}
+
+#[test]
+fn log_and_list_are_apart() {
+    let mut ends = vec![0]; // (by the sizes of names and payloads)
+    let number = |at: usize| u32::from_le_bytes(list()[at..at + 4].try_into().unwrap()) as usize;
+    while let Some(&at) = ends.last().filter(|at| **at < list().len()) {
+        let name = number(at + 24);
+        ends.push(at + 32 + name + number(at + 28 + name));
+    }
+    for cut in [0, 1, 50, 99] {
+        assert_eq!(are_apart(&log(), &list()[..ends[cut]]), Ok(true));
+        assert_eq!(are_apart(&log(), &list()[ends[cut]..]), Ok(true));
+    }
+    for register in [0, 9, 11, 17, 23] {
+        for place in [0, 1, 50, 93, 98] {
+            let mut list = list(); // (93 is a violation)
+            list[ends[place]] = register;
+            assert_eq!(are_apart(&log(), &list), Ok(false));
+        }
+    }
+    // (an event of register 10, and one that extends nothing)
+    let event = |kind| [&[10, 0, 0, 0, kind, 0, 0, 0, 1, 0, 0, 0, 0x0b, 0][..], &[1; 32], &[0; 4]].concat();
+    assert_eq!(are_apart(&[log(), event(13)].concat(), &list()), Ok(false));
+    assert_eq!(are_apart(&[log(), event(3)].concat(), &list()), Ok(true));
+    assert_eq!(are_apart(&log(), &changed()), Err(refused("refused: replay fault 1 at entry 5", Kind::Replay, 1, Some(5))));
+    let cut = refused("refused: log fault 1 at event 24", Kind::Log, 1, Some(24));
+    assert_eq!(are_apart(&log()[..log().len() - 1], &list()), Err(cut));
+}
+
+#[test]
+fn log_of_any_one_bank_may_extend_register_10() {
+    // (a header of one algorithm, and an event of register 10; by the specification of logs)
+    for (id, size) in [(4, 20), (11, 32), (12, 48), (13, 64)] {
+        let spec = [&b"Spec ID Event03\0"[..], &[0; 4], &[0, 2, 0, 2, 1, 0, 0, 0, id, 0, size, 0, 0]].concat();
+        let header = [&[0, 0, 0, 0, 3, 0, 0, 0][..], &[0; 20], &[spec.len() as u8, 0, 0, 0], &spec].concat();
+        let event = [&[10, 0, 0, 0, 13, 0, 0, 0, 1, 0, 0, 0, id, 0][..], &vec![0; size.into()], &[0; 4]].concat();
+        assert_eq!(are_apart(&header, &list()), Ok(true));
+        assert_eq!(are_apart(&[header, event].concat(), &list()), Ok(false));
+    }
 }
 
 #[test]

@@ -11,8 +11,9 @@ const TENTHS: [(usize, &str); 5] = [
     (98, "215312a87f4032a16259da6caaed4af65a84ad3b105679fc911206bddc4349b3"),
 ];
 const CUTS: [usize; 7] = [0, 1, 2, 50, 97, 98, 99];
-/// The digest of the log's first event.
-const FIRST_DIGEST: [u8; 4] = [0x96, 0xa2, 0x96, 0xd2];
+/// Register 10 after the first 60 entries but the fiftieth, and the hash that ends the state after none, by Python's hashlib.
+const FOREIGN_TENTH: &str = "91ee775cae5dee03c7218c11fa254f17575b5bf0d36775f71dc974968209ce24";
+const HASH_OF_NONE: &str = "2259585589ecbb8f47e391e499c488838569cee3d597e244389774d031643ee0";
 
 fn sample(name: &str) -> Vec<u8> {
     std::fs::read(format!("{}/../../samples/real-boot/{name}", env!("CARGO_MANIFEST_DIR"))).unwrap()
@@ -54,9 +55,22 @@ impl Sample {
         value.map_or(text.clone(), |(_, value)| text.replace(tenth, &format!("sha256 10 {value}"))).into_bytes()
     }
 
+    /// The first so many expected registers.
+    fn first(&self, count: usize) -> Vec<u8> {
+        self.expected.split_inclusive(|byte| *byte == b'\n').take(count).collect::<Vec<_>>().concat()
+    }
+
+    /// The state after so many entries, which are confirmed; after none it is made by hand, since no verdict on none is a match.
     fn state_after(&self, count: usize) -> Vec<u8> {
-        let mut session = Session::new(&self.log, b"");
-        let _ = session.more(self.until(count)).unwrap();
+        if count == 0 {
+            let text = String::from_utf8(self.state_after(1)).unwrap();
+            let (_, before) = text.split_once("before\n").unwrap();
+            let (before, _) = before.split_once("after\n").unwrap();
+            let counts = "ima-agent checkpoint 1\nentries 0\nbytes 0\nboot_aggregate none\n";
+            return format!("{counts}before\n{before}after\n{before}sha256 {HASH_OF_NONE}\n").into_bytes();
+        }
+        let mut session = self.session_of(count);
+        assert!(session.more(self.until(count)).unwrap().matches);
         session.state().unwrap().to_vec()
     }
 
@@ -104,23 +118,43 @@ fn list_in_two_parts_is_as_the_whole() {
     assert_eq!(boot.ends.len(), 100);
     let whole = verify(&boot.log, &boot.list, &boot.expected).unwrap();
     for cut in CUTS {
-        let mut session = boot.session();
-        assert_eq!((session.state(), session.offset()), (None, 0));
-        assert_eq!(session.more(boot.until(cut)), verify(&boot.log, boot.until(cut), &boot.expected));
+        let mut session = boot.session().resume(&boot.state_after(cut)).unwrap();
         assert_eq!((session.state(), session.offset()), (Some(&boot.state_after(cut)[..]), boot.ends[cut] as u64));
         assert_eq!(session.more(boot.from(cut)).as_ref(), Ok(&whole));
-        assert_eq!((whole.matches, whole.confirmed, session.offset()), (true, None, boot.list.len() as u64));
+        assert_eq!((session.state(), session.offset()), (Some(&boot.state_after(99)[..]), boot.list.len() as u64));
+        assert_eq!((whole.matches, whole.confirmed), (true, None));
+    }
+}
+
+#[test]
+fn only_a_match_moves_the_session() {
+    let boot = Sample::new();
+    for cut in CUTS {
+        for has_state in [cut > 0, true] {
+            let state = has_state.then(|| boot.state_after(cut));
+            for session in [boot.session(), boot.session().prefix()] {
+                let mut session = if let Some(state) = &state { session.resume(state).unwrap() } else { session };
+                for end in (cut..99).step_by(7) {
+                    let verdict = session.more(&boot.list[boot.ends[cut]..boot.ends[end]]).unwrap();
+                    assert_eq!((verdict.matches, verdict.entries, verdict.confirmed), (false, end as u64, None));
+                    assert_eq!((session.state(), session.offset()), (state.as_deref(), boot.ends[cut] as u64));
+                }
+                assert!(session.more(boot.from(cut)).unwrap().matches);
+                assert_eq!((session.state(), session.offset()), (Some(&boot.state_after(99)[..]), boot.list.len() as u64));
+            }
+        }
     }
 }
 
 #[test]
 fn list_in_many_parts() {
     let boot = Sample::new();
-    let mut session = boot.session().require("sha256:0-10").unwrap();
+    let mut session = Session::new(&boot.log, &boot.first(10)).require("sha256:0-9"); // (of which each front is a match)
     for (start, end) in boot.ends.iter().zip(&boot.ends[1..]) {
         let verdict = session.more(&boot.list[*start..*end]).unwrap();
-        assert_eq!((verdict.matches, session.offset()), (*end == boot.list.len(), *end as u64));
+        assert_eq!((verdict.matches, session.offset()), (true, *end as u64));
     }
+    let mut session = boot.session().require("sha256:0-10").resume(session.state().unwrap()).unwrap();
     let whole = verify_required(&boot.log, &boot.list, &boot.expected, "sha256:0-10");
     assert_eq!(session.more(b""), whole);
     let longer = [&boot.list, boot.from(98)].concat();
@@ -136,7 +170,7 @@ fn another_session_goes_on_from_the_state() {
         assert_eq!((session.state(), session.offset()), (Some(&state[..]), boot.ends[cut] as u64));
         assert!(matches!(session.more(boot.from(cut)).unwrap().rows[10].state, State::Differ(_)));
         let mut later = boot.session().resume(session.state().unwrap()).unwrap();
-        assert_eq!(later.more(b""), verify(&boot.log, &boot.list, &boot.expected));
+        assert_eq!(later.more(boot.from(cut)), verify(&boot.log, &boot.list, &boot.expected));
     }
 }
 
@@ -177,13 +211,19 @@ fn refusals_leave_the_session_as_it_was() {
 #[test]
 fn sessions_at_once_give_what_they_give_alone() {
     let boot = Sample::new();
-    let wanted = CUTS.map(|cut| verify(&boot.log, boot.until(cut), &boot.expected));
+    let wanted = CUTS.map(|cut| verify(&boot.log, boot.until(cut), &boot.tenth_after(cut)));
     std::thread::scope(|scope| {
         for _ in 0..8 {
             scope.spawn(|| {
                 for _ in 0..10 {
-                    let mut session = boot.session();
-                    let found = CUTS.map(|cut| session.more(&boot.list[session.offset() as usize..boot.ends[cut]]));
+                    let mut state: Option<Vec<u8>> = None;
+                    let found = CUTS.map(|cut| {
+                        let session = boot.session_of(cut);
+                        let mut session = if let Some(state) = &state { session.resume(state).unwrap() } else { session };
+                        let verdict = session.more(&boot.list[session.offset() as usize..boot.ends[cut]]);
+                        state = session.state().map(<[u8]>::to_vec);
+                        verdict
+                    });
                     assert_eq!(found, wanted);
                 }
             });
@@ -197,19 +237,46 @@ fn required_registers_of_a_session() {
     let text = String::from_utf8(boot.expected.clone()).unwrap();
     let text = &text[..text.find("sha256 23 ").unwrap()];
     for session in [Session::new(&boot.log, text.as_bytes()), Session::new(&boot.log, text.as_bytes()).prefix()] {
-        let verdict = session.require("sha256:0-23,sha1:10").unwrap().more(&boot.list).unwrap();
+        let verdict = session.require("sha256:0-23,sha1:10").more(&boot.list).unwrap();
         let missing = |(algorithm, register)| Row { algorithm, register, state: State::Missing };
         assert_eq!(verdict.rows[23..], [(Algorithm::Sha1, 10), (Algorithm::Sha256, 23)].map(missing));
         assert_eq!((verdict.matches, verdict.compared(), verdict.confirmed), (false, 23, None));
     }
-    assert_eq!(boot.session().require("").unwrap_err(), Error::Malformed);
-    for wrong in ["sha256", "sha256:24", "sha256:10-0", "sha256:0-10,", " ", "\u{e4}"] {
-        let mut session = Session::new(b"", b"x").require(wrong).unwrap();
-        check_refused(&mut session, b"", Error::Malformed);
+    for wrong in ["", "sha256", "sha256:24", "sha256:10-0", "sha256:0-10,", " ", "None", "none ", "\u{e4}"] {
+        check_refused(&mut Session::new(b"", b"x").require(wrong), b"", Error::Malformed);
+        check_refused(&mut boot.session().require(wrong), &boot.list, Error::Malformed);
     }
-    for mut session in [Session::new(&boot.log, b""), Session::new(&boot.log, b"").prefix()] {
-        let verdict = session.more(&boot.list).unwrap();
+    let nothing = || Session::new(&boot.log, b"");
+    for mut session in [nothing(), nothing().prefix(), nothing().resume(&boot.state_after(50)).unwrap()] {
+        let verdict = session.more(&boot.list[session.offset() as usize..]).unwrap();
         assert_eq!((verdict.matches, verdict.confirmed, verdict.rows.len()), (false, None, 0));
+        assert!(verdict.boot_aggregate == BootAggregate::Good && verdict.json.ends_with(r#""verdict":"differ"}"#));
+    }
+}
+
+#[test]
+fn requirement_of_a_resumed_session_holds() {
+    let boot = Sample::new();
+    let ten = boot.first(10);
+    for cut in [0, 1, 50, 99] {
+        let state = boot.state_after(cut);
+        let new = || Session::new(&boot.log, &ten);
+        for mut session in [
+            new().require("sha256:0-10").resume(&state).unwrap(),
+            new().resume(&state).unwrap().require("sha256:0-10"),
+            new().require("sha256:0-10").prefix().resume(&state).unwrap(),
+            new().require("sha256:0-10").resume(&state).unwrap().prefix(),
+            new().prefix().resume(&state).unwrap().require("sha256:0-10"),
+        ] {
+            for _ in 0..2 {
+                let verdict = session.more(boot.from(cut)).unwrap();
+                let missing = Row { algorithm: Algorithm::Sha256, register: 10, state: State::Missing };
+                assert_eq!((verdict.matches, &verdict.rows[10..]), (false, &[missing][..]));
+            }
+        }
+        for session in [new().require("sha256:0-9"), new(), new().require("none")] {
+            assert!(session.resume(&state).unwrap().more(boot.from(cut)).unwrap().matches);
+        }
     }
 }
 
@@ -217,13 +284,12 @@ fn required_registers_of_a_session() {
 fn front_that_the_registers_confirm() {
     let boot = Sample::new();
     for count in [1, 2, 50, 97, 98, 99] {
-        let mut session = boot.session_of(count).require("sha256:0-10").unwrap().prefix();
+        let mut session = boot.session_of(count).require("sha256:0-10").prefix();
         check_front(session.more(&boot.list).unwrap(), 99, count as u64, None);
         assert_eq!((session.state(), session.offset()), (Some(&boot.state_after(count)[..]), boot.ends[count] as u64));
     }
     // (without register 10 nothing speaks for more than the boot aggregate)
-    let without: Vec<&[u8]> = boot.expected.split_inclusive(|byte| *byte == b'\n').take(10).collect();
-    check_front(Session::new(&boot.log, &without.concat()).prefix().more(&boot.list).unwrap(), 99, 1, None);
+    check_front(Session::new(&boot.log, &boot.first(10)).prefix().more(&boot.list).unwrap(), 99, 1, None);
 }
 
 #[test]
@@ -239,7 +305,7 @@ fn session_goes_on_from_the_front() {
     }
     let mut early = boot.session_of(50).prefix().resume(&boot.state_after(97)).unwrap();
     assert!(!early.more(boot.from(97)).unwrap().matches);
-    assert_eq!(early.offset(), boot.list.len() as u64);
+    assert_eq!(early.offset(), boot.ends[97] as u64);
 }
 
 #[test]
@@ -254,7 +320,7 @@ fn damage_after_the_front_is_told() {
     ] {
         let line = format!("{} fault {number} at entry {place}", if kind == Kind::List { "list" } else { "replay" });
         for cut in [0, 1, 50, 97] {
-            let mut session = boot.session_of(97).require("sha256:10").unwrap().prefix().resume(&boot.state_after(cut)).unwrap();
+            let mut session = boot.session_of(97).require("sha256:10").prefix().resume(&boot.state_after(cut)).unwrap();
             let wanted = Unconfirmed { line: format!("unconfirmed: {line}"), kind, number, entry: place };
             check_front(session.more(&list[boot.ends[cut]..]).unwrap(), entries, 97, Some(wanted));
             assert_eq!(session.state(), Some(&boot.state_after(97)[..]));
@@ -275,7 +341,7 @@ fn list_without_a_front_is_as_without_prefix() {
         let wanted = refused("refused: replay fault 1 at entry 5", Kind::Replay, 1, Some(5));
         check_refused(&mut session, &boot.forged(5), wanted);
         assert_eq!(session.more(&boot.list), verify(&boot.log, &boot.list, nowhere.as_bytes()));
-        assert_eq!(session.state(), Some(&boot.state_after(99)[..]));
+        assert_eq!(session.state(), None);
     }
 }
 
@@ -322,17 +388,18 @@ fn state_that_is_not_whole_is_refused() {
 #[test]
 fn state_of_another_boot_or_list_gives_no_match() {
     let boot = Sample::new();
-    let mut other = boot.log.clone();
-    let at = other.windows(4).position(|bytes| bytes == FIRST_DIGEST).unwrap();
-    other[at] ^= 1;
-    let mut session = Session::new(&other, &boot.expected);
-    assert!(!session.more(&boot.list).unwrap().matches);
+    // (another event, of register 16, which is in no boot aggregate: the list matches)
+    let event = [&[16, 0, 0, 0, 13, 0, 0, 0, 1, 0, 0, 0, 0x0b, 0][..], &[1; 32], &[0; 4]].concat();
+    let other = [&boot.log[..], &event].concat();
+    let mut session = Session::new(&other, &boot.first(11)).require("sha256:0-10");
+    assert!(session.more(&boot.list).unwrap().matches);
     boot.check_no_state(session.state().unwrap(), 3);
     let wanted = refused("refused: checkpoint fault 3", Kind::Checkpoint, 3, None);
     check_refused(&mut Session::new(&other, &boot.expected).resume(&boot.state_after(99)).unwrap(), b"", wanted);
 
-    let mut foreign = Session::new(&boot.log, b"");
-    let _ = foreign.more(&[boot.until(50), &boot.list[boot.ends[51]..boot.ends[60]]].concat()).unwrap();
+    let expected = [boot.first(10), format!("sha256 10 {FOREIGN_TENTH}\n").into_bytes()].concat();
+    let mut foreign = Session::new(&boot.log, &expected);
+    assert!(foreign.more(&[boot.until(50), &boot.list[boot.ends[51]..boot.ends[60]]].concat()).unwrap().matches);
     let state = foreign.state().unwrap();
     for cut in [50, 51, 59, 60] {
         for session in [boot.session(), boot.session().prefix()] {
