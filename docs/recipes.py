@@ -1,6 +1,6 @@
 #!/usr/bin/env python3
-"""Runs the guide's recipes with jq, as they are on the page, on lists and logs that try to evade them; and its check of a key from afar,
-on emulated TPMs.
+"""Runs the guide's recipes with jq, as they are on the page, on lists and logs that try to evade them; its check of a key from afar, on
+emulated TPMs; and the examples of README and guide, which have to print what is below them.
 
 docs/recipes.py PROGRAM: the program that is installed as `ima-agent`. What a recipe shows is due as JSON, by `reference/`, or it has to
 fail: with an empty, a cut and a missing input, and with a program that dies after its last line. Each runs in a folder in which a machine
@@ -26,8 +26,11 @@ from reference.measurement_list import IMA, IMA_NG, IMA_SIG, VIOLATION, Entry, e
 from reference.registers import BY_NAME, SHA1
 
 TOOLS = ("bash", "jq")
-KEY_TOOLS = ("swtpm", "openssl", "tpm2_print", "tpm2_makecredential", "tpm2_activatecredential", *TPM_TOOLS)
+QUOTE_TOOLS = (*TOOLS, "tpm2_checkquote")
+KEY_TOOLS = (*TOOLS, "swtpm", "openssl", "tpm2_print", "tpm2_makecredential", "tpm2_activatecredential", *TPM_TOOLS)
 BLOCK = re.compile(r"^```sh\n(.*?)^```$", re.MULTILINE | re.DOTALL)
+EXAMPLES = re.compile(r"(?:^    \$ .*\n(?:^    .*\n)*)", re.MULTILINE)
+EXAMPLE = re.compile(r"^\$ ((?:.*\\\n)*.*)\n((?:(?!\$ ).*\n)*)", re.MULTILINE)
 # What only the recipe's block has.
 JUDGE, TAKE, EVENTS = "--rawfile known", "--argjson confirmed", "diff before.events"
 AGGREGATE, PATHS = "--arg aggregate", 'select(has("payload"))'
@@ -358,6 +361,44 @@ def paths(recipes):
         yield f"a program {what}", recipes.fails(PATHS, of_list(of_template(b"x", b"")), agent)
 
 
+def pattern_of(lines):
+    """What an example shows: `...` is any part of a line, or any lines where it is one."""
+    return "".join(r"(?:.*\n)*" if line == "..." else ".*".join(map(re.escape, line.split("..."))) + r"\n" for line in lines.splitlines())
+
+
+def printed_by(commands, folder):
+    """What each command prints, where one shell runs all."""
+    end = "end of an example"
+    script = "".join(f"{command}\nprintf '%s\\n' '{end}'\n" for command in commands)
+    done = subprocess.run(["bash", "-c", script], cwd=folder, env={**os.environ, "PATH": f"{folder}:{os.environ['PATH']}"},
+                          stdin=subprocess.DEVNULL, stdout=subprocess.PIPE, timeout=120)
+    return done.stdout.decode().split(f"{end}\n")
+
+
+def examples(recipes):
+    """An example of a page."""
+    for page in ("README.md", "docs/guide.md"):
+        blocks = [re.sub("^    ", "", block, flags=re.MULTILINE) for block in EXAMPLES.findall((ROOT / page).read_text())]
+        with tempfile.TemporaryDirectory() as name:
+            lay_out(Path(name), recipes.program)
+            found = EXAMPLE.findall("".join(blocks))
+            printed = printed_by([command for command, _ in found], name)
+        yield f"each of {page} is run", len(printed) == len(found) + 1 and len(found) > 5
+        for (command, lines), output in zip(found, printed):
+            yield command, not lines or bool(re.fullmatch(pattern_of(lines), output))
+
+
+def lay_out(folder, program):
+    """Makes a folder that is both a checkout of this tree, for README, and what the guide's reader has of the sample boot."""
+    for name in ("try", "ima-agent"):
+        folder.joinpath(name).symlink_to(program)
+    folder.joinpath("samples").symlink_to(ROOT / "samples")
+    folder.joinpath("attest").mkdir()
+    shutil.copy(ROOT / "attest/verify", folder / "attest")
+    for sample in SAMPLE.iterdir():
+        shutil.copy(sample, folder)
+
+
 class Vendor:
     """A maker of TPMs, or who claims to be one: an authority that gives certificates."""
 
@@ -483,8 +524,8 @@ def main():
     passed = failed = 0
     with tempfile.TemporaryDirectory() as name:
         recipes = Recipes(Path(program).resolve(), Path(name))
-        for tried in (extended, judged, taken, measures, compared, aggregated, paths, certified):
-            needed = (*TOOLS, *KEY_TOOLS) if tried is certified else TOOLS
+        for tried in (extended, judged, taken, measures, compared, aggregated, paths, certified, examples):
+            needed = {certified: KEY_TOOLS, examples: QUOTE_TOOLS}.get(tried, TOOLS)
             if lacking := [tool for tool in needed if not shutil.which(tool)]:
                 print(f"not tried: {tried.__doc__} {' and '.join(lacking)} not installed")
                 continue
