@@ -1,6 +1,6 @@
 #!/usr/bin/env python3
-"""Runs the guide's recipes with jq, as they are on the page, on lists and logs that try to evade them; and its check of a key from afar,
-on emulated TPMs.
+"""Runs the guide's recipes with jq, as they are on the page, on lists and logs that try to evade them; its check of a key from afar, on
+emulated TPMs; and the examples of README and guide, which have to print what is below them.
 
 docs/recipes.py PROGRAM: the program that is installed as `ima-agent`. What a recipe shows is due as JSON, by `reference/`, or it has to
 fail: with an empty, a cut and a missing input, and with a program that dies after its last line. Each runs in a folder in which a machine
@@ -26,10 +26,14 @@ from reference.measurement_list import IMA, IMA_NG, IMA_SIG, VIOLATION, Entry, e
 from reference.registers import BY_NAME, SHA1
 
 TOOLS = ("bash", "jq")
-KEY_TOOLS = ("swtpm", "openssl", "tpm2_print", "tpm2_makecredential", "tpm2_activatecredential", *TPM_TOOLS)
+QUOTE_TOOLS = (*TOOLS, "tpm2_checkquote")
+KEY_TOOLS = (*TOOLS, "swtpm", "openssl", "tpm2_print", "tpm2_makecredential", "tpm2_activatecredential", *TPM_TOOLS)
 BLOCK = re.compile(r"^```sh\n(.*?)^```$", re.MULTILINE | re.DOTALL)
+EXAMPLES = re.compile(r"(?:^    \$ .*\n(?:^    .*\n)*)", re.MULTILINE)
+EXAMPLE = re.compile(r"^\$ ((?:.*\\\n)*.*)\n((?:(?!\$ ).*\n)*)", re.MULTILINE)
 # What only the recipe's block has.
-JUDGE, TAKE, EVENTS, AGGREGATE, PATHS = "--rawfile known", "--argjson confirmed", "diff before.events", "--arg aggregate", 'select(has("payload"))'
+JUDGE, TAKE, EVENTS = "--rawfile known", "--argjson confirmed", "diff before.events"
+AGGREGATE, PATHS = "--arg aggregate", 'select(has("payload"))'
 IMA_ALONE, MEASURED = "$2 == 10", "--files-from names"
 KEY, PUBLIC, CHALLENGE, ANSWER = "tpm2_createek", "tpm2_getekcertificate", "tpm2_makecredential", "tpm2_activatecredential"
 
@@ -246,7 +250,8 @@ def extended(recipes):
     """Whether log and list keep to their own registers."""
     whole, event, entries = LOG.spelling(), LOG.events[0]._replace(register=10, type=6), of_list(FIRST, measured(KNOWN))
     for what, events, is_good in (
-        ("no such event", [], True), ("such an event", [event], False), ("two", [event, event], False), ("one before the others", None, False),
+        ("no such event", [], True), ("such an event", [event], False), ("two", [event, event], False),
+        ("one before the others", None, False),
         ("an event that extends nothing", [event._replace(type=EV_NO_ACTION)], True),
         ("an event of register 1, with a line as data", [event._replace(register=1, data=b"\n1 10 x\n")], True),
     ):
@@ -301,11 +306,12 @@ def compared(recipes):
     yield "one event more", status == 1 and [line for line in output.decode().splitlines() if line[0] in "<>"] == lines
     status, output = recipes.run(EVENTS, {"kept/firmware.log": more, "firmware.log": whole})
     yield "one event less", status == 1 and output.count(b"\n< ") == 1
-    for what, files in (
-        ("a cut log", {"kept/firmware.log": whole, "firmware.log": whole[:-1]}), ("a cut log before", {"kept/firmware.log": whole[:-1], "firmware.log": whole}),
-        ("two cut logs", {"kept/firmware.log": whole[:-1], "firmware.log": whole[:-1]}), ("two empty logs", {"kept/firmware.log": b"", "firmware.log": b""}),
-        ("no log", {"kept/firmware.log": whole}), ("no log before", {"firmware.log": whole}),
+    for what, before, after in (
+        ("a cut log", whole, whole[:-1]), ("a cut log before", whole[:-1], whole), ("two cut logs", whole[:-1], whole[:-1]),
+        ("two empty logs", b"", b""), ("no log", whole, None), ("no log before", None, whole),
     ):
+        logs = {"kept/firmware.log": before, "firmware.log": after}
+        files = {name: data for name, data in logs.items() if data is not None}
         yield what, recipes.fails(EVENTS, files)
         yield f"{what}, and events that a machine sent", recipes.fails(EVENTS, files | {"before.events": b"", "firmware.events": b""})
     yield "a program that dies", recipes.fails(EVENTS, {"kept/firmware.log": whole, "firmware.log": whole}, DYING)
@@ -355,11 +361,49 @@ def paths(recipes):
         yield f"a program {what}", recipes.fails(PATHS, of_list(of_template(b"x", b"")), agent)
 
 
+def pattern_of(lines):
+    """What an example shows: `...` is any part of a line, or any lines where it is one."""
+    return "".join(r"(?:.*\n)*" if line == "..." else ".*".join(map(re.escape, line.split("..."))) + r"\n" for line in lines.splitlines())
+
+
+def printed_by(commands, folder):
+    """What each command prints, where one shell runs all."""
+    end = "end of an example"
+    script = "".join(f"{command}\nprintf '%s\\n' '{end}'\n" for command in commands)
+    done = subprocess.run(["bash", "-c", script], cwd=folder, env={**os.environ, "PATH": f"{folder}:{os.environ['PATH']}"},
+                          stdin=subprocess.DEVNULL, stdout=subprocess.PIPE, timeout=120)
+    return done.stdout.decode().split(f"{end}\n")
+
+
+def examples(recipes):
+    """An example of a page."""
+    for page in ("README.md", "docs/guide.md"):
+        blocks = [re.sub("^    ", "", block, flags=re.MULTILINE) for block in EXAMPLES.findall((ROOT / page).read_text())]
+        with tempfile.TemporaryDirectory() as name:
+            lay_out(Path(name), recipes.program)
+            found = EXAMPLE.findall("".join(blocks))
+            printed = printed_by([command for command, _ in found], name)
+        yield f"each of {page} is run", len(printed) == len(found) + 1 and len(found) > 5
+        for (command, lines), output in zip(found, printed):
+            yield command, not lines or bool(re.fullmatch(pattern_of(lines), output))
+
+
+def lay_out(folder, program):
+    """Makes a folder that is both a checkout of this tree, for README, and what the guide's reader has of the sample boot."""
+    for name in ("try", "ima-agent"):
+        folder.joinpath(name).symlink_to(program)
+    folder.joinpath("samples").symlink_to(ROOT / "samples")
+    folder.joinpath("attest").mkdir()
+    shutil.copy(ROOT / "attest/verify", folder / "attest")
+    for sample in SAMPLE.iterdir():
+        shutil.copy(sample, folder)
+
+
 class Vendor:
     """A maker of TPMs, or who claims to be one: an authority that gives certificates."""
 
     def __init__(self, folder, name):
-        self.folder, self.key, self.certificate = folder, folder / f"{name}.key", folder / f"{name}.crt"
+        self.key, self.certificate = folder / f"{name}.key", folder / f"{name}.crt"
         subprocess.run(["openssl", "req", "-x509", "-newkey", "rsa:2048", "-nodes", "-subj", f"/CN={name}", "-days", "2",
                         "-keyout", self.key, "-out", self.certificate], check=True, capture_output=True)
 
@@ -380,19 +424,25 @@ class Machine:
     def run(self, *words):
         return subprocess.run(words, cwd=self.folder, env=self.environment, capture_output=True, timeout=60).returncode
 
+    def must(self, *words):
+        if status := self.run(*words):
+            raise RuntimeError(f"status {status}: {words}")
+
     def block(self, mark):
         """The status of a block, with room for its objects, as Linux makes it at /dev/tpmrm0."""
-        return self.run("tpm2_flushcontext", "--transient-object") or self.run("bash", "-c", self.recipes.block(mark))
+        self.must("tpm2_flushcontext", "--transient-object")
+        return self.run("bash", "-c", self.recipes.block(mark))
 
     def begin(self, vendor):
-        """Makes the key, gives the TPM a certificate of its own, and shows what the verifier gets."""
-        assert self.block(KEY) == 0 and self.run("tpm2_readpublic", "-c", "ek.ctx", "-f", "pem", "-o", "ek.pem") == 0
+        """Makes the key, gives the TPM a certificate of its own, and shows what the verifier gets; whether the blocks end well."""
+        is_made = self.block(KEY) == 0
+        self.must("tpm2_readpublic", "-c", "ek.ctx", "-f", "pem", "-o", "ek.pem")
         certificate = vendor.certify(self.folder / "ek.pem")
         self.folder.joinpath("certificate").write_bytes(certificate)
         flags = "platformcreate|ppwrite|ppread|ownerread|authread|no_da"
-        assert self.run("tpm2_nvdefine", "0x1c00002", "-C", "p", "-s", str(len(certificate)), "-a", flags) == 0
-        assert self.run("tpm2_nvwrite", "0x1c00002", "-C", "p", "-i", "certificate") == 0
-        is_done = self.block(PUBLIC) == 0
+        self.must("tpm2_nvdefine", "0x1c00002", "-C", "p", "-s", str(len(certificate)), "-a", flags)
+        self.must("tpm2_nvwrite", "0x1c00002", "-C", "p", "-i", "certificate")
+        is_done = is_made and self.block(PUBLIC) == 0
         return is_done, {name: self.folder.joinpath(name).read_bytes() for name in ("AK.pub", "ek.der")}
 
     def answers(self, credential):
@@ -424,8 +474,9 @@ def other_keys(machine, public):
         ("a key that can be copied", "sensitivedataorigin|userwithauth|restricted|sign"),
     ):
         words = ["tpm2_createprimary", "-C", "o", "-G", "rsa2048:rsassa-sha256:null", "-a", flags, "-c", "other.ctx"]
-        assert machine.run("tpm2_flushcontext", "--transient-object") == machine.run(*words) == 0
-        assert machine.run("tpm2_readpublic", "-c", "other.ctx", "-f", "tss", "-o", "other.pub") == 0
+        machine.must("tpm2_flushcontext", "--transient-object")
+        machine.must(*words)
+        machine.must("tpm2_readpublic", "-c", "other.ctx", "-f", "tss", "-o", "other.pub")
         yield what, machine.folder.joinpath("other.pub").read_bytes(), False
     for what, number, byte in (("no attributes", 9, 0), ("a key that may decrypt, too", 7, 7), ("one that signs X.509, too", 7, 13)):
         yield what, public[:number] + bytes([byte]) + public[number + 1 :], False
@@ -435,7 +486,7 @@ def other_keys(machine, public):
     yield from (("a byte less", public[:-1], False), ("no public area", b"", False))
 
 
-def kept(recipes):
+def certified(recipes):
     """A key from afar."""
     home = recipes.folder.parent
     vendor, stranger = Vendor(home, "vendor"), Vendor(home, "stranger")
@@ -473,8 +524,8 @@ def main():
     passed = failed = 0
     with tempfile.TemporaryDirectory() as name:
         recipes = Recipes(Path(program).resolve(), Path(name))
-        for tried in (extended, judged, taken, measures, compared, aggregated, paths, kept):
-            needed = (*TOOLS, *KEY_TOOLS) if tried is kept else TOOLS
+        for tried in (extended, judged, taken, measures, compared, aggregated, paths, certified, examples):
+            needed = {certified: KEY_TOOLS, examples: QUOTE_TOOLS}.get(tried, TOOLS)
             if lacking := [tool for tool in needed if not shutil.which(tool)]:
                 print(f"not tried: {tried.__doc__} {' and '.join(lacking)} not installed")
                 continue
