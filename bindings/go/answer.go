@@ -173,13 +173,13 @@ func (a answer) listVerdict() (ListVerdict, error) {
 
 func (a answer) places() (Places, error) {
 	return read(a, func(r *reader, o object) Places {
-		p, located := Places{JSON: a.line()}, true
-		for _, o := range member[[]object](r, o, "registers") {
+		p, rows := Places{JSON: a.line()}, member[[]object](r, o, "registers")
+		p.Located = len(rows) > 0
+		for _, o := range rows {
 			row := r.placeRow(o)
-			p.Rows, located = append(p.Rows, row), located && row.Place.isReached()
+			p.Rows, p.Located = append(p.Rows, row), p.Located && row.Place.isReached()
 		}
-		r.require(member[bool](r, o, "located") == located && a.status == statusOf(located))
-		p.Located = located && len(p.Rows) > 0
+		r.require(member[bool](r, o, "located") == p.Located && a.status == statusOf(p.Located))
 		return p
 	})
 }

@@ -228,10 +228,12 @@ func TestReportOfNoRegistersIsNoMatch(t *testing.T) {
 	equal(t, []interface{}{verdict.Matches, verdict.Compared(), verdict.JSON + "\n", err}, []interface{}{false, 0, text, nil})
 	alone, err := of(done, strings.Replace(listReport, matchingRow, "", 1)).listVerdict()
 	equal(t, []interface{}{alone.Matches, alone.Compared(), err}, []interface{}{false, 0, nil})
-	none := `{"registers":[],"located":true}` + "\n"
-	places, err := of(done, none).places()
+	none, some := `{"registers":[],"located":false}`+"\n", `{"registers":[],"located":true}`+"\n"
+	places, err := of(differs, none).places()
 	equal(t, []interface{}{places.Located, len(places.Rows), err}, []interface{}{false, 0, nil})
-	checkUnexpected(t, readPlaces(differs, none), none)
+	checkUnexpected(t, readPlaces(done, none), none)
+	checkUnexpected(t, readPlaces(done, some), some)
+	checkUnexpected(t, readPlaces(differs, some), some)
 	for _, wrong := range []string{`{}`, `""`, `null`} {
 		text := strings.Replace(report, "["+matchingRow+"]", wrong, 1)
 		checkUnexpected(t, readVerdict(done, text), text)

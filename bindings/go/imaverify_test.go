@@ -379,7 +379,7 @@ func TestInputsWithoutBytes(t *testing.T) {
 		// (on nothing, there is no match)
 		equal(t, verify(t, bootLog, bootList, empty), Verdict{Events: 24, Entries: 99, BootAggregate: BootAggregateGood,
 			JSON: `{"events":24,"locality":0,"entries":99,"boot_aggregate":"good","registers":[],"verdict":"match"}`})
-		equal(t, locate(t, bootLog, bootList, empty), Places{nil, false, `{"registers":[],"located":true}`})
+		equal(t, locate(t, bootLog, bootList, empty), Places{nil, false, `{"registers":[],"located":false}`})
 	}
 }
 

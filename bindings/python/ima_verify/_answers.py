@@ -132,9 +132,9 @@ def read_places(status: int, text: bytes) -> Places:
     with _reading(status, text):
         answer = _result_of(text)
         rows = tuple(map(_place_row_of, _member(answer, "registers", list)))
-        located = all(row.place not in (Place.NOWHERE, Place.ABSENT, Place.MISSING) for row in rows)
+        located = bool(rows) and all(row.place not in (Place.NOWHERE, Place.ABSENT, Place.MISSING) for row in rows)
         _require(_member(answer, "located", bool) == located and status == (DONE if located else DIFFERS))
-        return Places(rows, located and bool(rows), text[:-1].decode())
+        return Places(rows, located, text[:-1].decode())
 
 
 def read_registers(status: int, text: bytes) -> Tuple[Register, ...]:

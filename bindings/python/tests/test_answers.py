@@ -207,9 +207,10 @@ class Answers(unittest.TestCase):
                 self.check_wrong(read, 0, report.replace(b"[%b]" % row, wrong))
         found = _answers.read_report(0, REPORT.replace(row, b""))
         self.assertEqual((found.compared, found.matches, bool(found)), (0, False, False))
-        places = _answers.read_places(0, b'{"registers":[],"located":true}\n')
+        places = _answers.read_places(1, b'{"registers":[],"located":false}\n')
         self.assertEqual((places.rows, places.located, bool(places)), ((), False, False))
-        self.check_wrong(_answers.read_places, 1, b'{"registers":[],"located":true}\n')
+        for status, located in ((0, b"true"), (1, b"true"), (0, b"false")):
+            self.check_wrong(_answers.read_places, status, b'{"registers":[],"located":%b}\n' % located)
 
     def test_right_reports_on_a_list_alone_are_read(self):
         verdict = _answers.read_list_verdict(0, LIST_REPORT)

@@ -566,7 +566,7 @@ class EmptyInputs(unittest.TestCase):
             self.assertEqual((verdict.compared, verdict.matches, verdict.boot_aggregate), (0, False, BootAggregate.GOOD))
             self.assertEqual((verdict.rows, verdict.entries), ((), 99))
             self.assertEqual((places.rows, places.located), ((), False))
-            self.assertEqual(places.json, '{"registers":[],"located":true}')
+            self.assertEqual(places.json, '{"registers":[],"located":false}')
             self.assertFalse(verdict or places)
 
 

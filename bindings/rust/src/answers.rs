@@ -72,8 +72,8 @@ impl Answer {
         self.read(|answer| {
             let PlacesLine { registers: rows, located, .. } = object(&answer.text)?;
             let are_reached = rows.iter().all(|row| !matches!(row.place, Place::Nowhere | Place::Absent | Place::Missing));
-            let says = located == are_reached && answer.says(located);
-            says.then_some(Places { located: located && !rows.is_empty(), rows, json: answer.line()? })
+            let says = located == (are_reached && !rows.is_empty()) && answer.says(located);
+            says.then_some(Places { located, rows, json: answer.line()? })
         })
     }
 

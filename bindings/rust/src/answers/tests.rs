@@ -285,10 +285,12 @@ fn report_of_no_registers_is_no_match() {
     assert_eq!((verdict.matches, verdict.compared(), verdict.json + "\n"), (false, 0, text));
     let alone = answer(DONE, LIST_REPORT.replace(ROW, "")).list_verdict().unwrap();
     assert_eq!((alone.matches, alone.compared()), (false, 0));
-    let none = "{\"registers\":[],\"located\":true}\n";
-    let places = answer(DONE, none).places().unwrap();
+    let [none, some] = ["false", "true"].map(|located| format!("{{\"registers\":[],\"located\":{located}}}\n"));
+    let places = answer(DIFFERS, &none).places().unwrap();
     assert_eq!((places.located, places.rows.len()), (false, 0));
-    assert!(is_unexpected(answer(DIFFERS, none).places()));
+    assert!(is_unexpected(answer(DONE, &none).places()));
+    assert!(is_unexpected(answer(DONE, &some).places()));
+    assert!(is_unexpected(answer(DIFFERS, &some).places()));
     for wrong in ["{}", "\"\"", "null"] {
         assert!(is_unexpected(answer(DONE, REPORT.replace(&format!("[{ROW}]"), wrong)).verdict()), "{wrong}");
     }

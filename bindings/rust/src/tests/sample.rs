@@ -331,7 +331,7 @@ fn inputs_without_bytes() {
         assert_eq!((verdict.matches, verdict.compared(), verdict.boot_aggregate), (false, 0, BootAggregate::Good));
         assert_eq!(verdict.rows, []);
         let places = locate(&log(), &list(), empty.as_bytes()).unwrap();
-        let json = r#"{"registers":[],"located":true}"#;
+        let json = r#"{"registers":[],"located":false}"#;
         assert_eq!((places.located, places.rows.len(), places.json.as_str()), (false, 0, json));
     }
 }
