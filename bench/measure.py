@@ -180,7 +180,7 @@ def lists():
     nothing = b"events 24 locality 3\nentries 0\nboot_aggregate missing\nverdict differ\n"
     empty = {
         "verify": peak_memory(["verify", "made.log", NO_INPUT, "none.txt"], nothing, 1),
-        "locate": peak_memory(["locate", "made.log", NO_INPUT, "none.txt"], b"located\n"),
+        "locate": peak_memory(["locate", "made.log", NO_INPUT, "none.txt"], b"not located\n", 1),
         "show": peak_memory(["show", NO_INPUT], b""),
         "show --json": peak_memory(["show", "--json", NO_INPUT], b""),
     }

@@ -92,9 +92,9 @@ int32_t ima_verify_required(const uint8_t *log, size_t log_size, const uint8_t *
                             const uint8_t *expected, size_t expected_size, const uint8_t *require,
                             size_t require_size, uint8_t *out, size_t out_size, size_t *needed);
 
-/* Where each expected register first has its value, as `sha256 10 after entry 98`. IMA_VERIFY_DONE if every
- * value was reached, else IMA_VERIFY_DIFFERS; `out` has the places. Inputs and refusals are those of
- * ima_verify_verdict. */
+/* Where each expected register first has its value, as `sha256 10 after entry 98`. IMA_VERIFY_DONE if a
+ * register is expected and every value was reached, else IMA_VERIFY_DIFFERS; `out` has the places. Inputs and
+ * refusals are those of ima_verify_verdict. */
 int32_t ima_verify_locate(const uint8_t *log, size_t log_size, const uint8_t *list, size_t list_size,
                           const uint8_t *expected, size_t expected_size, uint8_t *out, size_t out_size,
                           size_t *needed);

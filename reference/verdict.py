@@ -135,7 +135,7 @@ class Places(NamedTuple):
 
     @property
     def are_located(self):
-        return not self.missing and all(place[0] not in ("nowhere", "absent") for _, place in self.rows)
+        return bool(self.rows) and not self.missing and all(place[0] not in ("nowhere", "absent") for _, place in self.rows)
 
     def text(self):
         lines = [f"{row.algorithm.name} {row.register} {place_text(*place)}" for row, place in self.rows]
@@ -179,6 +179,6 @@ def places(log, entries, expected, required=None):
 
 
 def locate(log, entries, expected, required=None):
-    """The text of places, and whether each value was reached and none is missing."""
+    """The text of places, and whether some register is expected, each value was reached and none is missing."""
     told = places(log, entries, expected, required)
     return told.text(), told.are_located

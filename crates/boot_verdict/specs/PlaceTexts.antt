@@ -30,6 +30,6 @@ abbrev pub found_text : Bool → List ℕ
 found_text true = codes "located\n"
 found_text false = codes "not located\n"
 
--- A line for each expected register, and whether all were found.
+-- A line for each expected register, and whether they are located: there is one, and each was found.
 abbrev pub places_text : List Located → List ℕ
 places_text located = flat_map located_text located ++ found_text (all_found located)

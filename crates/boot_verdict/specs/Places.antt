@@ -1,6 +1,6 @@
 -- Where the values of expected registers are first reached, in a firmware log and a measurement list. All of this is this project's
 -- choice. How events and entries change the registers is defined in boot_log and ima_list.
-use Rattle.std.specs.Prelude.{◌≡◌, ℕ, ◌-◌, ◌==◌, nat_le, Bool, true, false, if◌then◌else◌, List, fold, length, take, map, Option, Some, None, Ok}
+use Rattle.std.specs.Prelude.{◌≡◌, ℕ, ◌-◌, ◌&&◌, ◌==◌, nat_le, not, Bool, true, false, if◌then◌else◌, List, fold, length, take, map, Option, Some, None, Ok}
 use Rattle.std.specs.List.{list_all}
 use Rattle.pcr_banks.specs.declared.alg.Alg.{Alg}
 use Rattle.pcr_banks.specs.declared.sets.AlgSet.{AlgSet}
@@ -68,8 +68,9 @@ is_found (Entry number) = true
 is_found Nowhere = false
 is_found Absent = false
 
+-- Some register is expected, and each has its value at some place.
 abbrev pub all_found : List Located → Bool
-all_found located = list_all (λ row. is_found row.place) located
+all_found located = not (length located == 0) && list_all (λ row. is_found row.place) located
 
 -- The bytes are a log and a list, each entry is genuine, and these are the places of the expected registers.
 pub record AreLocated (log list : List ℕ) (expected : List Expected) (located : List Located) : Type 0 where

@@ -43,7 +43,7 @@ abbrev pub required_report_text : List BankRange → Verdict → List ℕ
 required_report_text ranges verdict =
     counts_text verdict.events verdict.locality verdict.entries ++ required_outcome_text ranges verdict
 
--- A line for each expected register, one for each that is missing, and whether all were found.
+-- A line for each expected register, one for each that is missing, and whether they are located and none is missing.
 abbrev pub required_places_text : List BankRange → List Located → List ℕ
 required_places_text ranges located =
     flat_map located_text located

@@ -88,7 +88,7 @@ expected_of_located located = map (λ row. row.expected) located
 abbrev pub required_matches : List BankRange → Verdict → Bool
 required_matches ranges verdict = matches verdict && is_complete ranges (expected_of_rows verdict.rows)
 
--- Each value was reached at some place, and no register is missing.
+-- Some register is expected, each value was reached at some place, and no register is missing.
 abbrev pub required_found : List BankRange → List Located → Bool
 required_found ranges located = all_found located && is_complete ranges (expected_of_located located)
 

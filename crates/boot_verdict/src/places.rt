@@ -1,6 +1,7 @@
 //! The places where expected values are first reached.
 
 ghost use Rattle.std.specs.Prelude.{◌≡◌, Option, List, ℕ, map, option_map};
+ghost use Rattle.std.specs.List.{list_all};
 ghost use Rattle.pcr_banks.specs.Digests.{digest_of};
 ghost use Rattle.pcr_banks.specs.Registers.{value_at};
 ghost use Rattle.boot_verdict.specs.Places.{all_found, is_found, is_reached};
@@ -47,14 +48,21 @@ pub struct Located {
     pub place: Place,
 }
 
-/// Whether each expected register has its value at some place.
+/// Whether some register is expected, and each has its value at some place.
 pub fn all_found(located: &[Located]) -> bool
     ensures { result ≡ all_found located.now }
+{
+    !located.is_empty() && each_found(located)
+}
+
+// Whether each of these registers has its value at some place.
+fn each_found(located: &[Located]) -> bool
+    ensures { result ≡ list_all (λ row. is_found row.place) located.now }
 {
     located.iter().all(|row| row.place.is_found())
 }
 
-/// Whether each expected register has its value at some place, and each required register has a row.
+/// Whether some register is expected, each has its value at some place, and each required register has a row.
 pub fn required_found(located: &[Located], requirement: &Requirement) -> bool
     ensures { result ≡ required_found requirement.now located.now }
 {

@@ -100,7 +100,7 @@ Exit status:
      for replay with EXPECTED: the expected registers match
   1  for verify: an expected register or the boot aggregate does not match;
      for replay with EXPECTED: an expected register does not match;
-     for locate: a register's value was not reached;
+     for locate: a register's value was not reached, or none is expected;
      for each of these: EXPECTED lacks a register that --require names
   2  the arguments or an input were refused
   3  out of memory, an input could not be read, or the output failed;

@@ -64,6 +64,8 @@ pub fn measure_files<R: Threads + Wait + Sync, G: Gate + Sync>(
     // Each job has one outcome.
     ensures batch { IfOk result (λ batch. IsBatch origin (operations_of origin.alg jobs.now) workers
         batch.book (map book_outcome_of batch.outcomes.items) batch.by.items) }
+    // Its book is one: the records are a legal history.
+    ensures is_book { IfOk result (λ batch. IsBook batch.book) }
     // Workers start only if their number is right and a book may be opened, and each fault has its cause.
     ensures fault { MatchResult result (λ _. MayBegin workers origin) (IsAgentFaultOf workers origin) }
     // `Workers` exactly where the number of workers is not 1 to 8.
@@ -104,6 +106,8 @@ pub fn record_jobs<R: Threads + Wait + Sync, J: Jobs + Sync, G: Gate + Sync>(
     // Each job has one outcome.
     ensures batch { IfOk result (λ batch. IsBatchOf origin (J.total jobs.now) (J.makes jobs.now origin.alg) workers
         batch.book (map book_outcome_of batch.outcomes.items) batch.by.items) }
+    // Its book is one: the records are a legal history.
+    ensures is_book { IfOk result (λ batch. IsBook batch.book) }
     // There is a batch only if each job's operation was made, unless memory ran out for it.
     ensures made { IfOk result (λ _. AllMadeUnlessMemory (J.total jobs.now) (J.makes jobs.now origin.alg) (J.fails jobs.now)) }
     // Workers start only if their number is right and a book may be opened, and each fault has its cause.
@@ -163,6 +167,7 @@ fn settle<J: Jobs>(
     requires all { IsAllWork origin.now (J.total _jobs.now) (J.makes _jobs.now origin.now.alg) (J.fails _jobs.now) workers all }
     ensures batch { IfOk result (λ batch. IsBatchOf origin.now (J.total _jobs.now) (J.makes _jobs.now origin.now.alg) workers
         batch.book (map book_outcome_of batch.outcomes.items) batch.by.items) }
+    ensures is_book { IfOk result (λ batch. IsBook batch.book) }
     ensures made { IfOk result (λ _. AllMadeUnlessMemory (J.total _jobs.now) (J.makes _jobs.now origin.now.alg) (J.fails _jobs.now)) }
     // The fault is the first cause that holds for this book and the workers' outcomes, or that of the first unmade job.
     ensures fault { IfErr result (IsUnsettled all book origin.now) }

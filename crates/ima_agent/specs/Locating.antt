@@ -7,7 +7,7 @@ use Rattle.boot_verdict.specs.Places.{AreLocated, all_found}
 use Rattle.boot_verdict.specs.PlaceTexts.{places_text}
 use Rattle.ima_agent.specs.Loading.{Inputs, Holds}
 
--- The exit status of places: 0 if each value was reached, else 1.
+-- The exit status of places: 0 if some register is expected and each value was reached, else 1.
 abbrev pub places_status : List Located → ℕ
 places_status located = if all_found located then 0 else 1
 

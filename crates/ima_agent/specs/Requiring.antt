@@ -53,7 +53,8 @@ ShowsRequiredReportOn log list text required shown status =
 
 -- ---- places
 
--- The exit status of places where these registers are required: 0 if each value was reached and none is missing, else 1.
+-- The exit status of places where these registers are required: 0 if some register is expected, each value was reached and none is
+-- missing, else 1.
 abbrev pub required_places_status : List BankRange → List Located → ℕ
 required_places_status ranges located = if required_found ranges located then 0 else 1
 

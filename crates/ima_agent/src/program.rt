@@ -80,8 +80,8 @@ fn exits_with(status: u8) -> ExitCode
 /// for a fault, and then writes the lines of the events one after another, so that memory does not grow with them; `show --json` writes the lines of
 /// the entries while it reads the list, so that memory does not grow with the list, and `events --json` those of the events while it
 /// reads the loaded log: a fault's line then comes after those of the entries or events before it, whatever the fault. The status is 0 on success, 1
-/// if the report does not match, a register's value was not reached or a required register is missing, 2 for refused input, and 3 if
-/// memory ran out, outcomes do not account for the book, or a device failed. After the sink fails, nothing more is written.
+/// if the report does not match, a register's value was not reached, none was looked for or a required one is missing, 2 for refused
+/// input, and 3 if memory ran out, outcomes do not account for the book, or a device failed. After the sink fails, nothing more is written.
 ///
 /// A file is replaced only by `verify --save`: by the checkpoint of what the report is on, before the report is written. With a fault none is.
 pub fn run<R: Threads + Wait + Sync, F: AgentFiles, S: Sink>(

@@ -66,8 +66,8 @@ pub extern "C" fn ima_verify_required(
     give(alloc, asked, out, needed)
 }
 
-/// Where expected registers first have their values in a firmware event log and a measurement list, as `locate` writes it: 0 if each
-/// was reached, else 1.
+/// Where expected registers first have their values in a firmware event log and a measurement list, as `locate` writes it: 0 if some
+/// register is expected and each value was reached, else 1.
 #[unsafe(no_mangle)]
 pub extern "C" fn ima_verify_locate(
     alloc: Global,

@@ -31,7 +31,7 @@ IsCountedPlace Absent = ⊤
 abbrev pub located_json : Located → Json
 located_json row = object_of (register_members row.expected.alg row.expected.register ++ place_members row.place)
 
--- Whether each value was reached at some place, and no register is missing.
+-- Whether some register is expected, each value was reached at some place, and no register is missing.
 abbrev pub finds : Option (List BankRange) → List Located → Bool
 finds None located = all_found located
 finds (Some ranges) located = required_found ranges located
@@ -41,7 +41,7 @@ abbrev pub places_values : Option (List BankRange) → List Located → List Jso
 places_values required located =
     map located_json located ++ missing_among (codes "place") required (expected_of_located located)
 
--- These, and whether all were found.
+-- These, and whether they are located.
 abbrev pub places_json : Option (List BankRange) → List Located → Json
 places_json required located = object_of (
     (codes "registers", array_of (places_values required located))

@@ -18,7 +18,7 @@ use std::alloc::{AllocError, Global};
 
 /// Appends the line of places: where each expected register first has its value.
 ///
-/// Its members are `registers`, an array, and `located`, whether all have it. Each register has `bank`, `register` and `place`: `reset`,
+/// Its members are `registers`, an array, and `located`, whether there is one and each has its value. Each register has `bank`, `register` and `place`: `reset`,
 /// `event`, `entry`, `nowhere` or `absent`, in the sense of [`Place`]; and `number`, that of the event or entry. After them each required
 /// register that is not among them has the place `missing`; `located` then is false.
 ///
@@ -57,7 +57,8 @@ fn write_places(
     Ok(())
 }
 
-/// Whether each expected register has its value somewhere and no required one is missing: what the member `located` of their line says.
+/// Whether some register is expected, each has its value somewhere and no required one is missing: what the member `located` of their
+/// line says.
 pub fn finds(located: &[Located], requirement: Option<&Requirement>) -> bool
     ensures { result ≡ finds (option_map (λ ranges. ranges.now) requirement.entry) located.now }
 {

@@ -9,11 +9,12 @@ use crate::places::{Located, Place, all_found};
 use byte_streams::{Failed, Sink, send};
 use itoa::Buffer;
 
-/// Writes where each expected register first has its value, and whether all have it.
+/// Writes where each expected register first has its value, and whether they are located: there is one, and each has its value.
 ///
 /// A line for each row: `sha256 0 at reset`, `sha256 4 after event 12` (events count from 1), `sha256 10 after entry 98` (entries
 /// count from 0), `sha256 23 nowhere`, or `sha1 4 absent`: the log has no such bank, or there is no such register. The last line is
-/// `located`, or `not located` if some row is `nowhere` or `absent`. After `Err` the sink has taken a prefix of the text.
+/// `located`, or `not located` if some row is `nowhere` or `absent`, or there is none. After `Err` the sink has taken a prefix of the
+/// text.
 pub fn write_places<S: Sink>(located: &[Located], sink: &mut S) -> Result<(), Failed>
     ensures { Sends (S.state sink.old) (S.state sink.new) result (places_text located.now) }
 {
