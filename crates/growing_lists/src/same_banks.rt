@@ -2,7 +2,7 @@
 
 ghost use Rattle.std.specs.Prelude.{◌≡◌, ◌↔◌, ℕ, true};
 ghost use Rattle.pcr_banks.specs.Registers.{is_active, value_at};
-ghost use Rattle.growing_lists.specs.CheckpointData.{AreSameBanks};
+ghost use Rattle.growing_lists.specs.CheckpointData.{AreSameBanks, SameActive};
 
 use pcr_banks::{Alg, Banks, Digest, REGISTERS};
 
@@ -44,4 +44,23 @@ fn is_same_value(first: Option<Digest>, second: Option<Digest>) -> bool
     ensures { (result ≡ true) ↔ (first ≡ second) }
 {
     first == second
+}
+
+/// Whether the same banks are active.
+pub(crate) fn are_same_active(first: &Banks, second: &Banks) -> bool
+    ensures same { result ≡ true → SameActive first.now second.now }
+    ensures only { SameActive first.now second.now → result ≡ true }
+{
+    is_same_active(first, second, Alg::Sha1)
+        && is_same_active(first, second, Alg::Sha256)
+        && is_same_active(first, second, Alg::Sha384)
+        && is_same_active(first, second, Alg::Sha512)
+}
+
+// Whether the bank of one algorithm is active in both or in neither.
+fn is_same_active(first: &Banks, second: &Banks, alg: Alg) -> bool
+    ensures active { result ≡ true → is_active first.now alg ≡ is_active second.now alg }
+    ensures only { SameActive first.now second.now → result ≡ true }
+{
+    first.active(alg) == second.active(alg)
 }
