@@ -208,9 +208,10 @@ def polls():
     report = verdict(log, entries, expected)[0].encode()
     store("made.log", log.spelling())
     store("expected.txt", inputs.expected_text(expected))
+    store("known.txt", inputs.expected_text(inputs.expected_after(log, entries[:known])))
     for name, part in (("whole.list", entries), ("known.list", entries[:known]), ("more.list", entries[known:])):
         store(name, list_spelling(part))
-    timed([PROGRAM, "verify", "--save", "state", "made.log", "known.list", "expected.txt"])
+    timed([PROGRAM, "verify", "--save", "state", "made.log", "known.list", "known.txt"])
     words = ["verify", "--resume", "state", "made.log", "more.list", "expected.txt"]
     whole = median_time(["verify", "made.log", "whole.list", "expected.txt"], report, program=PROGRAM)
     poll = median_time(words, report, program=PROGRAM)

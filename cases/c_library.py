@@ -42,6 +42,8 @@ JSON_FUNCTIONS = {
 # The function for `verify` of a list that grows, which takes this option and has a checkpoint too.
 MORE_FUNCTION = "more"
 MORE_OPTIONS = ("--require", "--resume", "--save")
+# What it takes in place of a text that requires registers.
+NONE_REQUIRED = "none"
 ROOM = 16 * 1024
 # No checkpoint is longer.
 CHECKPOINT_ROOM = 20000
@@ -89,14 +91,15 @@ class Library:
             state = b"\n"
         function = getattr(self.functions, f"ima_verify_{more.function}")
         status, text, checkpoint = self.call_more(function, [log, state, listed, expected, more.require], more.prefix)
-        if (status in (0, 1)) != bool(checkpoint):
+        if (status == 0) != bool(checkpoint):
             return None, f"status {status} and a checkpoint of {len(checkpoint)} bytes".encode()
         if more.save is not None and checkpoint:
             (folder / more.save).write_bytes(checkpoint)
         return status, text
 
     def call_more(self, function, given, prefix):
-        """The status, the text and the checkpoint; asked once more if there was too little room, which must leave the buffers as they were."""
+        """The status, the text and the checkpoint; asked once more if there was too little room, which must leave the buffers as they were. What
+        follows the checkpoint must stay as it was, too."""
         room, next_room = ROOM, CHECKPOINT_ROOM // 4
         while True:
             out, following = ctypes.create_string_buffer(b"\xa7" * room, room), ctypes.create_string_buffer(b"\xa7" * next_room, next_room)
@@ -104,6 +107,8 @@ class Library:
             words = [word for data in given for word in (data or b"\0", len(data))]
             status = function(*words, prefix, following, next_room, ctypes.byref(next_needed), out, room, ctypes.byref(needed))
             if status != self.package.TOO_SHORT:
+                if following.raw[next_needed.value :].strip(b"\xa7"):
+                    return None, b"not answered: more than the checkpoint is written", b""
                 return status, out.raw[: needed.value], following.raw[: next_needed.value]
             if (out.raw + following.raw).strip(b"\xa7") or (needed.value <= room and next_needed.value <= next_room):
                 return None, b"not answered: too short", b""
@@ -153,8 +158,11 @@ def more_of(words):
     is_growing = "--prefix" in flags or "--resume" in values or "--save" in values
     if name != "verify" or not is_growing or len(files) != 3 or "" in values.values() or len(set(flags)) < len(flags):
         return None
+    if values.get("--require") == NONE_REQUIRED:
+        # (the command has no such word)
+        return None
     function = f"{MORE_FUNCTION}_json" if "--json" in flags else MORE_FUNCTION
-    require = values.get("--require", "").encode("utf-8", "surrogateescape")
+    require = values.get("--require", NONE_REQUIRED).encode("utf-8", "surrogateescape")
     return More(function, files, require, "--prefix" in flags, values.get("--resume"), values.get("--save"))
 
 

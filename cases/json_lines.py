@@ -110,6 +110,7 @@ def commands(folder):
         (folder / name).write_bytes(log)
     (folder / "forged").write_bytes((folder / "ima.list").read_bytes()[:-2] + b"v\0")
     (folder / "none").write_bytes(b"")
+    (folder / "firmware's").write_bytes(b"".join((sample / "expected.txt").read_bytes().splitlines(True)[:10]))
     (folder / "few").write_text("sha256 10 " + "00" * 32 + "\nsha384 1 " + "11" * 48 + "\n")
     (folder / "banks.log").write_bytes(log_of_all_banks().spelling())
     evidence = ["firmware.log", "ima.list"]
@@ -121,7 +122,8 @@ def commands(folder):
     for command in ("verify", "locate"):
         yield from ([command, *evidence, "expected.txt"], [command, *evidence, "few"], [command, "--require", "sha1:0-23", *evidence, "few"])
     yield from (["verify", "--prefix", *evidence, "expected.txt"], ["verify", "--prefix", *evidence, "few"])
-    yield from (["verify", "--prefix", "firmware.log", name, "none"] for name in ("many", "forged", "cut"))
+    yield from (["verify", "--prefix", "firmware.log", name, "firmware's"] for name in ("many", "forged", "cut"))
+    yield from (["verify", "--prefix", *evidence, "none"], ["verify", "--save", "kept", *evidence, "none"])
     yield ["measure", "--workers", "1", "firmware.log", "many", "few", "ima.list"]
     yield ["measure", "--workers", "1", "--print", "registers", "firmware.log", "many"]
     yield from (["registers", "banks.log"], ["events", "banks.log"], ["verify", "--require", "sha512:0-23", "banks.log", "many", "few"])

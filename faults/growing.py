@@ -3,11 +3,12 @@
 
 faults/growing.py [PROGRAM]: by default the program that was built in this tree.
 
-A list is cut at each entry, and a small one, of all kinds of entries, at each byte. Of the first part the checkpoint is saved, and gone on from
-with the rest: that must be the verdict of the whole list. So it must be in three parts, with one entry forged, and where the first part ends
-within an entry, so that the front before it is saved. Fronts that registers confirm are looked for in lists with an entry forged before or
-after their end. A checkpoint with the lowest bit of one byte turned, and a front of one, must be refused; the former also goes with a last line
-that is right again. Each answer is compared with the reference's, and so is each file that is saved.
+A list is cut at each entry, and a small one, of all kinds of entries, at each byte. Of the first part the checkpoint is saved with the registers
+that it leaves, or is the reference's where it does not match; it is gone on from with the rest, and that must be the verdict of the whole list.
+So it must be in three parts, with one entry forged, and where the first part ends within an entry, so that the front before it is saved. Fronts
+that registers confirm are looked for in lists with an entry forged before or after their end. A checkpoint with the lowest bit of one byte
+turned, and a front of one, must be refused; the former also goes with a last line that is right again. So must checkpoints that no list leaves.
+Each answer is compared with the reference's, and so is each file that is saved.
 How many trials had which answer is told of each kind. The last line is 'N passed, M failed', of trials."""
 
 import os
@@ -22,6 +23,7 @@ from pathlib import Path
 ROOT = Path(__file__).resolve().parent.parent
 sys.path.insert(0, str(ROOT))
 import reference  # noqa: E402
+from reference.checkpoint import before_a_list  # noqa: E402
 from reference.fields import with_length  # noqa: E402
 from reference.log import Event, Log, read_log  # noqa: E402
 from reference.measurement_list import (  # noqa: E402
@@ -35,13 +37,15 @@ from reference.measurement_list import (  # noqa: E402
     list_spelling,
     read_list,
 )
-from reference.registers import SHA1, SHA256, register_line  # noqa: E402
+from reference.registers import SHA1, SHA256, Registers, register_line  # noqa: E402
 
 PROGRAM = ROOT / "crates/ima_agent_program/out/ima_agent_program"
 SECONDS = 60
 CHUNKS = 8
 ODD_BYTES = 41
 FIRST_BYTES, STEP = 200, 5
+# As many bytes as the list of a checkpoint may have.
+MOST_BYTES = 2**63 - 2**26 - 1
 SAVED = "saved"
 OPTIONS = ([], ["--json"], ["--require", "sha256:10"], ["--require", "sha1:10"])
 
@@ -66,6 +70,10 @@ class Boot:
 
     def rows(self, registers):
         return "".join(register_line(SHA256, number, registers.value(SHA256, number)) for number in (10, 11)).encode()
+
+    def entries_in(self, size):
+        """How many entries the first bytes have whole."""
+        return sum(end <= size for end in self.ends) - 1
 
     def forged(self, place):
         """The list with one bit of the template digest of an entry turned, so that it is not genuine."""
@@ -138,20 +146,30 @@ def same(found, wanted):
     return found
 
 
-def saves(room, *words):
-    """Whether the program saves the checkpoint of what it is given; where it has no report, it must save nothing."""
-    room.restore(None)
+def checkpoint_of(boot, entries):
+    """The checkpoint of the front of a list that has so many entries, by the reference."""
+    return before_a_list(read_log(boot.log).registers()).following(boot.entries[:entries])
+
+
+def begun(room, boot, size, *words):
+    """Whether there is a checkpoint to go on from: the program saves one with a match, and nothing else; of a list without a match, which has
+    so many bytes, it is the reference's."""
+    before = room.saved()
     status, _ = room.answer("--save", SAVED, *words)
-    if (room.saved() is None) != (status > 1):
-        raise Wrong(f"status {status}, and {'nothing' if room.saved() is None else 'a file'} is saved")
+    if (room.saved() != before) if status else (room.saved() is None):
+        raise Wrong(f"status {status}, and {'nothing' if room.saved() == before else 'a file'} is saved")
+    if status == 1:
+        room.put(**{SAVED: checkpoint_of(boot, boot.ends.index(size)).text()})
     return status <= 1
 
 
 def cut(room, boot, data, place, options):
     """The list in two parts. The first may be refused, since an entry is forged or cut short."""
-    room.put(log=boot.log, whole=data, first=data[:place], rest=data[place:], expected=boot.expected[-1])
+    room.put(log=boot.log, whole=data, first=data[:place], rest=data[place:])
+    room.put(expected=boot.expected[-1], then=boot.expected[boot.entries_in(place)])
     whole = room.answer(*options, "log", "whole", "expected")
-    if not saves(room, "log", "first", "expected"):
+    room.restore(None)
+    if not begun(room, boot, place, "log", "first", "then"):
         return 2, b"the first part is refused"
     return same(room.answer(*options, "--resume", SAVED, "log", "rest", "expected"), whole)
 
@@ -160,24 +178,25 @@ def cut_twice(room, boot, places):
     """The list in three parts, with one file for both checkpoints."""
     first, second = sorted(places)
     room.put(log=boot.log, whole=boot.list, first=boot.list[:first], middle=boot.list[first:second], rest=boot.list[second:])
-    room.put(expected=boot.expected[-1])
-    saves(room, "log", "first", "expected")
-    room.answer("--resume", SAVED, "--save", SAVED, "log", "middle", "expected")
+    room.put(expected=boot.expected[-1], then=boot.expected[boot.entries_in(first)], later=boot.expected[boot.entries_in(second)])
+    room.restore(None)
+    begun(room, boot, first, "log", "first", "then")
+    begun(room, boot, second, "--resume", SAVED, "log", "middle", "later")
     return same(room.answer("--resume", SAVED, "log", "rest", "expected"), room.answer("log", "whole", "expected"))
 
 
 def cut_within(room, boot, place):
     """The list cut anywhere, by a machine whose registers have the entries that came whole: the front that these confirm is saved, and the
     list gone on with from there."""
-    entries = sum(end <= place for end in boot.ends) - 1
-    return front_saved(room, boot, boot.list[:place], entries)
+    return front_saved(room, boot, boot.list[:place], boot.entries_in(place))
 
 
 def front_saved(room, boot, data, entries):
     """A list of which registers confirm the front of so many entries: its checkpoint is saved, and gone on from with the boot's list."""
     room.put(log=boot.log, whole=boot.list, first=data, then=boot.expected[entries], expected=boot.expected[-1])
     whole = room.answer("log", "whole", "expected")
-    if not saves(room, "--prefix", "log", "first", "then"):
+    room.restore(None)
+    if not begun(room, boot, len(data), "--prefix", "log", "first", "then"):
         return 2, b"no front is confirmed"
     size = int(room.saved().split(b"\nbytes ")[1].partition(b"\n")[0])
     room.put(rest=boot.list[size:])
@@ -188,18 +207,49 @@ def front(room, boot, entries, forged, start):
     """The front of so many entries, which registers confirm, of a list of which one is forged, from a checkpoint or from the beginning."""
     data = boot.list if forged is None else boot.forged(forged)
     size = boot.ends[start]
-    room.put(log=boot.log, first=boot.list[:size], rest=data[size:], then=boot.expected[entries])
-    saves(room, "log", "first", "then")
+    room.put(log=boot.log, first=boot.list[:size], rest=data[size:], before=boot.expected[start], then=boot.expected[entries])
+    room.restore(None)
+    begun(room, boot, size, "log", "first", "before")
     return room.answer("--prefix", "--resume", SAVED, "--require", "sha256:10", "log", "rest", "then")
 
 
-def damaged(room, boot, text, is_refused):
-    """A text in place of a checkpoint."""
-    room.put(log=boot.log, rest=boot.entries[-1].spelling(), expected=b"", text=text)
+def in_place(room, boot, text, is_refused=None):
+    """A text in place of a checkpoint of the list, whose last entry comes once more; and whether it must be refused, if that is known."""
+    longer = Boot(boot.log, [*boot.entries, boot.entries[-1]])
+    room.put(log=boot.log, rest=boot.entries[-1].spelling(), expected=longer.expected[-1], text=text)
     answer = room.answer("--resume", "text", "log", "rest", "expected")
-    if is_refused and not answer[1].startswith(b"refused: checkpoint fault "):
-        raise Wrong(f"status {answer[0]}, {answer[1]!r}, of a damaged checkpoint")
+    if is_refused is not None and answer[1].startswith(b"refused: checkpoint fault ") != is_refused:
+        raise Wrong(f"status {answer[0]}, {answer[1]!r}, of {text[:100]!r}")
     return answer
+
+
+def impossible(known):
+    """Checkpoints that no list leaves, made of this one, which has entries and two banks."""
+    nothing, fewer = before_a_list(known.before), Registers(())
+    fewer.banks[SHA256] = known.before.banks[SHA256]
+    yield known._replace(entries=0)
+    yield known._replace(entries=0, bytes=0)
+    yield known._replace(entries=0, bytes=0, stated=None)
+    yield nothing._replace(bytes=1)
+    yield nothing._replace(stated=known.stated)
+    yield nothing._replace(after=known.after)
+    yield known._replace(bytes=32 * known.entries - 1)
+    yield known._replace(entries=known.bytes // 32 + 1)
+    yield known._replace(entries=2**59, bytes=MOST_BYTES)
+    yield known._replace(entries=2**64 - 1)
+    yield known._replace(bytes=MOST_BYTES + 1)
+    yield known._replace(bytes=2**63 - 1)
+    yield known._replace(before=fewer)
+    yield known._replace(after=fewer)
+
+
+def possible(known):
+    """Checkpoints at the ends of what a list may leave: of no entries, of the shortest ones, and of as many bytes as there may be."""
+    yield before_a_list(known.before)
+    yield known._replace(bytes=32 * known.entries)
+    yield known._replace(entries=known.bytes // 32)
+    yield known._replace(bytes=MOST_BYTES)
+    yield known._replace(entries=MOST_BYTES // 32, bytes=MOST_BYTES)
 
 
 def turned(text, place):
@@ -212,15 +262,6 @@ def sealed(text):
     return body + f"sha256 {SHA256.hash(body).hex()}\n".encode()
 
 
-def checkpoint_of(boot):
-    """The text of the checkpoint of a list, by the reference."""
-    with tempfile.TemporaryDirectory() as name:
-        room = Room(None, name)
-        room.put(log=boot.log, whole=boot.list, expected=b"")
-        reference.answer(["verify", "--save", SAVED, "log", "whole", "expected"], name)
-        return room.saved()
-
-
 def some_of(size):
     """Places in a text of a checkpoint: all in the lines of its counts, and some later."""
     return [*range(FIRST_BYTES), *range(FIRST_BYTES, size, STEP)]
@@ -229,7 +270,8 @@ def some_of(size):
 def trials():
     """All trials, by their kind: each a call, and what it takes beside the room."""
     drawn, small, real = random.Random(1), small_boot(), real_boot()
-    banks, text = small_boot((SHA1, SHA256)), checkpoint_of(small)
+    banks, text = small_boot((SHA1, SHA256)), checkpoint_of(small, len(small.entries)).text()
+    known = checkpoint_of(banks, len(banks.entries))
     late = Boot(small.log, [*small.entries[1:3], *small.entries])
     everywhere, places = range(len(small.list) + 1), range(len(small.entries) + 1)
     yield "small list, in two parts at each byte", [(cut, small, small.list, place, OPTIONS[place % 4]) for place in everywhere]
@@ -252,11 +294,13 @@ def trials():
         (cut, real, real.forged(drawn.randrange(len(real.entries))), drawn.choice(real.ends), []) for _ in range(50)]
     yield "real list, one entry forged, and a front", [
         (front, real, drawn.randrange(100), drawn.randrange(99), drawn.randrange(30)) for _ in range(50)]
-    yield "checkpoint, one bit turned", [(damaged, small, turned(text, place), True) for place in range(len(text))]
-    yield "checkpoint, fronts", [(damaged, small, text[:size], True) for size in some_of(len(text))]
+    yield "checkpoint, one bit turned", [(in_place, small, turned(text, place), True) for place in range(len(text))]
+    yield "checkpoint, fronts", [(in_place, small, text[:size], True) for size in some_of(len(text))]
     yield "checkpoint, one bit turned, under a right hash", [
-        (damaged, small, sealed(turned(text, place)), False) for place in some_of(text.rindex(b"sha256 "))]
-    yield "checkpoint of another boot", [(damaged, boot, text, True) for boot in (banks, real)]
+        (in_place, small, sealed(turned(text, place))) for place in some_of(text.rindex(b"sha256 "))]
+    yield "checkpoint of another boot", [(in_place, boot, text, True) for boot in (banks, real)]
+    yield "checkpoint that no list leaves", [(in_place, banks, one.text(), True) for one in impossible(known)]
+    yield "checkpoint that a list may leave", [(in_place, banks, one.text(), False) for one in possible(known)]
 
 
 def kind_of_answer(answer):

@@ -29,6 +29,8 @@ JSON_MEMORY = b'{"fault":{"kind":"memory","message":"failed: memory"}}\n'
 COMMANDS = {"entries": "show", "verdict": "verify", "required": "verify"}
 # The first 97 entries of the sample's list.
 FRONT_BYTES = 11731
+# What `ima_verify_more` takes where the program has no `--require`.
+NONE_REQUIRED = b"none"
 REPLACED = {"rattle_alloc", "rattle_realloc", "rattle_dealloc"}
 ELSEWHERE = {"malloc", "calloc", "realloc", "reallocarray", "free", "posix_memalign", "aligned_alloc", "memalign", "valloc"}
 ELSEWHERE |= {"mmap", "munmap", "mremap", "brk", "sbrk", "strdup", "strndup"}
@@ -56,7 +58,7 @@ class Case:
             log, state, listed, expected, require = self.inputs
             flags = (["--json"] if self.is_json() else []) + (["--prefix"] if ":prefix" in self.function else [])
             flags += [f"--resume={state}"] if state.read_bytes() else []
-            flags += [f"--require={require.read_text()}"] if require.read_bytes() else []
+            flags += [f"--require={require.read_text()}"] if require.read_bytes() != NONE_REQUIRED else []
             return ["verify", *flags, f"--save={save}", log, listed, expected]
         name = self.function.partition("_")[0]
         command = [COMMANDS.get(name, name), *(["--json"] if self.is_json() else [])]
@@ -107,6 +109,7 @@ def made_files(folder, program):
         "rest and more": listed[FRONT_BYTES:] + listed[-95:],
         "cut rest": listed[FRONT_BYTES:-1],
         "expected": expected,
+        "firmware's": b"".join(expected.splitlines(True)[:10]),
         "tenth": expected.splitlines(True)[10],
         "other bank": b"sha1 10 " + 40 * b"0",
         "wrong line": expected + b"sha256 24 00\n",
@@ -115,7 +118,8 @@ def made_files(folder, program):
         "ten": b"sha256:10",
         "more": b"sha1:10,sha256:0-10,sha512:0",
         "range": b"0-10",
-        "no registers": b"none",
+        "no registers": b"nothing",
+        "none": NONE_REQUIRED,
         "empty": b"",
     }
     files = {}
@@ -123,8 +127,8 @@ def made_files(folder, program):
         files[name] = folder / f"input-{number}"
         files[name].write_bytes(content)
     files["checkpoint"] = folder / "checkpoint"
-    words = [program, "verify", f"--save={files['checkpoint']}", files["log"], files["front"], files["expected"]]
-    subprocess.run(words, stdout=subprocess.DEVNULL, timeout=SECONDS)
+    words = [program, "verify", f"--save={files['checkpoint']}", files["log"], files["front"], files["firmware's"]]
+    subprocess.run(words, stdout=subprocess.DEVNULL, timeout=SECONDS, check=True)
     files["damaged"], files["other version"] = folder / "damaged", folder / "other-version"
     text = files["checkpoint"].read_bytes()
     files["damaged"].write_bytes(text[:-2])
@@ -161,16 +165,18 @@ def cases(files):
     for function, (title, *names) in product(
         ("more", "more:prefix", "more_json", "more_json:prefix"),
         (
-            ("the real boot", "log", "empty", "list", "expected", "empty"),
+            ("the real boot", "log", "empty", "list", "expected", "none"),
             ("a longer list", "log", "empty", "longer list", "expected", "all"),
             ("what follows a checkpoint", "log", "checkpoint", "rest", "expected", "all"),
-            ("more than that", "log", "checkpoint", "rest and more", "expected", "empty"),
+            ("more than that", "log", "checkpoint", "rest and more", "expected", "none"),
             ("a changed list", "log", "empty", "changed list", "tenth", "ten"),
-            ("what follows and is cut short", "log", "checkpoint", "cut rest", "expected", "empty"),
+            ("what follows and is cut short", "log", "checkpoint", "cut rest", "expected", "none"),
             ("registers that are missing", "log", "checkpoint", "rest", "expected", "more"),
-            ("a damaged checkpoint", "log", "damaged", "rest", "expected", "empty"),
-            ("a checkpoint of another version", "log", "other version", "rest", "expected", "empty"),
-            ("a checkpoint of another boot", "one event", "checkpoint", "rest", "expected", "empty"),
+            ("a damaged checkpoint", "log", "damaged", "rest", "expected", "none"),
+            ("a checkpoint of another version", "log", "other version", "rest", "expected", "none"),
+            ("a checkpoint of another boot", "one event", "checkpoint", "rest", "expected", "none"),
+            ("no expected registers", "log", "checkpoint", "rest", "empty", "none"),
+            ("an empty requirement", "log", "damaged", "cut rest", "wrong line", "empty"),
             ("a requirement that names none", "log", "checkpoint", "rest", "expected", "no registers"),
         ),
     ):

@@ -11,7 +11,8 @@
  * fault number means; ima-agent(1) has the faults, too.
  *
  * A verdict speaks of the registers that are expected, and of no others. If no register is expected,
- * ima_verify_verdict still says `match`; so call ima_verify_required, and say which registers it must cover.
+ * ima_verify_verdict still says `match`, and ima_verify_more `differ`; so call ima_verify_required, and say which
+ * registers it must cover.
  *
  * A verdict is about the machine's boot only if no event of the log extends register 10 and each entry of the list
  * names register 10: look into what ima_verify_registers and ima_verify_entries_json give.
@@ -134,23 +135,24 @@ int32_t ima_verify_show(const uint8_t *list, size_t list_size, uint8_t *out, siz
  *
  * With a `state_size` of 0, `more` is the list from its beginning. Else `state` is a checkpoint that an earlier
  * call gave, and `more` are the list's bytes from there on: those after what that checkpoint is of. The verdict
- * is on the whole list, and faults number its entries from the first. A `require_size` of 0 requires nothing;
- * else `require` is as in ima_verify_required. With `prefix` the report is on the confirmed front, if there is
- * one: the list's shortest front, no shorter than what the checkpoint is of, whose entries are genuine and on
- * which the verdict is `match`. What comes after it is not refused, and the report says how many entries it has.
+ * is on the whole list, and faults number its entries from the first. `require` is as in ima_verify_required; the
+ * word `none` requires nothing, and an empty one is refused. If no register is expected, the verdict is `differ`.
+ * With `prefix` the report is on the confirmed front, if there is one: the list's shortest front, no shorter than
+ * what the checkpoint is of, whose entries are genuine and on which the verdict is `match`. What comes after it is
+ * not refused, and the report says how many entries it has.
  *
- * `next` gets the checkpoint of what the report is on: the whole list, or the confirmed front. After
- * IMA_VERIFY_DONE and IMA_VERIFY_DIFFERS `*next_needed` is its size, less than 20000 bytes; if an input is
- * refused, or memory runs out, there is none, and `*next_needed` is 0. If `next` or `out` has too little room
- * for its text, the function returns IMA_VERIFY_TOO_SHORT, tells both sizes, and writes to neither. So a
- * checkpoint that the caller has is never lost: keep it until a call has given the next one. `next` and
- * `next_needed` are as `out` and `needed`: they may overlap nothing else that the call is given, so `state`
- * neither.
+ * After IMA_VERIFY_DONE `next` has the checkpoint of what the report is on, the whole list or the confirmed front,
+ * and `*next_needed` is its size, less than 20000 bytes. If `next` or `out` has too little room for its text, the
+ * function returns IMA_VERIFY_TOO_SHORT, tells both sizes, and writes to neither. With any other status there is
+ * no checkpoint: `*next_needed` is 0, and `next` stays as it was. Keep the checkpoint that you have until a call
+ * has given the next one. `next` and `next_needed` are as `out` and `needed`: they may overlap nothing else that
+ * the call is given, so `state` neither.
  *
  * The first fault is reported, in this order: `require`, the text of expected registers, the text of the
  * checkpoint (`refused: checkpoint fault 1` or `2`), the log, whether the checkpoint is of this boot
- * (`refused: checkpoint fault 3`), the list, whether each entry is genuine. A checkpoint is trusted: who can
- * write it can choose the verdict. Give only what this function gave. */
+ * (`refused: checkpoint fault 3`), the list, whether each entry is genuine. (If 64 MiB would not fit between the
+ * list and 2^63 bytes, it is IMA_VERIFY_OUT_OF_MEMORY.) A checkpoint is trusted: who can write it can choose the
+ * verdict. Give only what this function gave. */
 int32_t ima_verify_more(const uint8_t *log, size_t log_size, const uint8_t *state, size_t state_size,
                         const uint8_t *more, size_t more_size, const uint8_t *expected, size_t expected_size,
                         const uint8_t *require, size_t require_size, bool prefix, uint8_t *next,

@@ -12,7 +12,9 @@ from .registers import ALGORITHMS, BY_NAME, REGISTERS, SHA256, Registers, regist
 NAME = b"ima-agent checkpoint "
 VERSION = b"1\n"
 NUMBER = "(0|[1-9][0-9]*)"
-MOST_BYTES = 2**63
+MOST_INPUT = 64 << 20
+# The fewest bytes of an entry.
+ENTRY_BYTES = 32
 
 
 class Checkpoint(NamedTuple):
@@ -32,6 +34,18 @@ class Checkpoint(NamedTuple):
         stated = stated_boot_aggregate(entries) if self.entries == 0 else self.stated
         size = sum(len(entry.spelling()) for entry in entries)
         return Checkpoint(self.entries + len(entries), self.bytes + size, stated, self.before, after)
+
+    @property
+    def leaves_room(self):
+        """Whether a whole input fits between its bytes and 2^63."""
+        return self.bytes + MOST_INPUT < 2**63
+
+    @property
+    def is_of_a_list(self):
+        """Whether its data are such as a list leaves."""
+        is_empty = self.bytes == 0 and self.stated is None and self.before.banks == self.after.banks
+        is_long = self.entries * ENTRY_BYTES <= self.bytes
+        return self.leaves_room and is_long and self.before.banks.keys() == self.after.banks.keys() and (self.entries > 0 or is_empty)
 
     def text(self):
         stated = f"{self.stated[0].name}:{self.stated[1].hex()}" if self.stated else "none"
@@ -82,9 +96,10 @@ def read_checkpoint(text):
     if not match or SHA256.hash(text[: match.start(6) - len("sha256 ")]).hex().encode() != match[6]:
         raise CheckpointFault.DAMAGED.fault()
     entries, size, stated, before, after = (part.decode() for part in match.groups()[:5])
-    if not int(entries) <= int(size) < MOST_BYTES:
+    checkpoint = Checkpoint(int(entries), int(size), stated_in(stated), registers_in(before), registers_in(after))
+    if not checkpoint.is_of_a_list:
         raise CheckpointFault.DAMAGED.fault()
-    return Checkpoint(int(entries), int(size), stated_in(stated), registers_in(before), registers_in(after))
+    return checkpoint
 
 
 def stated_in(words):

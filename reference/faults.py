@@ -98,7 +98,7 @@ class BookFault(IntEnum):
 
 USAGE = Fault("refused: command line", "command_line")
 NOT_HEXADECIMAL = Fault("refused: not hexadecimal", "not_hexadecimal")
-NO_ARGUMENTS = Fault("failed: memory", "memory", status=3)
+MEMORY = Fault("failed: memory", "memory", status=3)
 
 
 def too_long(name):

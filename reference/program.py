@@ -12,7 +12,7 @@ from typing import Callable, NamedTuple
 from .checkpoint import before_a_list, read_checkpoint
 from .command_line import HelpAsked, VersionAsked, read_words
 from .faults import (
-    NO_ARGUMENTS,
+    MEMORY,
     USAGE,
     BookFault,
     CheckpointFault,
@@ -234,15 +234,24 @@ def verify_command(inputs, values, log, listed, expected):
     if start.before.banks != before.banks:
         raise CheckpointFault.OTHER_BOOT.fault()
     entries, fault = front_of(*read(), start.entries)
-    end = confirmed_front(log, start, entries, expected, required) if values["--prefix"] else None
+    end = confirmed_front(log, start, entries, expected, required) if values["--prefix"] and expected else None
     if end:
         report = front_report(log, end, start, entries, fault, expected, required)
     else:
         end = start.following(whole(entries, fault))
         report = report_at(log, end, expected, required)
-    if values["--save"] is not None:
+    if is_growing(values):
+        report = report._replace(matches=report.matches and bool(expected))
+        if not end.leaves_room:
+            raise MEMORY
+    if values["--save"] is not None and report.matches:
         inputs.save(values["--save"], end.text())
     return told_of(report, report.matches)
+
+
+def is_growing(values):
+    """Whether the list is one that grows ('Going on from a checkpoint')."""
+    return values["--prefix"] or values["--resume"] is not None or values["--save"] is not None
 
 
 def locate_command(inputs, values, log, listed, expected):
@@ -319,7 +328,7 @@ def answer(words, folder=".", standard_input=b"", most_bytes=MOST_BYTES):
     as_json = False
     try:
         if any("\udc80" <= letter <= "\udcff" for letter in "".join(words)):
-            raise NO_ARGUMENTS
+            raise MEMORY
         if words:
             asked = read_words(words)
             as_json = asked.values["--json"]

@@ -8,7 +8,7 @@ use test_kit::samples::{
 };
 
 /// The files, by their names; `-` is standard input, and has `log` in hexadecimal.
-pub static FILES: [(&str, &[u8]); 11] = [
+pub static FILES: [(&str, &[u8]); 12] = [
     (
         "-",
         b"00000000 03000000 0000000000000000000000000000000000000000 21000000
@@ -19,6 +19,10 @@ pub static FILES: [(&str, &[u8]); 11] = [
     ("log", LOG),
     ("list", LIST),
     ("values", EXPECTED),
+    (
+        "row",
+        b"sha256 10 d54d476b0532a0a009e48de651cd01544e8d093d584ca3dbb93dd0f1b69b7cc4",
+    ),
     ("header", HEADER),
     ("entry", MEASUREMENT),
     ("ten", MEASUREMENT_REGISTERS),
@@ -97,16 +101,16 @@ verdict match
         output: REPORT,
     },
     Command {
-        words: &[
-            "verify",
-            "--prefix",
-            "--save=known",
-            "log",
-            "list",
-            "values",
-        ],
-        status: 1,
-        output: REPORT,
+        words: &["verify", "--prefix", "--save=known", "log", "list", "row"],
+        status: 0,
+        output: b"\
+events 1 locality 0
+entries 3
+confirmed 3 of 3 entries
+boot_aggregate good
+sha256 10 match
+verdict match
+",
     },
     Command {
         words: &["locate", "log", "list", "values"],

@@ -54,10 +54,10 @@ abbrev pub verdict_text : Bool → List ℕ
 verdict_text true = codes "verdict match\n"
 verdict_text false = codes "verdict differ\n"
 
--- What comes after the counts: the line of the boot aggregate, one for each expected register, and the verdict.
-abbrev pub outcome_text : Verdict → List ℕ
-outcome_text verdict = aggregate_text verdict.aggregate ++ (flat_map row_text verdict.rows ++ verdict_text (matches verdict))
+-- What comes after the counts: the line of the boot aggregate, one for each expected register, and whether it is a match.
+abbrev pub outcome_text : Verdict → Bool → List ℕ
+outcome_text verdict is_match = aggregate_text verdict.aggregate ++ (flat_map row_text verdict.rows ++ verdict_text is_match)
 
 -- The report: its counts, and what comes after them.
 abbrev pub report_text : Verdict → List ℕ
-report_text verdict = counts_text verdict.events verdict.locality verdict.entries ++ outcome_text verdict
+report_text verdict = counts_text verdict.events verdict.locality verdict.entries ++ outcome_text verdict (matches verdict)

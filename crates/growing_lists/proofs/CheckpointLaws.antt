@@ -25,7 +25,7 @@ use Rattle.pcr_banks.specs.Sets.{has_alg}
 use Rattle.pcr_banks.proofs.SetLaws.{bytes_again, has_where}
 use Rattle.boot_verdict.specs.declared.checkpoint.Checkpoint.{Checkpoint}
 use Rattle.boot_verdict.specs.declared.expected.Expected.{Expected}
-use Rattle.growing_lists.specs.CheckpointData.{HaveValues, IsCounted, IsHash, SameData, SameValues}
+use Rattle.growing_lists.specs.CheckpointData.{HaveValues, IsHash, SameData, SameValues}
 use Rattle.growing_lists.specs.CheckpointTexts.{IsOfOtherVersion, bank_lines, banks_lines, checkpoint_text, checkpoint_body, data_lines, number_line, seal_line, stated_line, stated_words, value_line}
 use Rattle.boot_verdict.specs.ExpectedTexts.{IsRegisterLine}
 use Rattle.boot_verdict.specs.RegisterTexts.{all_registers, change_line, register_line}
@@ -509,9 +509,6 @@ pub lines_are : (known : Checkpoint) (text version lines : List ℕ) → text �
 lines_are known text version lines found then_found is =
     append_cancel_left (codes "1\n") lines (data_lines known ++ seal_line (checkpoint_body known))
     (sym then_found ∙ version_is known text version found is)
-
-pub counted_same : (first second : Checkpoint) → SameData first second → IsCounted second → IsCounted first
-counted_same first second same counted = rw (same.entries, same.bytes) counted
 
 pub ok_then : {A E : Type 0} {P Q : A → Type 0} (r : Result A E) → IfOk r P → ((x : A) → P x → Q x) → IfOk r Q
 ok_then (Ok x) is next = next x is

@@ -1,19 +1,21 @@
 -- Checkpoints: with the same data, and with possible counts.
-use Rattle.std.proofs.Common.{◌≡◌, ℕ, ◌≤◌, List, [], ◌∷◌, ◌++◌, length, Option, Some, None, option_map, refl, sym, ap, subst, ◌∙◌, arith}
+use Rattle.std.proofs.Common.{◌≡◌, ℕ, ◌*◌, ◌≤◌, List, [], ◌∷◌, ◌++◌, length, Option, Some, None, option_map, refl, sym, ap, subst, ◌∙◌, arith, inl, inr}
 use Rattle.std.specs.Prelude.{IsSome, IsTrue, is_some}
-use Rattle.std.proofs.lemmas.Bool.{false≢true}
+use Rattle.std.proofs.lemmas.Bool.{cases_Bool, false≢true, true≢false}
 use Rattle.std.proofs.lemmas.List.{append-nil, length-append}
+use Rattle.std.specs.Int.{w32, to_le_bytes}
 use Rattle.pcr_banks.specs.declared.alg.Alg.{Alg}
 use Rattle.pcr_banks.specs.declared.banks.Banks.{Banks}
 use Rattle.pcr_banks.specs.declared.digest.Digest.{Digest}
 use Rattle.pcr_banks.specs.Digests.{alg_of, bytes_of}
-use Rattle.pcr_banks.specs.Registers.{bank_of, extended_by_all, in_bank, is_active}
-use Rattle.ima_list.specs.ListEntry.{ListEntry}
-use Rattle.ima_list.specs.Replaying.{digests_of}
-use Rattle.ima_list.specs.Spelling.{list_spelling, spelling}
+use Rattle.pcr_banks.specs.Registers.{bank_of, extended_by_all, in_bank, is_active, value_at}
+use Rattle.ima_list.specs.ListEntry.{AreEntries, IsEntry, IsImaPayload, ListEntry, is_ima}
+use Rattle.ima_list.specs.Replaying.{digests_of, replayed_value}
+use Rattle.ima_list.specs.Spelling.{list_spelling, payload_spelling, spelling}
 use Rattle.boot_verdict.specs.declared.checkpoint.Checkpoint.{Checkpoint}
-use Rattle.boot_verdict.specs.Checkpoints.{IsCheckpoint, most_after}
-use Rattle.growing_lists.specs.CheckpointData.{HaveValues, IsCounted, IsPossible, SameData, SameValues}
+use Rattle.boot_verdict.specs.Checkpoints.{IsCheckpoint}
+use Rattle.boot_verdict.specs.Verdicts.{stated_aggregate}
+use Rattle.growing_lists.specs.CheckpointData.{HaveValues, IsCounted, IsPossible, LeavesRoom, SameData, SameValues}
 use Rattle.growing_lists.specs.Sessions.{IsOfBoot}
 
 -- ---- the same data
@@ -67,29 +69,94 @@ module _ (first second : Checkpoint) (one : IsPossible first) (two : IsPossible 
 
 -- ---- possible counts
 
-some_bytes : (bytes : List ℕ) (byte : ℕ) (rest : List ℕ) → bytes ≡ byte ∷ rest → 1 ≤ length bytes
-some_bytes bytes byte rest is = rw is (omega arith)
+-- They are those of the same data.
+pub counted_same : (first second : Checkpoint) → HaveValues first.before → HaveValues first.after → IsPossible second → SameData first second
+    → IsCounted first
+counted_same first second before after possible same =
+    let active = λ (a : Alg).
+    active_together first.before second.before before possible.before same.before a ∙ possible.counted.active a
+    ∙ sym (active_together first.after second.after after possible.after same.after a) in
+    record {
+      room = rw same.bytes possible.counted.room;
+      size = rw (same.entries, same.bytes) possible.counted.size;
+      active = active;
+      empty = λ none.
+          let nothing = possible.counted.empty (sym same.entries ∙ none) in
+          record {
+            bytes = same.bytes ∙ nothing.bytes;
+            stated = same.stated ∙ nothing.stated;
+            same = record { active = active; values = λ a r. same.before a r ∙ nothing.same.values a r ∙ sym (same.after a r) };
+          };
+    }
 
-few_entries : (entries : List ListEntry) → length entries ≤ length (list_spelling entries)
-few_entries [] = omega arith
-few_entries (entry ∷ entries) =
-    let joined = length-append (spelling entry) (list_spelling entries) in
-    let some = some_bytes (spelling entry) _ _ refl in
-    let fewer = few_entries entries in
-    omega (arith, joined, some, fewer)
+payload_size : (entry : ListEntry) (form : IsTrue (is_ima entry) → IsImaPayload entry.payload) → 4 ≤ length (payload_spelling entry)
+payload_size entry form =
+    elim (cases_Bool (is_ima entry)) [
+      | inl ima ↦
+          let is = form ima in
+          let long = ap (λ (l : List ℕ). length l) is.spelled ∙ length-append is.file (to_le_bytes w32 (length is.path) ++ is.path) in
+          let size = is.file_size in
+          rw ima (omega (arith, long, size))
+      | inr other ↦ rw other (omega (arith, length-append (to_le_bytes w32 (length entry.payload)) entry.payload))
+    ]
 
--- The checkpoint of a front of what is taken after a list of possible counts.
-pub counted_front : (list came front rest : List ℕ) (old next : Checkpoint) (limit : ℕ) → IsCounted old → IsCheckpoint list old
-    → length came ≤ most_after old limit → list ++ came ≡ front ++ rest → IsCheckpoint front next → IsCounted next
-counted_front list came front rest old next limit counted before within parts is =
-    let size = is.size in
-    let count = is.count in
-    let spelled = ap (λ (l : List ℕ). length l) (is.list_is.begins.parts ∙ append-nil (list_spelling is.entries)) in
-    let few = few_entries is.entries in
-    let whole = sym (length-append list came) ∙ ap (λ (l : List ℕ). length l) parts ∙ length-append front rest in
-    let known = before.size in
-    let fewer = counted.0 in
-    let small = counted.1 in (
-      omega (arith, size, count, spelled, few),
-      omega (arith, size, whole, known, fewer, small, within),
+entry_size : (entry : ListEntry) → IsEntry entry → 32 ≤ length (spelling entry)
+entry_size entry is =
+    let size = is.digest_size in
+    let payload = payload_size entry is.ima_form in
+    let named = to_le_bytes w32 (length entry.name) ++ entry.name in
+    omega (
+      arith,
+      size,
+      payload,
+      length-append (to_le_bytes w32 entry.register) (entry.digest ++ (named ++ payload_spelling entry)),
+      length-append entry.digest (named ++ payload_spelling entry),
+      length-append named (payload_spelling entry),
+      length-append (to_le_bytes w32 (length entry.name)) entry.name,
     )
+
+entries_size : (entries : List ListEntry) → AreEntries entries → length entries * 32 ≤ length (list_spelling entries)
+entries_size [] are = omega arith
+entries_size (entry ∷ entries) are =
+    let joined = length-append (spelling entry) (list_spelling entries) in
+    let first = entry_size entry are.0 in
+    let others = entries_size entries are.1 in
+    omega (arith, joined, first, others)
+
+no_entries : (entries : List ListEntry) → length entries ≡ 0 → entries ≡ []
+no_entries [] none = refl
+no_entries (entry ∷ entries) none = let no : ⊥ = omega (arith, none) in absurd no
+
+none_stated : (stated : Option Digest) → option_map {U = Alg × List ℕ} (λ digest. (alg_of digest, bytes_of digest)) stated ≡ None → stated ≡ None
+none_stated None is = refl
+none_stated (Some digest) is = absurd (true≢false (ap (λ (value : Option (Alg × List ℕ)). is_some value) is))
+
+same_option : (value : Option (List ℕ)) → option_map (λ bytes. bytes) value ≡ value
+same_option None = refl
+same_option (Some bytes) = refl
+
+-- They are those of a list that leaves room.
+pub counted_list : (known : Checkpoint) (list : List ℕ) → IsCheckpoint list known → LeavesRoom known → IsCounted known
+counted_list known list is room =
+    let count = is.count in
+    let size = is.size in
+    let spelled = ap (λ (l : List ℕ). length l) (is.list_is.begins.parts ∙ append-nil (list_spelling is.entries)) in
+    let long = entries_size is.entries is.list_is.begins.are in
+    let active = λ (a : Alg). sym (is.replayed.active a) in
+    record {
+      room = room;
+      size = omega (arith, count, size, spelled, long);
+      active = active;
+      empty = λ none.
+          let empty = no_entries is.entries (sym is.count ∙ none) in
+          record {
+            bytes = size ∙ spelled ∙ ap (λ (entries : List ListEntry). length (list_spelling entries)) empty;
+            stated = none_stated known.stated (is.stated ∙ ap stated_aggregate empty);
+            same = record {
+              active = active;
+              values = λ a r.
+                  sym (is.replayed.values a r ∙ ap (λ (entries : List ListEntry). replayed_value known.before entries a r) empty
+                  ∙ same_option (value_at known.before a r));
+            };
+          };
+    }

@@ -1,5 +1,5 @@
 -- Which data a checkpoint can have, and which have the same. All of this is this project's choice.
-use Rattle.std.specs.Prelude.{◌≡◌, ℕ, ◌^◌, ◌<◌, ◌≤◌, List, length, IsTrue, IsSome, IfSome}
+use Rattle.std.specs.Prelude.{◌≡◌, ℕ, ◌+◌, ◌*◌, ◌^◌, ◌<◌, ◌≤◌, List, length, IsTrue, None, IsSome, IfSome}
 use Rattle.hex.specs.Hex.{IsBytes}
 use Rattle.pcr_banks.specs.declared.alg.Alg.{Alg}
 use Rattle.pcr_banks.specs.declared.banks.Banks.{Banks}
@@ -18,17 +18,9 @@ pub record HaveValues (banks : Banks) : Type 0 where
   pub whole : (a : Alg) (r : ℕ) → IsTrue (is_active banks a) → r < register_count → IsSome (value_at banks a r)
   pub sized : (a : Alg) (r : ℕ) → IfSome (value_at banks a r) (IsHash a)
 
--- There are no more entries than bytes, and fewer than 2^63 bytes. So as many bytes again as memory can have, and the entries in
--- them, can be counted.
-abbrev pub IsCounted : Checkpoint → Type 0
-IsCounted checkpoint = (checkpoint.entries ≤ checkpoint.bytes) × (checkpoint.bytes < 2 ^ 63)
-
--- The counts are possible; and what else is so of all values that a program has.
-pub record IsPossible (checkpoint : Checkpoint) : Type 0 where
-  pub counted : IsCounted checkpoint
-  pub before : HaveValues checkpoint.before
-  pub after : HaveValues checkpoint.after
-  pub stated : IfSome checkpoint.stated (λ digest. IsHash (alg_of digest) (bytes_of digest))
+-- The same banks are active.
+abbrev pub SameActive : Banks → Banks → Type 0
+SameActive first second = (a : Alg) → is_active first a ≡ is_active second a
 
 -- All registers have the same values.
 abbrev pub SameValues : Banks → Banks → Type 0
@@ -36,8 +28,32 @@ SameValues first second = (a : Alg) (r : ℕ) → value_at first a r ≡ value_a
 
 -- The same banks are active, and all registers have the same values.
 pub record AreSameBanks (first second : Banks) : Type 0 where
-  pub active : (a : Alg) → is_active first a ≡ is_active second a
+  pub active : SameActive first second
   pub values : SameValues first second
+
+-- After the list's bytes there is room for a whole input, of 64 MiB, below 2^63 bytes: so they and its entries can be counted.
+abbrev pub LeavesRoom : Checkpoint → Type 0
+LeavesRoom checkpoint = checkpoint.bytes + 2 ^ 26 < 2 ^ 63
+
+-- Nothing was taken: no byte, no boot aggregate, and no register is another.
+pub record HasTakenNothing (checkpoint : Checkpoint) : Type 0 where
+  pub bytes : checkpoint.bytes ≡ 0
+  pub stated : checkpoint.stated ≡ None
+  pub same : AreSameBanks checkpoint.before checkpoint.after
+
+-- The counts, the boot aggregate and the active banks are such as a list leaves, each of whose entries has 32 bytes or more.
+pub record IsCounted (checkpoint : Checkpoint) : Type 0 where
+  pub room : LeavesRoom checkpoint
+  pub size : checkpoint.entries * 32 ≤ checkpoint.bytes
+  pub active : SameActive checkpoint.before checkpoint.after
+  pub empty : checkpoint.entries ≡ 0 → HasTakenNothing checkpoint
+
+-- The counts are possible; and what else is so of all values that a program has.
+pub record IsPossible (checkpoint : Checkpoint) : Type 0 where
+  pub counted : IsCounted checkpoint
+  pub before : HaveValues checkpoint.before
+  pub after : HaveValues checkpoint.after
+  pub stated : IfSome checkpoint.stated (λ digest. IsHash (alg_of digest) (bytes_of digest))
 
 -- Two checkpoints of the same data.
 pub record SameData (first second : Checkpoint) : Type 0 where

@@ -6,7 +6,7 @@ use Rattle.growing_lists.specs.declared.front_report.Unconfirmed.TheVariants as 
 use Rattle.boot_verdict.specs.declared.requirement.BankRange.{BankRange}
 use Rattle.boot_verdict.specs.ReportTexts.{counts_text, outcome_text}
 use Rattle.boot_verdict.specs.RequiredTexts.{required_outcome_text}
-use Rattle.boot_verdict.specs.Verdicts.{Verdict}
+use Rattle.boot_verdict.specs.Verdicts.{Verdict, matches}
 
 -- ---- what is wrong after the front
 
@@ -53,7 +53,7 @@ front_counts_text front entries unconfirmed =
 
 -- The report: these counts, and then what comes after the counts of a report on the front.
 abbrev pub front_report_text : Verdict → ℕ → Option Unconfirmed → List ℕ
-front_report_text front entries unconfirmed = front_counts_text front entries unconfirmed ++ outcome_text front
+front_report_text front entries unconfirmed = front_counts_text front entries unconfirmed ++ outcome_text front (matches front)
 
 -- The same where registers are required.
 abbrev pub required_front_report_text : List BankRange → Verdict → ℕ → Option Unconfirmed → List ℕ

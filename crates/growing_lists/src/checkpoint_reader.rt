@@ -12,11 +12,12 @@ ghost use Rattle.boot_verdict.specs.declared.checkpoint.Checkpoint.{Checkpoint};
 ghost use Rattle.boot_verdict.specs.Checkpoints.{IsCheckpoint};
 ghost use Rattle.boot_verdict.specs.RegisterTexts.{all_registers, register_line};
 ghost use Rattle.growing_lists.specs.declared.checkpoint_reader.CheckpointFault.TheVariants.{Memory};
-ghost use Rattle.growing_lists.specs.CheckpointData.{HaveValues, IsCounted, IsHash, IsPossible, SameData, SameValues};
+ghost use Rattle.growing_lists.specs.CheckpointData.{HasTakenNothing, HaveValues, IsCounted, IsHash, IsPossible, LeavesRoom, SameData, SameValues};
 ghost use Rattle.growing_lists.specs.CheckpointTexts.{IsOfOtherVersion, bank_lines, banks_lines, checkpoint_text, data_lines, number_line, stated_line, stated_words, value_line};
 ghost use Rattle.growing_lists.specs.Sessions.{IsOfBoot};
 ghost use Rattle.growing_lists.specs.parts.CheckpointParts.{HasBank, Sets, TakesBank};
 
+use crate::same_banks::{are_same_active, are_same_banks};
 use crate::texts::write_checkpoint;
 use boot_verdict::{Checkpoint, after_prefix, list_start, register_on, split_once};
 use pcr_banks::laws::{digest_is_a_hash, registers_have_hashes};
@@ -24,15 +25,24 @@ use pcr_banks::{Alg, Banks, Digest, REGISTERS};
 use std::alloc::{AllocError, Global};
 use thiserror::Error;
 
-/// Law: a checkpoint with possible counts is one that [`read_checkpoint`] reads from its text.
+/// Law: a checkpoint with possible counts is one that [`read_checkpoint`] reads from its text; and that of a list has possible counts, if
+/// it [`leaves_room`].
 pub fn counted_checkpoint_is_possible(checkpoint: &Checkpoint)
-    ensures { IsCounted checkpoint.now → IsPossible checkpoint.now }
+    ensures possible { IsCounted checkpoint.now → IsPossible checkpoint.now }
+    ensures counted { (list : List ℕ) → IsCheckpoint list checkpoint.now → LeavesRoom checkpoint.now → IsCounted checkpoint.now }
 {
-    registers_have_hashes(&checkpoint.before);
-    registers_have_hashes(&checkpoint.after);
+    banks_have_values(&checkpoint.before);
+    banks_have_values(&checkpoint.after);
     if let Some(digest) = &checkpoint.stated {
         digest_is_a_hash(digest);
     }
+}
+
+// Law: each register of an active bank has a value, which is as long as a hash of the bank's algorithm.
+fn banks_have_values(banks: &Banks)
+    ensures { HaveValues banks.now }
+{
+    registers_have_hashes(banks);
 }
 
 /// Law: possible checkpoints with the same data are those of the same lists, and of the same boots. By [`read_checkpoint`] all of one text
@@ -102,9 +112,12 @@ fn checked(
 ) -> Result<Checkpoint, CheckpointFault>
     ensures same { IfOk result (λ found. found ≡ checkpoint) }
     ensures found { IfOk result (λ found. IsPossible found × (text.now ≡ checkpoint_text found)) }
-    ensures only { IsCounted checkpoint → text.now ≡ checkpoint_text checkpoint → IfErr result (λ fault. fault ≡ CheckpointFault.Memory) }
+    ensures only { (known : Checkpoint) → IsPossible known → SameData checkpoint known → text.now ≡ checkpoint_text checkpoint
+        → IfErr result (λ fault. fault ≡ CheckpointFault.Memory) }
     ensures version { IsErrOf result CheckpointFault.Version → ⊥ }
 {
+    banks_have_values(&checkpoint.before);
+    banks_have_values(&checkpoint.after);
     if !is_counted(&checkpoint) {
         return Err(CheckpointFault::Damaged);
     }
@@ -115,11 +128,30 @@ fn checked(
     Ok(checkpoint)
 }
 
-// Whether there are no more entries than bytes, and fewer than 2^63 bytes.
+// Whether the counts, the boot aggregate and the active banks are such as a list leaves.
 fn is_counted(checkpoint: &Checkpoint) -> bool
     ensures { IsTrue result ↔ IsCounted checkpoint.now }
 {
-    checkpoint.entries as u64 <= checkpoint.bytes && checkpoint.bytes < 1 << 63
+    leaves_room(checkpoint)
+        && (checkpoint.entries as u64).saturating_mul(32) <= checkpoint.bytes
+        && are_same_active(&checkpoint.before, &checkpoint.after)
+        && (checkpoint.entries > 0 || has_taken_nothing(checkpoint))
+}
+
+/// Whether a whole input fits after the checkpoint's list: where it does not, no checkpoint is read back from its text.
+pub fn leaves_room(checkpoint: &Checkpoint) -> bool
+    ensures { IsTrue result ↔ LeavesRoom checkpoint.now }
+{
+    checkpoint.bytes < (1 << 63) - (1 << 26)
+}
+
+// Whether there is no byte and no boot aggregate, and all registers are as before the list.
+fn has_taken_nothing(checkpoint: &Checkpoint) -> bool
+    ensures { IsTrue result ↔ HasTakenNothing checkpoint.now }
+{
+    checkpoint.bytes == 0
+        && checkpoint.stated.is_none()
+        && are_same_banks(&checkpoint.before, &checkpoint.after)
 }
 
 // Whether this is the checkpoint's text.

@@ -11,7 +11,7 @@ mod session;
 mod texts;
 
 pub use checkpoint_reader::{
-    CheckpointFault, counted_checkpoint_is_possible, read_checkpoint,
+    CheckpointFault, counted_checkpoint_is_possible, leaves_room, read_checkpoint,
     same_data_is_of_the_same_lists,
 };
 pub use front_report::{FrontReport, Unconfirmed};

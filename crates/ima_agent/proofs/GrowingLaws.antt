@@ -1,7 +1,6 @@
 -- A list that grows: what its source says of its input, whatever list was taken before.
 use Rattle.std.proofs.Common.{◌≡◌, ℕ, ◌<◌, List, [], ◌++◌, length, Option, None, Some, Ok, Err, refl, sym, subst, append_assoc, inl, inr}
 use Rattle.std.specs.Prelude.{◌⊎◌, IfSome, IfOk, IfErr, IsTrue, Result}
-use Rattle.std.proofs.lemmas.List.{append-nil}
 use Rattle.byte_streams.specs.Streams.{SourceState}
 use Rattle.ima_list.specs.declared.fault.ListFault.{ListFault}
 use Rattle.ima_list.specs.declared.fault.ListFault.TheVariants as lists
@@ -15,9 +14,8 @@ use Rattle.boot_verdict.specs.declared.requirement.BankRange.{BankRange}
 use Rattle.growing_lists.specs.declared.session.Session.{Session}
 use Rattle.boot_verdict.specs.declared.verifier.VerifyFault.{VerifyFault}
 use Rattle.boot_verdict.specs.declared.verifier.VerifyFault.TheVariants as verdicts
-use Rattle.growing_lists.specs.CheckpointData.{IsCounted, IsPossible}
+use Rattle.growing_lists.specs.CheckpointData.{IsPossible}
 use Rattle.growing_lists.specs.CheckpointTexts.{checkpoint_text}
-use Rattle.growing_lists.proofs.DataLaws.{counted_front}
 use Rattle.boot_verdict.specs.Checkpoints.{IsMoreFault, most_after}
 use Rattle.growing_lists.specs.Fronts.{CameUnconfirmed, IsFrontReport, IsUnconfirmedFault, IsWrongWith, TakesUnconfirmed}
 use Rattle.boot_verdict.specs.ListSources.{CameFrom, CameWhole, FailsFor, IsListFaultAfter}
@@ -30,11 +28,11 @@ use Rattle.ima_agent.specs.declared.grown_reports.Judged.{Judged}
 use Rattle.ima_agent.specs.declared.grown_reports.Judged.TheVariants as judged
 use Rattle.ima_agent.specs.declared.output.Form.{Form}
 use Rattle.ima_agent.specs.declared.output.Output.{Output}
-use Rattle.ima_agent.specs.Growing.{AreGrounds, Growth, HasSaved, IsFaultAfter, IsFrontAfter, IsGrownFault, IsGrownFaultWith, IsKnown, IsNext, IsNotSaved, IsNotTaken, IsOfOtherBoot, IsRefusedUnconfirmed, IsTaken, IsUnconfirmed, IsUnconfirmedBefore, IsVerdictAfter, IsWrongAfter, ShowsAndSaves, ShowsGrownWith, ShowsGrowth, entries_taken, most_more, seeks_front}
+use Rattle.ima_agent.specs.Growing.{AreGrounds, Growth, HasSaved, IsFaultAfter, IsFrontAfter, IsGrownFault, IsGrownFaultWith, IsKnown, IsNext, IsNotSaved, IsNotTaken, IsOfOtherBoot, IsRefusedUnconfirmed, IsTaken, IsUnconfirmed, IsUnconfirmedBefore, IsVerdictAfter, IsWrongAfter, ShowsAndSaves, ShowsGrownWith, ShowsGrowth, entries_taken, most_more, name_after, seeks_front}
 use Rattle.ima_agent.specs.JsonJudging.{IsRequired}
 use Rattle.ima_agent.specs.Loading.{HasFailed, Inputs, Holds, OfInput, Saved, input_limit}
 use Rattle.ima_agent.specs.Measuring.{HasLogFault}
-use Rattle.ima_agent.specs.parts.Growing.{IsNotJudged, IsNotTakenFrom, Judges, TakesVerdict, judged_text, judged_well}
+use Rattle.ima_agent.specs.parts.Growing.{CanBeReadBack, IsNotJudged, IsNotTakenFrom, Judges, TakesVerdict, judged_text, judged_well}
 use Rattle.ima_agent.proofs.VerifyingLaws.{HasAll, held_more, held_whole, longer}
 
 -- Whoever goes on from what a session knows goes on from what it has taken.
@@ -167,38 +165,14 @@ module _ (inputs : Inputs) (name : List ℕ) (old new : Option (List ℕ)) (limi
   refused_unconfirmed log taken expected least verdicts.TooLong is = tt
   refused_unconfirmed log taken expected least verdicts.Memory is = tt
 
--- ---- what can be gone on from
-
--- What is gone on from has possible counts.
-pub known_counted : (inputs : Inputs) (resume : Option (List ℕ)) (known : Option Checkpoint) → IsKnown inputs resume known → IfSome known IsCounted
-known_counted inputs None None is = tt
-known_counted inputs (Some name) (Some known) is = is.2.0.counted
-known_counted inputs None (Some known) is = absurd is
-known_counted inputs (Some name) None is = absurd is
-
--- What is taken after it is of possible counts,
-pub counted_whole : {log taken : List ℕ} {old new : Option (List ℕ)} (limit : ℕ) {before after : Session} → HasTaken log taken before
-    → IsCounted before.known → TakesMore log taken old new (most_after before.known limit) after → IsCounted after.known
-counted_whole {taken = taken} limit {before} {after} has counted takes =
-    counted_front taken takes.more (taken ++ takes.more) [] before.known after.known limit counted has.checkpoint takes.came.came.within
-    (sym (append-nil (taken ++ takes.more))) takes.taken.checkpoint
-
--- and so is a front of that.
-pub counted_at_front : {log taken : List ℕ} {old new : Option (List ℕ)} (limit : ℕ) {expected : List Expected} {least : ℕ} {before after : Session}
-    {report : FrontReport} → HasTaken log taken before → IsCounted before.known
-    → IsFrontReport log taken old new (most_after before.known limit) expected least after report → IsCounted after.known
-counted_at_front {taken = taken} limit {before = before} {after} has counted is =
-    counted_front taken is.came (list_spelling is.front) is.rest before.known after.known limit counted has.checkpoint is.came_is.within
-    is.begins.parts is.taken.checkpoint
-
 -- ---- what the program shows
 
 module _ (inputs : Inputs) (asked : Growth) (required : Option (List BankRange)) (log : List ℕ) (expected : List Expected) (known : Option Checkpoint)
     (old new : SourceState) (before : Session) (grounds : AreGrounds inputs asked log expected known)
     (has : HasAll (inputs.held (Some asked.list)) old.remaining)
     (started : (taken : List ℕ) → IsTaken known taken → HasTaken log taken before) (least : before.known.entries ≡ entries_taken known)
-    (most : most_after before.known input_limit ≡ most_more known) (counted : IsCounted before.known) (boot : IfSome known (IsOfBoot log)) where
-  pub shows : (form : Form) (after : Session) → (IsCounted after.known → IsPossible after.known) → (report : Judged) (shown : List ℕ) (status : ℕ)
+    (most : most_after before.known input_limit ≡ most_more known) (boot : IfSome known (IsOfBoot log)) where
+  pub shows : (form : Form) (after : Session) → CanBeReadBack after.known → (report : Judged) (shown : List ℕ) (status : ℕ)
       → Judges (seeks_front asked.extent required expected) old.remaining new.remaining expected before after report
       → shown ≡ judged_text form required report → status ≡ judged_well required report
       → ShowsGrownWith inputs asked required form after.known shown status
@@ -214,7 +188,7 @@ module _ (inputs : Inputs) (asked : Growth) (required : Option (List BankRange))
           let takes = is.0 log taken (started taken take) in
           subst (λ (n : ℕ). IsVerdictAfter inputs asked.list log expected taken n (verdict_of report) after.known) most
           (verdict_after inputs asked.list old.remaining new.remaining _ has log taken expected after _
-          (possible (counted_whole input_limit (started taken take) counted takes.takes)) takes);
+          (possible (taken ++ takes.takes.more) takes.takes.taken.checkpoint) takes);
       unconfirmed = λ sought taken take.
           subst (λ (n : ℕ). IsUnconfirmed inputs asked.list log expected taken n) least
           (none_confirmed inputs asked.list old.remaining new.remaining _ has log taken expected before.known.entries after
@@ -236,7 +210,7 @@ module _ (inputs : Inputs) (asked : Growth) (required : Option (List BankRange))
           let front = is.1 log taken (started taken take) in
           subst (λ (n : ℕ). IsFrontAfter inputs asked.list log expected taken n report after.known) least
           (front_after inputs asked.list old.remaining new.remaining _ has log taken expected before.known.entries after report
-          (possible (counted_at_front input_limit (started taken take) counted front)) front);
+          (possible (list_spelling front.front) front.taken.checkpoint) front);
       text_is = text-is;
       status_is = status-is;
     });
@@ -278,8 +252,8 @@ module _ (inputs : Inputs) (asked : Growth) (required : Option (List BankRange))
 -- The report is made, and its checkpoint is not saved.
 pub save_fails : (inputs : Inputs) (asked : Growth) (required : Option (List BankRange)) (form : Form) (next : Checkpoint) (shown : List ℕ)
     (status : ℕ) (fault : RunFault) → ShowsGrownWith inputs asked required form next shown status
-    → IsNotSaved asked.save fault ⊎ (fault ≡ runs.Memory) → IsGrownFaultWith inputs asked required fault
-save_fails inputs asked required form next shown status fault is (inl unsaved) = inr (inr ((form, next, shown, status, is), unsaved))
+    → IsNotSaved (name_after status asked.save) fault ⊎ (fault ≡ runs.Memory) → IsGrownFaultWith inputs asked required fault
+save_fails inputs asked required form next shown status fault is (inl unsaved) = inr (inr (form, next, shown, status, is, unsaved))
 save_fails inputs asked required form next shown status fault is (inr memory) = inl (inr (inr (inr (inr (inr memory)))))
 
 -- The log is refused, or of another boot.
@@ -303,7 +277,7 @@ saved_known old mid new name known next same is saved =
 pub saves_where : (result : Result Output RunFault) (inputs : Inputs) (asked : Growth) (required : Option (List BankRange)) (form : Form)
     (old new : Saved) → IsRequired asked.required required
     → IfOk result (λ output. (next : Checkpoint) × ShowsGrownWith inputs asked required form next output.text.items output.status
-    × HasSaved old new asked.save (checkpoint_text next))
+    × HasSaved old new (name_after output.status asked.save) (checkpoint_text next))
     → IfOk result (λ output. ShowsAndSaves inputs asked form old new output.text.items output.status)
 saves_where (Ok output) inputs asked required form old new requires is = (is.0, (required, requires, is.1), is.2)
 saves_where (Err fault) inputs asked required form old new requires is = tt
@@ -311,7 +285,7 @@ saves_where (Err fault) inputs asked required form old new requires is = tt
 pub shows_where : (result : Result Output RunFault) (inputs : Inputs) (asked : Growth) (required : Option (List BankRange)) (form : Form)
     (old new : Saved) → IsRequired asked.required required
     → IfOk result (λ output. (next : Checkpoint) × ShowsGrownWith inputs asked required form next output.text.items output.status
-    × HasSaved old new asked.save (checkpoint_text next))
+    × HasSaved old new (name_after output.status asked.save) (checkpoint_text next))
     → IfOk result (λ output. ShowsGrowth inputs asked form output.text.items output.status)
 shows_where (Ok output) inputs asked required form old new requires is = (is.0, (required, requires, is.1))
 shows_where (Err fault) inputs asked required form old new requires is = tt

@@ -16,7 +16,7 @@ use Rattle.growing_lists.specs.declared.session.Session.{Session}
 use Rattle.boot_verdict.specs.declared.verifier.VerifyFault.{VerifyFault}
 use Rattle.boot_verdict.specs.declared.verifier.VerifyFault.TheVariants as verdicts
 use Rattle.boot_verdict.specs.Checkpoints.{IsMoreFault}
-use Rattle.growing_lists.specs.CheckpointData.{IsCounted, IsPossible}
+use Rattle.growing_lists.specs.CheckpointData.{IsPossible}
 use Rattle.growing_lists.specs.Fronts.{CameUnconfirmed, IsFrontReport, IsUnconfirmedFault, IsWrongWith, TakesUnconfirmed}
 use Rattle.boot_verdict.specs.ListSources.{CameFrom, CameWhole, FailsFor, IsListFaultAfter}
 use Rattle.growing_lists.specs.Sessions.{HasTaken, IsOfBoot, TakesMore}
@@ -32,7 +32,7 @@ use Rattle.ima_agent.specs.Growing.{IsOfOtherBoot, IsTaken, entries_taken, seeks
 use Rattle.ima_agent.specs.GrowingOn.{BeginsUnconfirmed, GrowthOn, HasNoFront, IsFaultIn, IsFrontOf, IsKnownIn, IsNotGrownOnWith, IsNotTakenOn, IsUnconfirmedIn, IsWrongIn, ShowsFrontOn, ShowsGrownOnWith, ShowsWholeOn}
 use Rattle.ima_agent.specs.Measuring.{HasLogFault}
 use Rattle.ima_agent.specs.Verifying.{fault_of_verdict}
-use Rattle.ima_agent.specs.parts.Growing.{judged_text, judged_well}
+use Rattle.ima_agent.specs.parts.Growing.{CanBeReadBack, judged_text, judged_well}
 use Rattle.ima_agent.specs.parts.GrowingOn.{IsNotJudgedOn, IsNotTakenIn, JudgesOn}
 use Rattle.ima_agent.proofs.GrowingLaws.{next_of}
 use Rattle.ima_agent.proofs.ReplayingLaws.{of_whole}
@@ -159,11 +159,6 @@ none_taken more expected before new limit first is = record {
 
 -- ---- the report that is asked for
 
--- What is gone on from has possible counts.
-pub known_counted : (state : List ℕ) (known : Option Checkpoint) → IsKnownIn state known → IfSome known IsCounted
-known_counted state None is = tt
-known_counted state (Some known) is = is.0.counted
-
 module _ (asked : GrowthOn) (required : Option (List BankRange)) (expected : List Expected) (known : Option Checkpoint)
     (states : IsExpectedText asked.expected expected) (is_known : IsKnownIn asked.state known) where
   -- There is no session.
@@ -185,7 +180,7 @@ module _ (asked : GrowthOn) (required : Option (List BankRange)) (expected : Lis
       })))
 
   module _ (before : Session) (has : (taken : List ℕ) → IsTaken known taken → HasTaken asked.log taken before)
-      (count : before.known.entries ≡ entries_taken known) (counted : IsCounted before.known) (boot : IfSome known (IsOfBoot asked.log))
+      (count : before.known.entries ≡ entries_taken known) (boot : IfSome known (IsOfBoot asked.log))
       (seeks : Bool) (sought : seeks ≡ seeks_front asked.extent required expected) where
     not_taken : (fault : RunFault) → IsNotTakenIn seeks asked.more expected before fault
         → IsNotTakenOn asked.log asked.more expected known seeks fault
@@ -211,7 +206,7 @@ module _ (asked : GrowthOn) (required : Option (List BankRange)) (expected : Lis
           cause = inr (inr (boot, subst (λ (b : Bool). IsNotTakenOn asked.log asked.more expected known b fault) sought (not_taken fault none)));
         })))
 
-    module _ (after : Session) (form : Form) (shown : List ℕ) (status : ℕ) where
+    module _ (after : Session) (possible : CanBeReadBack after.known) (form : Form) (shown : List ℕ) (status : ℕ) where
       shows : (report : Judged) → JudgesOn seeks asked.more expected before after report → shown ≡ judged_text form required report
           → status ≡ judged_well required report
           → ShowsWholeOn asked.log asked.more expected known seeks form required after.known shown status
@@ -219,7 +214,7 @@ module _ (asked : GrowthOn) (required : Option (List BankRange)) (expected : Lis
       shows (judged.Whole report) is text-is status-is =
           inl (record {
             verdict = verdict_of report;
-            verdict_is = λ taken of. is.0 asked.log taken (has taken of) counted;
+            verdict_is = λ taken of. is.0 asked.log taken (has taken of) possible;
             unconfirmed = λ seeking taken of.
                 subst (λ (n : ℕ). HasNoFront asked.log (taken ++ asked.more) expected n) count (is.1 seeking asked.log taken (has taken of));
             text_is = text-is;
@@ -231,7 +226,7 @@ module _ (asked : GrowthOn) (required : Option (List BankRange)) (expected : Lis
             sought = is.0;
             front_is = λ taken of.
                 subst (λ (n : ℕ). IsFrontOf asked.log (taken ++ asked.more) expected n report after.known) count
-                (is.1 asked.log taken (has taken of) counted);
+                (is.1 asked.log taken (has taken of) possible);
             text_is = text-is;
             status_is = status-is;
           })

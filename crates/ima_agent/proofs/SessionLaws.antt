@@ -1,5 +1,5 @@
 -- A session that has taken nothing of a list.
-use Rattle.std.proofs.Common.{◌≡◌, ℕ, List, [], length, Ok, Err, refl, ap, ◌∙◌, arith}
+use Rattle.std.proofs.Common.{◌≡◌, ℕ, List, [], length, Ok, Err, refl, ap, ◌∙◌}
 use Rattle.std.specs.Prelude.{Result}
 use Rattle.ima_list.specs.ListEntry.{ListEntry}
 use Rattle.ima_list.specs.Spelling.{BeginsWith, IsReading}
@@ -7,7 +7,6 @@ use Rattle.ima_list.specs.declared.fault.ListFault.{ListFault}
 use Rattle.boot_verdict.specs.declared.checkpoint.Checkpoint.{Checkpoint}
 use Rattle.growing_lists.specs.declared.session.Session.{Session}
 use Rattle.boot_verdict.specs.Checkpoints.{most_after}
-use Rattle.growing_lists.specs.CheckpointData.{IsCounted}
 use Rattle.growing_lists.specs.Sessions.{HasTaken}
 use Rattle.ima_agent.specs.Loading.{input_limit}
 
@@ -24,9 +23,6 @@ unfolding count_in
 no_entries log session taken whole once =
     let none = whole [] [] (record { are = tt; parts = refl }) in
     taken.checkpoint.count ∙ ap count_in (once [] (Ok taken.checkpoint.entries) (Ok []) taken.checkpoint.list_is none)
-
-pub counted_at_first : (known : Checkpoint) → known.entries ≡ 0 → known.bytes ≡ 0 → IsCounted known
-counted_at_first known entries bytes = (omega (arith, entries), omega (arith, bytes))
 
 -- As many bytes may follow as an input has.
 pub most_at_first : (known : Checkpoint) → known.entries ≡ 0 → known.bytes ≡ 0 → most_after known input_limit ≡ input_limit

@@ -1,5 +1,5 @@
 -- The report on a list that grows, as the program writes it, and what it saves. All of this is this project's choice.
-use Rattle.std.specs.Prelude.{◌≡◌, ℕ, ◌<◌, ◌≤◌, ◌⊎◌, Bool, true, false, List, ◌++◌, length, [], Option, Some, None, Ok, Err, IfSome, IsTrue, codes, option_map, string_bytes}
+use Rattle.std.specs.Prelude.{◌≡◌, ℕ, ◌<◌, ◌≤◌, ◌⊎◌, ◌&&◌, ◌==◌, not, if◌then◌else◌, Bool, true, false, List, ◌++◌, length, [], Option, Some, None, Ok, Err, IfSome, IsTrue, codes, option_map, string_bytes}
 use Rattle.boot_log.specs.Spelling.{IsLog, LogEvent, algs_in}
 use Rattle.boot_log.specs.declared.header.Row.{Row as TableRow}
 use Rattle.ima_list.specs.ListEntry.{ListEntry}
@@ -21,11 +21,11 @@ use Rattle.boot_verdict.specs.ExpectedTexts.{IsExpectedText}
 use Rattle.growing_lists.specs.Fronts.{AreUnconfirmed, IsConfirmed}
 use Rattle.growing_lists.specs.FrontTexts.{front_report_text, required_front_report_text}
 use Rattle.boot_verdict.specs.ListSources.{IsSound}
-use Rattle.boot_verdict.specs.ReportTexts.{report_text}
+use Rattle.boot_verdict.specs.ReportTexts.{counts_text, outcome_text}
 use Rattle.boot_verdict.specs.RequiredTexts.{required_report_text}
-use Rattle.boot_verdict.specs.Requirements.{is_complete}
+use Rattle.boot_verdict.specs.Requirements.{is_complete, required_matches}
 use Rattle.growing_lists.specs.Sessions.{IsOfBoot}
-use Rattle.boot_verdict.specs.Verdicts.{IsForged, IsSomeLog, IsVerdict, Verdict, verdict_of, verdict_on}
+use Rattle.boot_verdict.specs.Verdicts.{IsForged, IsSomeLog, IsVerdict, Verdict, matches, verdict_of, verdict_on}
 use Rattle.command_line.specs.declared.plan.Extent.{Extent}
 use Rattle.command_line.specs.declared.plan.Extent.TheVariants.{Whole, Front}
 use Rattle.command_line.specs.declared.plan.Growing.{Growing}
@@ -105,11 +105,18 @@ pub record AreGrounds (inputs : Inputs) (asked : Growth) (log : List ℕ) (expec
 
 -- ---- the report
 
+-- Whether the verdict on a list that grows is 'match': all that is compared matches, no register is missing, and something is compared. (What
+-- is required names a register, which is missing if none is compared.)
+abbrev pub grown_meets : Option (List BankRange) → Verdict → Bool
+grown_meets None verdict = matches verdict && not (length verdict.rows == 0)
+grown_meets (Some ranges) verdict = required_matches ranges verdict
+
 -- A report on a whole list, in this form, where these registers are required.
 abbrev pub report_in : Form → Option (List BankRange) → Verdict → List ℕ
-report_in forms.Text None verdict = report_text verdict
+report_in forms.Text None verdict =
+    counts_text verdict.events verdict.locality verdict.entries ++ outcome_text verdict (grown_meets None verdict)
 report_in forms.Text (Some ranges) verdict = required_report_text ranges verdict
-report_in forms.Json required verdict = line_of (report_json required verdict)
+report_in forms.Json required verdict = line_of (report_json required (grown_meets required verdict) verdict)
 
 -- A report on a confirmed front, the same.
 abbrev pub front_report_in : Form → Option (List BankRange) → FrontReport → List ℕ
@@ -173,10 +180,10 @@ pub record IsFrontAfter (inputs : Inputs) (name log : List ℕ) (expected : List
   pub wrong : IsWrongAfter inputs name taken report.entries report.unconfirmed
   pub next_is : IsNext log (list_spelling front) next
 
--- A front is asked for, and one can be confirmed: the expected registers have all that is required.
+-- A front is asked for, and one can be confirmed: some register is expected, and all that is required.
 abbrev pub seeks_front : Extent → Option (List BankRange) → List Expected → Bool
 seeks_front Whole required expected = false
-seeks_front Front None expected = true
+seeks_front Front None expected = not (length expected == 0)
 seeks_front Front (Some ranges) expected = is_complete ranges expected
 
 -- What is shown is the report on the whole list, whatever list was taken before, and the checkpoint is that of the whole list. If a front
@@ -187,7 +194,7 @@ pub record ShowsWhole (inputs : Inputs) (name log : List ℕ) (expected : List E
   pub verdict_is : (taken : List ℕ) → IsTaken known taken → IsVerdictAfter inputs name log expected taken (most_more known) verdict next
   pub unconfirmed : seeks ≡ true → (taken : List ℕ) → IsTaken known taken → IsUnconfirmed inputs name log expected taken (entries_taken known)
   pub text_is : shown ≡ report_in form required verdict
-  pub status_is : status ≡ judged_status (meets required verdict)
+  pub status_is : status ≡ judged_status (grown_meets required verdict)
 
 -- What is shown is the report on the confirmed front, whatever list was taken before, and the checkpoint is that of the front.
 pub record ShowsFront (inputs : Inputs) (name log : List ℕ) (expected : List Expected) (known : Option Checkpoint) (seeks : Bool) (form : Form)
@@ -227,10 +234,15 @@ abbrev pub HasSaved : Saved → Saved → Option (List ℕ) → List ℕ → Typ
 HasSaved old new None text = new ≡ old
 HasSaved old new (Some name) text = HasReplaced old new (record { name = name; bytes = text })
 
--- The report is shown, and the checkpoint of what it is on is saved, if that is asked for; nothing else is.
+-- The name for the checkpoint of a report with this status: the one that is asked for, if the verdict is 'match'.
+abbrev pub name_after : ℕ → Option (List ℕ) → Option (List ℕ)
+name_after status name = if status == 0 then name else None
+
+-- The report is shown, and the checkpoint of what it is on is saved, if that is asked for and the verdict is 'match'; nothing else is.
 abbrev pub ShowsAndSaves : Inputs → Growth → Form → Saved → Saved → List ℕ → ℕ → Type 0
 ShowsAndSaves inputs asked form old new shown status =
-    (next : Checkpoint) × ShowsGrown inputs asked form next shown status × HasSaved old new asked.save (checkpoint_text next)
+    (next : Checkpoint) × ShowsGrown inputs asked form next shown status
+    × HasSaved old new (name_after status asked.save) (checkpoint_text next)
 
 -- ---- why there is no report
 
@@ -312,11 +324,11 @@ abbrev pub IsNotSaved : Option (List ℕ) → RunFault → Type 0
 IsNotSaved None fault = ⊥
 IsNotSaved (Some name) fault = IsNotWritten name fault
 
--- There is a report, but the checkpoint of what it is on could not be written.
+-- There is a report, with the verdict 'match', but the checkpoint of what it is on could not be written.
 abbrev pub IsUnsaved : Inputs → Growth → Option (List BankRange) → RunFault → Type 0
 IsUnsaved inputs asked required fault =
-    ((form : Form) × (next : Checkpoint) × (shown : List ℕ) × (status : ℕ) × ShowsGrownWith inputs asked required form next shown status)
-    × IsNotSaved asked.save fault
+    (form : Form) × (next : Checkpoint) × (shown : List ℕ) × (status : ℕ) × ShowsGrownWith inputs asked required form next shown status
+    × IsNotSaved (name_after status asked.save) fault
 
 -- Why there are no grounds: an input was not loaded, the text does not state expected registers, the file to go on from has no
 -- checkpoint, the list could not be opened, or memory ran out.

@@ -1,5 +1,5 @@
 -- The report on a list that grows, of bytes in memory, and the checkpoint of what it is on. All of this is this project's choice.
-use Rattle.std.specs.Prelude.{◌≡◌, ℕ, ◌⊎◌, if◌then◌else◌, Bool, true, List, ◌++◌, length, [], Option, Some, None, Ok, Err, IfSome, option_map}
+use Rattle.std.specs.Prelude.{◌≡◌, ℕ, ◌⊎◌, ◌==◌, if◌then◌else◌, Bool, true, List, ◌++◌, length, [], Option, Some, None, Ok, Err, IfSome, option_map}
 use Rattle.boot_log.specs.Spelling.{IsLog, LogEvent, algs_in}
 use Rattle.boot_log.specs.declared.header.Row.{Row as TableRow}
 use Rattle.ima_list.specs.ListEntry.{ListEntry}
@@ -27,7 +27,7 @@ use Rattle.ima_agent.specs.declared.fault.RunFault.{RunFault}
 use Rattle.ima_agent.specs.declared.fault.RunFault.TheVariants as runs
 use Rattle.ima_agent.specs.declared.growing_on.GrowingOn.{GrowingOn}
 use Rattle.ima_agent.specs.declared.output.Form.{Form}
-use Rattle.ima_agent.specs.Growing.{IsCheckpointText, IsNext, IsNoCheckpoint, IsNotRequired, IsOfOtherBoot, IsTaken, entries_taken, front_report_in, report_in, seeks_front}
+use Rattle.ima_agent.specs.Growing.{IsCheckpointText, IsNext, IsNoCheckpoint, IsNotRequired, IsOfOtherBoot, IsTaken, entries_taken, front_report_in, grown_meets, report_in, seeks_front}
 use Rattle.ima_agent.specs.JsonJudging.{IsRequired, judged_status}
 use Rattle.ima_agent.specs.Measuring.{HasLogFault}
 use Rattle.ima_agent.specs.Verifying.{IsNoExpectedText, fault_of_verdict}
@@ -127,7 +127,7 @@ pub record ShowsWholeOn (log more : List ℕ) (expected : List Expected) (known 
   pub verdict_is : (taken : List ℕ) → IsTaken known taken → IsWholeOf log (taken ++ more) expected verdict next
   pub unconfirmed : seeks ≡ true → (taken : List ℕ) → IsTaken known taken → HasNoFront log (taken ++ more) expected (entries_taken known)
   pub text_is : shown ≡ report_in form required verdict
-  pub status_is : status ≡ judged_status (meets required verdict)
+  pub status_is : status ≡ judged_status (grown_meets required verdict)
 
 -- What is shown is the report on the confirmed front, whatever list was taken before, and the checkpoint is that of the front.
 pub record ShowsFrontOn (log more : List ℕ) (expected : List Expected) (known : Option Checkpoint) (seeks : Bool) (form : Form)
@@ -155,13 +155,17 @@ pub record ShowsGrownOnWith (asked : GrowthOn) (required : Option (List BankRang
       ShowsWholeOn asked.log asked.more expected known (seeks_front asked.extent required expected) form required next shown status
       ⊎ ShowsFrontOn asked.log asked.more expected known (seeks_front asked.extent required expected) form required next shown status
 
--- The same, where the registers are required that a text spells, if it is given; and `state` is the checkpoint's text.
+-- The text of this checkpoint after a report with this status: none, unless the verdict is 'match'.
+abbrev pub state_after : ℕ → Checkpoint → List ℕ
+state_after status next = if status == 0 then checkpoint_text next else []
+
+-- The same, where the registers are required that a text spells, if it is given; and `state` is the checkpoint's text, if there is one.
 pub record ShowsGrownOn (asked : GrowthOn) (form : Form) (shown : List ℕ) (status : ℕ) (state : List ℕ) : Type 0 where
   pub required : Option (List BankRange)
   pub next : Checkpoint
   pub required_is : IsRequired asked.required required
   pub shows : ShowsGrownOnWith asked required form next shown status
-  pub state_is : state ≡ checkpoint_text next
+  pub state_is : state ≡ state_after status next
 
 -- ---- why there is no report
 

@@ -36,7 +36,7 @@ judged_status is_well = if is_well then 0 else 1
 pub record IsJsonReport (inputs : Inputs) (log list text : List ℕ) (ranges : Option (List BankRange)) (shown : List ℕ) (status : ℕ) : Type 0 where
   pub verdict : Verdict
   pub has : HasVerdict inputs log list text verdict
-  pub text_is : shown ≡ line_of (report_json ranges verdict)
+  pub text_is : shown ≡ line_of (report_json ranges (meets ranges verdict) verdict)
   pub status_is : status ≡ judged_status (meets ranges verdict)
 
 -- The same of their places.
@@ -73,7 +73,7 @@ ShowsJsonListReport inputs list text required shown status =
 pub record IsJsonReportOn (log list text : List ℕ) (ranges : Option (List BankRange)) (shown : List ℕ) (status : ℕ) : Type 0 where
   pub verdict : Verdict
   pub verdict_is : IsVerdictOn log list text verdict
-  pub text_is : shown ≡ line_of (report_json ranges verdict)
+  pub text_is : shown ≡ line_of (report_json ranges (meets ranges verdict) verdict)
   pub status_is : status ≡ judged_status (meets ranges verdict)
 
 -- The same of their places.

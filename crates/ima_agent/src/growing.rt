@@ -2,31 +2,30 @@
 
 ghost use Rattle.std.specs.Prelude.{◌≡◌, ◌⊎◌, ℕ, List, [], Some, true, false, option_map, IfOk, IfSome, IfErr, IsTrue, OnErr, OnOk};
 ghost use Rattle.boot_verdict.specs.declared.checkpoint.Checkpoint.{Checkpoint as CheckpointOf};
-ghost use Rattle.growing_lists.specs.CheckpointData.{IsCounted};
 ghost use Rattle.growing_lists.specs.CheckpointTexts.{checkpoint_text};
 ghost use Rattle.boot_verdict.specs.Checkpoints.{IsCheckpoint, most_after};
 ghost use Rattle.growing_lists.specs.Sessions.{HasTaken, IsOfBoot};
 ghost use Rattle.boot_verdict.specs.Verdicts.{IsVerdict, verdict_of};
 ghost use Rattle.ima_agent.specs.declared.fault.NotResumed.TheVariants.{OtherBoot};
 ghost use Rattle.ima_agent.specs.declared.fault.RunFault.TheVariants as runs;
-ghost use Rattle.ima_agent.specs.Growing.{AreGrounds, HasNoGrounds, HasSaved, IsCheckpointText, IsGrownFault, IsGrownFaultWith, IsKnown, IsNoCheckpoint, IsNotKnown, IsNotSaved, IsOfOtherBoot, IsTaken, ShowsAndSaves, ShowsGrownWith, ShowsGrowth, entries_taken, growth, most_more, seeks_front};
+ghost use Rattle.ima_agent.specs.Growing.{AreGrounds, HasNoGrounds, HasSaved, IsCheckpointText, IsGrownFault, IsGrownFaultWith, IsKnown, IsNoCheckpoint, IsNotKnown, IsNotSaved, IsOfOtherBoot, IsTaken, ShowsAndSaves, ShowsGrownWith, ShowsGrowth, entries_taken, growth, most_more, name_after, seeks_front};
 ghost use Rattle.ima_agent.specs.Loading.{GivesAll, HasFailed, IsNotWritten, input_limit};
-ghost use Rattle.ima_agent.specs.parts.Growing.{IsNotJudged, Judges, JudgesWhole, growth_of};
+ghost use Rattle.ima_agent.specs.parts.Growing.{CanBeReadBack, IsNotJudged, Judges, JudgesWhole, growth_of};
 ghost use Rattle.ima_agent.specs.Measuring.{HasLogFault};
 
 use crate::fault::{NotResumed, RunFault};
 use crate::files::AgentFiles;
 use crate::grown_reports::{Judged, judged_output};
 use crate::inputs::{INPUT_LIMIT, loaded, not_read, not_written};
-use crate::output::{Form, Output};
+use crate::output::{DONE, Form, Output};
 use crate::requiring::requirement_in;
 use crate::verifying::verdict_fault;
 use boot_verdict::{Checkpoint, Expected, Report, Requirement, read_expected};
 use byte_streams::{Failed, Source};
 use command_line::{Extent, Growing};
 use growing_lists::{
-    CheckpointFault, ResumeFault, Session, counted_checkpoint_is_possible, read_checkpoint,
-    write_checkpoint,
+    CheckpointFault, ResumeFault, Session, counted_checkpoint_is_possible, leaves_room,
+    read_checkpoint, write_checkpoint,
 };
 use ima_list::laws::{entries_to_the_end_are_the_reading, no_bytes_have_two_readings};
 use std::alloc::{AllocError, Global};
@@ -66,7 +65,8 @@ fn asked_of(asked: &Growing) -> Asked<'_>
 }
 
 /// The report that is asked for, in this form. What is required is read first; then the log, the expected registers and the checkpoint
-/// are loaded, and the list is replayed as it is read, without loading it. The checkpoint of what the report is on is saved last.
+/// are loaded, and the list is replayed as it is read, without loading it. If the verdict is `match`, the checkpoint of what the report
+/// is on is saved last.
 pub(crate) fn grown<F: AgentFiles>(
     alloc: Global,
     files: &mut F,
@@ -74,7 +74,7 @@ pub(crate) fn grown<F: AgentFiles>(
     form: Form,
 ) -> Result<Output, RunFault>
     ensures shown { IfOk result (λ output. ShowsGrowth (F.told files.old) (growth asked.now) form output.text.items output.status) }
-    // The checkpoint of what the report is on is what is saved, and nothing else.
+    // The checkpoint of what the report is on is what is saved, with a match, and nothing else.
     ensures saved { IfOk result (λ output. ShowsAndSaves (F.told files.old) (growth asked.now) form (F.saved files.old) (F.saved files.new)
         output.text.items output.status) }
     ensures kept { OnErr result (F.saved files.new ≡ F.saved files.old) }
@@ -115,7 +115,7 @@ fn grown_with<F: AgentFiles>(
 ) -> Result<Output, RunFault>
     ensures shown { IfOk result (λ output. (next : CheckpointOf) × ShowsGrownWith (F.told files.old) (growth_of asked.entry)
         (option_map (λ ranges. ranges.now) requirement.entry) form next output.text.items output.status
-        × HasSaved (F.saved files.old) (F.saved files.new) (growth_of asked.entry).save (checkpoint_text next)) }
+        × HasSaved (F.saved files.old) (F.saved files.new) (name_after output.status (growth_of asked.entry).save) (checkpoint_text next)) }
     ensures kept { OnErr result (F.saved files.new ≡ F.saved files.old) }
     ensures fault { IfErr result (IsGrownFaultWith (F.told files.old) (growth_of asked.entry) (option_map (λ ranges. ranges.now) requirement.entry)) }
 {
@@ -128,9 +128,10 @@ fn grown_with<F: AgentFiles>(
     let mut session = session_of(&log, known)?;
     let seeks = seeks_front(asked.extent, requirement, &expected);
     let judged = judged_from(alloc, &mut session, &mut list, asked.list, &expected, seeks)?;
-    counted_checkpoint_is_possible(session.checkpoint());
+    require_room(&session)?;
     let output = judged_output(alloc, &judged, requirement, form)?;
-    save(alloc, files, asked.save, session.checkpoint())?;
+    let name = name_after(output.status, asked.save);
+    save(alloc, files, name, session.checkpoint())?;
     Ok(output)
 }
 
@@ -211,7 +212,6 @@ pub(crate) fn session_of(log: &[u8], known: Option<Checkpoint>) -> Result<Sessio
     ensures boot { IfOk result (λ _. IfSome known (IsOfBoot log.now)) }
     ensures entries { IfOk result (λ session. session.known.entries ≡ entries_taken known) }
     ensures most { IfOk result (λ session. most_after session.known input_limit ≡ most_more known) }
-    ensures counted { IfOk result (λ session. IfSome known IsCounted → IsCounted session.known) }
     ensures fault { IfErr result (λ fault. HasLogFault log.now fault ⊎ ((fault ≡ runs.Checkpoint OtherBoot) × IsOfOtherBoot log.now known)) }
 {
     match known {
@@ -225,7 +225,6 @@ fn session_before(log: &[u8]) -> Result<Session<'_>, RunFault>
     ensures taken { IfOk result (HasTaken log.now []) }
     ensures entries { IfOk result (λ session. session.known.entries ≡ 0) }
     ensures most { IfOk result (λ session. most_after session.known input_limit ≡ input_limit) }
-    ensures counted { IfOk result (λ session. IsCounted session.known) }
     ensures fault { IfErr result (HasLogFault log.now) }
 {
     entries_to_the_end_are_the_reading();
@@ -270,7 +269,7 @@ fn judged_from<R: Source>(
     }
 }
 
-// Whether a front is asked for that can be confirmed: the expected registers have all that is required.
+// Whether a front is asked for that can be confirmed: some register is expected, and all that is required.
 pub(crate) fn seeks_front(
     extent: Extent,
     requirement: Option<&Requirement>,
@@ -280,7 +279,7 @@ pub(crate) fn seeks_front(
 {
     match (extent, requirement) {
         (Extent::Whole, _) => false,
-        (Extent::Front, None) => true,
+        (Extent::Front, None) => !expected.is_empty(),
         (Extent::Front, Some(requirement)) => requirement.is_met(expected),
     }
 }
@@ -332,6 +331,27 @@ pub(crate) fn report_of(
         Ok(report) => Ok(report),
         Err(_) => Err(AllocError),
     }
+}
+
+// Fails for want of memory if no whole input fits after what the session has taken: its checkpoint would not be read back.
+pub(crate) fn require_room(session: &Session<'_>) -> Result<(), RunFault>
+    ensures room { OnOk result (CanBeReadBack session.now.known) }
+    ensures fault { IfErr result (λ fault. fault ≡ runs.Memory) }
+{
+    let known = session.checkpoint();
+    counted_checkpoint_is_possible(known);
+    if leaves_room(known) {
+        Ok(())
+    } else {
+        Err(RunFault::Memory)
+    }
+}
+
+// The name for the checkpoint of a report with this status: none, unless the verdict is `match`.
+fn name_after(status: u8, name: Option<&str>) -> Option<&str>
+    ensures { option_map (λ name. name.now) result ≡ name_after status (option_map (λ name. name.now) name.entry) }
+{
+    if status == DONE { name } else { None }
 }
 
 // Saves the checkpoint under this name, if there is one.

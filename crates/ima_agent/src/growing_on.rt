@@ -2,21 +2,20 @@
 
 ghost use Rattle.std.specs.Prelude.{◌≡◌, ◌⊎◌, false, true, option_map, IfOk, IfErr};
 ghost use Rattle.boot_verdict.specs.declared.checkpoint.Checkpoint.{Checkpoint as CheckpointOf};
-ghost use Rattle.growing_lists.specs.CheckpointTexts.{checkpoint_text};
-ghost use Rattle.ima_agent.specs.GrowingOn.{IsKnownIn, IsNotGrownOn, IsNotGrownOnWith, IsNotKnownIn, ShowsGrownOn, ShowsGrownOnWith, growth_on};
+ghost use Rattle.ima_agent.specs.GrowingOn.{IsKnownIn, IsNotGrownOn, IsNotGrownOnWith, IsNotKnownIn, ShowsGrownOn, ShowsGrownOnWith, growth_on, state_after};
 ghost use Rattle.ima_agent.specs.parts.GrowingOn.{IsNotJudgedOn, JudgesOn, JudgesWholeOn};
 
 use crate::fault::RunFault;
-use crate::growing::{checkpoint_in, report_of, seeks_front, session_of};
+use crate::growing::{checkpoint_in, report_of, require_room, seeks_front, session_of};
 use crate::grown_reports::{Judged, judged_output};
-use crate::output::{Form, Output};
+use crate::output::{DONE, Form, Output};
 use crate::requiring::requirement_in;
 use crate::verifying::first_cause;
 use boot_verdict::{Checkpoint, Expected, Report, Requirement, read_expected};
 use byte_streams::SliceSource;
 use command_line::Extent;
-use growing_lists::{Session, counted_checkpoint_is_possible, write_checkpoint};
-use std::alloc::Global;
+use growing_lists::{Session, write_checkpoint};
+use std::alloc::{AllocError, Global};
 
 /// What is asked of a list that grows: bytes in memory, of any size.
 #[derive(Clone, Copy)]
@@ -40,7 +39,7 @@ pub struct GrowingOn<'a> {
 pub struct Grown {
     /// The report, with the status of its verdict.
     pub output: Output,
-    /// The text of the checkpoint of what the report is on.
+    /// The text of the checkpoint of what the report is on, if the verdict is `match`; else empty.
     pub checkpoint: Vec<u8>,
 }
 
@@ -50,7 +49,7 @@ pub struct Grown {
 /// Fails with [`RunFault::Usage`] if `required` spells no registers; else with [`RunFault::Expect`] if `expected` does not state expected
 /// registers; with [`RunFault::Checkpoint`] if `state` is not the text of a checkpoint, or the log is of another boot; with
 /// [`RunFault::Log`] or [`RunFault::List`] if the log or the list is refused; with [`RunFault::Replay`] if an entry is not genuine; and
-/// with [`RunFault::Memory`] if memory runs out, or the whole list would have 2^63 bytes or more.
+/// with [`RunFault::Memory`] if memory runs out, or no 64 MiB would fit between the whole list and 2^63 bytes.
 pub fn grown_on(alloc: Global, asked: GrowingOn<'_>, form: Form) -> Result<Grown, RunFault>
     ensures shown { IfOk result (λ grown. ShowsGrownOn (growth_on asked.entry) form grown.output.text.items grown.output.status
         grown.checkpoint.items) }
@@ -74,7 +73,7 @@ fn grown_with(
 ) -> Result<Grown, RunFault>
     ensures shown { IfOk result (λ grown. (next : CheckpointOf) × ShowsGrownOnWith (growth_on asked.entry)
         (option_map (λ ranges. ranges.now) requirement.entry) form next grown.output.text.items grown.output.status
-        × (grown.checkpoint.items ≡ checkpoint_text next)) }
+        × (grown.checkpoint.items ≡ state_after grown.output.status next)) }
     ensures fault { IfErr result (IsNotGrownOnWith (growth_on asked.entry) (option_map (λ ranges. ranges.now) requirement.entry)) }
 {
     let expected = read_expected(alloc, asked.expected)?;
@@ -82,9 +81,21 @@ fn grown_with(
     let mut session = session_of(asked.log, known)?;
     let seeks = seeks_front(asked.extent, requirement, &expected);
     let judged = judged_on(alloc, &mut session, asked.more, &expected, seeks)?;
+    require_room(&session)?;
     let output = judged_output(alloc, &judged, requirement, form)?;
-    let checkpoint = write_checkpoint(alloc, session.checkpoint())?;
+    let checkpoint = state_after(alloc, output.status, session.checkpoint())?;
     Ok(Grown { output, checkpoint })
+}
+
+// The text of the checkpoint after a report with this status: none, unless the verdict is `match`.
+fn state_after(alloc: Global, status: u8, next: &Checkpoint) -> Result<Vec<u8>, AllocError>
+    ensures { IfOk result (λ state. state.items ≡ state_after status next.now) }
+{
+    if status == DONE {
+        write_checkpoint(alloc, next)
+    } else {
+        Ok(Vec::new(alloc))
+    }
 }
 
 // The checkpoint whose text this is, if it is not empty.
@@ -130,7 +141,6 @@ fn whole_on(
 {
     let mut source = SliceSource::new(more);
     let taken = session.more(alloc, &mut source, u64::MAX);
-    counted_checkpoint_is_possible(session.checkpoint());
     match taken {
         Ok(()) => Ok(report_of(alloc, session, expected)?),
         Err(fault) => Err(first_cause(fault)),
@@ -149,7 +159,6 @@ fn front_on(
 {
     let mut source = SliceSource::new(more);
     let confirmed = session.confirm(alloc, &mut source, u64::MAX, expected);
-    counted_checkpoint_is_possible(session.checkpoint());
     match confirmed {
         Ok(Some(front)) => Ok(Judged::Front(front)),
         Ok(None) => Ok(Judged::Whole(report_of(alloc, session, expected)?)),

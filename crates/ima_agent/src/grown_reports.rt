@@ -1,16 +1,17 @@
 //! The report on a list that grows, as text or JSON.
 
-ghost use Rattle.std.specs.Prelude.{◌≡◌, option_map, IfOk};
+ghost use Rattle.std.specs.Prelude.{◌≡◌, None, option_map, IfOk};
+ghost use Rattle.byte_streams.specs.Streams.{Sends};
 ghost use Rattle.boot_verdict.specs.Verdicts.{verdict_of};
 ghost use Rattle.json_texts.specs.JsonValues.{line_of};
-ghost use Rattle.json_texts.specs.ReportJson.{front_report_json, report_json};
-ghost use Rattle.ima_agent.specs.declared.output.Form.TheVariants.{Text};
-ghost use Rattle.ima_agent.specs.Growing.{front_report_in, report_in};
+ghost use Rattle.json_texts.specs.ReportJson.{front_report_json};
+ghost use Rattle.ima_agent.specs.declared.output.Form.TheVariants.{Json, Text};
+ghost use Rattle.ima_agent.specs.Growing.{front_report_in, grown_meets, report_in};
 ghost use Rattle.ima_agent.specs.parts.Growing.{judged_text, judged_well};
 
 use crate::output::{Form, Output};
-use boot_verdict::{Report, Requirement, write_report, write_required_report};
-use byte_streams::{Failed, VecSink};
+use boot_verdict::{Report, Requirement, write_counts, write_outcome, write_required_report};
+use byte_streams::{Failed, Sink, VecSink};
 use growing_lists::{FrontReport, write_front_report, write_required_front_report};
 use json_texts::{append_front_report, append_report, meets};
 use std::alloc::{AllocError, Global};
@@ -37,12 +38,22 @@ pub(crate) fn judged_output(
     match judged {
         Judged::Whole(report) => {
             let text = report_text(alloc, report, requirement, form)?;
-            Ok(Output::told(text, meets(report, requirement)))
+            Ok(Output::told(text, grown_meets(report, requirement)))
         }
         Judged::Front(front) => {
             let text = front_text(alloc, front, requirement, form)?;
             Ok(Output::told(text, meets(&front.report, requirement)))
         }
+    }
+}
+
+// Whether all that is compared matches, no register is missing, and something is compared.
+fn grown_meets(report: &Report, requirement: Option<&Requirement>) -> bool
+    ensures { result ≡ grown_meets (option_map (λ ranges. ranges.now) requirement.entry) (verdict_of report.now) }
+{
+    match requirement {
+        Some(requirement) => report.meets(requirement),
+        None => report.matches() && !report.rows.is_empty(),
     }
 }
 
@@ -71,7 +82,7 @@ fn report_lines(
 {
     let mut text = VecSink::new(Vec::new(alloc));
     let written = match requirement {
-        None => write_report(report, &mut text),
+        None => write_grown(report, &mut text),
         Some(requirement) => write_required_report(report, requirement, &mut text),
     };
     match written {
@@ -80,16 +91,25 @@ fn report_lines(
     }
 }
 
+// Writes a report on a whole list where nothing is required.
+fn write_grown<S: Sink>(report: &Report, sink: &mut S) -> Result<(), Failed>
+    ensures { Sends (S.state sink.old) (S.state sink.new) result (report_in Text None (verdict_of report.now)) }
+{
+    write_counts(report.events, report.locality, report.entries, sink)?;
+    write_outcome(report, grown_meets(report, None), sink)
+}
+
 // A report on a whole list as a line of JSON.
 fn report_line(
     alloc: Global,
     report: &Report,
     requirement: Option<&Requirement>,
 ) -> Result<Vec<u8>, AllocError>
-    ensures { IfOk result (λ line. line.items ≡ line_of (report_json (option_map (λ ranges. ranges.now) requirement.entry) (verdict_of report.now))) }
+    ensures { IfOk result (λ line. line.items ≡ report_in Json (option_map (λ ranges. ranges.now) requirement.entry) (verdict_of report.now)) }
 {
     let mut line = Vec::new(alloc);
-    append_report(alloc, report, requirement, &mut line)?;
+    let is_match = grown_meets(report, requirement);
+    append_report(alloc, report, requirement, is_match, &mut line)?;
     Ok(line)
 }
 

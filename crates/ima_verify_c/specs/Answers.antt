@@ -1,5 +1,5 @@
 -- What a caller in C finds after a call. All of this is this project's choice.
-use Rattle.std.specs.Prelude.{◌≡◌, ℕ, ℤ, pos, ◌<◌, ◌≤◌, ◌⊎◌, Bool, List, [], ◌∷◌, ◌++◌, length, drop, Option, None, Some}
+use Rattle.std.specs.Prelude.{◌≡◌, ℕ, ℤ, pos, ◌<◌, ◌≤◌, ◌⊎◌, if◌then◌else◌, Bool, List, [], ◌++◌, bytes_eq, codes, length, drop, Option, None, Some}
 use Rattle.ima_agent.specs.declared.fault.RunFault.{RunFault}
 use Rattle.ima_agent.specs.declared.fault.RunFault.TheVariants.{Memory}
 use Rattle.ima_agent.specs.declared.output.Form.TheVariants.{Json, Text}
@@ -162,10 +162,9 @@ IsJsonEntriesAnswer list text status = ShowsEntries list text status ⊎ ToldAsJ
 
 -- ---- of a list that grows
 
--- Which registers are required: none, if there are no bytes; else those that the text spells.
+-- Which registers are required: none, if the text is this word; else those that it spells. Without bytes it spells none, and is refused.
 abbrev pub required_by : List ℕ → Option (List ℕ)
-required_by [] = None
-required_by (byte ∷ rest) = Some (byte ∷ rest)
+required_by text = if bytes_eq text (codes "none") then None else Some text
 
 -- What is asked of a list that grows.
 abbrev pub growth_by : List ℕ → List ℕ → List ℕ → List ℕ → List ℕ → Bool → GrowthOn
@@ -178,8 +177,8 @@ growth_by log state more expected require prefix = record {
   extent = extent_for prefix;
 }
 
--- The report that is asked for, with its status, and the text of the checkpoint of what it is on; or why there is none, and no text of a
--- checkpoint.
+-- The report that is asked for, with its status, and the text of the checkpoint of what it is on, which has no bytes unless the status is
+-- 0; or why there is no report, and no text of a checkpoint.
 abbrev pub IsMoreAnswer : GrowthOn → List ℕ → ℕ → List ℕ → Type 0
 IsMoreAnswer asked text status state =
     ShowsGrownOn asked Text text status state ⊎ (IsRefusal (IsNotGrownOn asked) text status × (state ≡ []))

@@ -255,8 +255,8 @@ pub extern "C" fn ima_verify_replay_json(
 
 /// The verdict on a list that grows, as `verify` writes it with `--prefix` and `--resume`, and in `next` the checkpoint that it saves with
 /// `--save`. `state` is the text of the checkpoint to go on from, and `more` are the list's bytes from there on; without `state`, all of
-/// them. `require` is as in [`ima_verify_required`]; if it is empty, nothing is required. With `prefix` the report is on the confirmed
-/// front, if there is one. If an input is refused there is no checkpoint: `next_needed` is 0.
+/// them. `require` is as in [`ima_verify_required`], or `none` if nothing is required. With `prefix` the report is on the confirmed front,
+/// if there is one. There is a checkpoint with a verdict `match` alone: else `next_needed` is 0.
 #[unsafe(no_mangle)]
 pub extern "C" fn ima_verify_more(
     alloc: Global,
@@ -323,11 +323,11 @@ fn asked_by<'a>(
     }
 }
 
-// The text of what is required, if it has bytes.
+// The text of what is required, unless it says that nothing is.
 fn required_by(require: &[u8]) -> Option<&[u8]>
     ensures { option_map (λ text. text.now) result ≡ required_by require.now }
 {
-    if require.is_empty() {
+    if require == b"none".as_slice() {
         None
     } else {
         Some(require)

@@ -42,7 +42,7 @@ use Rattle.json_texts.specs.MissingJson.{missing_among, missing_in, missing_json
 use Rattle.json_texts.specs.PlaceJson as place
 use Rattle.json_texts.specs.PlaceJson.{IsCountedPlace, located_json, places_json, places_values}
 use Rattle.json_texts.specs.RegisterJson.{change_values, changed_in, changed_register, changed_registers, expected_json, register_json, register_members, registers_json, value_within, values_within}
-use Rattle.json_texts.specs.ReportJson.{count_members, front_report_json, list_report_json, outcome_members, report_json, row_json, rows_values, state_members, unconfirmed_members}
+use Rattle.json_texts.specs.ReportJson.{count_members, front_report_json, list_report_json, meets, outcome_members, report_json, row_json, rows_values, state_members, unconfirmed_members}
 use Rattle.json_texts.proofs.LineLaws.{ArePlain, IsPlain, all_joined, array_plain, flag_plain, member_plain, members_joined, no_members_plain, number_plain, object_plain, one_line, string_plain}
 
 -- ---- lists of values
@@ -181,18 +181,18 @@ counts_plain events locality entries members some from all plain =
     member_plain 2 _ _ _ (number_plain 2 events some)
     (member_plain 2 _ _ _ (number_plain 2 locality from) (member_plain 2 _ _ members (number_plain 2 entries all) plain))
 
-outcome_plain : (required : Option (List BankRange)) (verdict : Verdict) → AllByRecursion (λ row. IsCount row.expected.register) verdict.rows
-    → ArePlain 2 (outcome_members required verdict)
-outcome_plain required verdict rows =
+outcome_plain : (required : Option (List BankRange)) (is_match : Bool) (verdict : Verdict)
+    → AllByRecursion (λ row. IsCount row.expected.register) verdict.rows → ArePlain 2 (outcome_members required is_match verdict)
+outcome_plain required is_match verdict rows =
     member_plain 2 _ _ _ (string_plain 2 _)
     (member_plain 2 _ _ _ (rows_plain required verdict.rows rows) (member_plain 2 _ _ [] (string_plain 2 _) (no_members_plain 2)))
 
-pub report_line : (required : Option (List BankRange)) (verdict : Verdict)
+pub report_line : (required : Option (List BankRange)) (is_match : Bool) (verdict : Verdict)
     → IsCount verdict.events → IsCount verdict.locality → IsCount verdict.entries
-    → AllByRecursion (λ row. IsCount row.expected.register) verdict.rows → IsOneLine (report_json required verdict)
-report_line required verdict events locality entries rows =
-    let outcome = outcome_plain required verdict rows in
-    one_line 3 (report_json required verdict)
+    → AllByRecursion (λ row. IsCount row.expected.register) verdict.rows → IsOneLine (report_json required is_match verdict)
+report_line required is_match verdict events locality entries rows =
+    let outcome = outcome_plain required is_match verdict rows in
+    one_line 3 (report_json required is_match verdict)
     (object_plain 2 _ (counts_plain verdict.events verdict.locality verdict.entries _ events locality entries outcome)) (omega arith)
 
 number_after : (fault : Unconfirmed) → IsCount (unconfirmed_number fault)
@@ -220,7 +220,7 @@ pub front_report_line : (required : Option (List BankRange)) (front : Verdict) (
     → IfSome unconfirmed (λ fault. IfSome (unconfirmed_entry fault) IsCount)
     → AllByRecursion (λ row. IsCount row.expected.register) front.rows → IsOneLine (front_report_json required front entries unconfirmed)
 front_report_line required front entries unconfirmed events locality confirmed all after rows =
-    let outcome = outcome_plain required front rows in
+    let outcome = outcome_plain required (meets required front) front rows in
     let members = member_plain 2 _ _ _ (number_plain 2 front.entries confirmed)
     (members_joined 2 (unconfirmed_members unconfirmed) _ (unconfirmed_plain unconfirmed after) outcome) in
     one_line 3 (front_report_json required front entries unconfirmed)

@@ -50,17 +50,17 @@ count_members events locality entries =
     ∷ (codes "entries", number_json entries)
     ∷ []
 
--- What comes after the counts.
-abbrev pub outcome_members : Option (List BankRange) → Verdict → List Member
-outcome_members required verdict =
+-- What comes after the counts, with whether it is a match.
+abbrev pub outcome_members : Option (List BankRange) → Bool → Verdict → List Member
+outcome_members required is_match verdict =
     (codes "boot_aggregate", json.string (aggregate_word verdict.aggregate))
     ∷ (codes "registers", array_of (rows_values required verdict.rows))
-    ∷ (codes "verdict", json.string (verdict_word (meets required verdict)))
+    ∷ (codes "verdict", json.string (verdict_word is_match))
     ∷ []
 
-abbrev pub report_json : Option (List BankRange) → Verdict → Json
-report_json required verdict =
-    object_of (count_members verdict.events verdict.locality verdict.entries ++ outcome_members required verdict)
+abbrev pub report_json : Option (List BankRange) → Bool → Verdict → Json
+report_json required is_match verdict =
+    object_of (count_members verdict.events verdict.locality verdict.entries ++ outcome_members required is_match verdict)
 
 -- ---- a report on a confirmed front
 
@@ -79,7 +79,7 @@ unconfirmed_members (Some fault) = (
 abbrev pub front_report_json : Option (List BankRange) → Verdict → ℕ → Option Unconfirmed → Json
 front_report_json required front entries unconfirmed =
     object_of (count_members front.events front.locality entries ++ (codes "confirmed", number_json front.entries)
-    ∷ (unconfirmed_members unconfirmed ++ outcome_members required front))
+    ∷ (unconfirmed_members unconfirmed ++ outcome_members required (meets required front) front))
 
 -- ---- a report on a list alone
 

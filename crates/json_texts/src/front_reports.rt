@@ -7,14 +7,14 @@ ghost use Rattle.boot_verdict.specs.Verdicts.{verdict_of};
 ghost use Rattle.json.specs.Tree.{json_tokens};
 ghost use Rattle.json_texts.specs.declared.faults.FaultPlace.TheVariants.{Entry};
 ghost use Rattle.json_texts.specs.JsonValues.{line_of};
-ghost use Rattle.json_texts.specs.ReportJson.{front_report_json, unconfirmed_members};
+ghost use Rattle.json_texts.specs.ReportJson.{front_report_json, meets, outcome_members, unconfirmed_members};
 ghost use Rattle.json_texts.specs.parts.WrittenParts.{members_written};
 
 use crate::faults::{FaultPlace, FaultText, write_fault_member};
 use crate::lines::{begin_line, end_line};
 use crate::members::write_number;
-use crate::reports::{write_counts, write_outcome};
-use boot_verdict::Requirement;
+use crate::reports::{meets, write_counts, write_outcome};
+use boot_verdict::{Report, Requirement};
 use growing_lists::{FrontReport, Unconfirmed};
 use json::Writer;
 use std::alloc::{AllocError, Global};
@@ -63,9 +63,25 @@ fn write_front_report(
     write_counts(report.events, report.locality, front.entries, writer)?;
     write_number("confirmed", report.entries as u64, writer)?;
     write_unconfirmed(alloc, front.unconfirmed, writer)?;
-    write_outcome(alloc, report, requirement, writer)?;
+    write_judged(alloc, report, requirement, writer)?;
     writer.end_object()?;
     Ok(())
+}
+
+// Writes the members that come after the counts, with whether the report meets what is required.
+fn write_judged(
+    alloc: Global,
+    report: &Report,
+    requirement: Option<&Requirement>,
+    writer: &mut Writer,
+) -> Result<(), AllocError>
+    ensures before { writer.new.before ≡ writer.old.before }
+    ensures tokens { OnOk result (writer.new.tokens ≡ writer.old.tokens ++ members_written
+        (outcome_members (option_map (λ ranges. ranges.now) requirement.entry)
+        (meets (option_map (λ ranges. ranges.now) requirement.entry) (verdict_of report.now)) (verdict_of report.now))) }
+{
+    let is_match = meets(report, requirement);
+    write_outcome(alloc, report, requirement, is_match, writer)
 }
 
 // Writes the member of what is wrong after the front, if anything.

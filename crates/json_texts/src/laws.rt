@@ -1,6 +1,6 @@
 //! Laws: consequences of the definitions, each the contract of a function that does nothing, or only reads.
 
-ghost use Rattle.std.specs.Prelude.{◌≡◌, ℕ, ◌↔◌, List, codes, Option, Some, None, IfSome, IsTrue};
+ghost use Rattle.std.specs.Prelude.{◌≡◌, ℕ, ◌↔◌, Bool, List, codes, Option, Some, None, IfSome, IsTrue};
 ghost use Rattle.std.specs.List.{AllByRecursion};
 ghost use Rattle.hex.specs.Hex.{IsBytes};
 ghost use Rattle.pcr_banks.specs.declared.banks.Banks.{Banks};
@@ -38,9 +38,9 @@ pub fn each_value_is_one_line()
     ensures registers { (now start : Banks) → IsOneLine (registers_json now start) }
     ensures expected { (range : RegisterRange) (expected : List Expected) → AllByRecursion (λ e. IsCount e.register) expected
         → IsOneLine (expected_json range expected) }
-    ensures report { (required : Option (List BankRange)) (verdict : Verdict)
+    ensures report { (required : Option (List BankRange)) (is_match : Bool) (verdict : Verdict)
         → IsCount verdict.events → IsCount verdict.locality → IsCount verdict.entries
-        → AllByRecursion (λ row. IsCount row.expected.register) verdict.rows → IsOneLine (report_json required verdict) }
+        → AllByRecursion (λ row. IsCount row.expected.register) verdict.rows → IsOneLine (report_json required is_match verdict) }
     ensures front_report { (required : Option (List BankRange)) (front : Verdict) (entries : ℕ) (unconfirmed : Option Unconfirmed)
         → IsCount front.events → IsCount front.locality → IsCount front.entries → IsCount entries
         → IfSome unconfirmed (λ fault. IfSome (unconfirmed_entry fault) IsCount)
@@ -64,7 +64,8 @@ pub fn only_faults_have_a_fault()
     ensures algorithms { (rows : List TableRow) → get (codes "fault") (algorithms_json rows) ≡ None }
     ensures registers { (now start : Banks) → get (codes "fault") (registers_json now start) ≡ None }
     ensures expected { (range : RegisterRange) (expected : List Expected) → get (codes "fault") (expected_json range expected) ≡ None }
-    ensures report { (required : Option (List BankRange)) (verdict : Verdict) → get (codes "fault") (report_json required verdict) ≡ None }
+    ensures report { (required : Option (List BankRange)) (is_match : Bool) (verdict : Verdict)
+        → get (codes "fault") (report_json required is_match verdict) ≡ None }
     ensures front_report { (required : Option (List BankRange)) (front : Verdict) (entries : ℕ) (unconfirmed : Option Unconfirmed)
         → get (codes "fault") (front_report_json required front entries unconfirmed) ≡ None }
     ensures list_report { (required : Option (List BankRange)) (verdict : ListVerdict)

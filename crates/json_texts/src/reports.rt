@@ -21,7 +21,7 @@ use pcr_banks::Digest;
 use std::alloc::{AllocError, Global};
 
 /// Appends the line of a report, in the words of [`boot_verdict::write_report`], or of [`boot_verdict::write_required_report`] where
-/// registers are required.
+/// registers are required; the verdict is `match` if the caller says so, by [`meets`].
 ///
 /// Its members are `events`, the number of events; `locality`; `entries`, the number of entries; `boot_aggregate`, one of `good`, `wrong`,
 /// `nobank` and `missing`; `registers`, an array; and `verdict`, which is `match` or `differ`. Each expected register has `bank`,
@@ -33,17 +33,18 @@ pub fn append_report(
     alloc: Global,
     report: &Report,
     requirement: Option<&Requirement>,
+    is_match: bool,
     line: &mut Vec<u8>,
 ) -> Result<(), AllocError>
     ensures ok { OnOk result (line.new.items ≡ line.old.items
-        ++ line_of (report_json (option_map (λ ranges. ranges.now) requirement.entry) (verdict_of report.now))) }
+        ++ line_of (report_json (option_map (λ ranges. ranges.now) requirement.entry) is_match (verdict_of report.now))) }
     ensures utf8 { OnOk result (IsUtf8 (line_of
-        (report_json (option_map (λ ranges. ranges.now) requirement.entry) (verdict_of report.now)))) }
+        (report_json (option_map (λ ranges. ranges.now) requirement.entry) is_match (verdict_of report.now)))) }
     ensures err { OnErr result (line.new.items ≡ line.old.items) }
 {
     let start = line.len();
     let mut writer = begin_line(alloc, line);
-    let written = write_report(alloc, report, requirement, &mut writer);
+    let written = write_report(alloc, report, requirement, is_match, &mut writer);
     end_line(written, writer, start, line)
 }
 
@@ -72,15 +73,16 @@ fn write_report(
     alloc: Global,
     report: &Report,
     requirement: Option<&Requirement>,
+    is_match: bool,
     writer: &mut Writer,
 ) -> Result<(), AllocError>
     ensures before { writer.new.before ≡ writer.old.before }
     ensures tokens { OnOk result (writer.new.tokens ≡ writer.old.tokens
-        ++ json_tokens (report_json (option_map (λ ranges. ranges.now) requirement.entry) (verdict_of report.now))) }
+        ++ json_tokens (report_json (option_map (λ ranges. ranges.now) requirement.entry) is_match (verdict_of report.now))) }
 {
     writer.begin_object()?;
     write_counts(report.events, report.locality, report.entries, writer)?;
-    write_outcome(alloc, report, requirement, writer)?;
+    write_outcome(alloc, report, requirement, is_match, writer)?;
     writer.end_object()?;
     Ok(())
 }
@@ -107,20 +109,20 @@ pub(crate) fn write_outcome(
     alloc: Global,
     report: &Report,
     requirement: Option<&Requirement>,
+    is_match: bool,
     writer: &mut Writer,
 ) -> Result<(), AllocError>
     ensures before { writer.new.before ≡ writer.old.before }
     ensures tokens { OnOk result (writer.new.tokens ≡ writer.old.tokens ++ members_written
-        (outcome_members (option_map (λ ranges. ranges.now) requirement.entry) (verdict_of report.now))) }
+        (outcome_members (option_map (λ ranges. ranges.now) requirement.entry) is_match (verdict_of report.now))) }
 {
-    let is_match = meets(report, requirement);
     write_text("boot_aggregate", aggregate_word(report.aggregate), writer)?;
     write_rows(alloc, &report.rows, requirement, writer)?;
     write_text("verdict", verdict_word(is_match), writer)?;
     Ok(())
 }
 
-/// Whether the report matches and no required register is missing: whether its line has the verdict `match`.
+/// Whether the report matches and no required register is missing.
 pub fn meets(report: &Report, requirement: Option<&Requirement>) -> bool
     ensures { result ≡ meets (option_map (λ ranges. ranges.now) requirement.entry) (verdict_of report.now) }
 {

@@ -22,7 +22,7 @@ pub fn write_report<S: Sink>(report: &Report, sink: &mut S) -> Result<(), Failed
     ensures { Sends (S.state sink.old) (S.state sink.new) result (report_text (verdict_of report.now)) }
 {
     write_counts(report.events, report.locality, report.entries, sink)?;
-    write_outcome(report, sink)
+    write_outcome(report, report.matches(), sink)
 }
 
 /// Writes the lines of events and locality, and of entries. After `Err` the sink has taken a prefix of them.
@@ -49,14 +49,14 @@ pub fn write_counts<S: Sink>(
     send_pieces(&pieces, sink)
 }
 
-/// Writes what comes after the counts: the boot aggregate, the expected registers and the verdict. After `Err` the sink has taken a prefix
-/// of it.
-pub fn write_outcome<S: Sink>(report: &Report, sink: &mut S) -> Result<(), Failed>
-    ensures { Sends (S.state sink.old) (S.state sink.new) result (outcome_text (verdict_of report.now)) }
+/// Writes what comes after the counts: the boot aggregate, the expected registers, and the verdict, which is `match` if the caller says so.
+/// After `Err` the sink has taken a prefix of it.
+pub fn write_outcome<S: Sink>(report: &Report, is_match: bool, sink: &mut S) -> Result<(), Failed>
+    ensures { Sends (S.state sink.old) (S.state sink.new) result (outcome_text (verdict_of report.now) is_match) }
 {
     write_aggregate(report.aggregate, sink)?;
     write_rows(&report.rows, sink)?;
-    send(verdict_line(report.matches()), sink)
+    send(verdict_line(is_match), sink)
 }
 
 pub(super) fn write_aggregate<S: Sink>(aggregate: Aggregate, sink: &mut S) -> Result<(), Failed>

@@ -17,7 +17,7 @@ pub fn write_front_report<S: Sink>(front: &FrontReport, sink: &mut S) -> Result<
         (front_report_text (verdict_of front.now.report) front.now.entries front.now.unconfirmed) }
 {
     write_front_counts(front, sink)?;
-    write_outcome(&front.report, sink)
+    write_outcome(&front.report, front.report.matches(), sink)
 }
 
 /// The same where registers are required: what comes after these lines is as [`boot_verdict::write_required_report`] writes it.

@@ -1,6 +1,7 @@
 -- What is asked of a list that grows, and a report before it is written.
 use Rattle.std.specs.Prelude.{◌≡◌, ℕ, ◌⊎◌, Bool, true, List, ◌++◌, Option, option_map}
 use Rattle.byte_streams.specs.Streams.{SourceState}
+use Rattle.boot_verdict.specs.declared.checkpoint.Checkpoint.{Checkpoint}
 use Rattle.boot_verdict.specs.declared.expected.Expected.{Expected}
 use Rattle.growing_lists.specs.declared.front_report.FrontReport.{FrontReport}
 use Rattle.boot_verdict.specs.declared.report.Report.{Report}
@@ -8,7 +9,8 @@ use Rattle.boot_verdict.specs.declared.requirement.BankRange.{BankRange}
 use Rattle.growing_lists.specs.declared.session.Session.{Session}
 use Rattle.boot_verdict.specs.declared.verifier.VerifyFault.{VerifyFault}
 use Rattle.boot_verdict.specs.declared.verifier.VerifyFault.TheVariants as verdicts
-use Rattle.boot_verdict.specs.Checkpoints.{IsMoreFault, most_after}
+use Rattle.boot_verdict.specs.Checkpoints.{IsCheckpoint, IsMoreFault, most_after}
+use Rattle.growing_lists.specs.CheckpointData.{IsPossible}
 use Rattle.growing_lists.specs.Fronts.{IsFrontReport, IsUnconfirmedFault, TakesUnconfirmed}
 use Rattle.growing_lists.specs.Sessions.{HasTaken, TakesMore}
 use Rattle.boot_verdict.specs.Verdicts.{IsVerdict, Verdict, verdict_of}
@@ -19,7 +21,7 @@ use Rattle.ima_agent.specs.declared.growing.Asked.{Asked}
 use Rattle.ima_agent.specs.declared.grown_reports.Judged.{Judged}
 use Rattle.ima_agent.specs.declared.grown_reports.Judged.TheVariants as judged
 use Rattle.ima_agent.specs.declared.output.Form.{Form}
-use Rattle.ima_agent.specs.Growing.{Growth, front_report_in, report_in}
+use Rattle.ima_agent.specs.Growing.{Growth, front_report_in, grown_meets, report_in}
 use Rattle.ima_agent.specs.Faults.{IsFaultOfVerdict}
 use Rattle.ima_agent.specs.JsonJudging.{judged_status}
 use Rattle.ima_agent.specs.Loading.{HasFailed, input_limit}
@@ -35,6 +37,10 @@ growth_of asked = record {
   resume = option_map (λ name. name.now) asked.resume;
   save = option_map (λ name. name.now) asked.save;
 }
+
+-- If this is the checkpoint of a list, it is read back from its text.
+abbrev pub CanBeReadBack : Checkpoint → Type 0
+CanBeReadBack known = (list : List ℕ) → IsCheckpoint list known → IsPossible known
 
 -- ---- a list from one source
 
@@ -92,5 +98,5 @@ judged_text form required (judged.Front report) = front_report_in form required 
 
 -- Its status.
 abbrev pub judged_well : Option (List BankRange) → Judged → ℕ
-judged_well required (judged.Whole report) = judged_status (meets required (verdict_of report))
+judged_well required (judged.Whole report) = judged_status (grown_meets required (verdict_of report))
 judged_well required (judged.Front report) = judged_status (meets required (verdict_of report.report))

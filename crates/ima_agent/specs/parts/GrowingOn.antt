@@ -5,7 +5,6 @@ use Rattle.growing_lists.specs.declared.front_report.FrontReport.{FrontReport}
 use Rattle.boot_verdict.specs.declared.report.Report.{Report}
 use Rattle.growing_lists.specs.declared.session.Session.{Session}
 use Rattle.boot_verdict.specs.declared.verifier.VerifyFault.{VerifyFault}
-use Rattle.growing_lists.specs.CheckpointData.{IsCounted}
 use Rattle.growing_lists.specs.Sessions.{HasTaken}
 use Rattle.boot_verdict.specs.Verdicts.{verdict_of}
 use Rattle.ima_agent.specs.declared.fault.RunFault.{RunFault}
@@ -14,11 +13,12 @@ use Rattle.ima_agent.specs.declared.grown_reports.Judged.{Judged}
 use Rattle.ima_agent.specs.declared.grown_reports.Judged.TheVariants as judged
 use Rattle.ima_agent.specs.GrowingOn.{HasNoFront, IsFaultIn, IsFrontOf, IsUnconfirmedIn, IsWholeOf}
 use Rattle.ima_agent.specs.Verifying.{fault_of_verdict}
+use Rattle.ima_agent.specs.parts.Growing.{CanBeReadBack}
 
--- The report is on all that the session has taken then, whatever list it had taken before, of possible counts.
+-- The report is on all that the session has taken then, whatever list it had taken before.
 abbrev pub JudgesWholeOn : List ℕ → List Expected → Session → Session → Report → Type 0
 JudgesWholeOn more expected before after report =
-    (log taken : List ℕ) → HasTaken log taken before → IsCounted before.known
+    (log taken : List ℕ) → HasTaken log taken before → CanBeReadBack after.known
     → IsWholeOf log (taken ++ more) expected (verdict_of report) after.known
 
 -- Of what it has taken then no front is confirmed, whatever list it had taken before.
@@ -26,10 +26,10 @@ abbrev pub ConfirmsNoneOn : List ℕ → List Expected → Session → Type 0
 ConfirmsNoneOn more expected before =
     (log taken : List ℕ) → HasTaken log taken before → HasNoFront log (taken ++ more) expected before.known.entries
 
--- The report is on the confirmed front, which is what the session has taken then, whatever list it had taken before, of possible counts.
+-- The report is on the confirmed front, which is what the session has taken then, whatever list it had taken before.
 abbrev pub JudgesFrontOn : List ℕ → List Expected → Session → Session → FrontReport → Type 0
 JudgesFrontOn more expected before after report =
-    (log taken : List ℕ) → HasTaken log taken before → IsCounted before.known
+    (log taken : List ℕ) → HasTaken log taken before → CanBeReadBack after.known
     → IsFrontOf log (taken ++ more) expected before.known.entries report after.known
 
 -- The report is on the whole list; or on the confirmed front, if it is sought and there is one.

@@ -71,13 +71,15 @@ pub(super) fn report_line(
     requirement: Option<&Requirement>,
 ) -> Result<Output, AllocError>
     ensures text { IfOk result (λ output. output.text.items
-        ≡ line_of (report_json (option_map (λ ranges. ranges.now) requirement.entry) (verdict_of report.now))) }
+        ≡ line_of (report_json (option_map (λ ranges. ranges.now) requirement.entry)
+        (meets (option_map (λ ranges. ranges.now) requirement.entry) (verdict_of report.now)) (verdict_of report.now))) }
     ensures status { IfOk result (λ output. output.status
         ≡ judged_status (meets (option_map (λ ranges. ranges.now) requirement.entry) (verdict_of report.now))) }
 {
     let mut line = Vec::new(alloc);
-    append_report(alloc, report, requirement, &mut line)?;
-    Ok(Output::told(line, meets(report, requirement)))
+    let is_match = meets(report, requirement);
+    append_report(alloc, report, requirement, is_match, &mut line)?;
+    Ok(Output::told(line, is_match))
 }
 
 /// The line of the places of the expected registers in the log and the list, in the files of these names. Where the text `required` is

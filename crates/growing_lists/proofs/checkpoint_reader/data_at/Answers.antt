@@ -5,39 +5,39 @@ use Rattle.growing_lists.proofs.checkpoint_reader.data_at.Goals as goal
 pub returns-in_err-entries : goal.returns-in_err-entries
 returns-in_err-entries c =
     λ known rest possible is.
-    absurd (c.in_err-entries.ensures known.entries (after_entries known rest) (omega (arith, possible.counted.0, possible.counted.1))
+    absurd (c.in_err-entries.ensures known.entries (after_entries known rest) (omega (arith, possible.counted.size, possible.counted.room))
     (is ∙ data_apart known rest))
 
 pub returns-in_err-bytes : goal.returns-in_err-bytes
 returns-in_err-bytes c =
     λ known rest possible is.
-    let first = c.in_ok-entries.ensures known.entries (after_entries known rest) (omega (arith, possible.counted.0, possible.counted.1))
+    let first = c.in_ok-entries.ensures known.entries (after_entries known rest) (omega (arith, possible.counted.size, possible.counted.room))
     (is ∙ data_apart known rest) in
-    absurd (c.in_err-bytes.ensures known.bytes (after_bytes known rest) (omega (arith, possible.counted.1)) first.1)
+    absurd (c.in_err-bytes.ensures known.bytes (after_bytes known rest) (omega (arith, possible.counted.room)) first.1)
 
 pub returns-in_err-stated : goal.returns-in_err-stated
 returns-in_err-stated c =
     λ known rest possible is.
-    let first = c.in_ok-entries.ensures known.entries (after_entries known rest) (omega (arith, possible.counted.0, possible.counted.1))
+    let first = c.in_ok-entries.ensures known.entries (after_entries known rest) (omega (arith, possible.counted.size, possible.counted.room))
     (is ∙ data_apart known rest) in
-    let second = c.in_ok-bytes.ensures known.bytes (after_bytes known rest) (omega (arith, possible.counted.1)) first.1 in
+    let second = c.in_ok-bytes.ensures known.bytes (after_bytes known rest) (omega (arith, possible.counted.room)) first.1 in
     absurd (c.in_err-stated.ensures known.stated (after_stated known rest) possible.stated second.1)
 
 pub returns-in_err-before : goal.returns-in_err-before
 returns-in_err-before c =
     λ known rest possible is.
-    let first = c.in_ok-entries.ensures known.entries (after_entries known rest) (omega (arith, possible.counted.0, possible.counted.1))
+    let first = c.in_ok-entries.ensures known.entries (after_entries known rest) (omega (arith, possible.counted.size, possible.counted.room))
     (is ∙ data_apart known rest) in
-    let second = c.in_ok-bytes.ensures known.bytes (after_bytes known rest) (omega (arith, possible.counted.1)) first.1 in
+    let second = c.in_ok-bytes.ensures known.bytes (after_bytes known rest) (omega (arith, possible.counted.room)) first.1 in
     let third = c.in_ok-stated.ensures known.stated (after_stated known rest) possible.stated second.1 in
     absurd (c.in_err-before.ensures known.before (after_before known rest) possible.before third.1)
 
 pub returns-in_err-after : goal.returns-in_err-after
 returns-in_err-after c =
     λ known rest possible is.
-    let first = c.in_ok-entries.ensures known.entries (after_entries known rest) (omega (arith, possible.counted.0, possible.counted.1))
+    let first = c.in_ok-entries.ensures known.entries (after_entries known rest) (omega (arith, possible.counted.size, possible.counted.room))
     (is ∙ data_apart known rest) in
-    let second = c.in_ok-bytes.ensures known.bytes (after_bytes known rest) (omega (arith, possible.counted.1)) first.1 in
+    let second = c.in_ok-bytes.ensures known.bytes (after_bytes known rest) (omega (arith, possible.counted.room)) first.1 in
     let third = c.in_ok-stated.ensures known.stated (after_stated known rest) possible.stated second.1 in
     let fourth = c.in_ok-before.ensures known.before (after_before known rest) possible.before third.1 in
     absurd (c.in_err-after.ensures known.after rest possible.after fourth.1)
@@ -45,9 +45,9 @@ returns-in_err-after c =
 pub returns : goal.returns
 returns c =
     λ known rest possible is.
-    let first = c.in_ok-entries.ensures known.entries (after_entries known rest) (omega (arith, possible.counted.0, possible.counted.1))
+    let first = c.in_ok-entries.ensures known.entries (after_entries known rest) (omega (arith, possible.counted.size, possible.counted.room))
     (is ∙ data_apart known rest) in
-    let second = c.in_ok-bytes.ensures known.bytes (after_bytes known rest) (omega (arith, possible.counted.1)) first.1 in
+    let second = c.in_ok-bytes.ensures known.bytes (after_bytes known rest) (omega (arith, possible.counted.room)) first.1 in
     let third = c.in_ok-stated.ensures known.stated (after_stated known rest) possible.stated second.1 in
     let fourth = c.in_ok-before.ensures known.before (after_before known rest) possible.before third.1 in
     let fifth = c.in_ok-after.ensures known.after rest possible.after fourth.1 in

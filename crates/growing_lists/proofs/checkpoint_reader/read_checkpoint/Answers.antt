@@ -2,7 +2,7 @@ use Rattle.std.proofs.Common.{◌++◌, ◌∙◌, codes, sym, subst, ◌≡◌}
 use Rattle.boot_verdict.specs.declared.checkpoint.Checkpoint.{Checkpoint}
 use Rattle.growing_lists.specs.CheckpointData.{SameData}
 use Rattle.growing_lists.specs.CheckpointTexts.{checkpoint_body, checkpoint_text, data_lines, seal_line}
-use Rattle.growing_lists.proofs.CheckpointLaws.{counted_same, lines_are, ok_then, same_both, text_begins, text_same, this_version, version_is}
+use Rattle.growing_lists.proofs.CheckpointLaws.{lines_are, ok_then, same_both, text_begins, text_same, this_version, version_is}
 use Rattle.growing_lists.proofs.checkpoint_reader.read_checkpoint.Goals as goal
 
 pub returns-in_default-clause-only : goal.returns-in_default-clause-only
@@ -35,7 +35,7 @@ returns-clause-only c =
     (lines_are known c.args.text.now c.in-Some.version.now c.in-Some-after_prefix.lines.now c.in-Some.ensures.found
     c.in-Some-after_prefix.ensures.found is) in (
       ok_then c.checked.result c.checked.ensures.same (λ x e. subst (λ (y : Checkpoint). SameData y known) (sym e) same),
-      c.checked.ensures.only (counted_same found known same possible.counted) (is ∙ sym (text_same found known same)),
+      c.checked.ensures.only known possible same (is ∙ sym (text_same found known same)),
     )
 
 pub returns-clause-version : goal.returns-clause-version

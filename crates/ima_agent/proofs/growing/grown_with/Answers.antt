@@ -1,6 +1,6 @@
 use Rattle.std.proofs.lemmas.Result.{err_from_is_err_and}
 use Rattle.ima_agent.specs.parts.Growing.{growth_of}
-use Rattle.ima_agent.proofs.GrowingLaws.{known_counted, list_fails, save_fails, saved_known, session_fails, shows}
+use Rattle.ima_agent.proofs.GrowingLaws.{list_fails, save_fails, saved_known, session_fails, shows}
 use Rattle.ima_agent.proofs.growing.grown_with.Goals as goal
 
 pub returns-in_err-session-clause-fault : goal.returns-in_err-session-clause-fault
@@ -19,7 +19,6 @@ returns-in_err-judged-clause-fault g c =
     c.in_ok-log.field-0.expected.items c.in_ok-log.field-0.known (g.F.Src.Source.state c.in_ok-log.field-0.list)
     (g.F.Src.Source.state c.judged_from.new.list) c.in_ok-session.session c.in_ok-log.ensures.grounds c.in_ok-log.ensures.given
     (rw c.deref.ensures.value at c.in_ok-session.ensures.taken) c.in_ok-session.ensures.entries c.in_ok-session.ensures.most
-    (c.in_ok-session.ensures.counted (known_counted (g.F.Files.told c.args.files.now) (growth_of c.args.asked).resume c.in_ok-log.field-0.known c.in_ok-log.ensures.grounds.known_is))
     (rw c.deref.ensures.value at c.in_ok-session.ensures.boot) _ (c.in_ok-log.ensures.failing c.judged_from.new.list)
     (rw (c.seeks_front-seeks.ensures, c.deref-2.ensures.value, c.deref-3.ensures.value) at c.in_err-judged.ensures.fault))
 
@@ -30,12 +29,11 @@ returns-clause-shown g c = (
       c.in_ok-log.field-0.known (g.F.Src.Source.state c.in_ok-log.field-0.list) (g.F.Src.Source.state c.judged_from.new.list)
       c.in_ok-session.session c.in_ok-log.ensures.grounds c.in_ok-log.ensures.given
       (rw c.deref.ensures.value at c.in_ok-session.ensures.taken) c.in_ok-session.ensures.entries c.in_ok-session.ensures.most
-      (c.in_ok-session.ensures.counted (known_counted (g.F.Files.told c.args.files.now) (growth_of c.args.asked).resume c.in_ok-log.field-0.known c.in_ok-log.ensures.grounds.known_is))
       (rw c.deref.ensures.value at c.in_ok-session.ensures.boot) c.args.form c.judged_from.new.session
-      (rw c.checkpoint.ensures at c.counted_checkpoint_is_possible.ensures) c.in_ok-judged.judged _ _
+      c.in_ok-require_room.ensures.room c.in_ok-judged.judged _ _
       (rw (c.seeks_front-seeks.ensures, c.deref-2.ensures.value, c.deref-3.ensures.value) at c.in_ok-judged.ensures.judged)
       c.in_ok-output.ensures.text c.in_ok-output.ensures.status,
-  saved_known _ _ _ _ _ _ c.grounds_of.ensures.saved c.checkpoint-2.ensures c.in_ok-save.ensures.saved,
+  saved_known _ _ _ _ _ _ c.grounds_of.ensures.saved c.checkpoint.ensures (rw c.name_after-name.ensures at c.in_ok-save.ensures.saved),
 )
 
 pub returns-in_err-save-clause-fault : goal.returns-in_err-save-clause-fault
@@ -48,9 +46,8 @@ returns-in_err-save-clause-fault g c =
     c.in_ok-log.field-0.known (g.F.Src.Source.state c.in_ok-log.field-0.list) (g.F.Src.Source.state c.judged_from.new.list)
     c.in_ok-session.session c.in_ok-log.ensures.grounds c.in_ok-log.ensures.given
     (rw c.deref.ensures.value at c.in_ok-session.ensures.taken) c.in_ok-session.ensures.entries c.in_ok-session.ensures.most
-    (c.in_ok-session.ensures.counted (known_counted (g.F.Files.told c.args.files.now) (growth_of c.args.asked).resume c.in_ok-log.field-0.known c.in_ok-log.ensures.grounds.known_is))
     (rw c.deref.ensures.value at c.in_ok-session.ensures.boot) c.args.form c.judged_from.new.session
-    (rw c.checkpoint.ensures at c.counted_checkpoint_is_possible.ensures) c.in_ok-judged.judged _ _
+    c.in_ok-require_room.ensures.room c.in_ok-judged.judged _ _
     (rw (c.seeks_front-seeks.ensures, c.deref-2.ensures.value, c.deref-3.ensures.value) at c.in_ok-judged.ensures.judged)
     c.in_ok-output.ensures.text c.in_ok-output.ensures.status)
-    c.in_err-save.ensures.fault)
+    (rw c.name_after-name.ensures at c.in_err-save.ensures.fault))

@@ -1,4 +1,4 @@
-use Rattle.ima_agent.proofs.SessionLaws.{counted_at_first, most_at_first, no_entries}
+use Rattle.ima_agent.proofs.SessionLaws.{most_at_first, no_entries}
 use Rattle.ima_agent.proofs.growing.session_before.Goals as goal
 
 pub returns-in-Ok-clause-entries : goal.returns-in-Ok-clause-entries
@@ -9,13 +9,6 @@ returns-in-Ok-clause-entries c =
 pub returns-in-Ok-clause-most : goal.returns-in-Ok-clause-most
 returns-in-Ok-clause-most c =
     most_at_first c.in-Ok.session.known
-    (no_entries c.args.log.now c.in-Ok.session c.in-Ok.ensures.taken c.entries_to_the_end_are_the_reading.ensures
-    c.no_bytes_have_two_readings.ensures)
-    c.in-Ok.ensures.taken.checkpoint.size
-
-pub returns-in-Ok-clause-counted : goal.returns-in-Ok-clause-counted
-returns-in-Ok-clause-counted c =
-    counted_at_first c.in-Ok.session.known
     (no_entries c.args.log.now c.in-Ok.session c.in-Ok.ensures.taken c.entries_to_the_end_are_the_reading.ensures
     c.no_bytes_have_two_readings.ensures)
     c.in-Ok.ensures.taken.checkpoint.size

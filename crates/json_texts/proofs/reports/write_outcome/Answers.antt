@@ -11,5 +11,5 @@ returns-clause-tokens c =
     let items = items_tokens (items_of (rows_values required c.args.report.now.rows.items)) in
     let aggregate = rw c.aggregate_word.ensures at c.in_ok-write_text.ensures.tokens in
     let rows = rw c.deref.ensures.value at c.in_ok-write_rows.ensures.tokens in
-    let word = rw (c.verdict_word.ensures, c.meets-is_match.ensures) at c.in_ok-write_text-2.ensures.tokens in
+    let word = rw c.verdict_word.ensures at c.in_ok-write_text-2.ensures.tokens in
     rw (word, rows, aggregate, append-nil items) (simp append_assoc refl)

@@ -1,6 +1,4 @@
-use Rattle.std.proofs.Common.{ap, ◌∙◌}
 use Rattle.byte_streams.proofs.SinkLaws.{Sends-same, Sends-then, Sends-stops}
-use Rattle.boot_verdict.specs.ReportTexts.{verdict_text}
 use Rattle.boot_verdict.proofs.texts.report.write_outcome.Goals as goal
 
 pub returns-in_err-write_aggregate : goal.returns-in_err-write_aggregate
@@ -15,5 +13,4 @@ returns-in_err-write_rows g c =
 pub returns : goal.returns
 returns g c =
     let rows = rw c.deref.ensures.value at c.in_ok-write_rows.ensures in
-    let line = c.verdict_line.ensures ∙ ap verdict_text c.matches.ensures in
-    Sends-then _ _ _ tt _ _ _ c.in_ok-write_aggregate.ensures (Sends-then _ _ _ tt _ _ _ rows (Sends-same _ _ _ _ _ line c.send.ensures))
+    Sends-then _ _ _ tt _ _ _ c.in_ok-write_aggregate.ensures (Sends-then _ _ _ tt _ _ _ rows (Sends-same _ _ _ _ _ c.verdict_line.ensures c.send.ensures))

@@ -5,4 +5,4 @@ pub returns-in_err-write_front_counts : goal.returns-in_err-write_front_counts
 returns-in_err-write_front_counts g c = Sends-stops _ _ _ _ _ _ _ c.from_residual.ensures.1 c.in_err-write_front_counts.ensures
 
 pub returns : goal.returns
-returns g c = Sends-then _ _ _ tt _ _ _ c.in_ok-write_front_counts.ensures c.write_outcome.ensures
+returns g c = Sends-then _ _ _ tt _ _ _ c.in_ok-write_front_counts.ensures (rw c.matches.ensures at c.write_outcome.ensures)
