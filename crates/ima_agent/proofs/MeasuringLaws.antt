@@ -16,7 +16,7 @@ use Rattle.command_line.specs.declared.plan.NameEnd.{NameEnd}
 use Rattle.ima_agent.specs.declared.measuring.Printing.{Printing}
 use Rattle.measure_book.specs.declared.op.Outcome.{Outcome}
 use Rattle.measure_book.specs.declared.origin.Origin.{Origin}
-use Rattle.measure_book.specs.Books.{BookState}
+use Rattle.measure_book.specs.Books.{BookState, IsBook}
 use Rattle.measure_book.specs.declared.op.Outcome.TheVariants as outcomes
 use Rattle.measure_book.specs.declared.op.Receipt.{Receipt}
 use Rattle.measure_book.specs.declared.fault.BookFault.{BookFault}
@@ -208,10 +208,11 @@ module _ (origin : Origin) (count : ℕ) (Makes : ℕ → BookOp → Type 0) (wo
       record { outcomes = outcomes; by = by; batch = subst At (sym each.0) batch; done = each.1 }
   measured_all (Err fault) each = tt
 
-  pub refused_one : (P : RunFault → Type 0) (result : Result BookState RunFault) → IfErr result (IsFirstRefusal outcomes)
+  pub refused_one : IsBook book → (P : RunFault → Type 0) (result : Result BookState RunFault) → IfErr result (IsFirstRefusal outcomes)
       → IfErr result (λ fault. P fault ⊎ IsRecordingFault origin count Makes workers fault)
-  refused_one P (Ok found) first = tt
-  refused_one P (Err fault) first = inr (inr (record { book = book; outcomes = outcomes; by = by; batch = batch; first = first }))
+  refused_one is_book P (Ok found) first = tt
+  refused_one is_book P (Err fault) first =
+      inr (inr (record { book = book; outcomes = outcomes; by = by; book_is = is_book; batch = batch; first = first }))
 
 -- Why nothing is shown if the files are not all recorded.
 pub not_recorded : (held : Contents) (Fails : List ℕ → Type 0) (log : List ℕ) (manner : Manner) (files : List (Bor (List ℕ))) (table : List Row)

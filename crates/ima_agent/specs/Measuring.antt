@@ -149,11 +149,12 @@ pub record IsFirstRefusal (outcomes : List BookOutcome) (fault : RunFault) : Typ
   pub first : IsFirstRefused outcomes job cause
   pub says : fault ≡ fault_of_job job cause
 
--- The workers recorded the jobs in a book, and this is the fault of the first that the book refused.
+-- The workers recorded the jobs in a book, whose records are a legal history, and this is the fault of the first that it refused.
 pub record IsRefusedJob (origin : Origin) (count : ℕ) (Makes : ℕ → BookOp → Type 0) (workers : ℕ) (fault : RunFault) : Type 0 where
   pub book : BookState
   pub outcomes : List BookOutcome
   pub by : List ℕ
+  pub book_is : IsBook book
   pub batch : IsBatchOf origin count Makes workers book outcomes by
   pub first : IsFirstRefusal outcomes fault
 
