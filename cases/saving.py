@@ -23,7 +23,7 @@ MOST_BESIDE = 100
 FILE, OTHER = "saved", b"another's\n"
 REPORT = b"events 1 locality 0\nentries 3\nboot_aggregate good\nsha256 10 match\nverdict match\n"
 EXPECTED = b"sha256 10 d54d476b0532a0a009e48de651cd01544e8d093d584ca3dbb93dd0f1b69b7cc4\n"
-DONE, REFUSED = (0, REPORT), (3, f"failed: write {FILE}\n".encode())
+DONE = (0, REPORT)
 
 
 class Room:
@@ -38,13 +38,10 @@ class Room:
         (self.folder / name).write_bytes(data)
         (self.folder / name).chmod(mode)
 
-    def begun(self, listed="list"):
+    def begun(self, listed="list", file=FILE):
         """The program at work, which saves the checkpoint of a list; its files may have any mode that it asks for."""
-        words = [self.program, "verify", "--save", FILE, "log", listed, "expected"]
+        words = [self.program, "verify", "--save", file, "log", listed, "expected"]
         return subprocess.Popen(words, cwd=self.folder, env={}, stdin=subprocess.DEVNULL, stdout=subprocess.PIPE, stderr=subprocess.STDOUT, umask=0)
-
-    def answer(self, listed="list"):
-        return ended(self.begun(listed))
 
     def left(self):
         """What is in the folder, by its name: the kind and mode, and the bytes or where a link leads."""
@@ -55,12 +52,12 @@ class Room:
         """What is wrong where the checkpoint is to be saved with a mode, and all else is to stay."""
         before = self.left()
         wanted = {**before, FILE: (stat.S_IFREG | mode, self.checkpoint, False)}
-        return differences(self.answer(listed), DONE, self.left(), wanted)
+        return differences(ended(self.begun(listed)), DONE, self.left(), wanted)
 
-    def refuses(self):
+    def refuses(self, file=FILE):
         """What is wrong where FILE is to be refused, and all is to stay."""
         before = self.left()
-        return differences(self.answer(), REFUSED, self.left(), before)
+        return differences(ended(self.begun(file=file)), (3, f"failed: write {file}\n".encode()), self.left(), before)
 
 
 def ended(process):
@@ -151,6 +148,11 @@ def bound_socket(room):
         return room.refuses()
 
 
+def no_name(room):
+    """A file beside FILE can be made, and not be renamed: it is removed."""
+    return room.refuses("")
+
+
 def several_at_once(room):
     """Runs that save to one FILE side by side: each is done, FILE is whole, and nothing is left beside it."""
     before = room.left()
@@ -173,6 +175,7 @@ TRIALS = {
     "FILE is a link to a file": link_to_file,
     "FILE is a link to nothing": link_to_nothing,
     "FILE is a socket": bound_socket,
+    "FILE has no name": no_name,
     "several runs at once": several_at_once,
 }
 
