@@ -71,6 +71,8 @@ class Devices:
                         faults.append(f"{kind} {number} of {name!r} fails with error {error}: {found}")
                     if kind != "write" and saved_by(self.run.command, self.run.folder) != before:
                         faults.append(f"{kind} {number} of {name!r} fails with error {error}, and {self.run.command.saved} is another")
+                    if left := sorted(file.name for file in self.run.folder.glob("*.new")):
+                        faults.append(f"{kind} {number} of {name!r} fails with error {error}, and leaves {left}")
         return faults, count
 
 

@@ -59,9 +59,11 @@ extern "C" {
 
 /* What a function returns. */
 enum ima_verify_status {
-    /* The text is complete. A verdict is `match`; of places, every value was reached and none is missing. */
+    /* The text is complete. A verdict is `match`; of places, some register is expected, every value was reached,
+     * and none is missing. */
     IMA_VERIFY_DONE = 0,
-    /* The text is complete. A verdict is `differ`; of places, a value was not reached or one is missing. */
+    /* The text is complete. A verdict is `differ`; of places, no register is expected, a value was not reached, or
+     * one is missing. */
     IMA_VERIFY_DIFFERS = 1,
     /* An input is refused; `out` has the line that says why, as `refused: log fault 1 at event 0`. It is
      * `refused: command line` if `require` or `registers` is not of its form. With _json the line is an object

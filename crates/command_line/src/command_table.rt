@@ -99,6 +99,7 @@ Exit status:
   0  done; for verify: the expected registers and the boot aggregate match;
      for replay with EXPECTED: the expected registers match
   1  for verify: an expected register or the boot aggregate does not match;
+     with --prefix, --save or --resume: no register is expected;
      for replay with EXPECTED: an expected register does not match;
      for locate: a register's value was not reached, or none is expected;
      for each of these: EXPECTED lacks a register that --require names
@@ -278,7 +279,7 @@ registers, one object on one line; not with --print binary",
             },
             ArgumentRow {
                 id: "save",
-                help: "After a verdict, write the checkpoint of what was judged to FILE",
+                help: "If the verdict is `match`, write the checkpoint of what was judged to FILE",
                 form: Form::Optional { value: "FILE" },
             },
             ArgumentRow {
@@ -294,8 +295,8 @@ registers, one object on one line; not with --print binary",
                 help: expected_help!(
                     "\
 An empty file compares no
-register: without --require the verdict then depends on the list's boot
-aggregate alone"
+register: the verdict then depends on the list's boot aggregate alone,
+and is `differ` with --require, --prefix, --save or --resume"
                 ),
                 form: Form::Required,
             },

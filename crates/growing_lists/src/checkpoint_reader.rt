@@ -25,8 +25,8 @@ use pcr_banks::{Alg, Banks, Digest, REGISTERS};
 use std::alloc::{AllocError, Global};
 use thiserror::Error;
 
-/// Law: a checkpoint with possible counts is one that [`read_checkpoint`] reads from its text; and that of a list has possible counts, if
-/// it [`leaves_room`].
+/// Law: a checkpoint whose data fit together is one that [`read_checkpoint`] reads from its text; and so do those of a list, if it
+/// [`leaves_room`].
 pub fn counted_checkpoint_is_possible(checkpoint: &Checkpoint)
     ensures possible { IsCounted checkpoint.now → IsPossible checkpoint.now }
     ensures counted { (list : List ℕ) → IsCheckpoint list checkpoint.now → LeavesRoom checkpoint.now → IsCounted checkpoint.now }
@@ -79,7 +79,7 @@ impl From<AllocError> for CheckpointFault {
 /// Reads the text that [`crate::write_checkpoint`] makes of a checkpoint, and no other.
 ///
 /// Fails with [`CheckpointFault::Version`] if the text begins as that of a checkpoint does, but has another version; with
-/// [`CheckpointFault::Damaged`] if it is not the text of a checkpoint, or of none with possible counts; or with
+/// [`CheckpointFault::Damaged`] if it is not the text of a checkpoint, or of one whose data do not fit together; or with
 /// [`CheckpointFault::Memory`].
 pub fn read_checkpoint(alloc: Global, text: &[u8]) -> Result<Checkpoint, CheckpointFault>
     // The text is that of the result, which is possible.

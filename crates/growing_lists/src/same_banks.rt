@@ -4,8 +4,8 @@ ghost use Rattle.std.specs.Prelude.{◌≡◌, true};
 ghost use Rattle.pcr_banks.specs.Registers.{is_active};
 ghost use Rattle.growing_lists.specs.CheckpointData.{AreSameBanks, SameActive};
 
-use pcr_banks::{Alg, Banks};
 use pcr_banks::laws::banks_are_what_they_hold;
+use pcr_banks::{Alg, Banks};
 
 /// Whether the same banks are active, and all registers have the same values.
 pub(crate) fn are_same_banks(first: &Banks, second: &Banks) -> bool

@@ -246,7 +246,7 @@ ShowsAndSaves inputs asked form old new shown status =
 
 -- ---- why there is no report
 
--- The text is that of no checkpoint with possible counts.
+-- The text is that of no checkpoint whose data fit together.
 abbrev pub HasNoCheckpoint : List ℕ → Type 0
 HasNoCheckpoint text = (known : Checkpoint) → IsPossible known → text ≡ checkpoint_text known → ⊥
 

@@ -83,7 +83,8 @@ fn exits_with(status: u8) -> ExitCode
 /// if the report does not match, a register's value was not reached, none was looked for or a required one is missing, 2 for refused
 /// input, and 3 if memory ran out, outcomes do not account for the book, or a device failed. After the sink fails, nothing more is written.
 ///
-/// A file is replaced only by `verify --save`: by the checkpoint of what the report is on, before the report is written. With a fault none is.
+/// A file is replaced only by `verify --save` with the verdict `match`: by the checkpoint of what the report is on, before the report is
+/// written. With a fault none is.
 pub fn run<R: Threads + Wait + Sync, F: AgentFiles, S: Sink>(
     rt: &R,
     alloc: Global,

@@ -21,7 +21,7 @@ use pcr_banks::Digest;
 use std::alloc::{AllocError, Global};
 
 /// Appends the line of a report, in the words of [`boot_verdict::write_report`], or of [`boot_verdict::write_required_report`] where
-/// registers are required; the verdict is `match` if the caller says so, by [`meets`].
+/// registers are required; the verdict is `match` if the caller says so.
 ///
 /// Its members are `events`, the number of events; `locality`; `entries`, the number of entries; `boot_aggregate`, one of `good`, `wrong`,
 /// `nobank` and `missing`; `registers`, an array; and `verdict`, which is `match` or `differ`. Each expected register has `bank`,

@@ -1,11 +1,14 @@
 //! Books that are exported.
 
+use super::operations::assert_example;
 use super::runs::AFTER_THREE;
+use crate::books::deeds::THREE;
 use ima_list::{ListFault, ReplayFault, VecSink, replay};
 use measure_book::{Book, ExportFault};
 use pcr_banks::{Alg, Banks};
 use std::alloc::Global;
 use std::test::Fail;
+use test_kit::books::origin;
 use test_kit::joined;
 use test_kit::lists::{MEASUREMENT, list_of};
 use test_kit::registers::{sha256_of, start};
@@ -65,7 +68,9 @@ pub fn exports(alloc: Global, book: &Book, spellings: &[&[u8]]) -> Result<bool, 
 #[test]
 fn export_replays(rt: HostRuntime) -> Result<(), Fail> {
     let alloc = rt.alloc();
-    let mut text = joined(alloc, &[OPENING, MEASUREMENT, EMPTY])?;
+    let list: &[&[u8]] = &[OPENING, MEASUREMENT, EMPTY];
+    assert_example(&rt, alloc, origin(100), &THREE, 4, list, AFTER_THREE)?;
+    let mut text = joined(alloc, list)?;
     let banks = replayed(alloc, start(), &text)?.ok().ok_or("no registers")?;
     assert!(rt; banks.read(Alg::Sha256, 10) == Some(sha256_of(AFTER_THREE)?));
     if let Some(last) = text.last_mut() {
