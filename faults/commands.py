@@ -132,7 +132,7 @@ def test_changes(tree):
         change()
         check(f"built where {title}", tree.builds_for(), 1)
         check("  and not again", tree.builds_for(), 0)
-    for name in ("crates/format_tests/src/lib.rt", "crates/pcr_banks/must-fail/extend_digest_first.edit"):
+    for name in ("crates/format_tests/src/lib.rt", "crates/pcr_banks/further-edits/extend_digest_first.edit"):
         edit(tree.root / name)
         check(f"not built where {name} is edited", tree.builds_for(), 0)
 
