@@ -57,6 +57,7 @@ class Devices:
         """What is wrong with the command's answers; and how many calls failed."""
         wanted, _ = self.answer({})
         short, _ = self.answer({"MOST_BYTES": "1"})
+        beside = self.run.folder / f"{self.run.command.saved}.0.new"
         faults, count = [] if short == wanted else [f"a byte at a time: {short}"], 0
         for kind, errors, most in FAILING:
             for error in errors:
@@ -71,8 +72,8 @@ class Devices:
                         faults.append(f"{kind} {number} of {name!r} fails with error {error}: {found}")
                     if kind != "write" and saved_by(self.run.command, self.run.folder) != before:
                         faults.append(f"{kind} {number} of {name!r} fails with error {error}, and {self.run.command.saved} is another")
-                    if left := sorted(file.name for file in self.run.folder.glob("*.new")):
-                        faults.append(f"{kind} {number} of {name!r} fails with error {error}, and leaves {left}")
+                    if beside.exists():
+                        faults.append(f"{kind} {number} of {name!r} fails with error {error}, and leaves {beside.name}")
         return faults, count
 
 
