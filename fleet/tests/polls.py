@@ -420,6 +420,10 @@ def test_two_polls(polls, verdicts):
     polls.check("another poll came in the middle", 0 < len(recorded) < MACHINES, True)
     now = query(verdicts, "SELECT machine FROM verdicts WHERE poll = ?", before + 1)
     polls.check("another poll: nothing is recorded after it began", now, recorded)
+    words, library = ("--workers", 1, "--poll", polls.table, verdicts), str(polls.tools.folder / "none.so")
+    status, *_ = polls.tools.verify(*words, IMA_VERIFY_LIBRARY=library)
+    last = query(verdicts, "SELECT max(number) FROM polls")[0][0]
+    polls.check("a poll whose workers cannot verify is not begun, and stops none", (status, last), (3, before + 2))
 
 
 def test_damaged_table(polls, verdicts):
