@@ -51,7 +51,8 @@ print(told["verdict"], told["cause"])
 NO_FILE = "log: OSError: it is no regular file"
 WHOLE_WANTED = ["True True", "1 1", "refused: too long list", "True", *[NO_FILE] * 4, "troubled MemoryError"]
 
-# Prints the answers on machines of which nothing, or not enough, comes in time; then whether they left a thread that does not end.
+# Prints the answers on machines of which nothing, or not enough, comes in time; then whether the threads that
+# they left keep this process from its end.
 LATE = STORE + """
 print(answer_on(["store://pieces", "store://drops", "store://pieces"], None, "none", False, 1)["cause"])
 for is_poll in (False, True):
@@ -59,7 +60,7 @@ for is_poll in (False, True):
     request = {"machines": machines, "require": "none", "is_poll": is_poll, "seconds": 1000, "deadline": 1}
     told = json.loads(verify_batch(json.dumps(request)))
     print([(answer["verdict"], answer["cause"], answer["places"]) for answer in told["answers"]], 1 < told["seconds"] < 20)
-threads = threading.active_count()
+threads = [thread.daemon for thread in threading.enumerate()]
 LET_GO.set()
 while threading.active_count() > 1:
     time.sleep(0.01)
@@ -67,7 +68,7 @@ print(threads)
 """
 NONE = ("unreadable", "log: FileNotFoundError: [Errno 2] No such file or directory", ["/none"] * 3)
 STUCK = ("unreadable", "TimeoutError: no answer in time", ["store://pieces", "store://stuck", "store://pieces"])
-LATE_WANTED = ["list: TimeoutError: no answer in time", *[f"{[NONE, STUCK]} True"] * 2, "3"]
+LATE_WANTED = ["list: TimeoutError: no answer in time", *[f"{[NONE, STUCK]} True"] * 2, "[False, True, True]"]
 
 
 def test_reading(tools, check):
