@@ -7,7 +7,8 @@ from pathlib import Path
 from cluster import ROOT, SECONDS, until
 from tables import change, counted, query, record_beside, rows_of
 
-# Records a verdict while a reader is in the middle of a query, and prints what that and another see.
+# Records a verdict while a reader is in the middle of a query, and prints what that and another see; then how many
+# machines match by a later poll.
 READER = """
 import sqlite3, sys
 from fleet_verify import verdicts
@@ -22,13 +23,15 @@ reader.execute("BEGIN")
 print(reader.execute(QUERY).fetchall())
 table.record([(Machine("b", ("/b",)), {"verdict": "match", "time": "now"})], ())
 print(reader.execute(QUERY).fetchall(), sqlite3.connect(sys.argv[1]).execute(QUERY).fetchall())
+table.begin_poll("later")
+print(table.counts()["match"])
 """
-READER_WANTED = ["[('a',)]", "[('a',)] [('a',), ('b',)]"]
+READER_WANTED = ["[('a',)]", "[('a',)] [('a',), ('b',)]", "0"]
 
-# Runs on a machine of which a batch ends by an error: one of Dask, of the network, of the worker's function, or an answer that is none. Prints
-# how the run ends, and what is recorded.
+# Runs on a machine of which a batch ends by an error: one of Dask, of the network, of the worker's function, or an answer that is none; then
+# on two, of which one has an answer when the other's batch ends so. Prints how the run ends, and what is recorded.
 ERRORS = """
-import asyncio, sys
+import asyncio, itertools, sys
 from types import SimpleNamespace
 from distributed import KilledWorker
 from fleet_verify.ledger import Ledger
@@ -45,20 +48,23 @@ class Future:
         if isinstance(self.fault, Exception):
             raise self.fault
         return self.fault
+    def done(self):
+        return True
 class Client:
     threads = {"here": 1}
     def __init__(self, *ended):
-        self.client, self.ended = self, ended
+        self.client, self.ended = self, itertools.cycle(ended)
     def submit(self, function, request, **given):
-        return Future(*self.ended)
+        return Future(*next(self.ended))
     def lost(self):
         return None
     async def look(self):
         pass
+SECOND = '{"worker": "here", "answers": [{"places": ["/b"], "verdict": "refused", "time": "now"}], "seconds": 1}'
 async def run(table, *ended):
     verdicts = Verdicts(table, "none")
     options = SimpleNamespace(in_flight=2, poll=False, require="none", patience=600, deadline=60)
-    ledger = Ledger(verdicts, [Machine("a", ("/a",))], {}, False, lambda *_: None)
+    ledger = Ledger(verdicts, [Machine(name, (f"/{name}",)) for name in "ab"[:len(ended)]], {}, False, lambda *_: None)
     try:
         await asyncio.wait_for(Run(Client(*ended), ledger, SimpleNamespace(show=lambda *_: None), options).verify(), 20)
         print("done", end=" ")
@@ -70,9 +76,12 @@ for number, ended in enumerate((
     ("lost", RuntimeError("lost")), ("cancelled", Killed()), ("finished", "no answer"),
     ("finished", '{"worker": "here", "answers": [], "seconds": 1}'), ("error", Killed()),
 )):
-    asyncio.run(run(f"{sys.argv[1]} {number}.db", *ended))
+    asyncio.run(run(f"{sys.argv[1]} {number}.db", ended))
+asyncio.run(run(f"{sys.argv[1]} both.db", ("error", RuntimeError("lost")), ("finished", SECOND)))
 """
-ERRORS_WANTED = ["CannotGoOn []"] * 6 + ["done [('failed', 'KilledWorker: each worker that verified it died')]"]
+ERRORS_WANTED = [
+    *["CannotGoOn []"] * 6, "done [('failed', 'KilledWorker: each worker that verified it died')]", "CannotGoOn [('refused', None)]",
+]
 
 # By these a table refuses to be written: by an error of SQLite that is none of its constraints, and by one that is.
 REFUSING = {
