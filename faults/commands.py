@@ -111,7 +111,7 @@ def test_answers(tree):
 
 def test_changes(tree):
     """After each change the program is built anew, and once."""
-    source = tree.root / "crates/byte_fields/src/fields.rt"
+    source, table = tree.root / "crates/byte_fields/src/fields.rt", tree.root / "crates.txt"
 
     def rename():
         source.rename(source.with_name("renamed.rt"))
@@ -122,6 +122,7 @@ def test_changes(tree):
         "a definition comes with an older time": lambda: edit(tree.root / "crates/pcr_banks/specs/Hashing.antt", old_time=True),
         "a source has another name": rename,
         "a source is gone": lambda: source.with_name("renamed.rt").unlink(),
+        "a crate stands on others": lambda: table.write_text(table.read_text().replace("hex json itoa thiserror", "hex json thiserror")),
         "the handles are others": lambda: edit(tree.root / "HANDLES", old_time=True),
         "the kit is another": lambda: tree.name_kit("second kit"),
         "the program is another": lambda: edit(tree.root / PROGRAM / "out/ima_agent_program"),
@@ -154,6 +155,12 @@ def test_builds(tree):
     calls = [tree.start("2", DURING="sleep 1") for _ in range(3)]
     check("three calls at once are answered", [(call.communicate(timeout=60)[0], call.returncode) for call in calls], 3 * [("<2>\n", 2)])
     check("by one build", tree.builds.read_text().removeprefix(before), "built\n")
+    edit(main)
+    tree.builds_for(DURING="sleep 50 >/dev/null 2>&1 &")
+    edit(main)
+    started = time.monotonic()
+    check("built while something runs that a build left", tree.builds_for(), 1)
+    check("for which no call waits", time.monotonic() - started < 40, True)
 
 
 def test_try(tree):
