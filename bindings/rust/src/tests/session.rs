@@ -268,6 +268,7 @@ fn requirement_of_a_resumed_session_holds() {
             new().require("sha256:0-10").resume(&state).unwrap().prefix(),
             new().prefix().resume(&state).unwrap().require("sha256:0-10"),
         ] {
+            assert_eq!((session.state(), session.offset()), (Some(&state[..]), boot.ends[cut] as u64));
             for _ in 0..2 {
                 let verdict = session.more(boot.from(cut)).unwrap();
                 let missing = Row { algorithm: Algorithm::Sha256, register: 10, state: State::Missing };
@@ -284,9 +285,11 @@ fn requirement_of_a_resumed_session_holds() {
 fn front_that_the_registers_confirm() {
     let boot = Sample::new();
     for count in [1, 2, 50, 97, 98, 99] {
-        let mut session = boot.session_of(count).require("sha256:0-10").prefix();
-        check_front(session.more(&boot.list).unwrap(), 99, count as u64, None);
-        assert_eq!((session.state(), session.offset()), (Some(&boot.state_after(count)[..]), boot.ends[count] as u64));
+        let new = || boot.session_of(count);
+        for mut session in [new().require("sha256:0-10").prefix(), new().prefix().require("sha256:0-10")] {
+            check_front(session.more(&boot.list).unwrap(), 99, count as u64, None);
+            assert_eq!((session.state(), session.offset()), (Some(&boot.state_after(count)[..]), boot.ends[count] as u64));
+        }
     }
     // (without register 10 nothing speaks for more than the boot aggregate)
     check_front(Session::new(&boot.log, &boot.first(10)).prefix().more(&boot.list).unwrap(), 99, 1, None);
