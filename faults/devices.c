@@ -1,13 +1,15 @@
 /* Stands before the C library's open, read, write, fsync and rename, by LD_PRELOAD. A read gives at most MOST_BYTES, and a write takes as many
    at most. Of the calls of the kind FAILING_CALL (`open`; `read`; `write`, to standard output; or `save`: writes to named files, fsync,
    fdatasync and rename) number FAILING_NUMBER (counted from 1) fails with FAILING_ERROR, or takes no byte if that is 0; then the file
-   FAILURE_MET gets the name by which its file was opened, or `-` for standard input. */
+   FAILURE_MET gets the name by which its file was opened, or `-` for standard input. It gets that name too where a file that was written is
+   renamed before it is synced. */
 #define _GNU_SOURCE
 #include <dlfcn.h>
 #include <errno.h>
 #include <fcntl.h>
 #include <stdarg.h>
 #include <stdatomic.h>
+#include <stdbool.h>
 #include <stdio.h>
 #include <stdlib.h>
 #include <string.h>
@@ -17,6 +19,7 @@
 
 static atomic_long calls;
 static _Atomic(char *) names[FILES];
+static atomic_bool unsynced[FILES];
 static int (*real_open)(const char *, int, ...);
 static ssize_t (*real_read)(int, void *, size_t);
 static ssize_t (*real_write)(int, const void *, size_t);
@@ -38,14 +41,18 @@ static long setting(const char *name) {
     return value ? atol(value) : 0;
 }
 
+static void note(const char *file) {
+    int met = real_open(getenv("FAILURE_MET"), O_CREAT | O_WRONLY, 0600);
+    real_write(met, file, strlen(file));
+    close(met);
+}
+
 /* Whether this call fails. */
 static int fails(const char *kind, const char *file) {
     const char *failing = getenv("FAILING_CALL");
     if (!failing || strcmp(failing, kind) != 0 || atomic_fetch_add(&calls, 1) + 1 != setting("FAILING_NUMBER"))
         return 0;
-    int met = real_open(getenv("FAILURE_MET"), O_CREAT | O_WRONLY, 0600);
-    real_write(met, file, strlen(file));
-    close(met);
+    note(file);
     errno = setting("FAILING_ERROR");
     return 1;
 }
@@ -68,8 +75,10 @@ int open(const char *name, int flags, ...) {
     if (fails("open", name))
         return -1;
     int file = real_open(name, flags, mode);
-    if (file >= 0 && file < FILES)
+    if (file >= 0 && file < FILES) {
         atomic_store(&names[file], strdup(name));
+        atomic_store(&unsynced[file], false);
+    }
     return file;
 }
 
@@ -84,17 +93,32 @@ ssize_t write(int file, const void *bytes, size_t size) {
     const char *name = name_of(file);
     if ((file == 1 && fails("write", "-")) || (name && fails("save", name)))
         return errno ? -1 : 0;
+    if (name)
+        atomic_store(&unsynced[file], true);
     return real_write(file, bytes, file == 1 || name ? at_most(size) : size);
 }
 
+/* Syncs a file by this call. */
+static int synced(int file, int (*sync)(int)) {
+    const char *name = name_of(file);
+    if (name && fails("save", name))
+        return -1;
+    if (name)
+        atomic_store(&unsynced[file], false);
+    return sync(file);
+}
+
 int fsync(int file) {
-    return name_of(file) && fails("save", name_of(file)) ? -1 : real_fsync(file);
+    return synced(file, real_fsync);
 }
 
 int fdatasync(int file) {
-    return name_of(file) && fails("save", name_of(file)) ? -1 : real_fdatasync(file);
+    return synced(file, real_fdatasync);
 }
 
 int rename(const char *from, const char *to) {
+    for (int file = 0; file < FILES; file++)
+        if (atomic_load(&unsynced[file]) && strcmp(atomic_load(&names[file]), from) == 0)
+            note(from);
     return fails("save", from) ? -1 : real_rename(from, to);
 }

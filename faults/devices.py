@@ -4,12 +4,13 @@
 faults/devices.py [PROGRAM]: by default the program that was built in this tree.
 
 Of the cases a command of each kind (those of `faults/sweep.py`) runs again and again, with faults/devices.c before the C library. Where a
-read gives one byte at most and a write takes one, its answer is to be the same. Then each opening of a file fails in turn, and each read,
-the one at the end of a file too: the answer is to be `failed: read` with the name of that file, which `--json` has as JSON, and status 3;
-before it stand the lines of entries that `show --json` wrote while it read, if any. A command that is refused without that may be refused as
-it is then. Where a checkpoint is saved, the opening, each write, the syncing and the renaming of its file fail in turn: the answer is to be
-`failed: write` with its name, and what had that name stays as it was. And each write fails in turn, or takes no byte: what was written is to be a front of the output, with nothing after it, and the
-status 3. A command without such a call is told. The last line, 'N passed, M failed', counts commands."""
+read gives one byte at most and a write takes one, its answer and the checkpoint that it saves are to be the same. Then each opening of a
+file fails in turn, and each read, the one at the end of a file too: the answer is to be `failed: read` with the name of that file, which
+`--json` has as JSON, and status 3; before it stand the lines of entries that `show --json` wrote while it read, if any. A command that is
+refused without that may be refused as it is then. Where a checkpoint is saved, its file is to be synced before it is renamed. The opening,
+each write, the syncing and the renaming of that file fail in turn: the answer is to be `failed: write` with its name, and what had that
+name stays as it was. And each write fails in turn, or takes no byte: what was written is to be a front of the output, with nothing after
+it, and the status 3. A command without such a call is told. The last line, 'N passed, M failed', counts commands."""
 
 import errno
 import json
@@ -55,10 +56,15 @@ class Devices:
 
     def faults(self):
         """What is wrong with the command's answers; and how many calls failed."""
-        wanted, _ = self.answer({})
+        wanted, unsynced = self.answer({})
+        if unsynced is not None:
+            return [f"{unsynced!r} is renamed before it is synced"], 0
+        saved = saved_by(self.run.command, self.run.folder)
         short, _ = self.answer({"MOST_BYTES": "1"})
         beside = self.run.folder / f"{self.run.command.saved}.0.new"
         faults, count = [] if short == wanted else [f"a byte at a time: {short}"], 0
+        if saved_by(self.run.command, self.run.folder) != saved:
+            faults.append(f"a byte at a time, and {self.run.command.saved} is another")
         for kind, errors, most in FAILING:
             for error in errors:
                 for number in range(1, MOST_CALLS):
