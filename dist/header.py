@@ -1,4 +1,4 @@
-"""The library's interface, as include/ima_verify.h and the versions of its symbols in libima_verify.map have it."""
+"""The library's interface, as bindings/c/ima_verify.h and the versions of its symbols in libima_verify.map have it."""
 
 import re
 
@@ -9,7 +9,7 @@ NODE = re.compile(r"^IMA_VERIFY_(\d+) \{\n(.*?)^\}", re.MULTILINE | re.DOTALL)
 
 def header_of(root):
     """The header without its comments."""
-    return re.sub(r"/\*.*?\*/", "", (root / "include/ima_verify.h").read_text(), flags=re.DOTALL)
+    return re.sub(r"/\*.*?\*/", "", (root / "bindings/c/ima_verify.h").read_text(), flags=re.DOTALL)
 
 
 def functions_of(root):

@@ -34,7 +34,7 @@ RULES = (
     (re.compile(r"the folder `fleet/`, or its wheel"), "the package `fleet_verify`"),
     (re.compile(r"^(?:dist/library|export IMA_VERIFY_LIBRARY=/tmp/|export PYTHONPATH=\S*bindings).*\n", re.MULTILINE), ""),
     (re.compile(r"(?<![\w/])fleet/systemd/"), "share/ima-agent/systemd/"),
-    (re.compile(r"`fleet/test \[LIBRARY_DIR\]` tests all this\.\n\n"), ""),
+    (re.compile(r"`tests/fleet/test \[LIBRARY_DIR\]` tests all this\.\n\n"), ""),
     (re.compile(r"`fleet/bench/measure\.py LIBRARY_DIR` prints(?:.|\n)*? client and scheduler\.\n\n"), ""),
 )
 

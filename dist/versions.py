@@ -12,7 +12,7 @@ NUMBER = r"(\d+\.\d+(?:\.\d+)*)"
 
 # Files, what states the version in them, and whether it must be there.
 PLACES = (
-    ("include/ima_verify.h", rf'^#define IMA_VERIFY_PACKAGE_VERSION "{NUMBER}"$', True),
+    ("bindings/c/ima_verify.h", rf'^#define IMA_VERIFY_PACKAGE_VERSION "{NUMBER}"$', True),
     ("CHANGELOG.md", rf"\A(?:(?!^## \[\d).*\n)*## \[{NUMBER}\] - \d{{4}}-\d\d-\d\d$", True),
     ("*.rt", rf"ima-agent {NUMBER}", True),
     ("*.case", rf"ima-agent {NUMBER}", True),

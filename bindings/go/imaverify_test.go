@@ -353,7 +353,7 @@ func TestExpectedRegistersAreThoseThatWerePrinted(t *testing.T) {
 }
 
 func TestVersionIsThatOfTheHeader(t *testing.T) {
-	header, err := os.ReadFile(filepath.Join("..", "..", "include", "ima_verify.h"))
+	header, err := os.ReadFile(filepath.Join("..", "c", "ima_verify.h"))
 	equal(t, err, nil)
 	equal(t, strings.Contains(string(header), fmt.Sprintf("#define IMA_VERIFY_VERSION %d\n", headerVersion)), true)
 	equal(t, Version() >= headerVersion, true)

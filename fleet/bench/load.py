@@ -21,7 +21,7 @@ import time
 from pathlib import Path
 
 sys.dont_write_bytecode = True  # (beside the programs nothing is written)
-sys.path[:0] = [str(Path(__file__).resolve().parents[1] / "tests")]
+sys.path[:0] = [str(Path(__file__).resolve().parents[2] / "tests/fleet")]
 
 from cluster import Processes, children_of, environment_of, python_with_dask, until  # noqa: E402
 from measure import large_files, make_table  # noqa: E402

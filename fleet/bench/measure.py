@@ -19,11 +19,11 @@ import time
 from pathlib import Path
 
 sys.dont_write_bytecode = True  # (beside the programs nothing is written)
-sys.path[:0] = [str(Path(__file__).resolve().parents[1] / "tests")]
+sys.path[:0] = [str(Path(__file__).resolve().parents[2] / "tests/fleet")]
 
 from cluster import REQUIRE, ROOT, Processes, environment_of, python_with_dask  # noqa: E402
 
-sys.path.append(str(ROOT / "bench"))
+sys.path.append(str(ROOT / "tools/bench"))
 import inputs  # noqa: E402
 from reference.measurement_list import list_spelling  # noqa: E402
 from reference.registers import SHA256  # noqa: E402

@@ -12,7 +12,7 @@ from pathlib import Path
 
 SAMPLES = Path(__file__).resolve().parent.parent
 BOOT = SAMPLES / "real-boot"
-sys.path.append(str(SAMPLES.parent))
+sys.path.append(str(SAMPLES.parent / "tests"))
 
 from reference.log import read_log  # noqa: E402
 from reference.measurement_list import read_list, replay  # noqa: E402

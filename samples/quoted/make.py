@@ -1,7 +1,7 @@
 #!/usr/bin/env python3
 """Quotes of an emulated TPM into which the sample boot was extended, and what tpm2_quote and tpm2_checkquote print of them.
 
-    attest/emulated.py samples/quoted/make.py [DIR]
+    tests/attest/emulated.py samples/quoted/make.py [DIR]
 
 Writes the files of this folder, anew, into DIR (by default this folder). The TPM makes its keys by chance, so keys, quotes and the
 digits of signatures differ from run to run, and nothing else does."""

@@ -1,4 +1,4 @@
-"""What the package answers about the sample, about changes of it, and about inputs that bench/inputs.py makes.
+"""What the package answers about the sample, about changes of it, and about inputs that tools/bench/inputs.py makes.
 
 From bindings/python: IMA_VERIFY_LIBRARY=/path/to/libima_verify.so python3 -m unittest discover tests"""
 
@@ -12,7 +12,7 @@ from itertools import zip_longest
 from pathlib import Path
 
 ROOT = Path(__file__).resolve().parents[3]
-sys.path[:0] = [str(ROOT / "bindings/python"), str(ROOT / "bench")]
+sys.path[:0] = [str(ROOT / "bindings/python"), str(ROOT / "tools/bench")]
 
 import ima_verify
 import inputs
@@ -128,7 +128,7 @@ class Sample(unittest.TestCase):
         self.assertFalse(verdict.matches or places.located or verdict or places)
 
     def test_version_is_that_of_the_header(self):
-        header = (ROOT / "include/ima_verify.h").read_text()
+        header = (ROOT / "bindings/c/ima_verify.h").read_text()
         self.assertGreaterEqual(ima_verify.version(), int(header.split("#define IMA_VERIFY_VERSION ")[1].split()[0]))
 
 

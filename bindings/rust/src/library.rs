@@ -1,4 +1,4 @@
-//! Calls the C library, as `include/ima_verify.h` describes it.
+//! Calls the C library, as `bindings/c/ima_verify.h` describes it.
 
 use crate::answers::Answer;
 use crate::Error;

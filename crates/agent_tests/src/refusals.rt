@@ -1,5 +1,5 @@
 //! Commands in which an allocation is refused: each answers that memory ran out, or what it answers with ample memory; and then the
-//! same command answers the latter. `faults/sweep.py` refuses the allocations, one in each run.
+//! same command answers the latter. `tests/faults/sweep.py` refuses the allocations, one in each run.
 
 use crate::commands::{COMMANDS, Command, FAULTS, FILES};
 use crate::devices::{PieceFiles, words_of};

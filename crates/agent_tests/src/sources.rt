@@ -1,4 +1,4 @@
-//! Sources that are loaded and hashed: each of their reads fails in turn, or an allocation (`faults/sweep.py` refuses one in each run,
+//! Sources that are loaded and hashed: each of their reads fails in turn, or an allocation (`tests/faults/sweep.py` refuses one in each run,
 //! and the same call then succeeds), or they grow and shrink while they are read.
 
 ghost use Rattle.std.specs.Prelude.{None};

@@ -1,5 +1,5 @@
 //! The verifier for callers in C: verdicts, places, expected registers, registers, entries and events, from bytes in the caller's memory to
-//! a text in the caller's buffer. `include/ima_verify.h` says it to C.
+//! a text in the caller's buffer. `bindings/c/ima_verify.h` says it to C.
 //!
 //! Each call returns a number: 0 or 1 as the command of the same name exits, with its output in the buffer; 2 if an input is refused,
 //! or 3 if memory ran out, with the line of the fault in the buffer; or 4 if the buffer is too short, and then it is as it was. In

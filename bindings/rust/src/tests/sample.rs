@@ -255,7 +255,7 @@ fn expected_registers_are_those_that_were_printed() {
 
 #[test]
 fn version_is_that_of_the_header() {
-    let header = std::fs::read_to_string(format!("{}/../../include/ima_verify.h", env!("CARGO_MANIFEST_DIR"))).unwrap();
+    let header = std::fs::read_to_string(format!("{}/../../bindings/c/ima_verify.h", env!("CARGO_MANIFEST_DIR"))).unwrap();
     let (_, rest) = header.split_once("#define IMA_VERIFY_VERSION ").unwrap();
     assert!(version() >= rest.lines().next().unwrap().parse().unwrap());
 }

@@ -9,7 +9,7 @@ use std::string::String;
 use std::vec::Vec;
 
 fn header() -> String {
-    std::fs::read_to_string(concat!(env!("CARGO_MANIFEST_DIR"), "/../../../include/ima_verify.h")).unwrap()
+    std::fs::read_to_string(concat!(env!("CARGO_MANIFEST_DIR"), "/../../../bindings/c/ima_verify.h")).unwrap()
 }
 
 /// The functions of the header, by name, with what each returns and takes.

@@ -1,5 +1,5 @@
 //! Calls in which an allocation is refused: each answers that memory ran out, or what it answers with ample memory; and then the
-//! same call answers the latter. `faults/sweep.py` refuses the allocations, one in each run.
+//! same call answers the latter. `tests/faults/sweep.py` refuses the allocations, one in each run.
 
 use super::texts::{Text, expected, places, report};
 use boot_verdict::{

@@ -1,0 +1,215 @@
+#!/usr/bin/env python3
+"""Reads back what the program shows with `--json`, by Python's own json.
+
+tests/cases/json_lines.py [PROGRAM]: by default the program that was built in this tree.
+
+The members of each object must stand in one table of docs/formats.md ('As JSON'), in its order.
+
+Each line must be one value of ASCII or UTF-8 that json writes in the same way, without white space, and has no byte below 32. All lines
+must be what `tests/reference/` answers, and each must tell what the same command's text tells: of the sample, of lists of all templates whose paths
+and payloads are hostile, of damaged lists and logs, and of a list of 12,000 entries. The last line is 'N passed, M failed', of commands."""
+
+import json
+import random
+import re
+import subprocess
+import sys
+import tempfile
+from pathlib import Path
+
+ROOT = Path(__file__).resolve().parents[2]
+sys.path.insert(0, str(ROOT / "tests"))
+import reference  # noqa: E402
+from reference.log import read_log  # noqa: E402
+from reference.measurement_list import IMA, IMA_NG, IMA_SIG, VIOLATION, Entry, entry_of, list_spelling  # noqa: E402
+from reference.registers import ALGORITHMS, SHA1, SHA256  # noqa: E402
+from reference.log import EV_NO_ACTION, STARTUP_LOCALITY, TYPE_NAMES, Event, Log  # noqa: E402
+
+PROGRAM = ROOT / "crates/ima_agent_program/out/ima_agent_program"
+SECONDS = 60
+ENTRIES = 12_000
+HOSTILE = [
+    *(bytes([byte]) for byte in range(1, 256)),
+    b"\n\n", b'"', b"\\", b'\\"', b"\x1b[2J\x1b[31m", b"\r\n", b"/bin/x 030204", "\u2028\u202e\ufeff".encode(), "\U0001f600".encode(),
+    b"\xed\xa0\x80", b"\xc0\x80", b"\xf4\x90\x80\x80", b"\xff", b"a" * 255, b"",
+]  # fmt: skip
+LONG = [b"a" * 4095, b"\n" * 4095, b"\x1b" * 4095, "\u2028".encode() * 1365, b"\xff" * 4095]
+SECTION = re.compile(r"^### As JSON$(.*?)^### ", re.MULTILINE | re.DOTALL)
+TABLE = re.compile(r"^\| Member[^|]*\|.*\n\|[-|]*\n((?:\|.*\n)*)", re.MULTILINE)
+NO_MEMBERS = "digests"  # the names there are those of algorithms
+
+
+def members_in_tables():
+    """The members of each table of the page, in its order."""
+    [section] = SECTION.findall((ROOT / "docs/formats.md").read_text())
+    return [[name for row in table.splitlines() for name in re.findall(r"`(\w+)`", row.split("|")[1])] for table in TABLE.findall(section)]
+
+
+ORDERS = members_in_tables()
+
+
+def log_of_all_banks():
+    """A log with events of each type that has a name and of some without, of all banks and one of an algorithm without a name."""
+    sizes = {0x12: 32, **{it.identifier: it.size for it in reversed(ALGORITHMS)}}
+    digests = {identifier: bytes(range(size)) for identifier, size in sizes.items()}
+    named = (Event(number % 24, kind, digests, bytes(range(256))) for number, kind in enumerate([*TYPE_NAMES, 0x13FF, 0xFFFFFFFF]))
+    return Log(sizes, [*named, Event(0, EV_NO_ACTION, {}, STARTUP_LOCALITY + b"\xff"), Event(0xFFFFFFFF, EV_NO_ACTION, {0x12: bytes(32)}, b"")])
+
+
+def hostile_entries():
+    """Entries of each template with each path, and payloads and names of templates that have no fields."""
+    for template in (IMA, IMA_NG, IMA_SIG):
+        for path in HOSTILE + (LONG if template != IMA else []):
+            yield entry_of(template, SHA1 if template == IMA else SHA256, bytes(SHA1.size if template == IMA else SHA256.size), path)
+    for name in (*HOSTILE, b"ima-modsig", b"", IMA_NG, IMA_SIG):
+        for payload in (b"", b"\0\n\x1b", bytes(range(256))):
+            yield Entry(23, bytes(range(20)), name, payload)
+            yield Entry(0, VIOLATION, name, payload)
+
+
+def many_entries():
+    drawn = random.Random(1)
+    for number in range(ENTRIES):
+        algorithm = drawn.choice(ALGORITHMS)
+        path = drawn.randbytes(drawn.randrange(1, 40)).replace(b"\0", b"/") + b" %d" % number
+        entry = entry_of(drawn.choice((IMA_NG, IMA_SIG)), algorithm, drawn.randbytes(algorithm.size), path)
+        yield entry._replace(template_digest=drawn.choice((entry.template_digest, VIOLATION, drawn.randbytes(20))))
+
+
+def damaged_logs(log):
+    """The sample's log cut within its header and each event and between them, and with a register, an algorithm, a digest or a header that
+    is refused, each with a name."""
+    read = read_log(log)
+    header = len(log) - sum(len(event.spelling()) for event in read.events)
+    ends = [header]
+    for event in read.events:
+        ends.append(ends[-1] + len(event.spelling()))
+    for size in (0, 31, header - 1, *(end + more for end in ends[:-1] for more in (0, 1, 12, 40)), len(log) - 1):
+        yield f"damaged-cut-{size}", log[:size]
+    extended = [number for number, event in enumerate(read.events) if event.is_extended]
+    for number in (extended[0], extended[-1]):
+        start = ends[number]
+        yield f"damaged-register-{number}", log[:start] + (24).to_bytes(4, "little") + log[start + 4 :]
+        yield f"damaged-undeclared-{number}", log[: start + 12] + b"\x04\0" + log[start + 14 :]
+        yield f"damaged-no-digest-{number}", log[: start + 8] + bytes(8) + log[start:]
+        yield f"damaged-twice-{number}", log[: start + 8] + b"\2\0\0\0" + 2 * log[start + 12 : start + 46] + log[start + 46 :]
+    yield "damaged-signature", log.replace(b"Spec ID Event03", b"Spec ID Event02", 1)
+    yield "damaged-no-bank", read._replace(declared={0x12: 32}).spelling()
+    yield "damaged-size", read._replace(declared={SHA256.identifier: 20}).spelling()
+
+
+def commands(folder):
+    """Words, and files that they name in the folder."""
+    sample = ROOT / "samples/real-boot"
+    for name in ("firmware.log", "ima.list", "expected.txt", "tpm2_pcrread.txt"):
+        (folder / name).write_bytes((sample / name).read_bytes())
+    (folder / "hostile").write_bytes(list_spelling(hostile_entries()))
+    (folder / "many").write_bytes(list_spelling(many_entries()))
+    (folder / "cut").write_bytes((folder / "many").read_bytes()[:-1])
+    for name, log in damaged_logs((folder / "firmware.log").read_bytes()):
+        (folder / name).write_bytes(log)
+    (folder / "forged").write_bytes((folder / "ima.list").read_bytes()[:-2] + b"v\0")
+    (folder / "none").write_bytes(b"")
+    (folder / "firmware's").write_bytes(b"".join((sample / "expected.txt").read_bytes().splitlines(True)[:10]))
+    (folder / "few").write_text("sha256 10 " + "00" * 32 + "\nsha384 1 " + "11" * 48 + "\n")
+    (folder / "banks.log").write_bytes(log_of_all_banks().spelling())
+    evidence = ["firmware.log", "ima.list"]
+    yield from (["show", "ima.list"], ["show", "hostile"], ["show", "many"], ["show", "cut"], ["show", "firmware.log"])
+    yield from (["registers", "firmware.log"], ["events", "firmware.log"], ["events", "--data", "firmware.log"])
+    yield from (["events", path.name] for path in sorted(folder.glob("damaged-*")))
+    yield from (["replay", "ima.list"], ["replay", "many"], ["replay", "ima.list", "few"], ["expected", "tpm2_pcrread.txt"])
+    yield from (["replay", "--require", "sha1:0-23", "ima.list", "few"], ["expected", "--registers", "4-4", "tpm2_pcrread.txt"])
+    for command in ("verify", "locate"):
+        yield from ([command, *evidence, "expected.txt"], [command, *evidence, "few"], [command, "--require", "sha1:0-23", *evidence, "few"])
+    yield from (["verify", "--prefix", *evidence, "expected.txt"], ["verify", "--prefix", *evidence, "few"])
+    yield from (["verify", "--prefix", "firmware.log", name, "firmware's"] for name in ("many", "forged", "cut"))
+    yield from (["verify", "--prefix", *evidence, "none"], ["verify", "--save", "kept", *evidence, "none"])
+    yield ["measure", "--workers", "1", "firmware.log", "many", "few", "ima.list"]
+    yield ["measure", "--workers", "1", "--print", "registers", "firmware.log", "many"]
+    yield from (["registers", "banks.log"], ["events", "banks.log"], ["verify", "--require", "sha512:0-23", "banks.log", "many", "few"])
+
+
+def run(program, words, folder):
+    done = subprocess.run([program, *words], cwd=folder, stdin=subprocess.DEVNULL, capture_output=True, timeout=SECONDS)
+    return done.returncode, done.stdout
+
+
+def fault_of_line(line):
+    """What is wrong with a line, or None."""
+    if any(byte < 32 for byte in line):
+        return "a byte below 32"
+    try:
+        value = json.loads(line.decode())
+    except ValueError as cause:
+        return f"not JSON: {cause}"
+    written = json.dumps(value, separators=(",", ":"), ensure_ascii=False).encode()
+    if written != line:
+        return f"json writes it as {written[:100]!r}"
+    return next((f"members that no table has so: {names}" for names in members_of(value) if not any(is_within(names, it) for it in ORDERS)), None)
+
+
+def members_of(value):
+    """The names of the members of each object in a value."""
+    if isinstance(value, dict):
+        yield [name.removesuffix("_hex") for name in value]
+        for name, inner in value.items():
+            yield from () if name == NO_MEMBERS else members_of(inner)
+    for inner in value if isinstance(value, list) else ():
+        yield from members_of(inner)
+
+
+def is_within(names, order):
+    """Whether these names stand in this order, each once."""
+    rest = iter(order)
+    return all(name in rest for name in names)
+
+
+def is_told(words, values, text):
+    """Whether values tell what the text without `--json` does: as many entries and events, the same words of registers."""
+    rows = text.decode(errors="surrogateescape").splitlines()
+    if "fault" in values[-1]:
+        return values[-1]["fault"]["message"] == rows[0]
+    if words[0] in ("registers", "expected") or words[0] == "replay" and "registers" in values[0] and "verdict" not in values[0]:
+        return [f"{row['bank']} {row['register']} {row['value']}" for row in values[0]["registers"]] == rows
+    if words[0] == "verify" or "verdict" in values[0]:
+        told = [" ".join(str(word) for word in row.values()) for row in values[0]["registers"]]
+        return rows[-1] == f"verdict {values[0]['verdict']}" and told == rows[-1 - len(told) : -1]
+    if words[0] == "locate":
+        return (rows[-1] == "located") == values[0]["located"] and len(rows) - 1 == len(values[0]["registers"])
+    if words[0] == "events":
+        return len(rows) == len(values) and all(row.split()[0] == str(value["event"]) for row, value in zip(rows[1:], values[1:]))
+    return True
+
+
+def fault_of_command(program, words, folder):
+    as_json = [words[0], "--json", *words[1:]]
+    status, output = run(program, as_json, folder)
+    if (status, output) != reference.answer(as_json, folder):
+        return "not what the reference answers"
+    if not output.endswith(b"\n"):
+        return "no line end"
+    lines = output[:-1].split(b"\n")
+    for number, line in enumerate(lines):
+        if fault := fault_of_line(line):
+            return f"line {number}: {fault}"
+    plain_status, text = run(program, words, folder)
+    if plain_status != status:
+        return f"status {status}, and {plain_status} without --json"
+    return None if is_told(words, [json.loads(line) for line in lines], text) else "not what the text tells"
+
+
+def main():
+    program = Path(sys.argv[1] if len(sys.argv) > 1 else PROGRAM).resolve()
+    passed = failed = 0
+    with tempfile.TemporaryDirectory() as folder:
+        for words in commands(Path(folder)):
+            fault = fault_of_command(program, words, Path(folder))
+            passed, failed = (passed, failed + 1) if fault else (passed + 1, failed)
+            if fault:
+                print(f"$ ima-agent {' '.join(words)}\n    {fault}")
+    print(f"{passed} passed, {failed} failed")
+    return 1 if failed else 0
+
+
+if __name__ == "__main__":
+    sys.exit(main())

@@ -1,0 +1,456 @@
+#!/usr/bin/env python3
+"""Tries what a terminal is told beside the output: why a run failed, and how far a measurement is.
+
+tests/cases/terminal.py [PROGRAM]: by default the program that was built in this tree.
+
+Each command of the cases whose files have at most 4 MiB runs with a terminal as its standard error. Status and output are to be what the
+case wants; the terminal is to get the sentence of the fault, which is made here of the fault's line, by the tables of docs/formats.md, and
+nothing after a success. Where the output goes to the same terminal, the sentence is to come after the line. Of a refused command line it is
+to get some text of clap's; which one, `USAGES` has for some. Further commands have names with bytes that a terminal acts upon, are out of
+memory, have an output that fails, or measure for more than a second; each of these runs without a terminal too, and then standard error is
+to get nothing. Pipes that are closed one after another tell when which number is due. The last line is 'N passed, M failed', of commands."""
+
+import json
+import os
+import pty
+import re
+import resource
+import select
+import subprocess
+import sys
+import tempfile
+import threading
+import time
+import tty
+from pathlib import Path
+from typing import NamedTuple
+
+import form
+from answers import Answer, fault_of
+
+sys.path.insert(0, str(form.ROOT / "tests"))
+from reference.command_line import HelpAsked, read_words  # noqa: E402
+from reference.faults import Fault  # noqa: E402
+from reference.log import Log  # noqa: E402
+from reference.registers import SHA256  # noqa: E402
+
+PROGRAM = form.ROOT / "crates/ima_agent_program/out/ima_agent_program"
+SECONDS = 60
+MEBIBYTE = 1 << 20
+MOST_BYTES = 4 * MEBIBYTE
+LARGE_FILES, LARGE_BYTES = 16, 48 * MEBIBYTE
+ADDRESS_SPACE = 64 * MEBIBYTE
+# For how many seconds each of some pipes stays open: the first number is due after more than a second, the next after a tenth of one.
+PACES = (1.2, 0.3, 0.3)
+ATTEMPTS = 5
+
+# Which inputs the names of a command are; what follows them are files to measure.
+INPUTS = {
+    "measure": ["log"],
+    "verify": ["log", "list", "expected"],
+    "locate": ["log", "list", "expected"],
+    "expected": ["expected"],
+    "registers": ["log"],
+    "events": ["log"],
+    "show": ["list"],
+    "replay": ["list", "expected"],
+}
+
+# The tables of docs/formats.md ('Fault lines', 'Expected registers'), said of the event, the entry, the line or the file.
+LOG = {
+    1: "its bytes are not all there",
+    2: "the first event is not the Specification ID Version Event of a crypto-agile log",
+    3: "the header's algorithm table or vendor bytes are malformed",
+    4: "the header gives a known algorithm a wrong digest size",
+    5: "the header declares no known algorithm",
+    6: "it has a digest of an algorithm that the header does not declare",
+    7: "it has two digests of one algorithm",
+    8: "it is to be extended, and lacks the digest of a bank",
+    9: "it is to be extended, and names a register of 24 or more",
+}
+LIST = {
+    1: "its bytes are not all there",
+    2: "it names a register of 24 or more",
+    3: "it is of the template ima, and its path is longer than 255 bytes",
+}
+REPLAY = {1: "its template digest is not the SHA-1 of what it covers, and it is no violation"}
+CHECKPOINT = {
+    1: "the file is not a whole checkpoint, as it was saved",
+    2: "the checkpoint is of another version",
+    3: "the checkpoint is of another boot: the log's registers are not those it began from",
+}
+EXPECTED = {1: "is not a register line", 2: "names a register a second time"}
+PRINTED = {
+    4: "this is what tpm2_quote printed: its quote is not checked yet",
+    5: "the line of the signature is missing",
+    6: "no register is stated, or none of those that are wanted",
+}
+BOOK = {
+    1: "the template does not take digests of the algorithm of --alg",
+    2: "the log has no bank of the algorithm of --alg",
+    4: "the path has a NUL",
+    5: "the path is longer than the template takes",
+    6: "the template digest is all zeros, which would mark a violation",
+    7: "there are as many records as --limit allows",
+}
+
+# What clap says of wrong arguments, or the program in its form where clap takes them.
+MORE = "\nFor more information, try '--help'.\n"
+REQUIRE, REGISTERS = "--require <BANK:A-B[,BANK:C-D..]>", "--registers <A-B>"
+USAGES = [
+    (["nothing"], f"error: unrecognized subcommand 'nothing'\n\nUsage: ima-agent <COMMAND>\n{MORE}"),
+    (["show"], f"error: the following required arguments were not provided:\n  <LIST>\n\nUsage: ima-agent show <LIST>\n{MORE}"),
+    (["show", "L", "M"], f"error: unexpected argument 'M' found\n\nUsage: ima-agent show [OPTIONS] <LIST>\n{MORE}"),
+    (["measure", "--workers", "9", "L"], f"error: invalid value '9' for '--workers <N>': 9 is not in 1..=8\n{MORE}"),
+    (["measure", "--alg", "sm3", "L"],
+     f"error: invalid value 'sm3' for '--alg <A>'\n  [possible values: sha1, sha256, sha384, sha512]\n{MORE}"),
+    (["measure", "--json", "--print", "binary", "L"], "error: invalid value 'binary' for '--print <P>' with '--json'\n"),
+    (["\x1b[31m\nred"], f"error: unrecognized subcommand '\\x1b[31m\\x0ared'\n\nUsage: ima-agent <COMMAND>\n{MORE}"),
+    (["verify", "--require", "sha256", "L", "M", "N"], f"error: invalid value 'sha256' for '{REQUIRE}'\n"),
+    (["locate", "--require=\x9b2J", "L", "M", "N"], f"error: invalid value '\\xc2\\x9b2J' for '{REQUIRE}'\n"),
+    (["replay", "--require", "sha256:9-8", "L", "M"], f"error: invalid value 'sha256:9-8' for '{REQUIRE}'\n"),
+    (["expected", "--registers", "24", "L"], f"error: invalid value '24' for '{REGISTERS}'\n"),
+]
+
+# Names with bytes that a terminal acts upon (C0, DEL, C1, and a mark that turns the writing), or that are not ASCII, as they are shown.
+NAMES = [
+    ("a\x1b[2Jb", r"a\x1b[2Jb"),
+    ("a\nverdict match", r"a\x0averdict match"),
+    ("a\r\t\x07\x08b", r"a\x0d\x09\x07\x08b"),
+    ("a\x7fb", r"a\x7fb"),
+    ("a\x9b31mb", r"a\xc2\x9b31mb"),
+    ("a\u202eb", r"a\xe2\x80\xaeb"),
+    ("\u00e4 ~", r"\xc3\xa4 ~"),
+]
+
+
+class Ended(NamedTuple):
+    """What a command left: its status, its output, and what the terminal, or else standard error, got."""
+
+    status: int
+    output: bytes
+    said: bytes
+
+
+class Command(NamedTuple):
+    """A command beside the cases: what it shows, its words, what it shall leave on a terminal, and what is made of its process first."""
+
+    title: str
+    words: list
+    wanted: Ended
+    settle: object = None
+
+
+def run_on_terminal(program, words, folder, given, output, settle=None):
+    """Runs the program with a terminal as its standard error, and returns its status and what that got."""
+    ours, theirs = pty.openpty()
+    tty.setraw(theirs)
+    try:
+        process = subprocess.Popen([program, *words], stdin=given, stdout=output, stderr=theirs, cwd=folder, env={}, preexec_fn=settle)
+    finally:
+        os.close(theirs)
+    said, end = b"", time.monotonic() + SECONDS
+    try:
+        while piece := read_piece(ours, end):
+            said += piece
+        return process.wait(max(1, end - time.monotonic())), said
+    finally:
+        process.kill()
+        process.wait()
+        os.close(ours)
+
+
+def read_piece(terminal, end):
+    """What the terminal gets next; nothing once the process has closed it, or after the end of its time."""
+    if not select.select([terminal], [], [], max(0, end - time.monotonic()))[0]:
+        return b""
+    try:
+        return os.read(terminal, MEBIBYTE)
+    except OSError:  # EIO: the other side is closed
+        return b""
+
+
+def shown(text):
+    """The bytes of a text as a terminal is to get them."""
+    data = text if isinstance(text, bytes) else text.encode("utf-8", "surrogateescape")
+    return b"".join(bytes([each]) if 0x20 <= each <= 0x7E else b"\\x%02x" % each for each in data)
+
+
+def sentence_of(words, line, folder):
+    """What a terminal is to get of a run of these words that has this fault's line, in bytes; None if it is some text of clap's."""
+    if line == b"refused: command line":
+        return None
+    text = line.decode("utf-8", "surrogateescape")
+    name, cause = fault_in_words(text, words, folder)
+    return shown(f"{name}: {cause}" if name is not None else cause) + b"\n"
+
+
+def fault_in_words(line, words, folder):
+    """The name of the input that a fault is of, or None, and what is wrong with it."""
+    if found := re.fullmatch(r"failed: read (.*)", line, re.DOTALL):
+        return None, unread(found[1], folder)
+    if found := re.fullmatch(r"failed: write (.*)", line, re.DOTALL):
+        return None, f"cannot write {found[1]}"
+    if found := re.fullmatch(r"refused: too long (.*)", line, re.DOTALL):
+        return None, f"{found[1]} is longer than 64 MiB"
+    if found := re.fullmatch(r"refused: not UTF-8 (.*)", line, re.DOTALL):
+        return None, f"{found[1]} is not UTF-8"
+    if line == "refused: not hexadecimal":
+        return "standard input", "the text is not hexadecimal"
+    if line == "failed: memory":
+        return None, "out of memory"
+    inputs, files = names_of(words)
+    if found := re.fullmatch(r"refused: log fault (\d+)(?: at event (\d+))?", line):
+        return inputs["log"], (f"event {found[2]}: " if found[2] else "") + LOG[int(found[1])]
+    if found := re.fullmatch(r"refused: (list|replay) fault (\d+) at entry (\d+)", line):
+        return inputs["list"], f"entry {found[3]}: {(LIST if found[1] == 'list' else REPLAY)[int(found[2])]}"
+    if found := re.fullmatch(r"refused: expected fault ([4-6])", line):
+        return inputs["expected"], PRINTED[int(found[1])]
+    if found := re.fullmatch(r"refused: expected fault (\d+) at line (\d+)", line):
+        return inputs["expected"], f"line {found[2]} {EXPECTED[int(found[1])]}"
+    if found := re.fullmatch(r"refused: checkpoint fault (\d+)", line):
+        return inputs["checkpoint"], CHECKPOINT[int(found[1])]
+    if found := re.fullmatch(r"refused: book fault (\d+)", line):
+        return inputs["log"] if found[1] == "2" else None, BOOK[int(found[1])]
+    if found := re.fullmatch(r"refused: job (\d+) book fault (\d+)", line):
+        job = int(found[1])
+        return files[job] if job < len(files) else None, f"file {job} is refused: {BOOK[int(found[2])]}"
+    raise ValueError(f"not the line of a fault: {line}")
+
+
+def names_of(words):
+    """The inputs of these words, by what they are, and the files to measure."""
+    if not words:
+        return {"log": "standard input"}, []
+    asked = read_words(words)
+    kinds = INPUTS[asked.command]
+    return {**dict(zip(kinds, asked.names)), "checkpoint": asked.values.get("--resume")}, asked.names[len(kinds):]
+
+
+def unread(name, folder):
+    """That the file of this name cannot be read, and what the system says why, if it still says so."""
+    place = os.open(folder, os.O_RDONLY)
+    try:
+        file = os.open(name, os.O_RDONLY, dir_fd=place)
+        try:
+            os.read(file, 1)
+        finally:
+            os.close(file)
+    except OSError as error:
+        return f"cannot read {name}: {os.strerror(error.errno)}"
+    except ValueError:  # a NUL in the name, which no call of the system can be given
+        return f"cannot read {name}: file name contained an unexpected NUL byte"
+    finally:
+        os.close(place)
+    return f"cannot read {name}"
+
+
+def fault_line_of(words, text):
+    """The line of the fault that these words' output is, as it is without `--json`; or None. (The lines of entries or events as
+    JSON may stand before it.)"""
+    if text.startswith((b"refused: ", b"failed: ")):
+        return text[:-1]
+    last = text.splitlines()[-1] if words[0] in ("show", "events") and text else text
+    return json.loads(last)["fault"]["message"].encode() if last.startswith(b'{"fault":') else None
+
+
+def is_of_usage(said):
+    """Whether this is a text of clap's, of printable bytes and line feeds alone."""
+    return said.startswith(b"error: ") and said.endswith(b"\n") and all(0x20 <= each <= 0x7E or each == 0x0A for each in said)
+
+
+def without_progress(said):
+    """The same without the progress of a measurement, which a busy machine may show, if that is erased at the end."""
+    return re.sub(rb"(?:\r\d+ of \d+ files\x1b\[K)+\r\x1b\[K", b"", said)
+
+
+def case_fault(program, command, folder, output):
+    """What is wrong with what a command of a case leaves on a terminal, or None."""
+    try:
+        with open(folder / command.input if command.input else os.devnull, "rb") as given, open(output, "wb") as sink:
+            status, said = run_on_terminal(program, command.words, folder, given, sink)
+        said = without_progress(said)
+        text = output.read_bytes()
+    except (OSError, subprocess.TimeoutExpired) as error:
+        return str(error)
+    line = fault_line_of(command.words, text) if status >= 2 else None
+    # (this may move the output away)
+    fault = fault_of(command, Answer(status, output, b""), folder)
+    if fault is not None:
+        return f"the answer is another one:\n    {fault}"
+    try:
+        wanted = b"" if line is None else sentence_of(command.words, line, folder)
+    except (KeyError, ValueError) as error:
+        return f"no table has the words of {text!r}: {error!r}"
+    if is_of_usage(said) if wanted is None else said == wanted:
+        return None
+    return f"the terminal got {said!r}, and not {'a text of clap' if wanted is None else wanted!r}"
+
+
+def case_results(program):
+    """Each command of the cases with small files, and what is wrong with what it leaves, or None."""
+    shared = form.read_shared()
+    for path in form.case_files():
+        case = form.read_case(path)
+        if not case.has_at_most(MOST_BYTES, shared):
+            continue
+        with tempfile.TemporaryDirectory() as name:
+            folder, output = Path(name, "case"), Path(name, "output")
+            folder.mkdir()
+            case.lay(folder, shared)
+            for command in case.commands:
+                yield f"{case.name}: {command.text}", case_fault(program, command, folder, output)
+
+
+def further_commands():
+    """Commands whose words, process or output are such as no case can have."""
+    refused = b"refused: command line\n"
+    for words, text in USAGES:
+        yield Command(f"clap's text: {words}", words, Ended(2, refused, text.encode()))
+    for name, escaped in NAMES:
+        unread = b"failed: read %s\n" % name.encode()
+        yield Command(f"a name: {escaped}", ["show", name], Ended(3, unread, f"cannot read {escaped}: No such file or directory\n".encode()))
+        empty = f"{name} is empty"
+        said = f"{escaped} is empty: event 0: its bytes are not all there\n".encode()
+        yield Command(f"an empty log: {escaped}", ["events", empty], Ended(2, b"refused: log fault 1 at event 0\n", said))
+    memory = b"failed: memory\n"
+    yield Command("an argument that is not UTF-8", ["show", b"\xff"], Ended(3, memory, b"an argument is not UTF-8\n"))
+    yield Command("little memory", ["show", "large 0"], Ended(3, memory, b"out of memory\n"), limit_memory)
+    yield Command("a folder as standard input", [], Ended(3, b"failed: read -\n", b"cannot read standard input: Is a directory\n"),
+                  lambda: give("."))
+    yield Command("standard input without an end", [], Ended(2, b"refused: too long -\n", b"standard input is longer than 64 MiB\n"),
+                  lambda: give("/dev/zero"))
+    yield Command("a folder", ["show", "."], Ended(3, b"failed: read .\n", b"cannot read .: Is a directory\n"))
+    yield Command("a full device", ["registers", "L"], Ended(3, b"", b"the output could not be written\n"), fill_output)
+
+
+def limit_memory():
+    resource.setrlimit(resource.RLIMIT_AS, (ADDRESS_SPACE, ADDRESS_SPACE))
+
+
+def give(file):
+    os.dup2(os.open(file, os.O_RDONLY), 0)
+
+
+def fill_output():
+    os.dup2(os.open("/dev/full", os.O_WRONLY), 1)
+
+
+def make_files(folder):
+    (folder / "L").write_bytes(Log({SHA256.identifier: SHA256.size}, []).spelling() + bytes.fromhex(
+        # (an event that extends register 4, so that there is a line to write)
+        "04000000 04000000 01000000 0b00" + "11" * 32 + "00000000"))
+    for name, _ in NAMES:
+        (folder / f"{name} is empty").touch()
+    for number in range(LARGE_FILES):
+        with open(folder / f"large {number}", "wb") as file:
+            file.truncate(LARGE_BYTES)
+
+
+def left_on_terminal(program, command, folder):
+    with tempfile.TemporaryFile() as sink:
+        status, said = run_on_terminal(program, command.words, folder, subprocess.DEVNULL, sink, command.settle)
+        sink.seek(0)
+        return Ended(status, sink.read(), said)
+
+
+def left_elsewhere(program, command, folder):
+    ran = subprocess.run([program, *command.words], stdin=subprocess.DEVNULL, capture_output=True, cwd=folder, env={}, timeout=SECONDS,
+                         preexec_fn=command.settle)
+    return Ended(ran.returncode, ran.stdout, ran.stderr)
+
+
+def further_results(program, folder):
+    """Each further command, on a terminal and elsewhere, and what is wrong with what it leaves, or None."""
+    for command in further_commands():
+        for where, found, wanted in (
+            ("on a terminal", left_on_terminal(program, command, folder), command.wanted),
+            ("elsewhere", left_elsewhere(program, command, folder), command.wanted._replace(said=b"")),
+        ):
+            yield f"{command.title}, {where}", None if found == wanted else f"{found}, and not {wanted}"
+
+
+def progress_results(program, folder):
+    """Measurements that last: of files that are all there, and with one at the end that is not."""
+    files = [f"large {number}" for number in range(LARGE_FILES)]
+    for title, names, end in (
+        ("a long measurement", files, b""),
+        ("a long measurement that fails", [*files, "none"], b"cannot read none: No such file or directory\n"),
+    ):
+        command = Command(title, ["measure", "--workers", "1", "L", *names], None)
+        found, plain = left_on_terminal(program, command, folder), left_elsewhere(program, command, folder)
+        yield f"{title}, on a terminal", progress_fault(found.said, len(names), end)
+        is_same = found[:2] == plain[:2] and (found.status == 0) == (end == b"")
+        yield f"{title}, elsewhere", None if is_same and plain.said == b"" else f"{found[:2]} on a terminal, and {plain}"
+
+
+def progress_fault(said, count, end):
+    """What is wrong with the progress of so many files, or None: numbers that rise, each over the one before, erased before the end."""
+    found = re.fullmatch(rb"((?:\r\d+ of %d files\x1b\[K)+)\r\x1b\[K(.*)" % count, said, re.DOTALL)
+    if found is None or found[2] != end:
+        return f"the terminal got {said!r}"
+    numbers = [int(number) for number in re.findall(rb"\r(\d+) of", found[1])]
+    rises = all(first < second for first, second in zip(numbers, numbers[1:]))
+    return None if len(numbers) > 1 and rises and numbers[-1] <= count else f"the numbers are {numbers}"
+
+
+def order_results(program, folder):
+    """A refusal where the output and standard error are one terminal: the line, and then the sentence."""
+    status, said = run_on_terminal(program, ["show", "none"], folder, subprocess.DEVNULL, subprocess.DEVNULL, lambda: os.dup2(2, 1))
+    wanted = b"failed: read none\ncannot read none: No such file or directory\n"
+    yield "a refusal, all on one terminal", None if (status, said) == (3, wanted) else f"status {status}, the terminal got {said!r}"
+
+
+def pace_results(program, folder):
+    """Measurements of pipes: each number in turn, from 1 on, after more than a second; and none before."""
+    names = [f"pipe {number}" for number, _ in enumerate(PACES)]
+    for name in names:
+        os.mkfifo(folder / name)
+    said, _ = paced(program, folder, names, PACES)
+    wanted = b"".join(b"\r%d of %d files\x1b[K" % (number + 1, len(names)) for number, _ in enumerate(names)) + b"\r\x1b[K"
+    yield "a measurement of pipes", None if said == wanted else f"the terminal got {said!r}, and not {wanted!r}"
+    for _ in range(ATTEMPTS):
+        said, seconds = paced(program, folder, names[:1], (0.5,))
+        if seconds < 1:
+            yield "a measurement of less than a second", f"the terminal got {said!r}" if said else None
+            return
+    yield "a measurement of less than a second", f"it took {seconds} seconds"
+
+
+def paced(program, folder, names, paces):
+    """What a terminal gets of a measurement of pipes that are closed after these times, and how long it took."""
+    def close_in_turn():
+        for name, pace in zip(names, paces):
+            with open(folder / name, "wb"):
+                time.sleep(pace)
+
+    thread, begun = threading.Thread(target=close_in_turn, daemon=True), time.monotonic()
+    thread.start()
+    words = ["measure", "--workers", "1", "L", *names]
+    _, said = run_on_terminal(program, words, folder, subprocess.DEVNULL, subprocess.DEVNULL)
+    return said, time.monotonic() - begun
+
+
+def results(program):
+    yield from case_results(program)
+    with tempfile.TemporaryDirectory() as name:
+        make_files(Path(name))
+        yield from further_results(program, Path(name))
+        yield from order_results(program, Path(name))
+        yield from pace_results(program, Path(name))
+        yield from progress_results(program, Path(name))
+
+
+def main():
+    program = Path(sys.argv[1] if len(sys.argv) > 1 else PROGRAM).resolve()
+    failed = passed = 0
+    for title, fault in results(program):
+        failed, passed = failed + (fault is not None), passed + (fault is None)
+        if fault is not None:
+            print(f"{title!r}: {fault}", flush=True)
+    print(f"{passed} passed, {failed} failed")
+    return 1 if failed else 0
+
+
+if __name__ == "__main__":
+    sys.exit(main())

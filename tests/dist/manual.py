@@ -1,0 +1,197 @@
+#!/usr/bin/env python3
+"""Requires that the manual pages of docs/man/ say what the program, the header, and the other commands say of themselves.
+
+tests/dist/manual.py PROGRAM [FLEET WORD..]: the program, and the words that call the fleet's; without these the page of the fleet is not
+looked at.
+
+Of ima-agent.1 the commands with their synopses, the options with their values and defaults, the statuses and the tables of faults must
+be those of the help, and the lines of faults those of docs/formats.md. Of ima_verify.3 the functions must be those of the header, to
+the type, with its constants, and the functions of version 1 those of dist/libima_verify.map. Of ima-attest.1 and fleet-verify.1 the
+options must be those of the usage, and of the second the statuses those of docs/fleet.md. Each difference is printed, and the status is 1
+if there is one."""
+
+import re
+import subprocess
+import sys
+from pathlib import Path
+
+ROOT = Path(__file__).resolve().parents[2]
+sys.path.insert(0, str(ROOT / "dist"))
+
+import help as helps  # noqa: E402
+from header import constants_of, functions_of, versions_of  # noqa: E402
+
+MACROS = re.compile(r"^\.(?:It|Li|Ql|Pa|Cm|Ar|Fl|Dv|Fn|Fa|Dq|Xr|Pq|Sx)\b")
+WORDS = re.compile(r"(?<!\S)(?:No|Ar|Cm|Li|Ql)(?!\S) ?")
+
+
+class Page:
+    """A page in mdoc: its lines by section and subsection."""
+
+    def __init__(self, name):
+        self.name, self.parts = name, {}
+        part = []
+        for line in (ROOT / "docs/man" / name).read_text().splitlines():
+            if line.startswith((".Sh ", ".Ss ")):
+                part = self.parts.setdefault(line[4:], [])
+            else:
+                part.append(line)
+
+    def part(self, title):
+        return self.parts.get(title, [])
+
+    def items(self, title):
+        """The items of a part's lists: the line of each after `.It`, and its text."""
+        items = []
+        for line in self.part(title):
+            if line.startswith(".It "):
+                items.append((line[4:], []))
+            elif items and not line.startswith((".El", ".Pp", ".Bl")):
+                items[-1][1].append(line)
+        return [(head, plain(lines)) for head, lines in items]
+
+
+def plain(lines):
+    """The words of lines of mdoc, on one line, without the macros that begin a line or stand between words."""
+    words = " ".join(WORDS.sub("", MACROS.sub("", line).strip()) for line in lines)
+    return re.sub(r" ([,.;:])", r"\1", words)
+
+
+def differences(title, wanted, found):
+    """What one has and the other lacks."""
+    for each in wanted:
+        if each not in found:
+            yield f"{title}: lacks {each}"
+    for each in found:
+        if each not in wanted:
+            yield f"{title}: has {each}, which is not there"
+
+
+def options_in(items):
+    """The options that items tell of, with whether each has a value."""
+    options = {}
+    for head, text in items:
+        if head.startswith("Fl "):
+            names = re.findall(r"-([a-z][a-z-]*)", head)
+            options.update((name, (" Ar " in head, text)) for name in names)
+    return options
+
+
+def check_options(title, wanted, items):
+    """The options of a command: names, whether they have a value, defaults, and the values that can be."""
+    found = options_in(items)
+    yield from differences(title, [option.name for option in wanted], list(found))
+    for option in wanted:
+        has_value, text = found.get(option.name, (bool(option.value), None))
+        if has_value != bool(option.value):
+            yield f"{title} --{option.name}: does it have a value?"
+        for word in (*option.values, *([option.default] if option.default else [])):
+            if text is not None and not re.search(rf"(?<![\w-]){re.escape(word)}(?![\w-])", text):
+                yield f"{title} --{option.name}: lacks {word}"
+
+
+def synopses(page):
+    """By command, what the synopsis says of its options and arguments."""
+    uses, command = {}, None
+    for line in page.part("SYNOPSIS"):
+        if line.startswith(".Cm "):
+            command = line[4:]
+            uses[command] = ([], [])
+        elif line == ".Nm":
+            command = None
+        elif command:
+            options, arguments = uses[command]
+            options += re.findall(r"Fl -([a-z-]+)", line)
+            if line.startswith((".Ar", ".Op Ar")):
+                arguments += line.split("Ar", 1)[1].split() or ["file"]
+    return uses
+
+
+def check_synopses(page, commands):
+    found = synopses(page)
+    for command in commands:
+        options, arguments = found.get(command.name, ([], []))
+        title = f"{page.name}: synopsis of {command.name}"
+        yield from differences(title, [option.name for option in command.options if option.name != "help"], options)
+        yield from differences(title, [name.strip("<[]>.").lower() for name in command.arguments], arguments)
+
+
+def check_faults(page, commands):
+    """The tables of faults, each as all commands have it, and the lines of faults of docs/formats.md."""
+    wanted = {title: rows for command in commands for title, rows in command.faults.items()}
+    found = {title: dict(page.items(title)) for title in page.parts if title.endswith(" faults")}
+    yield from differences(page.name, list(wanted), list(found))
+    for title, rows in wanted.items():
+        yield from differences(f"{page.name}: {title}", list(rows.items()), list(found.get(title, {}).items()))
+    section = (ROOT / "docs/formats.md").read_text().split("\n### Fault lines\n")[1].split("\n###")[0]
+    lines = re.findall(r"`(?:refused|failed): ([^`]*)`", "\n".join(re.findall(r"^\| `.*", section, re.MULTILINE)))
+    said = plain(page.part("DIAGNOSTICS")).lower()
+    yield from (f"{page.name}: lacks the line of a fault: {line}" for line in lines if line.lower() not in said)
+    if len(lines) < 10:
+        yield "docs/formats.md: where are the lines of faults?"
+
+
+def check_program(program):
+    whole, commands = helps.read_program(program)
+    page = Page("ima-agent.1")
+    titles = [title for title in page.parts if title.islower()]
+    yield from differences(page.name, [command.name for command in commands], titles)
+    for command in commands:
+        options = [option for option in command.options if option.name != "help"]
+        yield from check_options(f"{page.name}: {command.name}", options, page.items(command.name))
+    yield from check_options(page.name, whole.options, page.items("Other options"))
+    yield from check_synopses(page, commands)
+    yield from check_faults(page, [whole, *commands])
+    statuses = {number: None for command in [whole, *commands] for number in command.statuses}
+    yield from differences(f"{page.name}: statuses", list(statuses), [head for head, _ in page.items("EXIT STATUS")])
+
+
+def check_library():
+    page = Page("ima_verify.3")
+    synopsis = "\n".join(page.part("SYNOPSIS"))
+    found = {name: (kind, re.findall(r'"(.*)"', arguments))
+             for kind, name, arguments in re.findall(r"^\.Ft (\S+)\n\.Fo (\w+)\n((?:\.Fa .*\n)*)\.Fc", synopsis, re.MULTILINE)}
+    wanted = functions_of(ROOT)
+    yield from differences(page.name, list(wanted.items()), list(found.items()))
+    told = set(re.findall(r"^\.Fn (\w+)", "\n".join(page.part("DESCRIPTION") + page.part("RETURN VALUES")), re.MULTILINE))
+    for name in wanted:
+        if name not in told and not (name.endswith("_json") and name[: -len("_json")] in told):
+            yield f"{page.name}: says nothing of {name}"
+    yield from (f"{page.name}: tells of {name}, which the header lacks" for name in sorted(told - set(wanted)))
+    statuses = dict(re.findall(r"^\.It Dv (\w+) No \((\d+)\)", "\n".join(page.part("RETURN VALUES")), re.MULTILINE))
+    yield from differences(page.name, list(constants_of(ROOT).items()), list(statuses.items()))
+    first = re.findall(r"^\.Fn (\w+)", "\n".join(page.part("HISTORY")), re.MULTILINE)
+    yield from differences(f"{page.name}: version 1", [name for name, version in versions_of(ROOT).items() if version == 1], first)
+
+
+def check_usage(name, usage):
+    """A page's options are those that a usage names."""
+    wanted = dict.fromkeys(re.findall(r"(?<![\w-])--([a-z][a-z-]*)", usage))
+    found = [option for option in options_in(Page(name).items("DESCRIPTION")) if len(option) > 1]
+    yield from differences(name, list(wanted), found)
+    if not wanted:
+        yield f"{name}: there is no usage to compare it with"
+
+
+def check_statuses(name, page):
+    """A page's statuses are those of a table of docs/."""
+    wanted = re.findall(r"^\| ([0-9]+) \|", (ROOT / "docs" / page).read_text(), re.MULTILINE)
+    yield from differences(f"{name}: statuses", wanted, [head for head, _ in Page(name).items("EXIT STATUS")])
+
+
+def said_by(*words):
+    return subprocess.run(words, stdin=subprocess.DEVNULL, stdout=subprocess.PIPE, stderr=subprocess.STDOUT).stdout.decode()
+
+
+def main():
+    program, *fleet = sys.argv[1:]
+    found = [*check_program(program), *check_library(), *check_usage("ima-attest.1", said_by(ROOT / "attest/verify"))]
+    if fleet:
+        found += check_usage("fleet-verify.1", said_by(*fleet, "--help"))
+        found += check_statuses("fleet-verify.1", "fleet.md")
+    print("\n".join(found), end="\n" if found else "")
+    return bool(found)
+
+
+if __name__ == "__main__":
+    sys.exit(main())

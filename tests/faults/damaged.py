@@ -1,0 +1,123 @@
+#!/usr/bin/env python3
+"""Compares what the library for C and `tests/reference/` answer on damaged inputs: each front of the sample's log and of its list, and each of
+the two with the lowest bit of one byte turned.
+
+tests/faults/damaged.py [LIBRARY]: a libima_verify.so; without it `dist/library` makes one, which builds what is not up to date.
+
+Of each input wanted are its own text and its verdict. Most of a log is data of which no register tells, so a log is judged with the
+first entry of the list alone. How many inputs had which answer is told of each kind. The last line is 'N passed, M failed', of inputs."""
+
+import ctypes
+import os
+import subprocess
+import sys
+import tempfile
+from collections import Counter
+from concurrent.futures import ProcessPoolExecutor
+from pathlib import Path
+
+ROOT = Path(__file__).resolve().parents[2]
+sys.path.insert(0, str(ROOT / "tests"))
+from reference.faults import Fault  # noqa: E402
+from reference.log import read_log  # noqa: E402
+from reference.measurement_list import read_list  # noqa: E402
+from reference.texts import read_expected  # noqa: E402
+from reference.verdict import verdict  # noqa: E402
+
+BOOT = ROOT / "samples/real-boot"
+LOG, LIST = ((BOOT / name).read_bytes() for name in ("firmware.log", "ima.list"))
+FIRST_ENTRY = LIST[:101]
+TENTH = next(line for line in (BOOT / "expected.txt").read_bytes().splitlines() if line.startswith(b"sha256 10 "))
+ROOM = 65536
+
+
+def answer_of(decide):
+    """The status and the text that a call of the reference comes to."""
+    try:
+        text, is_well = decide()
+    except Fault as fault:
+        return fault.status, f"{fault.line}\n".encode()
+    return 0 if is_well else 1, text if isinstance(text, bytes) else text.encode()
+
+
+def judged(log, listed, expected):
+    expected = read_expected(expected)
+    return verdict(read_log(log), read_list(listed), expected)
+
+
+def registers(log):
+    return read_log(log).registers().text(), True
+
+
+def shown(listed):
+    return b"".join(entry.line() for entry in read_list(listed)), True
+
+
+# For each kind of input: the library's function, what else it is given, and the same of the reference.
+KINDS = {
+    "registers after the log": (LOG, "registers", lambda log: [log], registers),
+    "verdict on the log and the first entry": (LOG, "verdict", lambda log: [log, FIRST_ENTRY, b""], judged),
+    "entries of the list": (LIST, "show", lambda listed: [listed], shown),
+    "verdict on the log and the list": (LIST, "verdict", lambda listed: [LOG, listed, TENTH], judged),
+}
+DAMAGES = {
+    "fronts": (lambda data: range(len(data) + 1), lambda data, place: data[:place]),
+    "one bit turned": (lambda data: range(len(data)), lambda data, place: data[:place] + bytes([data[place] ^ 1]) + data[place + 1 :]),
+}
+
+
+def library_answer(library, function, inputs):
+    """The status and the text that the library answers."""
+    text, size = ctypes.create_string_buffer(ROOM), ctypes.c_size_t()
+    words = [word for data in inputs for word in (ctypes.c_char_p(data), ctypes.c_size_t(len(data)))]
+    status = getattr(library, f"ima_verify_{function}")(*words, text, ctypes.c_size_t(ROOM), ctypes.byref(size))
+    return status, text.raw[: size.value]
+
+
+def kind_of_answer(answer):
+    """An answer without its numbers of events and entries."""
+    status, text = answer
+    return "well" if status == 0 else "differs" if status == 1 else text.decode().strip().partition(" at ")[0]
+
+
+def compared(file, kind, damage):
+    """How many inputs of a kind had which answer, and those of which the two answers differ."""
+    library = ctypes.CDLL(file)
+    data, function, inputs_with, decide = KINDS[kind]
+    places_in, damaged = DAMAGES[damage]
+    counts, wrong = Counter(), []
+    for place in places_in(data):
+        inputs = inputs_with(damaged(data, place))
+        wanted, found = answer_of(lambda: decide(*inputs)), library_answer(library, function, inputs)
+        counts[kind_of_answer(wanted)] += 1
+        if wanted != found:
+            wrong.append(f"byte {place}: status {found[0]}, {found[1][-200:]!r}, not {wanted[0]}, {wanted[1][-200:]!r}")
+    return counts, wrong
+
+
+def compare(file):
+    """The numbers of inputs with the same answer and with another."""
+    passed = failed = 0
+    groups = [(kind, damage) for kind in KINDS for damage in DAMAGES]
+    with ProcessPoolExecutor(os.cpu_count()) as pool:
+        runs = [pool.submit(compared, str(file), *group) for group in groups]
+        for (kind, damage), run in zip(groups, runs):
+            counts, wrong = run.result()
+            print(f"{kind}, {damage}:", ", ".join(f"{answer} {times}" for answer, times in sorted(counts.items())))
+            print(*wrong[:3], sep="\n", end="\n" if wrong else "", flush=True)
+            passed, failed = passed + sum(counts.values()) - len(wrong), failed + len(wrong)
+    return passed, failed
+
+
+def main():
+    with tempfile.TemporaryDirectory() as folder:
+        file = Path(sys.argv[1]).resolve() if len(sys.argv) > 1 else Path(folder, "libima_verify.so")
+        if len(sys.argv) == 1:
+            subprocess.run([ROOT / "dist/library", folder], check=True)
+        passed, failed = compare(file)
+    print(f"{passed} passed, {failed} failed")
+    return 1 if failed or not passed else 0
+
+
+if __name__ == "__main__":
+    sys.exit(main())

@@ -1,0 +1,132 @@
+#!/usr/bin/env python3
+"""Has the files and the output of the program be slow, or fail, as real devices do.
+
+tests/faults/devices.py [PROGRAM]: by default the program that was built in this tree.
+
+Of the cases a command of each kind (those of `tests/faults/sweep.py`) runs again and again, with tests/faults/devices.c before the C library. Where a
+read gives one byte at most and a write takes one, its answer and the checkpoint that it saves are to be the same. Then each opening of a
+file fails in turn, and each read, the one at the end of a file too: the answer is to be `failed: read` with the name of that file, which
+`--json` has as JSON, and status 3; before it stand the lines of entries that `show --json` wrote while it read, if any. A command that is
+refused without that may be refused as it is then. Where a checkpoint is saved, its file is to be synced before it is renamed. The opening,
+each write, the syncing and the renaming of that file fail in turn: the answer is to be `failed: write` with its name, and what had that
+name stays as it was. And each write fails in turn, or takes no byte: what was written is to be a front of the output, with nothing after
+it, and the status 3. A command without such a call is told. The last line, 'N passed, M failed', counts commands."""
+
+import errno
+import json
+import os
+import subprocess
+import sys
+import tempfile
+from concurrent.futures import ThreadPoolExecutor
+from dataclasses import dataclass
+from pathlib import Path
+
+HERE = Path(__file__).resolve().parent
+sys.path[:0] = [str(HERE.parent), str(HERE.parent / "cases"), str(HERE)]
+
+from answers import answer_of, saved_by  # noqa: E402
+from sweep import command_runs  # noqa: E402
+
+MOST_CALLS = 10_000
+FAILED = 3
+# Which calls fail, with which errors (of a write, 0 is none: it takes no byte), and how many bytes a call moves at most.
+FAILING = (
+    ("open", (errno.EACCES, errno.EMFILE), 0),
+    ("read", (errno.EIO, errno.EINTR), 0),
+    ("write", (errno.ENOSPC, errno.EINTR, 0), 40),
+    ("save", (errno.ENOSPC, errno.EIO), 400),
+)
+
+
+@dataclass(frozen=True)
+class Devices:
+    """Runs a command, with the library before the C library."""
+
+    library: Path
+    run: object
+
+    def answer(self, settings):
+        """The status, the output and what stands on standard error, under these settings; and the name of the file that failed, or None."""
+        with tempfile.TemporaryDirectory() as name:
+            met, output = Path(name, "met"), Path(name, "output")
+            settings = {"LD_PRELOAD": str(self.library), "FAILURE_MET": str(met), **settings}
+            answer = answer_of(self.run.program, self.run.command, self.run.folder, output, settings)
+            return (answer.status, output.read_bytes(), answer.errors), met.read_bytes() if met.exists() else None
+
+    def faults(self):
+        """What is wrong with the command's answers; and how many calls failed."""
+        wanted, unsynced = self.answer({})
+        if unsynced is not None:
+            return [f"{unsynced!r} is renamed before it is synced"], 0
+        saved = saved_by(self.run.command, self.run.folder)
+        short, _ = self.answer({"MOST_BYTES": "1"})
+        beside = self.run.folder / f"{self.run.command.saved}.0.new"
+        faults, count = [] if short == wanted else [f"a byte at a time: {short}"], 0
+        if saved_by(self.run.command, self.run.folder) != saved:
+            faults.append(f"a byte at a time, and {self.run.command.saved} is another")
+        for kind, errors, most in FAILING:
+            for error in errors:
+                for number in range(1, MOST_CALLS):
+                    before = saved_by(self.run.command, self.run.folder)
+                    failing = {"FAILING_CALL": kind, "FAILING_NUMBER": str(number), "FAILING_ERROR": str(error), "MOST_BYTES": str(most)}
+                    found, name = self.answer(failing)
+                    if name is None:
+                        break
+                    count += 1
+                    if not (is_cut if kind == "write" else is_told)(found, wanted, name, self.run.command):
+                        faults.append(f"{kind} {number} of {name!r} fails with error {error}: {found}")
+                    if kind != "write" and saved_by(self.run.command, self.run.folder) != before:
+                        faults.append(f"{kind} {number} of {name!r} fails with error {error}, and {self.run.command.saved} is another")
+                    if beside.exists():
+                        faults.append(f"{kind} {number} of {name!r} fails with error {error}, and leaves {beside.name}")
+        return faults, count
+
+
+def is_told(found, wanted, name, command):
+    """Whether an answer tells that this file failed, or is the refusal that is wanted in any case."""
+    if wanted[0] > 1 and found == wanted:
+        return True
+    words, kind = command.words, "read"
+    if command.saved and name == f"{command.saved}.0.new".encode():
+        kind, name = "write", command.saved.encode()
+    line = b"failed: %s %s\n" % (kind.encode(), name)
+    if "--json" in words:
+        line = json.dumps({"fault": {"kind": kind, "message": line[:-1].decode()}}, separators=(",", ":"), ensure_ascii=False).encode() + b"\n"
+    status, text, errors = found
+    before = text.removesuffix(line)
+    return (status, errors) == (FAILED, b"") and text != before and (not before or is_read_before(before, wanted[1], words))
+
+
+def is_read_before(text, wanted, words):
+    """Whether a text is the lines of the first entries that these words show of a list as JSON."""
+    lines = text.splitlines(keepends=True)
+    shows_entries = words[0] == "show" and "--json" in words
+    return shows_entries and wanted.splitlines(keepends=True)[: len(lines)] == lines and all(line.startswith(b'{"entry":') for line in lines)
+
+
+def is_cut(found, wanted, _name, _command):
+    """Whether an answer is a front of the one wanted, and no more."""
+    status, text, errors = found
+    return status == FAILED and errors == b"" and text != wanted[1] and wanted[1].startswith(text)
+
+
+def main():
+    root = HERE.parents[1]
+    program = Path(sys.argv[1] if len(sys.argv) > 1 else root / "crates/ima_agent_program/out/ima_agent_program").resolve()
+    with tempfile.TemporaryDirectory() as name, ThreadPoolExecutor(os.cpu_count()) as pool:
+        folder = Path(name)
+        library = folder / "devices.so"
+        subprocess.run(["cc", "-O2", "-shared", "-fPIC", "-o", library, HERE / "devices.c", "-ldl"], check=True)
+        runs, wrong = command_runs(program, folder)
+        failed, total = len(wrong), 0
+        for run, (faults, count) in zip(runs, pool.map(lambda run: Devices(library, run).faults(), runs)):
+            total += count
+            failed += bool(faults)
+            print(f"{count:6} failed, {faults[0] if faults else 'ok'}: {run.title()}", flush=True)
+        print(*wrong, f"{total} calls failed", f"{len(runs) + len(wrong) - failed} passed, {failed} failed", sep="\n")
+    return 1 if failed or not runs else 0
+
+
+if __name__ == "__main__":
+    sys.exit(main())

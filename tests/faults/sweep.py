@@ -1,0 +1,355 @@
+#!/usr/bin/env python3
+"""Refuses each allocation in turn, in the tests made for it and in the program; and measures large files in little memory.
+
+tests/faults/sweep.py [ROOT]: the tree with the test binaries and the program that `rt ci` made; by default the one that this file is in.
+
+Each test whose name contains `each_allocation_refused`, and a command of each kind that the cases have, runs again and again. In the
+Nth run its Nth allocation is refused (tests/faults/refuse.c), until a run ends with none refused. A test must pass each time; a command must
+answer as its case wants, or with `failed: memory`, which `--json` has as JSON, and status 3 (`show` and `events` with `--json` after lines that are due). A test or command without a refused
+allocation fails, and so does a run that crashes or takes longer than a minute. Allocations of a test's binary that runs no test do not
+count: as many as that makes, a test makes before it begins. (What a test allocates to prepare its call does count: nothing outside
+tells where that begins.)
+
+Each crate of crates.txt that has such tests in its sources must have its binary, which must list just these. The help of the program and
+of each command must be among the commands, with a file of its case that it has to be, and so must each command with `--json`.
+
+Commands are of one kind if they have the same word, options and status, as many names (three or more are alike), the same fault where
+they are refused, and both or neither ask for help or the version, name a sample, or have a text with more names. Of each kind the first
+runs, in the order of the cases, that names no file of the system, in a case whose files have at most 64 KiB.
+
+Before that, the program measures 50 files of 40 MiB within 64 MiB of address space, and shows a list of 64 MiB as JSON, with a peak of
+memory at most 8 MiB above that of an empty one; and it replays a log of 64 MiB, of events of 16 bytes, and shows its events, with a peak
+at most as much above the log's size. The last line, 'N passed, M failed', counts all."""
+
+import json
+import os
+import re
+import resource
+import subprocess
+import sys
+import tempfile
+from concurrent.futures import ThreadPoolExecutor
+from dataclasses import dataclass
+from pathlib import Path
+
+HERE = Path(__file__).resolve().parent
+sys.path[:0] = [str(HERE.parent), str(HERE.parent / "cases")]
+
+import form  # noqa: E402
+import reference  # noqa: E402
+from answers import answer_of, fault_of  # noqa: E402
+from reference.command_line import COMMANDS, HelpAsked, asks_for_help, asks_for_version, read_arguments  # noqa: E402
+from reference.faults import Fault  # noqa: E402
+from reference.log import EV_NO_ACTION, Event, Log, read_log  # noqa: E402
+from reference.measurement_list import BOOT_AGGREGATE, IMA_NG, entry_of, list_text  # noqa: E402
+from reference.registers import SHA256  # noqa: E402
+
+SECONDS = 60
+MOST_REFUSALS = 100_000
+MOST_BYTES = 64 * 1024
+TESTS = "each_allocation_refused"
+NO_TEST = "no test has this name"
+TEST = re.compile(r"^ *#\[test\]\n(?: *#\[.*\]\n)* *(?:pub )?fn (\w+)", re.MULTILINE)
+CRATE = re.compile(r"^(\w+)[^:#\n]*:", re.MULTILINE)
+OUT_OF_MEMORY = (3, b"failed: memory\n", b"")
+OUT_OF_MEMORY_AS_JSON = (3, b'{"fault":{"kind":"memory","message":"failed: memory"}}\n', b"")
+FAULT = re.compile(r"(?:refused|failed): (?:job \d+ )?(?:(.* fault \d+)|(read|write|too long|not UTF-8|[a-z ]+))")
+MEBIBYTE = 1 << 20
+LARGE_FILES = 50
+LARGE_FILE_BYTES = 40 * MEBIBYTE
+ADDRESS_SPACE = 64 * MEBIBYTE
+LARGE_SECONDS = 600
+LARGE_LIST_BYTES = 64 * MEBIBYTE
+LARGE_LOG_BYTES = 64 * MEBIBYTE
+MOST_ABOVE_EMPTY = 8 * MEBIBYTE
+
+
+@dataclass(frozen=True)
+class TestRun:
+    """A test that is made for refused allocations, and how many its binary makes before it runs one."""
+
+    binary: Path
+    name: str
+    before: int = 0
+
+    def title(self):
+        return f"{self.binary.name}: {self.name}"
+
+    def fault(self, settings, met):
+        """What is wrong with a run under these settings, or None."""
+        try:
+            ran = subprocess.run([self.binary, self.name], stdin=subprocess.DEVNULL, capture_output=True, timeout=SECONDS,
+                                 env={**os.environ, **settings})
+        except subprocess.TimeoutExpired:
+            return f"more than {SECONDS} seconds"
+        return None if ran.returncode == 0 else f"status {ran.returncode}, {(ran.stdout + ran.stderr)[-500:]!r}"
+
+
+@dataclass(frozen=True)
+class CommandRun:
+    """A command of a case, whose files are in a folder."""
+
+    program: Path
+    case: form.Case
+    command: form.Command
+    folder: Path
+    before = 0  # (that it cannot obtain its arguments is an answer of the program, too)
+
+    def title(self):
+        return f"{self.case.name}:{self.command.line}: {self.command.text}"
+
+    def wants_of_memory(self):
+        """The answers of which one is due out of memory: with `--json` the plain one while the arguments are read."""
+        return (OUT_OF_MEMORY, OUT_OF_MEMORY_AS_JSON) if "--json" in self.command.words else (OUT_OF_MEMORY,)
+
+    def output_of_memory(self, output):
+        """What is due out of memory, of an output: of a list's or a log's lines of JSON the last, if those before it are the first that the
+        case wants."""
+        if self.command.words[:1] not in (["show"], ["events"]) or "--json" not in self.command.words:
+            return output
+        *lines, last = output.splitlines(keepends=True) or [b""]
+        wanted = [line.encode() + b"\n" for line in self.command.wanted[: len(lines)]]
+        return last if lines == wanted else output
+
+    def fault(self, settings, met):
+        """What is wrong with a run under these settings, in which an allocation was refused if the file `met` is there, or None."""
+        with tempfile.TemporaryDirectory() as name:
+            answer = answer_of(self.program, self.command, self.folder, Path(name, "output"), settings)
+            output = self.output_of_memory(answer.output.read_bytes())
+            if met.exists() and (answer.status, output, answer.errors) in self.wants_of_memory():
+                return None
+            return fault_of(self.command, answer, self.folder)
+
+
+def request_of(command, folder):
+    """What a command with a word asks for: its options, how many names it has, three or more being alike, and whether a text in its
+    folder has more."""
+    names, given = read_arguments(COMMANDS[command.words[0]], command.words[1:])
+    listed = folder / given.pop("--files-from", "")
+    has_listed = listed.is_file() and listed.stat().st_size > 0
+    given |= {name: True for name in ("--save", "--resume") if name in given}
+    options = frozenset((name, value if isinstance(value, str) else value == 1) for name, value in given.items())
+    return options, min(len(names), 3), has_listed
+
+
+def kind_of(command, folder):
+    """What a command, which is run in this folder, has in common with those of its kind."""
+    word = command.words[0] if command.words else ""
+    names_sample = any(it and it.startswith(form.SAMPLES) for it in (*command.words, command.input))
+    try:
+        request = request_of(command, folder) if word in COMMANDS else (asks_for_help(word), asks_for_version(word))
+    except (Fault, HelpAsked) as cause:
+        request = type(cause)
+    fault = FAULT.search(command.wanted[-1]) if command.status > 1 and command.wanted else None
+    return word if word in COMMANDS else "", request, command.status, fault and fault.groups(), names_sample
+
+
+def command_runs(program, folder):
+    """A run of a command of each kind; and what is wrong with cases."""
+    shared, runs, faults = form.read_shared(), {}, []
+    for number, path in enumerate(form.case_files()):
+        try:
+            case = form.read_case(path)
+            if case.has_at_most(MOST_BYTES, shared):
+                home = folder / f"case-{number}"
+                home.mkdir()
+                case.lay(home, shared)
+                for command in case.commands:
+                    run = CommandRun(program, case, command, home)
+                    if any(name and not (home / name).exists() for name in (command.output, command.saved)):
+                        run.fault({}, home / "none")  # (it makes a file for those after it)
+                    if not any(word.startswith("/") for word in command.words):
+                        runs.setdefault(kind_of(command, home), run)
+        except form.Malformed as fault:
+            faults.append(f"{path}:{fault}")
+    return list(runs.values()), faults + json_faults(runs.values())
+
+
+def help_faults(runs):
+    """What is wrong if not each help is among the runs, with a file that it has to be."""
+    asked = {run.command.words[0] if run.command.words[1:] else "" for run in runs if run.command.output and
+             any(map(asks_for_help, run.command.words))}
+    return [f"no case has the help of {word or 'the program'} as a file" for word in ("", *COMMANDS) if word not in asked]
+
+
+def json_faults(runs):
+    """What is wrong if not each command is among the runs with an output as JSON."""
+    shown = {run.command.words[0] for run in runs if "--json" in run.command.words and run.command.status < 2}
+    return [f"no case has {word} --json" for word in COMMANDS if word not in shown]
+
+
+def tests_in(crate):
+    """The names of the tests in a crate's sources that are made for refused allocations, without their modules."""
+    for file in sorted(crate.glob("src/**/*.rt")):
+        is_named = TESTS in file.relative_to(crate).as_posix()
+        yield from (name for name in TEST.findall(file.read_text()) if is_named or TESTS in name)
+
+
+def tests_of(binary):
+    """The tests that a binary lists and that are made for refused allocations."""
+    listing = subprocess.run([binary, "--list"], capture_output=True, timeout=SECONDS, check=True)
+    names = (line.removesuffix(": test").strip() for line in listing.stdout.decode().splitlines())
+    return [name for name in names if TESTS in name]
+
+
+def test_runs(root, library, folder):
+    """The tests of every crate that are made for refused allocations; and what is wrong with crates."""
+    runs, faults = [], []
+    for name in CRATE.findall((root / "crates.txt").read_text()):
+        crate = root / "crates" / name
+        binary, wanted = crate / "out" / f"{name}_tests", sorted(tests_in(crate))
+        if not wanted:
+            continue
+        try:
+            found = tests_of(binary)
+            before = allocations_of(TestRun(binary, NO_TEST), library, folder)
+            runs += [TestRun(binary, test, before) for test in found]
+            if sorted(test.split("::")[-1] for test in found) != wanted:
+                faults.append(f"{name}: of the tests {wanted} the binary has {found}")
+        except (OSError, subprocess.SubprocessError) as error:
+            faults.append(f"{name}: {error}")
+    return runs, faults
+
+
+def faults_of(run, library, folder):
+    """What is wrong with a run in which allocation 1 is refused, then 2, and so on as long as one is refused; then of one with none."""
+    for number in range(1, MOST_REFUSALS):
+        met = folder / f"met-{os.urandom(8).hex()}"
+        yield run.fault({"LD_PRELOAD": str(library), "REFUSED_ALLOCATION": str(number), "REFUSAL_MET": str(met)}, met)
+        if not met.exists():
+            return
+        met.unlink()
+    yield "there is no end to it"
+
+
+def allocations_of(run, library, folder):
+    """How many allocations can be refused in a run, whatever comes of it."""
+    return sum(1 for _ in faults_of(run, library, folder)) - 1
+
+
+def sweep(run, library, folder):
+    """How many allocations were refused, but for those before it begins, and what was wrong with the first wrong run, or None."""
+    number = 0
+    for number, fault in enumerate(faults_of(run, library, folder), 1):
+        if fault is not None:
+            return number, f"allocation {number}: {fault}"
+    refusals = number - 1 - run.before
+    return refusals, None if refusals > 0 else "no allocation was refused"
+
+
+def large_files_fault(root, program, folder):
+    """What is wrong with a measurement of large files in less memory than two of them take, or None."""
+    log = root / "samples/real-boot/firmware.log"
+    names = [f"large-{number:02}" for number in range(LARGE_FILES)]
+    with open(folder / names[0], "wb") as file:
+        file.truncate(LARGE_FILE_BYTES)
+    for name in names[1:]:
+        os.link(folder / names[0], folder / name)
+    digest = SHA256.hash(bytes(LARGE_FILE_BYTES))
+    aggregate = read_log(log.read_bytes()).registers().boot_aggregate(SHA256)
+    files = [(BOOT_AGGREGATE, aggregate), *((name.encode(), digest) for name in names)]
+    wanted = list_text(entry_of(IMA_NG, SHA256, digest, name) for name, digest in files)
+    try:
+        ended = subprocess.run(
+            [program, "measure", "--workers", "2", log, *names],
+            cwd=folder, stdin=subprocess.DEVNULL, capture_output=True, timeout=LARGE_SECONDS,
+            preexec_fn=lambda: resource.setrlimit(resource.RLIMIT_AS, (ADDRESS_SPACE, ADDRESS_SPACE)),
+        )
+    except subprocess.TimeoutExpired:
+        return f"more than {LARGE_SECONDS} seconds"
+    if ended.returncode == 0 and sorted(ended.stdout.splitlines()) == sorted(wanted.splitlines()):
+        return None
+    return f"status {ended.returncode}, {(ended.stdout + ended.stderr)[-500:]!r}"
+
+
+def peak_of(words, folder, output):
+    """The exit status of a command, whose output goes to a file, and its peak memory in bytes."""
+    with open(output, "wb") as sink:
+        told = subprocess.run([sys.executable, "-S", "-E", HERE.parents[1] / "tools/bench/peak.py", *words], cwd=folder, stdin=subprocess.DEVNULL,
+                              stdout=sink, stderr=subprocess.PIPE, timeout=LARGE_SECONDS).stderr
+    status, kibibytes = map(int, told.split())
+    return status, kibibytes * 1024
+
+
+def large_list_fault(program, folder):
+    """What is wrong with a list of 64 MiB as JSON, in little more memory than an empty one takes, or None."""
+    entry = entry_of(IMA_NG, SHA256, SHA256.hash(b""), b"/usr/bin/program")
+    count = LARGE_LIST_BYTES // len(entry.spelling())
+    (folder / "empty-list").write_bytes(b"")
+    (folder / "large-list").write_bytes(entry.spelling() * count)
+    wanted = json.dumps({**entry.as_json(0), "entry": "N"}, separators=(",", ":")).replace('"N"', "%d").encode() + b"\n"
+    output = folder / "large-list.json"
+    try:
+        (empty_status, least), (status, peak) = (
+            peak_of([program, "show", "--json", name], folder, output) for name in ("empty-list", "large-list"))
+    except (subprocess.TimeoutExpired, ValueError) as fault:
+        return repr(fault)
+    with open(output, "rb") as lines:
+        wrong = next((number for number, line in enumerate(lines) if line != wanted % number), None)
+        size = lines.tell()
+    output.unlink()
+    if (empty_status, status) != (0, 0):
+        return f"status {empty_status} of an empty list, and {status}"
+    if wrong is not None or size != sum(len(wanted % number) for number in range(count)):
+        return f"{size} bytes, and a wrong line: {wrong}"
+    return None if peak <= least + MOST_ABOVE_EMPTY else f"{(peak - least) / MEBIBYTE:.1f} MiB more than an empty list"
+
+
+def large_log_fault(program, folder):
+    """What is wrong with the answers to a log of 64 MiB of events of 16 bytes, or with the memory that they take, or None."""
+    small = Event(0, EV_NO_ACTION, {}, b"")
+    header, event = Log({SHA256.identifier: SHA256.size}, []).spelling(), small.spelling()
+    count = (LARGE_LOG_BYTES - len(header)) // len(event)
+    (folder / "empty-log").write_bytes(header)
+    (folder / "large-log").write_bytes(header + event * count)
+    (folder / "expected").write_text(f"sha256 0 {bytes(SHA256.size).hex()}\n")
+    output = folder / "large-log.text"
+    line = small.line("%d", False).encode()
+    lines = b"".join(line % number for number in range(1, count + 1))
+    for words, more in ((["registers", "LOG"], b""), (["events", "LOG"], lines), (["verify", "LOG", "empty-list", "expected"], b""),
+                        (["locate", "LOG", "empty-list", "expected"], b""), (["measure", "LOG", "empty-list"], b"")):
+        empty, large = ([name if word == "LOG" else word for word in words] for name in ("empty-log", "large-log"))
+        wanted_status, wanted = reference.answer(empty, folder, b"")
+        try:
+            _, least = peak_of([program, *empty], folder, output)
+            status, peak = peak_of([program, *large], folder, output)
+        except (subprocess.TimeoutExpired, ValueError) as fault:
+            return f"{words[0]}: {fault!r}"
+        text = output.read_bytes()
+        if (status, text) != (wanted_status, wanted.replace(b"events 0 ", b"events %d " % count) + more):
+            return f"{words[0]}: status {status}, {text[:200]!r}"
+        if peak > least + len(header) + len(event) * count + MOST_ABOVE_EMPTY:
+            return f"{words[0]}: {(peak - least) / MEBIBYTE:.1f} MiB more than without events"
+    return None
+
+
+def main():
+    root = Path(sys.argv[1] if len(sys.argv) > 1 else HERE.parents[1]).resolve()
+    program = root / "crates/ima_agent_program/out/ima_agent_program"
+    with tempfile.TemporaryDirectory() as name, ThreadPoolExecutor(os.cpu_count()) as pool:
+        folder = Path(name)
+        large_fault = large_files_fault(root, program, folder)
+        print(f"{large_fault or 'ok'}: {LARGE_FILES} files of 40 MiB measured within 64 MiB of address space", flush=True)
+        list_fault = large_list_fault(program, folder)
+        print(f"{list_fault or 'ok'}: a list of 64 MiB as JSON within 8 MiB more than an empty one", flush=True)
+        log_fault = large_log_fault(program, folder)
+        print(f"{log_fault or 'ok'}: a log of 64 MiB of small events within its size and 8 MiB", flush=True)
+        library = folder / "refuse.so"
+        subprocess.run(["cc", "-O2", "-shared", "-fPIC", "-o", library, HERE / "refuse.c", "-ldl"], check=True)
+        (tests, faults), (commands, wrong_cases) = test_runs(root, library, folder), command_runs(program, folder)
+        faults += wrong_cases + help_faults(commands)
+        faults += [f"no {what} is made to have an allocation refused" for what, runs in (("test", tests), ("case", commands)) if not runs]
+        large = [large_fault, list_fault, log_fault]
+        failed = len(faults) + sum(fault is not None for fault in large)
+        total, passed = 0, large.count(None)
+        for run, (refusals, fault) in zip([*tests, *commands], pool.map(lambda run: sweep(run, library, folder), [*tests, *commands])):
+            total += refusals
+            failed += fault is not None
+            passed += fault is None
+            print(f"{refusals:6} refused, {fault or 'ok'}: {run.title()}", flush=True)
+        print(*faults, f"{total} allocations were refused", f"{passed} passed, {failed} failed", sep="\n")
+    return 1 if failed else 0
+
+
+if __name__ == "__main__":
+    sys.exit(main())

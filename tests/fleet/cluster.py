@@ -1,0 +1,129 @@
+"""Starts clients, schedulers and workers as processes on 127.0.0.1, for tests/fleet/test and fleet/bench."""
+
+import os
+import shutil
+import signal
+import subprocess
+import sys
+import time
+from contextlib import contextmanager, suppress
+from dataclasses import dataclass, field
+from pathlib import Path
+from typing import Optional, Tuple
+
+ROOT = Path(__file__).resolve().parents[2]
+SECONDS = 240  # (a limit for what is to come: the computer may have much else to do)
+REQUIRE = "sha256:0-10"  # of all runs that ask for nothing else
+SHARED = ("--progress", "1", "--deadline", str(SECONDS))  # (a machine may wait at a gate)
+
+
+def python_with_dask():
+    """A Python that has `distributed`, or None."""
+    for python in (sys.executable, shutil.which("python3"), "/usr/bin/python3"):
+        if python and not subprocess.run([python, "-c", "import distributed"], capture_output=True, timeout=SECONDS).returncode:
+            return python
+    return None
+
+
+def until(what, condition, client=None):
+    """Waits until the condition holds, for as long as the client runs, if one is given."""
+    limit = time.monotonic() + SECONDS
+    while not condition():
+        if time.monotonic() > limit or client is not None and client.poll() is not None:
+            raise TimeoutError(f"{what} did not come")
+        time.sleep(0.02)
+
+
+def environment_of(library, folder):
+    """The environment of all processes: the binding, the library in this folder, and no settings of Dask from elsewhere."""
+    return {
+        **os.environ, "PYTHONPATH": str(ROOT / "bindings/python"), "IMA_VERIFY_LIBRARY": str(library / "libima_verify.so"),
+        "DASK_CONFIG": str(folder / "dask"), "PYTHONDONTWRITEBYTECODE": "1",
+        "NOTED_CALLS": str(folder / "calls"), "GATE": str(folder / "gate"),
+    }
+
+
+def children_of(process):
+    """The processes that a process started, by their numbers, but for the one by which Python's `multiprocessing` cleans up."""
+    found = []
+    with suppress(FileNotFoundError):
+        for thread in Path(f"/proc/{process}/task").iterdir():
+            found += map(int, (thread / "children").read_text().split())
+    return [child for child in found if b"resource_tracker" not in command_of(child)]
+
+
+def command_of(process):
+    """The arguments of a process, of which one that has ended has none."""
+    try:
+        return Path(f"/proc/{process}/cmdline").read_bytes()
+    except FileNotFoundError:
+        return b""
+
+
+@dataclass
+class Processes:
+    """The Python to run, the environment of the processes, and a folder for all that they write."""
+
+    python: str
+    folder: Path
+    environment: dict
+    started: list = field(default_factory=list)
+
+    def __post_init__(self):
+        """A SIGTERM ends this program as an error does, so that it ends what it started."""
+        signal.signal(signal.SIGTERM, lambda *_: sys.exit(1))
+
+    def start(self, words, said="errors", output=subprocess.PIPE, **given):
+        """Starts a process of this Python. What it writes to standard error goes to the file of the name `said`, and its output there."""
+        with open(self.folder / said, "a") as errors:
+            process = subprocess.Popen(
+                [self.python, *map(str, words)], env={**self.environment, **given}, cwd=self.folder, text=True,
+                stdin=subprocess.DEVNULL, stdout=output, stderr=errors, start_new_session=True,
+            )
+        self.started.append(process)
+        return process
+
+    @contextmanager
+    def gate(self, number):
+        """Has the machines from this number on wait, where the workers note their calls."""
+        gate = Path(self.environment["GATE"])
+        gate.write_text(str(number))
+        yield
+        gate.unlink()
+
+    def client(self, *words, said="clients", output=subprocess.PIPE, **given):
+        return self.start([ROOT / "fleet/verify.py", "--require", REQUIRE, *SHARED, *words], said, output, **given)
+
+    def verify(self, *words, require: Optional[str] = REQUIRE, seconds: float = SECONDS, **given: str) -> Tuple[int, str, str]:
+        """The status of a run, and what it printed on both streams. It has no `--require` if that is None."""
+        words = [*words, *([] if require is None else [f"--require={require}"])]
+        ended = subprocess.run(
+            [self.python, ROOT / "fleet/verify.py", *SHARED, *map(str, words)],
+            env={**self.environment, **given}, cwd=self.folder, text=True, capture_output=True, timeout=seconds,
+        )
+        with open(self.folder / "clients", "a") as clients:
+            clients.write(ended.stderr)
+        return ended.returncode, ended.stdout, ended.stderr
+
+    @contextmanager
+    def cluster(self, name, workers, *words, **given):
+        """A scheduler and workers. Gives the scheduler's address, and the processes, of which the scheduler's is the last."""
+        file = self.folder / f"{name}.json"
+        common = ["--host", "127.0.0.1", "--no-dashboard"]
+        scheduler = ["-m", "distributed.cli.dask_scheduler", *common, "--port", "0", "--scheduler-file", file]
+        worker = ["-m", "distributed.cli.dask_worker", *common, "--scheduler-file", file, "--nthreads", "1"]
+        worker += ["--local-directory", self.folder / name, *words]
+        last = self.start(scheduler, **given)
+        processes = [self.start(worker, **given) for _ in range(workers)] + [last]
+        until("a scheduler", file.exists)
+        until("its address", lambda: file.read_text().endswith("}"))
+        yield next(word for word in file.read_text().split('"') if word.startswith("tcp://")), processes
+        for process in processes:
+            process.terminate()
+
+    def end(self):
+        """Ends what is still running."""
+        for process in self.started:
+            if process.poll() is None:
+                process.kill()
+            process.wait()

@@ -1,0 +1,231 @@
+"""Tests of parts, for tests/fleet/test: batches, answers, the end of a run, causes, the units of systemd, the types and the wheel."""
+
+import shutil
+import subprocess
+import sys
+import zipfile
+
+from cluster import REQUIRE, ROOT, SECONDS
+
+# Prints how many machines of a batch are answered in so many seconds, for each, and their verdicts.
+BATCHES = """
+import json, sys
+import distributed
+from types import SimpleNamespace
+distributed.get_worker = lambda: SimpleNamespace(address="here")
+from fleet_verify.work import verify_batch
+folder, require = sys.argv[1:]
+paths = [f"{folder}/{file}" for file in ("firmware.log", "ima.list", "expected.txt")]
+for seconds in (0, 1000):
+    request = {"machines": [(paths, None)] * 5, "require": require, "is_poll": False, "seconds": seconds, "deadline": 60}
+    told, *reports = verify_batch(json.dumps(request)).split("\\n")
+    print([answer["verdict"] for answer in json.loads(told)["answers"]], len(reports))
+"""
+
+BATCHES_WANTED = [f"{['match'] * 1} 1", f"{['match'] * 5} 5"]
+
+# Prints what is taken of answers on two machines, of which the second is not as it should be, or why nothing is.
+ANSWERS = """
+import json
+from fleet_verify.answers import BadAnswers, read_answers
+from fleet_verify.machines import Machine
+MACHINES = [Machine("a", ("/a",)), Machine("b", ("/b", "/c", "/d"))]
+MATCH, DIFFER = '{"registers":[],"verdict":"match"}', '{"registers":[],"verdict":"differ"}'
+first = {"places": ["/a"], "verdict": "match"}
+second = {"places": ["/b", "/c", "/d"], "verdict": "match"}
+for others, reports in (
+    ([second], [MATCH, MATCH]),
+    ([], [MATCH]),
+    ([second], [MATCH, DIFFER]),
+    ([second], [MATCH, MATCH + " "]),
+    ([second], [MATCH, ""]),
+    ([{**second, "verdict": "differ"}], [MATCH, MATCH]),
+    ([{**second, "verdict": "matches"}], [MATCH]),
+    ([{**second, "places": ["/a"]}], [MATCH, MATCH]),
+    ([{**second, "verdict": "refused", "cause": "refused: log fault 1 at event 0"}], [MATCH]),
+    ([second, second], [MATCH, MATCH, MATCH]),
+    ([second], [MATCH]),
+    ([second], [MATCH, MATCH, MATCH]),
+    ([{**second, "verdict": "refused"}], [MATCH, MATCH]),
+):
+    text = "\\n".join([json.dumps({"worker": "here", "answers": [first, *others], "seconds": 1}), *reports])
+    try:
+        print([(answer["verdict"], answer.get("cause")) for answer in read_answers(text, MACHINES).answers])
+    except BadAnswers as fault:
+        print(fault)
+"""
+TAKEN = [("match", None)]
+FAULTS = [
+    *[("troubled", "the worker's verdict is not that of its report")] * 4,
+    ("troubled", "the worker's answer is no verdict: 'matches'"), ("troubled", "the worker's answer is on other files"),
+    ("refused", "refused: log fault 1 at event 0"),
+]
+ANSWERS_WANTED = [
+    str(TAKEN * 2), str(TAKEN), *(str([*TAKEN, fault]) for fault in FAULTS),
+    "worker here gave 3 answers on 2 machines", "worker here gave 1 reports on 2 machines", "worker here gave 3 reports on 2 machines",
+    "worker here gave 2 reports on 1 machines",
+]
+
+# Stops runs of three machines, of which two are in flight: the first is answered at that moment, the second not, or a moment later. Prints
+# which verdicts are recorded.
+STOPPED = """
+import asyncio, json, sys
+from types import SimpleNamespace
+from fleet_verify.ledger import Ledger
+from fleet_verify.machines import Machine
+from fleet_verify.run import Run
+from fleet_verify.verdicts import Verdicts
+MACHINES = [Machine(name, (f"/{name}",)) for name in "abc"]
+class Future:
+    def __init__(self, machine):
+        told = {"places": machine.places, "verdict": "refused", "cause": "", "time": "now"}
+        self.text = json.dumps({"worker": "here", "answers": [told], "seconds": 1})
+        self.answer, self.status = asyncio.get_running_loop().create_future(), "pending"
+    def __await__(self):
+        return self.answer.__await__()
+    def done(self):
+        return self.status == "finished"
+    def end(self, seconds):
+        self.status = "finished"
+        set_answer = lambda: self.answer.set_result(self.text)
+        asyncio.get_running_loop().call_later(seconds, set_answer) if seconds else set_answer()
+class Client:
+    threads = {"here": 1}
+    def __init__(self):
+        self.futures, self.client = [], self
+    def submit(self, function, request, **given):
+        self.futures.append(Future(MACHINES[len(self.futures)]))
+        return self.futures[-1]
+    def lost(self):
+        return None
+    async def look(self):
+        pass
+async def stop(table, seconds):
+    client, verdicts = Client(), Verdicts(table, "none")
+    options = SimpleNamespace(in_flight=2, poll=False, require="none", patience=600, deadline=60)
+    show = SimpleNamespace(show=lambda *_: None)
+    ledger = Ledger(verdicts, MACHINES, {}, False, lambda *_: None)
+    running = asyncio.create_task(Run(client, ledger, show, options).verify())
+    while len(client.futures) < 2:
+        await asyncio.sleep(0.01)
+    client.futures[0].end(0)
+    if seconds:
+        client.futures[1].end(seconds)
+    running.cancel()
+    await asyncio.wait([running])
+    print(running.cancelled(), *(name for name, in verdicts.connection.execute("SELECT machine FROM verdicts ORDER BY 1")))
+for seconds in (0, 0.2):
+    asyncio.run(stop(f"{sys.argv[1]} {seconds}.db", seconds))
+"""
+STOPPED_WANTED = ["True a", "True a b"]
+
+# Prints the causes that exceptions of drivers have.
+CAUSES = """
+from fleet_verify.work import cause_of
+path = "s3://bucket/host-1/log"
+print(cause_of(FileNotFoundError(path), path))
+print(cause_of(FileNotFoundError("bucket/host-1/log"), path))
+print(cause_of(PermissionError(13, "Permission denied", "/srv/log"), "/srv/log"))
+print(cause_of(RuntimeError("no answer from bucket/host-1/log?"), path))
+print(cause_of(MemoryError()))
+print(cause_of(OSError(22, "Bad request: s3://bucket/x"), "s3://bucket/x"))
+print(cause_of(RuntimeError("the key x does not exist"), "s3://bucket/x"))
+print(cause_of(RuntimeError("s3://bucket/x is gone"), "simplecache::s3://bucket/x"))
+print(cause_of(RuntimeError("no answer"), "file:///"))
+print(cause_of(RuntimeError("no answer"), "/"))
+"""
+CAUSES_WANTED = [
+    "FileNotFoundError: ..", "FileNotFoundError: ..", "PermissionError: [Errno 13] Permission denied",
+    "RuntimeError: no answer from ..?", "MemoryError", "OSError: [Errno 22] Bad request: ..", "RuntimeError: the key .. does not exist",
+    "RuntimeError: .. is gone", "RuntimeError: no answer", "RuntimeError: no answer",
+]
+
+# Prints the paths of machines in folders, and what is said of the last, which has no such file.
+FOLDERS = """
+import math
+from fleet_verify.machines import Machine
+from fleet_verify.work import read_inputs
+for folder in ("/", "/srv/boot/", "s3://bucket/", "s3://bucket/x", "file:///"):
+    machine = Machine("machine", (folder,))
+    print(machine.paths[0])
+print(read_inputs(machine.paths, math.inf, 0)[0]["cause"])
+"""
+FOLDERS_WANTED = [
+    "/firmware.log", "/srv/boot/firmware.log", "s3://bucket/firmware.log", "s3://bucket/x/firmware.log", "file:///firmware.log",
+    "log: FileNotFoundError: [Errno 2] No such file or directory",
+]
+
+
+def test_parts(tools, check):
+    """Whatever a tool is lacking for is named."""
+    modules = {"PYTHONPATH": f"{ROOT / 'bindings/python'}:{ROOT / 'fleet'}"}
+    for title, script, words, wanted in (
+        ("a batch ends at its time, after one machine at least", BATCHES, (ROOT / "samples/real-boot", REQUIRE), BATCHES_WANTED),
+        ("answers are on the machines that were asked for, and do not contradict themselves", ANSWERS, (), ANSWERS_WANTED),
+        ("a run that is stopped records what is answered", STOPPED, (tools.folder / "stopped",), STOPPED_WANTED),
+        ("causes without the paths", CAUSES, (), CAUSES_WANTED),
+        ("the files of folders", FOLDERS, (), FOLDERS_WANTED),
+    ):
+        said = tools.start(["-c", script, *words], **modules).communicate(timeout=SECONDS)[0]
+        check(title, said.splitlines(), wanted)
+    test_version(tools, check)
+    test_units(tools, check)
+    test_types(check)
+    test_wheel(tools, check)
+
+
+def test_version(tools, check):
+    """The version is that of the project."""
+    said = tools.start([ROOT / "fleet/verify.py", "--version"]).communicate(timeout=SECONDS)[0]
+    check("--version", said, f"fleet-verify {(ROOT / 'VERSION').read_text().strip()}\n")
+
+
+def lacking(tool, what):
+    print(f"not tried, for want of {tool}: {what}")
+
+
+def test_units(tools, check):
+    """The units of systemd, with a program that is there; it says of what it does not know."""
+    if not shutil.which("systemd-analyze"):
+        return lacking("systemd-analyze", "the units of fleet/systemd")
+    folder = tools.folder / "units"
+    shutil.copytree(ROOT / "fleet/systemd", folder)
+    service, timer = folder / "fleet-poll.service", folder / "fleet-poll.timer"
+    service.write_text(service.read_text().replace("ExecStart=fleet-verify ", "ExecStart=/bin/true "))
+    for title, is_right in (("its units", True), ("an unknown setting", False)):
+        words = ["systemd-analyze", "verify", "--man=no", service, timer]
+        done = subprocess.run(words, capture_output=True, text=True, timeout=SECONDS)
+        check(f"systemd-analyze verify: {title}", (done.returncode, "fleet-poll" in done.stdout + done.stderr), (0, not is_right))
+        service.write_text(service.read_text().replace("PrivateNetwork=", "PrivateNetwork2="))
+
+
+def test_types(check):
+    """The package is typed."""
+    python = next((each for each in (sys.executable, "/usr/bin/python3") if has(each, "mypy")), None)
+    if python is None:
+        return lacking("mypy", "the types of fleet_verify")
+    words = [python, "-m", "mypy", "--cache-dir", "/dev/null"]
+    done = subprocess.run(words, cwd=ROOT / "fleet", capture_output=True, text=True, timeout=SECONDS)
+    check("mypy --strict", (done.returncode, done.stdout if done.returncode else ""), (0, ""))
+
+
+def has(python, module):
+    return subprocess.run([python, "-c", f"import {module}"], capture_output=True, timeout=SECONDS).returncode == 0
+
+
+def test_wheel(tools, check):
+    """The wheel has the package and its command, which runs."""
+    if not has(tools.python, "hatchling"):
+        return lacking("hatchling", "the wheel of fleet_verify")
+    source = shutil.copytree(ROOT / "fleet", tools.folder / "source", ignore=shutil.ignore_patterns("__pycache__"))
+    words = [tools.python, "-m", "hatchling", "build", "-t", "wheel", "-d", tools.folder / "wheel"]
+    subprocess.run(words, cwd=source, check=True, capture_output=True, timeout=SECONDS)
+    (wheel,) = (tools.folder / "wheel").glob("*.whl")
+    with zipfile.ZipFile(wheel) as packed:
+        names = set(packed.namelist())
+        (entry,) = (packed.read(name).decode() for name in names if name.endswith("entry_points.txt"))
+    modules = {f"fleet_verify/{file.name}" for file in (ROOT / "fleet/fleet_verify").iterdir() if file.is_file()}
+    check("the wheel has the package, and nothing of the tests", {name for name in names if ".dist-info/" not in name}, modules)
+    check("the wheel has the command", "fleet-verify = fleet_verify.main:main" in entry, True)
+    done = subprocess.run([tools.python, "-m", "fleet_verify", "--help"], env={"PYTHONPATH": str(wheel)}, capture_output=True, text=True)
+    check("the command's help", (done.returncode, "--require REGISTERS" in done.stdout), (0, True))

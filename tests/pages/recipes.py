@@ -1,0 +1,541 @@
+#!/usr/bin/env python3
+"""Runs the guide's recipes with jq, as they are on the page, on lists and logs that try to evade them; its check of a key from afar, on
+emulated TPMs; and the examples of README and guide, which have to print what is below them.
+
+tests/pages/recipes.py PROGRAM: the program that is installed as `ima-agent`. What a recipe shows is due as JSON, by `tests/reference/`, or it has to
+fail: with an empty, a cut and a missing input, and with a program that dies after its last line. Each runs in a folder in which a machine
+left an `ima-agent` and a `known.txt` of its own. What lacks a tool is not tried, which is said. The last line is 'N passed, M failed'."""
+
+import json
+import os
+import re
+import shutil
+import subprocess
+import sys
+import tempfile
+from pathlib import Path
+
+ROOT = Path(__file__).resolve().parents[2]
+sys.path[:0] = [str(ROOT / "tests"), str(ROOT / "tests/attest")]
+
+from emulated import TOOLS as TPM_TOOLS
+from emulated import emulated
+from reference.fields import with_length
+from reference.log import EV_NO_ACTION, read_log
+from reference.measurement_list import IMA, IMA_NG, IMA_SIG, VIOLATION, Entry, entry_of, list_spelling
+from reference.registers import BY_NAME, SHA1
+
+TOOLS = ("bash", "jq")
+QUOTE_TOOLS = (*TOOLS, "tpm2_checkquote")
+KEY_TOOLS = (*TOOLS, "swtpm", "openssl", "tpm2_print", "tpm2_makecredential", "tpm2_activatecredential", *TPM_TOOLS)
+BLOCK = re.compile(r"^```sh\n(.*?)^```$", re.MULTILINE | re.DOTALL)
+EXAMPLES = re.compile(r"(?:^    \$ .*\n(?:^    .*\n)*)", re.MULTILINE)
+EXAMPLE = re.compile(r"^\$ ((?:.*\\\n)*.*)\n((?:(?!\$ ).*\n)*)", re.MULTILINE)
+# What only the recipe's block has.
+JUDGE, TAKE, EVENTS = "--rawfile known", "--argjson confirmed", "diff before.events"
+AGGREGATE, PATHS = "--arg aggregate", 'select(has("payload"))'
+IMA_ALONE, MEASURED = "$2 == 10", "--files-from names"
+KEY, PUBLIC, CHALLENGE, ANSWER = "tpm2_createek", "tpm2_getekcertificate", "tpm2_makecredential", "tpm2_activatecredential"
+
+SAMPLE = ROOT / "samples/real-boot"
+LOG = read_log((SAMPLE / "firmware.log").read_bytes())
+SHA256 = BY_NAME["sha256"]
+KNOWN, UNKNOWN = SHA256.hash(b"known"), SHA256.hash(b"unknown")
+WEAK, LONG = SHA1.hash(b"known"), BY_NAME["sha512"].hash(b"known")
+SUMS = "".join(f"{digest.hex()}  /usr/bin/ls\n" for digest in (KNOWN, WEAK, LONG)).encode()
+SAYS_KNOWN = b"ima-ng sha256:%s" % KNOWN.hex().encode()
+FIRST = entry_of(IMA_NG, SHA256, SHA256.hash(b"registers"), b"boot_aggregate")
+
+
+def measured(digest, path=b"/usr/bin/ls", template=IMA_NG, algorithm=SHA256):
+    return entry_of(template, algorithm, digest, path)
+
+
+def of_template(name, payload):
+    """A genuine entry of this template, whose payload is any bytes."""
+    return Entry(10, SHA1.hash(payload), name, payload)
+
+
+D_NG = with_length(b"sha256:\0" + UNKNOWN)
+UNKNOWN_PAYLOAD = measured(UNKNOWN).payload
+
+# Entries that say of a file that it is known, and others.
+PASSED_OVER = {
+    "a known digest": measured(KNOWN),
+    "a known digest in ima-sig": measured(KNOWN, template=IMA_SIG),
+    "a known digest, and an empty path": measured(KNOWN, b""),
+    "a known digest, and a path with a space": measured(KNOWN, b"/usr/bin/ls " + UNKNOWN.hex().encode()),
+    "a known digest, and a path with a line feed": measured(KNOWN, b'/x\n{"judged":2}'),
+    "a known digest, and a path that is not UTF-8": measured(KNOWN, b"/\xff"),
+    "a known digest by SHA-512": measured(LONG, algorithm=BY_NAME["sha512"]),
+}
+SHOWN = {
+    "an unknown digest": measured(UNKNOWN),
+    "an unknown digest, and a path with lines of JSON": measured(UNKNOWN, b'/x"}\n{"judged":2}\n{"entry":1,"path":"'),
+    "an unknown digest, and a path that is not UTF-8": measured(UNKNOWN, b"/\xff\n"),
+    "an unknown digest, and a path that a terminal obeys": measured(UNKNOWN, "/\x1b[2J\x7f\u009b\u2028\u202e".encode()),
+    "an unknown digest in ima": entry_of(IMA, SHA1, SHA1.hash(b"unknown"), b"/usr/bin/ls"),
+    "a known digest by SHA-1": measured(WEAK, algorithm=SHA1),
+    "a known digest by SHA-1 in ima": entry_of(IMA, SHA1, WEAK, b"/usr/bin/ls"),
+    "a known digest by SHA-1 in ima-sig": measured(WEAK, template=IMA_SIG, algorithm=SHA1),
+    "a known digest in register 1": measured(KNOWN)._replace(register=1),
+    "a known digest in register 11": measured(KNOWN)._replace(register=11),
+    "a known digest in an entry that is not genuine": measured(UNKNOWN)._replace(payload=measured(KNOWN).payload),
+    "a violation that states a known digest": measured(KNOWN)._replace(template_digest=VIOLATION),
+    "a violation without fields": of_template(b"x", b"/usr/bin/ls")._replace(template_digest=VIOLATION),
+    "a violation with a path that is not UTF-8": measured(KNOWN, b"/\xff")._replace(template_digest=VIOLATION),
+    "a renamed template": of_template(b"ima-xg", UNKNOWN_PAYLOAD),
+    "a renamed template, and a known digest": of_template(b"ima-xg", measured(KNOWN).payload),
+    "a template without a name": of_template(b"", UNKNOWN_PAYLOAD),
+    "a template whose name is not UTF-8": of_template(b"ima-ng\xff", UNKNOWN_PAYLOAD),
+    "a template whose name has a NUL": of_template(b"ima-ng\0", UNKNOWN_PAYLOAD),
+    "a known digest in a template's name": of_template(SAYS_KNOWN + b" /usr/bin/ls", UNKNOWN_PAYLOAD),
+    "a template's name of two lines": of_template(SAYS_KNOWN + b'\n{"judged":2}\n', UNKNOWN_PAYLOAD),
+    "a payload without fields": of_template(IMA_NG, b"/usr/bin/ls"),
+    "an empty payload": of_template(IMA_NG, b""),
+}
+# Payloads of other templates, and what is shown of the path.
+PATHS_SHOWN = {
+    "ima-modsig, a path with a line feed": (D_NG + with_length(b"/a\n\x1b[2J\0") + with_length(b"\1"), {"path": "/a\n\x1b[2J"}),
+    "ima-ngv2": (with_length(b"verity:sha256:\0" + UNKNOWN) + with_length(b"/a\0"), {"path": "/a"}),
+    "a path that is not UTF-8": (D_NG + with_length(b"/\xff\0"), {"path_hex": "2fff"}),
+    "a path that is not ASCII": (D_NG + with_length(b"/\xc3\xa9\0"), {"path_hex": "2fc3a9"}),
+    "a path that a terminal obeys": (D_NG + with_length(b"/\x7f\x1b[2J\0"), {"path": "/\x7f\x1b[2J"}),
+    "an empty path": (D_NG + with_length(b"\0"), {"path": ""}),
+    "a path of 4,095 bytes": (D_NG + with_length(b"a" * 4095 + b"\0"), {"path": "a" * 4095}),
+    "a path without a NUL": (D_NG + with_length(b"/a"), {"path": None}),
+    "a path with two": (D_NG + with_length(b"/a\0\0"), {"path": None}),
+    "a path that is cut": (D_NG + with_length(b"/a\0")[:-1], {"path": None}),
+    "a path that ends after the payload": (D_NG + b"\x09\0\0\0/a\0", {"path": None}),
+    "a path after 4 GiB": (b"\xff\xff\xff\xff" + b"/a\0", {"path": None}),
+    "no path": (D_NG, {"path": None}),
+    "no payload": (b"", {"path": None}),
+}
+
+
+def makes_known(number, entry):
+    """Whether the digest of an entry is confirmed, that of a file, and one that no two files can be made to have."""
+    is_confirmed = number > 0 and entry.is_genuine and not entry.is_violation and entry.register == 10
+    return bool(is_confirmed and entry.fields() and entry.fields().algorithm is not SHA1)
+
+
+def shown(number, entry):
+    """What is shown of an entry: of a violation nothing that no register confirms."""
+    told = entry.as_json(number)
+    return {name: told[name] for name in ("entry", "register", "violation")} if entry.is_violation else told
+
+
+class Recipes:
+    """The recipes, in a folder with what a machine sent; what the verifier keeps and what is installed are elsewhere."""
+
+    def __init__(self, program, top):
+        self.program, self.folder, self.kept, self.installed = program, top / "sent", top / "kept", top / "bin"
+        self.blocks = BLOCK.findall((ROOT / "docs/guide.md").read_text())
+        for made in (self.folder, self.kept, self.installed):
+            made.mkdir()
+
+    def block(self, mark):
+        [block] = [block for block in self.blocks if mark in block]
+        return block
+
+    def put(self, files):
+        """These files alone, those of `kept/` where the verifier keeps them, beside what a machine left to be taken for another's."""
+        for path in (*self.folder.iterdir(), *self.kept.iterdir()):
+            path.unlink()
+        left = {"ima-agent": b"#!/bin/sh\nexit 0\n", "known.txt": b"%s  /usr/bin/ls\n" % UNKNOWN.hex().encode()}
+        for name, data in (left | files).items():
+            path = self.kept / name[5:] if name.startswith("kept/") else self.folder / name
+            path.write_bytes(data)
+        self.folder.joinpath("ima-agent").chmod(0o755)
+
+    def run(self, mark, files, agent="", **settings):
+        """The status and the output of the recipe with this mark, of these files; `agent` is what the program's output passes through,
+        `settings` what the environment has beside the caller's."""
+        block = self.block(mark)
+        self.put(files)
+        script = self.installed / "ima-agent"
+        script.write_text(f'#!/bin/sh\n"{self.program}" "$@"{agent}\n')
+        script.chmod(0o755)
+        own = {"PATH": f"{self.installed}:{os.environ['PATH']}", "known": str(self.kept / "known.txt"), "before": str(self.kept)}
+        done = subprocess.run(["bash", "-c", block], cwd=self.folder, env={**os.environ, **own, **settings}, stdin=subprocess.DEVNULL,
+                              capture_output=True, timeout=60)
+        return done.returncode, done.stdout
+
+    def shown(self, mark, files):
+        """The values that the recipe shows, if each is a line of ASCII that no terminal obeys; or else its status and its output."""
+        status, output = self.run(mark, files)
+        if status or any(byte != 10 and not 32 <= byte < 127 for byte in output):
+            return status, output
+        return [json.loads(line) for line in output.splitlines()]
+
+    def fails(self, mark, files, agent="", **settings):
+        """Whether the recipe fails, and with another status than those of answers (4: no entry, of jq)."""
+        return self.run(mark, files, agent, **settings)[0] not in (0, 1, 4)
+
+
+def of_list(*entries):
+    return {"ima.list": list_spelling(entries)}
+
+
+def damaged_lists():
+    whole = list_spelling([FIRST, measured(KNOWN)])
+    yield from (("a list that is cut short", {"ima.list": whole[:-1]}), ("a list cut after its first bytes", {"ima.list": whole[:3]}))
+    yield from (("a list with register 24", {"ima.list": whole + b"\x18\0\0\0"}), ("no list", {}))
+
+
+DYING = "\nkill -9 $$"
+FOREIGN = " | sed 's/.*/{}/'"
+
+
+def judged(recipes):
+    """The recipe for known digests."""
+    sums = {"kept/known.txt": SUMS}
+    for what, entry in (PASSED_OVER | SHOWN).items():
+        rest = [shown(1, entry)] if what in SHOWN else []
+        yield what, recipes.shown(JUDGE, of_list(FIRST, entry) | sums) == [shown(0, FIRST), *rest, {"judged": 2}]
+    known = measured(KNOWN)
+    yield "a known digest as the first entry", recipes.shown(JUDGE, of_list(known, known) | sums) == [shown(0, known), {"judged": 2}]
+    for what, text, is_known in (
+        ("no sums", b"", False), ("sums of white space", b" \n\n  \n", False), ("a sum without a name", KNOWN.hex().encode(), True),
+        ("a part of a sum", SUMS[1:], False), ("a known digest as a name", b"0  %s\n" % KNOWN.hex().encode(), False),
+        ("sums that are not UTF-8", b"00  \xff\n" + SUMS, True),
+    ):
+        rest = [] if is_known else [shown(1, known)]
+        yield what, recipes.shown(JUDGE, of_list(FIRST, known) | {"kept/known.txt": text}) == [shown(0, FIRST), *rest, {"judged": 2}]
+    bare = of_template(b"x", b"")
+    yield "sums, and payloads without digests", recipes.shown(JUDGE, of_list(FIRST, bare) | {"kept/known.txt": b"\n null\nnull\n"}) == [
+        shown(0, FIRST), shown(1, bare), {"judged": 2}]
+    for what, files in (*damaged_lists(), ("an empty list", of_list())):
+        yield what, recipes.fails(JUDGE, files | sums)
+    yield "no sums", recipes.fails(JUDGE, of_list(known))
+    yield "no name of sums", recipes.fails(JUDGE, of_list(known) | sums, known="")
+    yield "a program that dies", recipes.fails(JUDGE, of_list(known) | sums, DYING)
+    yield "an entry that is left out", recipes.fails(JUDGE, of_list(FIRST, known) | sums, " | sed 1d")
+    yield "another program's JSON", recipes.fails(JUDGE, of_list(known) | sums, FOREIGN)
+    yield "another program's text", recipes.fails(JUDGE, of_list(known) | sums, " | sed 's/.*/refused/'")
+
+
+def taken(recipes):
+    """The digests of an earlier boot."""
+    entries = [FIRST, *PASSED_OVER.values(), *SHOWN.values()]
+    whole = {"confirmed": str(len(entries))}
+    known = [entry.as_json(0) for number, entry in enumerate(entries) if makes_known(number, entry)]
+    is_done = recipes.run(TAKE, {"kept/ima.list": list_spelling(entries)}, **whole) == (0, b"")
+    sums = (recipes.kept / "known.txt").read_bytes()
+    *lines, end = [line.split("  ", 1) for line in sums.decode().split("\n")]
+    found = [[digest, json.loads(f'"{path}"')] for digest, path in lines]
+    wanted = [[line["digest"], line.get("path", line.get("path_hex"))] for line in known]
+    yield "an earlier list", is_done and end == [""] and found == wanted
+    rest = [shown(number, entry) for number, entry in enumerate(entries) if not makes_known(number, entry)]
+    found = recipes.shown(JUDGE, {"ima.list": list_spelling(entries), "kept/known.txt": sums})
+    yield "what an earlier list makes known", found == [*rest, {"judged": len(entries)}]
+    for what, files in damaged_lists():
+        yield what, recipes.fails(TAKE, {"kept/ima.list": data for data in files.values()}, **whole)
+    for what, agent in (("that dies", DYING), ("with other JSON", FOREIGN)):
+        yield f"a program {what}", recipes.fails(TAKE, {"kept/ima.list": list_spelling(entries)}, agent, **whole)
+    grown = {"kept/ima.list": list_spelling([FIRST, measured(KNOWN), measured(UNKNOWN)])}
+    for what, confirmed, wanted in (
+        ("an entry after the confirmed prefix", "2", [KNOWN.hex()]), ("a prefix of one entry", "1", []), ("a prefix of none", "0", []),
+        ("no verdict with a prefix", "null", []), ("the whole list", "3", [KNOWN.hex(), UNKNOWN.hex()]),
+    ):
+        is_done = recipes.run(TAKE, grown, confirmed=confirmed) == (0, b"")
+        sums = (recipes.kept / "known.txt").read_text()
+        yield what, is_done and [line.split("  ")[0] for line in sums.splitlines()] == wanted
+    for what, confirmed in (("no prefix", ""), ("a line of a report", "confirmed 2 of 3 entries"), ("words", "2 of 3")):
+        is_refused = recipes.fails(TAKE, grown, confirmed=confirmed)
+        yield what, is_refused and not (recipes.kept / "known.txt").read_bytes()
+
+
+def extended(recipes):
+    """Whether log and list keep to their own registers."""
+    whole, event, entries = LOG.spelling(), LOG.events[0]._replace(register=10, type=6), of_list(FIRST, measured(KNOWN))
+    for what, events, is_good in (
+        ("no such event", [], True), ("such an event", [event], False), ("two", [event, event], False),
+        ("one before the others", None, False),
+        ("an event that extends nothing", [event._replace(type=EV_NO_ACTION)], True),
+        ("an event of register 1, with a line as data", [event._replace(register=1, data=b"\n1 10 x\n")], True),
+    ):
+        log = LOG._replace(events=[event, *LOG.events] if events is None else [*LOG.events, *events])
+        wanted = (0, b"true\n") if is_good else (1, b"")
+        yield what, recipes.run(IMA_ALONE, {"firmware.log": log.spelling()} | entries) == wanted
+    other = measured(KNOWN)._replace(register=9)
+    for what, *listed in (
+        ("an entry of register 9", FIRST, other), ("a first entry of another", other, FIRST), ("one between others", FIRST, other, FIRST),
+        ("an entry of register 0", FIRST, other._replace(register=0)), ("of register 11", FIRST, other._replace(register=11)),
+        ("a violation of register 9", FIRST, other._replace(template_digest=VIOLATION)), ("no entry",),
+        ("an entry of register 9 that is not genuine", FIRST, other._replace(payload=UNKNOWN_PAYLOAD)),
+        ("an entry that says 10 in its path", FIRST, measured(KNOWN, b'/x","register":10}')._replace(register=9)),
+    ):
+        yield what, recipes.run(IMA_ALONE, of_list(*listed) | {"firmware.log": whole}) == (1, b"false\n")
+    for what, files in damaged_lists():
+        yield what, recipes.run(IMA_ALONE, {"firmware.log": whole} | files)[0] != 0
+    for what, files in (("no log", {}), ("an empty log", {"firmware.log": b""}), ("a cut log", {"firmware.log": whole[:-1]}),
+                        ("a log cut after its header", {"firmware.log": whole[:40]}), ("another file", {"firmware.log": b"10 10 10\n"})):
+        yield what, recipes.fails(IMA_ALONE, files | entries)
+    for command in ("registers", "show"):
+        dying = f"; [ $1 != {command} ] || kill -9 $$"
+        yield f"a program that dies in {command}", recipes.fails(IMA_ALONE, {"firmware.log": whole} | entries, dying)
+    yield "a program that shows nothing", recipes.run(IMA_ALONE, {"firmware.log": whole} | entries, " | sed -n '/^{/!p'")[0] != 0
+
+
+def measures(recipes):
+    """The list of a file tree, here of a folder with two files."""
+    log = {"firmware.log": LOG.spelling()}
+    block = recipes.block(MEASURED)
+    with tempfile.TemporaryDirectory() as tree:
+        recipes.blocks[recipes.blocks.index(block)] = block.replace("/usr/bin", tree)
+        aggregate = entry_of(IMA_NG, SHA256, LOG.registers().boot_aggregate(SHA256), b"boot_aggregate").line()
+        lines = {aggregate}
+        for name in ("one", "two"):
+            Path(tree, name).write_text(name)
+            lines.add(entry_of(IMA_NG, SHA256, SHA256.hash(name.encode()), f"{tree}/{name}".encode()).line())
+        yield "two files", recipes.run(MEASURED, log) == (0, aggregate)
+        found = (recipes.folder / "measured.txt").read_bytes().splitlines(keepends=True)
+        yield "the list of two files", found[:1] == [aggregate] and len(found) == 3 and set(found) == lines
+        for what, files in (("no log", {}), ("an empty log", {"firmware.log": b""}), ("a cut log", {"firmware.log": LOG.spelling()[:-1]})):
+            yield what, recipes.fails(MEASURED, files)
+        yield "a program that dies", recipes.fails(MEASURED, log, DYING)
+
+
+def compared(recipes):
+    """The events of two boots."""
+    whole, more = LOG.spelling(), LOG._replace(events=[LOG.events[0], *LOG.events]).spelling()
+    lines = [f"> {json.dumps({k: v for k, v in LOG.events[0].as_json(1).items() if k != 'event'}, separators=(',', ':'))}"]
+    yield "the same events", recipes.run(EVENTS, {"kept/firmware.log": whole, "firmware.log": whole}) == (0, b"")
+    status, output = recipes.run(EVENTS, {"kept/firmware.log": whole, "firmware.log": more})
+    yield "one event more", status == 1 and [line for line in output.decode().splitlines() if line[0] in "<>"] == lines
+    status, output = recipes.run(EVENTS, {"kept/firmware.log": more, "firmware.log": whole})
+    yield "one event less", status == 1 and output.count(b"\n< ") == 1
+    for what, before, after in (
+        ("a cut log", whole, whole[:-1]), ("a cut log before", whole[:-1], whole), ("two cut logs", whole[:-1], whole[:-1]),
+        ("two empty logs", b"", b""), ("no log", whole, None), ("no log before", None, whole),
+    ):
+        logs = {"kept/firmware.log": before, "firmware.log": after}
+        files = {name: data for name, data in logs.items() if data is not None}
+        yield what, recipes.fails(EVENTS, files)
+        yield f"{what}, and events that a machine sent", recipes.fails(EVENTS, files | {"before.events": b"", "firmware.events": b""})
+    yield "a program that dies", recipes.fails(EVENTS, {"kept/firmware.log": whole, "firmware.log": whole}, DYING)
+
+
+def aggregated(recipes):
+    """Whether the first entry of a list of another template states the boot aggregate of a log."""
+    log, stated = {"firmware.log": LOG.spelling()}, LOG.registers().boot_aggregate(SHA256)
+    path, wrong = with_length(b"boot_aggregate\0"), bytes([stated[0] ^ 1]) + stated[1:]
+    good = of_template(b"ima-modsig", with_length(b"sha256:\0" + stated) + path + with_length(b""))
+    for what, entry, is_good in (
+        ("of ima-modsig", good, True),
+        ("of ima-sigv2", of_template(b"ima-sigv2", with_length(b"ima:sha256:\0" + stated) + path + with_length(b"")), True),
+        ("of other registers", of_template(b"ima-modsig", with_length(b"sha256:\0" + wrong) + path), False),
+        ("of another path", of_template(b"ima-modsig", with_length(b"sha256:\0" + stated) + with_length(b"/boot_aggregate\0")), False),
+        ("of fs-verity", of_template(b"ima-sigv2", with_length(b"verity:sha256:\0" + stated) + path), False),
+        ("a violation", good._replace(template_digest=VIOLATION), False),
+        ("not genuine", good._replace(template_digest=SHA1.hash(b"")), False),
+        ("of register 11", good._replace(register=11), False),
+    ):
+        wanted = (0, b"true\n") if is_good else (1, b"false\n")
+        yield f"a boot aggregate {what}", recipes.run(AGGREGATE, of_list(entry, FIRST) | log) == wanted
+    yield "a boot aggregate as the second entry", recipes.run(AGGREGATE, of_list(FIRST, good) | log) == (1, b"false\n")
+    yield "an empty list", recipes.run(AGGREGATE, of_list() | log) == (1, b"false\n")
+    for what, files in damaged_lists():
+        yield what, recipes.fails(AGGREGATE, files | log)
+    for what, data in (("a cut log", {"firmware.log": log["firmware.log"][:-1]}), ("no log", {})):
+        yield what, recipes.fails(AGGREGATE, of_list(good) | data)
+    yield "a program that dies", recipes.fails(AGGREGATE, of_list(good) | log, DYING)
+
+
+def paths(recipes):
+    """The paths of entries of other templates."""
+    for what, (payload, path) in PATHS_SHOWN.items():
+        entry = of_template(b"ima-modsig", payload)
+        wanted = {**{name: value for name, value in entry.as_json(1).items() if name != "payload"}, **path}
+        yield what, recipes.shown(PATHS, of_list(FIRST, entry)) == [wanted]
+    violation = of_template(b"ima-modsig", PATHS_SHOWN["ima-ngv2"][0])._replace(template_digest=VIOLATION)
+    for what, entry in (("a violation", violation), ("a template's name that a terminal obeys", of_template("ima-\u009b".encode(), b""))):
+        wanted = {name: value for name, value in entry.as_json(1).items() if name != "payload"} | {"path": None}
+        yield what, recipes.shown(PATHS, of_list(FIRST, entry)) == [wanted]
+    for what, files in (("an empty list", of_list()), ("no such entry", of_list(FIRST))):
+        yield what, recipes.run(PATHS, files) == (4, b"")
+    for what, files in damaged_lists():
+        yield what, recipes.fails(PATHS, files)
+    for what, agent in (("that dies", DYING), ("that dies before its first line", " > /dev/null" + DYING), ("with other JSON", FOREIGN)):
+        yield f"a program {what}", recipes.fails(PATHS, of_list(of_template(b"x", b"")), agent)
+
+
+def pattern_of(lines):
+    """What an example shows: `...` is any part of a line, or any lines where it is one."""
+    return "".join(r"(?:.*\n)*" if line == "..." else ".*".join(map(re.escape, line.split("..."))) + r"\n" for line in lines.splitlines())
+
+
+def printed_by(commands, folder):
+    """What each command prints, where one shell runs all."""
+    end = "end of an example"
+    script = "".join(f"{command}\nprintf '%s\\n' '{end}'\n" for command in commands)
+    done = subprocess.run(["bash", "-c", script], cwd=folder, env={**os.environ, "PATH": f"{folder}:{os.environ['PATH']}"},
+                          stdin=subprocess.DEVNULL, stdout=subprocess.PIPE, timeout=120)
+    return done.stdout.decode().split(f"{end}\n")
+
+
+def examples(recipes):
+    """An example of a page."""
+    for page in ("README.md", "docs/guide.md"):
+        blocks = [re.sub("^    ", "", block, flags=re.MULTILINE) for block in EXAMPLES.findall((ROOT / page).read_text())]
+        with tempfile.TemporaryDirectory() as name:
+            lay_out(Path(name), recipes.program)
+            found = EXAMPLE.findall("".join(blocks))
+            printed = printed_by([command for command, _ in found], name)
+        yield f"each of {page} is run", len(printed) == len(found) + 1 and len(found) > 5
+        for (command, lines), output in zip(found, printed):
+            yield command, not lines or bool(re.fullmatch(pattern_of(lines), output))
+
+
+def lay_out(folder, program):
+    """Makes a folder that is both a checkout of this tree, for README, and what the guide's reader has of the sample boot."""
+    for name in ("try", "ima-agent"):
+        folder.joinpath(name).symlink_to(program)
+    folder.joinpath("samples").symlink_to(ROOT / "samples")
+    folder.joinpath("attest").mkdir()
+    shutil.copy(ROOT / "attest/verify", folder / "attest")
+    for sample in SAMPLE.iterdir():
+        shutil.copy(sample, folder)
+
+
+class Vendor:
+    """A maker of TPMs, or who claims to be one: an authority that gives certificates."""
+
+    def __init__(self, folder, name):
+        self.key, self.certificate = folder / f"{name}.key", folder / f"{name}.crt"
+        subprocess.run(["openssl", "req", "-x509", "-newkey", "rsa:2048", "-nodes", "-subj", f"/CN={name}", "-days", "2",
+                        "-keyout", self.key, "-out", self.certificate], check=True, capture_output=True)
+
+    def certify(self, public):
+        """The certificate of a TPM with this endorsement key."""
+        given = subprocess.run(["openssl", "x509", "-new", "-force_pubkey", public, "-subj", "/CN=TPM", "-days", "2", "-outform", "der",
+                                "-CA", self.certificate, "-CAkey", self.key], check=True, capture_output=True)
+        return given.stdout
+
+
+class Machine:
+    """A folder of a machine with an emulated TPM, where blocks of the guide and other tools are run."""
+
+    def __init__(self, recipes, folder, environment):
+        self.recipes, self.folder, self.environment = recipes, folder, environment
+        folder.mkdir()
+
+    def run(self, *words):
+        return subprocess.run(words, cwd=self.folder, env=self.environment, capture_output=True, timeout=60).returncode
+
+    def must(self, *words):
+        if status := self.run(*words):
+            raise RuntimeError(f"status {status}: {words}")
+
+    def block(self, mark):
+        """The status of a block, with room for its objects, as Linux makes it at /dev/tpmrm0."""
+        self.must("tpm2_flushcontext", "--transient-object")
+        return self.run("bash", "-c", self.recipes.block(mark))
+
+    def begin(self, vendor):
+        """Makes the key, gives the TPM a certificate of its own, and shows what the verifier gets; whether the blocks end well."""
+        is_made = self.block(KEY) == 0
+        self.must("tpm2_readpublic", "-c", "ek.ctx", "-f", "pem", "-o", "ek.pem")
+        certificate = vendor.certify(self.folder / "ek.pem")
+        self.folder.joinpath("certificate").write_bytes(certificate)
+        flags = "platformcreate|ppwrite|ppread|ownerread|authread|no_da"
+        self.must("tpm2_nvdefine", "0x1c00002", "-C", "p", "-s", str(len(certificate)), "-a", flags)
+        self.must("tpm2_nvwrite", "0x1c00002", "-C", "p", "-i", "certificate")
+        is_done = is_made and self.block(PUBLIC) == 0
+        return is_done, {name: self.folder.joinpath(name).read_bytes() for name in ("AK.pub", "ek.der")}
+
+    def answers(self, credential):
+        """Whether the TPM opens a credential to the verifier's secret."""
+        self.folder.joinpath("answer").unlink(missing_ok=True)
+        self.folder.joinpath("credential").write_bytes(credential)
+        status, answer = self.block(ANSWER), self.folder / "answer"
+        return status == 0 and answer.read_bytes() == self.recipes.folder.joinpath("secret").read_bytes()
+
+
+def is_taken(recipes, machine, vendor, sent, **settings):
+    """Whether the verifier makes a credential, and whether the machine's TPM opens it."""
+    status, _ = recipes.run(CHALLENGE, sent, vendor=str(vendor.certificate), TPM2TOOLS_TCTI="none", **settings)
+    credential = recipes.folder / "credential"
+    if status or not credential.exists():
+        return False, False
+    return True, machine.answers(credential.read_bytes())
+
+
+def is_key_of(recipes, machine):
+    """Whether the key that the verifier keeps is the one at the machine's handle."""
+    return recipes.folder.joinpath("AK.pem").read_bytes() == machine.folder.joinpath("AK.pem").read_bytes()
+
+
+def other_keys(machine, public):
+    """Public areas that are not that of the machine's key, and whether the verifier makes a credential for one."""
+    for what, flags in (
+        ("a key that signs anything", "fixedtpm|fixedparent|sensitivedataorigin|userwithauth|sign"),
+        ("a key that can be copied", "sensitivedataorigin|userwithauth|restricted|sign"),
+    ):
+        words = ["tpm2_createprimary", "-C", "o", "-G", "rsa2048:rsassa-sha256:null", "-a", flags, "-c", "other.ctx"]
+        machine.must("tpm2_flushcontext", "--transient-object")
+        machine.must(*words)
+        machine.must("tpm2_readpublic", "-c", "other.ctx", "-f", "tss", "-o", "other.pub")
+        yield what, machine.folder.joinpath("other.pub").read_bytes(), False
+    for what, number, byte in (("no attributes", 9, 0), ("a key that may decrypt, too", 7, 7), ("one that signs X.509, too", 7, 13)):
+        yield what, public[:number] + bytes([byte]) + public[number + 1 :], False
+    yield "a key that no TPM has", public[:-1] + bytes([public[-1] ^ 1]), True
+    yield "another hash of names", public[:5] + b"\x0c" + public[6:], True
+    yield "a byte more", public + b"\0", True
+    yield from (("a byte less", public[:-1], False), ("no public area", b"", False))
+
+
+def certified(recipes):
+    """A key from afar."""
+    home = recipes.folder.parent
+    vendor, stranger = Vendor(home, "vendor"), Vendor(home, "stranger")
+    with emulated() as first, emulated() as second:
+        machine, other = Machine(recipes, home / "first", first), Machine(recipes, home / "second", second)
+        (is_done, sent), (_, foreign) = machine.begin(vendor), other.begin(vendor)
+        yield "the blocks of the machine", is_done
+        yield "the machine's key", is_taken(recipes, machine, vendor, sent) == (True, True) and is_key_of(recipes, machine)
+        left = {"AK.pem": other.folder.joinpath("AK.pem").read_bytes(), "secret": b"secret", "answer": b"secret"}
+        yield "a key beside it", is_taken(recipes, machine, vendor, sent | left) == (True, True) and is_key_of(recipes, machine)
+        yield "another TPM's certificate", is_taken(recipes, machine, vendor, sent | {"ek.der": foreign["ek.der"]}) == (True, False)
+        yield "another TPM's key", is_taken(recipes, machine, vendor, sent | {"AK.pub": foreign["AK.pub"]}) == (True, False)
+        for what, public, is_challenged in other_keys(machine, sent["AK.pub"]):
+            yield what, is_taken(recipes, machine, vendor, sent | {"AK.pub": public}) == (is_challenged, False)
+        own = {"ek.der": stranger.certify(machine.folder / "ek.pem")}
+        yield "a certificate of a stranger", is_taken(recipes, machine, vendor, sent | own) == (False, False)
+        trusted = {"SSL_CERT_FILE": str(stranger.certificate), "SSL_CERT_DIR": str(trusting(home, stranger))}
+        yield "whom the system trusts", is_taken(recipes, machine, vendor, sent | own, **trusted) == (False, False)
+        for name in ("AK.pub", "ek.der"):
+            rest = {each: data for each, data in sent.items() if each != name}
+            yield f"no {name}", is_taken(recipes, machine, vendor, rest) == (False, False)
+
+
+def trusting(folder, authority):
+    """A folder of certificates that a system trusts, as OpenSSL names them."""
+    made = folder / "trusted"
+    made.mkdir()
+    name = subprocess.run(["openssl", "x509", "-in", authority.certificate, "-noout", "-hash"], check=True, capture_output=True, text=True)
+    shutil.copy(authority.certificate, made / f"{name.stdout.strip()}.0")
+    return made
+
+
+def main():
+    [program] = sys.argv[1:]
+    passed = failed = 0
+    with tempfile.TemporaryDirectory() as name:
+        recipes = Recipes(Path(program).resolve(), Path(name))
+        for tried in (extended, judged, taken, measures, compared, aggregated, paths, certified, examples):
+            needed = {certified: KEY_TOOLS, examples: QUOTE_TOOLS}.get(tried, TOOLS)
+            if lacking := [tool for tool in needed if not shutil.which(tool)]:
+                print(f"not tried: {tried.__doc__} {' and '.join(lacking)} not installed")
+                continue
+            for what, is_right in tried(recipes):
+                passed, failed = passed + is_right, failed + (not is_right)
+                if not is_right:
+                    print(f"{tried.__doc__} {what}")
+    print(f"{passed} passed, {failed} failed")
+    return bool(failed)
+
+
+if __name__ == "__main__":
+    sys.exit(main())

@@ -1,0 +1,365 @@
+"""What the program answers ('The command line', "The program's input", "The program's output")."""
+
+import json
+import os
+import re
+import shutil
+import stat
+import subprocess
+from pathlib import Path
+from typing import Callable, NamedTuple
+
+from .checkpoint import before_a_list, read_checkpoint
+from .command_line import HelpAsked, VersionAsked, read_words
+from .faults import (
+    MEMORY,
+    USAGE,
+    BookFault,
+    CheckpointFault,
+    ExpectedFault,
+    Fault,
+    ListFault,
+    not_read,
+    not_utf8,
+    not_written,
+    too_long,
+)
+from .log import read_log, read_log_front
+from .measurement_list import (
+    BOOT_AGGREGATE,
+    IMA,
+    LONGEST_IMA_PATH,
+    entry_of,
+    entry_values,
+    list_spelling,
+    list_text,
+    read_front,
+    replay,
+)
+from .registers import ALGORITHMS, BY_NAME, SHA1, Registers, registers_value
+from .texts import read_expected, read_hexadecimal, read_names, read_printed, read_range, read_requirement
+from .verdict import confirmed_front, front_report, list_report, places, report_at
+
+MOST_BYTES = 64 << 20
+LONGEST_PATH = 4095
+# How many names there are for the file beside one that is saved, and the mode of one that its user alone reads and writes.
+MOST_BESIDE = 100
+PRIVATE = 0o600
+
+
+class Unanswered(Exception):
+    """What the reference leaves to the program: help, workers whose order may show, and without a kit the version."""
+
+
+class Inputs:
+    """Files by name, below a folder, which can also be written, and standard input, of which so many bytes are taken."""
+
+    def __init__(self, folder, standard_input, most_bytes):
+        self.folder = os.open(folder, os.O_RDONLY | os.O_DIRECTORY)
+        self.standard_input, self.most_bytes = standard_input, most_bytes
+
+    def close(self):
+        os.close(self.folder)
+
+    def opened(self, name):
+        """A call that reads the input, or the fault of one that cannot be opened."""
+        if name == "/dev/stdin":
+            return lambda: self.limited(name, self.standard_input)
+        try:
+            file = open(name, "rb", opener=lambda path, flags: os.open(path, flags, dir_fd=self.folder))
+        except IsADirectoryError:
+            # (the system opens it, and then does not read it)
+            return lambda: (b"", not_read(name))
+        except (OSError, ValueError):
+            raise not_read(name) from None
+        return lambda: self.read(name, file)
+
+    def load(self, name):
+        """The bytes of an input that is loaded whole."""
+        return whole(*self.opened(name)())
+
+    def load_standard_input(self):
+        return whole(*self.limited("-", self.standard_input))
+
+    def read(self, name, file):
+        """The bytes that are taken of a file, and the fault that ends them, or None."""
+        with file:
+            try:
+                return self.limited(name, file.read(self.most_bytes + 1))
+            except OSError:
+                return b"", not_read(name)
+
+    def save(self, name, data):
+        """Makes a file of these bytes, or leaves what has the name as it is ('Going on from a checkpoint'). It is not synced, which nothing here
+        can tell."""
+        try:
+            beside, file = self.created_beside(name, self.mode_in_place_of(name))
+            try:
+                with file:
+                    file.write(data)
+                os.rename(beside, name, src_dir_fd=self.folder, dst_dir_fd=self.folder)
+            except OSError:
+                os.unlink(beside, dir_fd=self.folder)
+                raise
+        except (OSError, ValueError):
+            raise not_written(name) from None
+
+    def mode_in_place_of(self, name):
+        """The mode of the file that takes the place of what has the name."""
+        try:
+            present = os.stat(name, dir_fd=self.folder, follow_symlinks=False).st_mode
+        except FileNotFoundError:
+            return PRIVATE
+        if not stat.S_ISREG(present):
+            raise OSError(f"{name} is no regular file")
+        return PRIVATE & present
+
+    def created_beside(self, name, mode):
+        """A new file beside that of the name, with its own name, the first that nothing has."""
+        for beside in (f"{name}.{number}.new" for number in range(MOST_BESIDE)):
+            try:
+                return beside, open(beside, "xb", opener=lambda path, flags: os.open(path, flags, mode, dir_fd=self.folder))
+            except FileExistsError:
+                continue
+        raise FileExistsError(name)
+
+    def limited(self, name, data):
+        return data[: self.most_bytes], too_long(name) if len(data) > self.most_bytes else None
+
+
+def whole(data, fault):
+    if fault:
+        raise fault
+    return data
+
+
+def list_of(data, fault):
+    """The entries of a list that is read as its bytes come."""
+    return whole(*front_of(data, fault))
+
+
+def front_of(data, fault, first=0):
+    """The entries before the first fault of such a list, and that, or None, where the first entry has this number; or the fault that ended
+    its bytes, if that is the first. Only a cut entry is told after it."""
+    entries, found = read_front(data, first)
+    if fault and (found is None or found.number == ListFault.TRUNCATED):
+        raise fault
+    return entries, found
+
+
+class Told(NamedTuple):
+    """What a command shows: its text, which may be bytes, and its values as JSON, each made when it is asked for; and its status."""
+
+    text: Callable
+    values: Callable
+    status: int = 0
+
+
+def told_of(told, is_well=True):
+    """The same of what has one value."""
+    return Told(told.text, lambda: [told.as_json()], 0 if is_well else 1)
+
+
+def registers_of_hexadecimal(inputs):
+    return told_of(read_log(read_hexadecimal(inputs.load_standard_input())).registers())
+
+
+def registers_command(inputs, values, log):
+    return told_of(read_log(inputs.load(log)).registers())
+
+
+def events_command(inputs, values, log):
+    log, fault = read_log_front(inputs.load(log))
+    if fault and not values["--json"]:
+        raise fault
+    shown = log.values() if log else []
+    ended = [fault.as_json()] if fault else []
+    return Told(lambda: log.text(values["--data"]), lambda: shown + ended, fault.status if fault else 0)
+
+
+def show_command(inputs, values, listed):
+    data, fault = inputs.opened(listed)()
+    if not values["--json"]:
+        whole(data, fault)
+    entries, found = read_front(data)
+    if found and not (fault and found.number == ListFault.TRUNCATED):
+        fault = found
+    if fault and not values["--json"]:
+        raise fault
+    ended = [fault.as_json()] if fault else []
+    return Told(lambda: list_text(entries), lambda: entry_values(entries) + ended, fault.status if fault else 0)
+
+
+def replay_command(inputs, values, listed, expected=None):
+    if expected is None:
+        registers = Registers(ALGORITHMS)
+        replay(registers, list_of(*inputs.opened(listed)()))
+        return told_of(registers)
+    required = required_by(values)
+    expected = read_expected(inputs.load(expected))
+    report = list_report(list_of(*inputs.opened(listed)()), expected, required)
+    return told_of(report, report.matches)
+
+
+def required_by(values):
+    """What `--require` names, or None without it."""
+    text = values["--require"]
+    if text is None:
+        return None
+    required = read_requirement(text)
+    if required is None:
+        raise USAGE
+    return required
+
+
+def expected_command(inputs, values, text):
+    wanted = read_range(values["--registers"])
+    if wanted is None:
+        raise USAGE
+    rows = [row for row in read_printed(inputs.load(text)) if row.register in wanted]
+    if not rows:
+        raise ExpectedFault.NO_REGISTER.of_text()
+    return Told(lambda: "".join(row.line() for row in rows), lambda: [registers_value(rows)])
+
+
+def verify_command(inputs, values, log, listed, expected):
+    required = required_by(values)
+    log = inputs.load(log)
+    expected = read_expected(inputs.load(expected))
+    start = read_checkpoint(inputs.load(values["--resume"])) if values["--resume"] is not None else None
+    read = inputs.opened(listed)
+    log = read_log(log)
+    before = log.registers()
+    start = start or before_a_list(before)
+    if start.before.banks != before.banks:
+        raise CheckpointFault.OTHER_BOOT.fault()
+    entries, fault = front_of(*read(), start.entries)
+    end = confirmed_front(log, start, entries, expected, required) if values["--prefix"] and expected else None
+    if end:
+        report = front_report(log, end, start, entries, fault, expected, required)
+    else:
+        end = start.following(whole(entries, fault))
+        report = report_at(log, end, expected, required)
+    if is_growing(values):
+        report = report._replace(matches=report.matches and bool(expected))
+        if not end.leaves_room:
+            raise MEMORY
+    if values["--save"] is not None and report.matches:
+        inputs.save(values["--save"], end.text())
+    return told_of(report, report.matches)
+
+
+def is_growing(values):
+    """Whether the list is one that grows ('Going on from a checkpoint')."""
+    return values["--prefix"] or values["--resume"] is not None or values["--save"] is not None
+
+
+def locate_command(inputs, values, log, listed, expected):
+    required = required_by(values)
+    log = inputs.load(log)
+    expected = read_expected(inputs.load(expected))
+    read = inputs.opened(listed)
+    log = read_log(log)
+    told = places(log, list_of(*read()), expected, required)
+    return told_of(told, told.are_located)
+
+
+def measure_command(inputs, values, log, *names):
+    log = read_log(inputs.load(log))
+    names = [*names, *further_names(inputs, values)]
+    algorithm, template = BY_NAME[values["--alg"]], values["--template"].encode()
+    files = [(name, algorithm.hash(inputs.load(name))) for name in names]
+    entries = measured(log, algorithm, template, values["--limit"], files, values["--workers"])
+    if values["--print"] == "ascii":
+        return Told(lambda: list_text(entries), lambda: entry_values(entries))
+    if values["--print"] == "binary":
+        return Told(lambda: list_spelling(entries), list)
+    registers = log.registers()
+    replay(registers, entries)
+    return told_of(registers)
+
+
+def further_names(inputs, values):
+    name = values["--files-from"]
+    if name is None:
+        return []
+    try:
+        return read_names(inputs.load(name), values["--null"])
+    except UnicodeDecodeError:
+        raise not_utf8(name) from None
+
+
+def measured(log, algorithm, template, limit, files, workers):
+    """The entries of the boot aggregate and of files, each a name and a digest, and each entry once ('A measurement')."""
+    registers = log.registers()
+    if template == IMA and algorithm is not SHA1:
+        raise BookFault.WRONG_HASH.at_opening()
+    if algorithm not in registers.banks:
+        raise BookFault.NO_BANK.at_opening()
+    if workers > 1 and len(files) > 1 and (len(set(files)) > 1 or len(files) >= limit):
+        raise Unanswered("the order of several workers may show")
+    entries = {entry_of(template, algorithm, registers.boot_aggregate(algorithm), BOOT_AGGREGATE): None}
+    for job, (name, digest) in enumerate(files):
+        path = name.encode()
+        if len(path) > (LONGEST_IMA_PATH if template == IMA else LONGEST_PATH):
+            raise BookFault.PATH_TOO_LONG.of_file(job)
+        if job + 1 >= limit:
+            raise BookFault.FULL.of_file(job)
+        entries[entry_of(template, algorithm, digest, path)] = None
+    return list(entries)
+
+
+COMMANDS = {
+    "measure": measure_command,
+    "verify": verify_command,
+    "locate": locate_command,
+    "expected": expected_command,
+    "registers": registers_command,
+    "events": events_command,
+    "show": show_command,
+    "replay": replay_command,
+}
+
+
+def answer(words, folder=".", standard_input=b"", most_bytes=MOST_BYTES):
+    """The program's status and output for arguments, where names are those of files below the folder; or `Unanswered`. With another
+    `most_bytes`, what they would be if inputs had that limit."""
+    inputs = Inputs(folder, standard_input, most_bytes)
+    as_json = False
+    try:
+        if any("\udc80" <= letter <= "\udcff" for letter in "".join(words)):
+            raise MEMORY
+        if words:
+            asked = read_words(words)
+            as_json = asked.values["--json"]
+            told = COMMANDS[asked.command](inputs, asked.values, *asked.names)
+        else:
+            told = registers_of_hexadecimal(inputs)
+        text, status = json_lines(told.values()) if as_json else told.text(), told.status
+    except Fault as fault:
+        text, status = json_lines([fault.as_json()]) if as_json else f"{fault.line}\n", fault.status
+    except HelpAsked:
+        raise Unanswered("help") from None
+    except VersionAsked:
+        text, status = version_lines(), 0
+    finally:
+        inputs.close()
+    return status, text if isinstance(text, bytes) else text.encode()
+
+
+def version_lines():
+    """The version of the file VERSION, and the logic that the kit names."""
+    version = (Path(__file__).resolve().parents[2] / "VERSION").read_text().strip()
+    try:
+        kit = subprocess.run([shutil.which("rt") or "/opt/rattle/bin/rt", "version"], stdout=subprocess.PIPE, check=True).stdout.decode()
+    except (OSError, subprocess.CalledProcessError) as cause:
+        raise Unanswered(f"the logic of the kit: {cause}") from None
+    logic = re.search(r"\blogic [0-9a-f]{16}\b", kit)
+    if logic is None:
+        raise Unanswered("the logic: the kit names none")
+    return f"ima-agent {version}\n{logic[0]}\n"
+
+
+def json_lines(values):
+    """Values as lines of JSON."""
+    return "".join(json.dumps(value, separators=(",", ":"), ensure_ascii=False) + "\n" for value in values)
