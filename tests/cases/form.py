@@ -149,6 +149,12 @@ def fault_table(name, line):
     return table.encode()
 
 
+def sentences_of(name):
+    """The sentences of the table of faults of docs/formats.md that begins with this word, by the faults' numbers."""
+    rows = re.findall(r"^  (\d+)  (.*)$", fault_table(TABLES + name, 0).decode(), re.MULTILINE)
+    return {int(number): sentence for number, sentence in rows}
+
+
 def slice_of(data, start, end, line):
     """A part of some bytes, which has to lie in them; negative places count from their end."""
     places = [int(start or 0), int(end) if end else len(data)]

@@ -56,43 +56,8 @@ INPUTS = {
     "replay": ["list", "expected"],
 }
 
-# The tables of docs/formats.md ('Fault lines', 'Expected registers'), said of the event, the entry, the line or the file.
-LOG = {
-    1: "its bytes are not all there",
-    2: "the first event is not the Specification ID Version Event of a crypto-agile log",
-    3: "the header's algorithm table or vendor bytes are malformed",
-    4: "the header gives a known algorithm a wrong digest size",
-    5: "the header declares no known algorithm",
-    6: "it has a digest of an algorithm that the header does not declare",
-    7: "it has two digests of one algorithm",
-    8: "it is to be extended, and lacks the digest of a bank",
-    9: "it is to be extended, and names a register of 24 or more",
-}
-LIST = {
-    1: "its bytes are not all there",
-    2: "it names a register of 24 or more",
-    3: "it is of the template ima, and its path is longer than 255 bytes",
-}
-REPLAY = {1: "its template digest is not the SHA-1 of what it covers, and it is no violation"}
-CHECKPOINT = {
-    1: "the file is not a whole checkpoint, as it was saved",
-    2: "the checkpoint is of another version",
-    3: "the checkpoint is of another boot: the log's registers are not those it began from",
-}
-EXPECTED = {1: "is not a register line", 2: "names a register a second time"}
-PRINTED = {
-    4: "this is what tpm2_quote printed: its quote is not checked yet",
-    5: "the line of the signature is missing",
-    6: "no register is stated, or none of those that are wanted",
-}
-BOOK = {
-    1: "the template does not take digests of the algorithm of --alg",
-    2: "the log has no bank of the algorithm of --alg",
-    4: "the path has a NUL",
-    5: "the path is longer than the template takes",
-    6: "the template digest is all zeros, which would mark a violation",
-    7: "there are as many records as --limit allows",
-}
+# The sentences of docs/formats.md's tables of faults, by number; those of expected registers from 4 on name no line.
+LOG, LIST, REPLAY, EXPECTED, CHECKPOINT, BOOK = map(form.sentences_of, ("Log", "List", "Replay", "Expected", "Checkpoint", "Book"))
 
 # What clap says of wrong arguments, or the program in its form where clap takes them.
 MORE = "\nFor more information, try '--help'.\n"
@@ -205,9 +170,9 @@ def fault_in_words(line, words, folder):
     if found := re.fullmatch(r"refused: (list|replay) fault (\d+) at entry (\d+)", line):
         return inputs["list"], f"entry {found[3]}: {(LIST if found[1] == 'list' else REPLAY)[int(found[2])]}"
     if found := re.fullmatch(r"refused: expected fault ([4-6])", line):
-        return inputs["expected"], PRINTED[int(found[1])]
+        return inputs["expected"], EXPECTED[int(found[1])]
     if found := re.fullmatch(r"refused: expected fault (\d+) at line (\d+)", line):
-        return inputs["expected"], f"line {found[2]} {EXPECTED[int(found[1])]}"
+        return inputs["expected"], f"line {found[2]}: {EXPECTED[int(found[1])]}"
     if found := re.fullmatch(r"refused: checkpoint fault (\d+)", line):
         return inputs["checkpoint"], CHECKPOINT[int(found[1])]
     if found := re.fullmatch(r"refused: book fault (\d+)", line):

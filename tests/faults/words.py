@@ -1,30 +1,46 @@
 #!/usr/bin/env python3
-"""Compares the words of each fault of the libraries with those of words.txt.
+"""Compares the sentence of each fault in the sources with the pages.
 
 tests/faults/words.py [ROOT]: the tree whose crates are read, or else the one that this file is in.
 
-The words are those by which a fault is displayed (`#[error("..")]`), and those by which the program tells a terminal its cause
-(`ima_agent/src/causes.rt`). words.txt has them as people read them, by crate and fault; no fault may be missing there or in the sources. The
-texts of `ima_agent/src/fault.rt` and `explaining.rt`, which put these together, are there by constant or function, or by the fault that
-they are for. How they are filled in is in the tests of the crates. The last line, 'N passed, M failed', counts faults and texts."""
+A fault has one sentence, its `#[error("..")]`, by which it is displayed; the program tells it to a terminal. The faults with a number must
+have the sentences of the tables of docs/formats.md, which the help prints. All others, and the texts of `ima_agent/src/fault.rt` and
+`explaining.rt` that put sentences together, must be those of words.txt, by crate and fault."""
 
 import re
 import sys
 from pathlib import Path
 
 HERE = Path(__file__).resolve().parent
-SHOWN = re.compile(
-    r'pub enum (?P<type>\w+)|#\[error\("(?P<words>[^"]*)"\)\]\s+(?:pub struct (?P<unit>\w+)|(?P<name>\w+))|(?P<other>#\[error)'
+sys.path[:0] = [str(HERE.parent), str(HERE.parent / "cases")]
+import harness  # noqa: E402
+from form import sentences_of  # noqa: E402
+
+NUMBERED = {
+    "boot_log LogFault": "Log",
+    "ima_list ListFault": "List",
+    "ima_list ReplayFault": "Replay",
+    "boot_verdict ExpectFault": "Expected",
+    "ima_agent NotResumed": "Checkpoint",
+    "measure_book BookFault": "Book",
+    "measure_book GatherFault": "Gather",
+}
+FAULT = re.compile(
+    r"pub enum (?P<type>\w+)"
+    r'|(?:/// (?P<number>\d+): .*\n(?:\s+///.*\n)*\s+)?#\[error\("(?P<words>[^"]*)"(?:, (?P<other>\w+::\w+))?\)\]\s+'
+    r"(?:pub struct (?P<unit>\w+)|(?P<name>\w+))"
+    r"|(?P<unread>#\[error)"
 )
-CAUSE = re.compile(r'fn (?P<type>\w+)\(|(?P<name>\w+)(?: \{ \.\. \})? =>\s+"(?P<words>[^"]*)"|(?P<other>=>)(?P<unit>)')
 TEXT = re.compile(r'(?:const|fn) (?P<function>\w+)|^ +(?P<fault>RunFault::\w+)[^=\n]*=>|"(?P<words>[^"]*)"', re.MULTILINE)
-TEXTS = ("fault.rt", "explaining.rt")
+PLACE = re.compile(r"^(?:event|entry|line) \{\w+\}: ")
+# What stands in a table for a number that a sentence has.
+NUMBERS = {"{index}": "I", "{group}": "G", "{place}": "R"}
 
 
 def texts_in(file):
-    """The texts of a file of the program's, without white space around them, by the constant, the function or the fault before them."""
+    """The texts of a file of the program, without white space around them, by the constant, the function or the fault before them."""
     found, name = {}, ""
-    for each in TEXT.finditer(file.read_text()):
+    for each in TEXT.finditer(re.sub(r"#\[error\(.*\)\]", "", file.read_text())):
         name = each["function"] or each["fault"] or name
         if each["words"]:
             texts = sum(known.split()[1] == name for known in found)
@@ -32,39 +48,61 @@ def texts_in(file):
     return found
 
 
-def words_in(root):
-    """The words of each fault in the sources, by its name; of what is in another form, None."""
+def faults_in(root):
+    """The number, if it has one, and the sentence of each fault, by its name. An `#[error]` in another form has no sentence.
+
+    A fault that is displayed as another has its sentence, and the other is not among these."""
     found = {}
-    for name in TEXTS:
-        found |= texts_in(root / "crates/ima_agent/src" / name)
     for file in sorted((root / "crates").glob("*/src/**/*.rt")):
         crate, kind = file.relative_to(root / "crates").parts[0], ""
-        for each in (CAUSE if file.name == "causes.rt" else SHOWN).finditer(file.read_text()):
+        for each in FAULT.finditer(file.read_text()):
             kind = each["type"] or kind
-            if each["other"]:
-                found[f"{crate} {kind} in another form"] = None
-            elif each["unit"]:
-                found[f"{crate} {each['unit']}"] = each["words"]
-            elif each["name"]:
-                found[f"{crate} {kind}::{each['name']}"] = each["words"]
-    return found
+            if each["unread"]:
+                found[f"{crate} {kind} in another form"] = None, None
+            elif each["words"] is not None:
+                name = each["unit"] or f"{kind}::{each['name']}"
+                found[f"{crate} {name}"] = each["number"], each["other"] or each["words"]
+    cited = {name: sentence for name, (_, sentence) in found.items() if any(name.endswith(f" {other}") for _, other in found.values())}
+    by_fault = {name.split()[1]: sentence for name, sentence in cited.items()}
+    return {name: (number, by_fault.get(sentence, sentence)) for name, (number, sentence) in found.items() if name not in cited}
 
 
-def words_of(text):
-    """The words that a text has, by the fault's name: lines `NAME: WORDS`."""
-    return {name: words.strip() for name, words in (line.split(": ", 1) for line in text.splitlines())}
+def kind_of(name):
+    """The crate and the type of a fault."""
+    return name.split("::")[0]
 
 
-def main():
-    root = Path(sys.argv[1]).resolve() if len(sys.argv) > 1 else HERE.parents[1]
-    found, wanted = words_in(root), words_of((HERE / "words.txt").read_text())
-    names = sorted({*found, *wanted})
-    failed = [name for name in names if found.get(name) is None or found[name] != wanted.get(name)]
-    for name in failed:
-        print(f"{name}: {found.get(name)!r} in the sources, {wanted.get(name)!r} in words.txt")
-    print(f"{len(names) - len(failed)} passed, {len(failed)} failed")
-    return 1 if failed or not names else 0
+def is_numbered(name):
+    """Whether a table has the faults of this type."""
+    return kind_of(name) in NUMBERED
+
+
+def in_table(sentence):
+    """A sentence as a table has it."""
+    return re.sub(r"\{\w+\}", lambda number: NUMBERS.get(number[0], number[0]), PLACE.sub("", sentence))
+
+
+class Words(harness.TestCase):
+    root = Path(sys.argv[1]).resolve() if len(sys.argv) > 1 else harness.ROOT
+
+    def test_numbered_faults(self):
+        found = {kind: {} for kind in NUMBERED}
+        for name, (number, sentence) in faults_in(self.root).items():
+            if is_numbered(name) and sentence != "out of memory":
+                found[kind_of(name)][int(number or 0)] = in_table(sentence)
+        for kind, table in NUMBERED.items():
+            wanted = sentences_of(table)
+            for number in sorted({*found[kind], *wanted}):
+                self.check(f"{kind}, {number}", found[kind].get(number), wanted.get(number))
+
+    def test_other_words(self):
+        found = {name: sentence for name, (_, sentence) in faults_in(self.root).items() if not is_numbered(name)}
+        for name in ("fault.rt", "explaining.rt"):
+            found |= texts_in(self.root / "crates/ima_agent/src" / name)
+        wanted = dict(line.split(": ", 1) for line in (HERE / "words.txt").read_text().splitlines())
+        for name in sorted({*found, *wanted}):
+            self.check(name, found.get(name), wanted.get(name))
 
 
 if __name__ == "__main__":
-    sys.exit(main())
+    sys.exit(harness.main())

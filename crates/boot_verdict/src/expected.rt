@@ -28,10 +28,10 @@ pub struct Expected {
 #[derive(Clone, Copy, Debug, PartialEq, Eq, Error)]
 pub enum ExpectFault {
     /// 1: the line is neither empty nor a register line; in what tpm2-tools print, nor one of the others that it may have.
-    #[error("line {line} is not a register line")]
+    #[error("line {line}: it is not a register line")]
     BadLine { line: usize },
     /// 2: the line names a register of a bank that an earlier line names.
-    #[error("line {line} names a register a second time")]
+    #[error("line {line}: it names a register of a bank a second time")]
     DoubleLine { line: usize },
     /// 3: out of memory.
     #[error("out of memory")]

@@ -58,10 +58,10 @@ pub fn same_data_is_of_the_same_lists()
 #[derive(Clone, Copy, Debug, PartialEq, Eq, Error)]
 pub enum CheckpointFault {
     /// The text begins as that of a checkpoint does, but has another version.
-    #[error("a checkpoint of another version")]
+    #[error("the checkpoint is of another version")]
     Version,
     /// It is not the text of a checkpoint, or it was damaged.
-    #[error("not a checkpoint, or a damaged one")]
+    #[error("the text is not a whole checkpoint, as it was saved")]
     Damaged,
     /// Out of memory.
     #[error("out of memory")]

@@ -24,7 +24,7 @@ pub enum ResumeFault {
     #[error("the log is invalid: {0}")]
     Log(LogFault),
     /// The checkpoint is of another boot: the log leaves other registers than those before its list.
-    #[error("the checkpoint is of another boot")]
+    #[error("the checkpoint is of another boot: the log's registers are not those it began from")]
     OtherBoot,
 }
 

@@ -5,10 +5,10 @@ ghost use Rattle.ima_agent.specs.Faults.{fault_of_agent, fault_of_expected, faul
 ghost use Rattle.ima_agent.specs.FaultTexts.{not_resumed_number};
 ghost use Rattle.ima_agent.specs.declared.fault.RunFault.TheVariants.{Memory};
 
-use crate::causes::{book_cause, checkpoint_cause, list_cause, log_cause, replay_cause};
 use boot_log::LogFault;
 use boot_verdict::ExpectFault;
 use command_line::WordsFault;
+use growing_lists::{CheckpointFault, ResumeFault};
 use hash_workers::AgentFault;
 use ima_list::{ListFault, ReplayFault};
 use measure_book::{BookFault, GatherFault};
@@ -17,13 +17,16 @@ use std::fmt;
 use thiserror::Error;
 
 /// Why there is no going on from a checkpoint.
-#[derive(Clone, Copy, Debug, PartialEq, Eq)]
+#[derive(Clone, Copy, Debug, PartialEq, Eq, Error)]
 pub enum NotResumed {
-    /// The file is not a whole checkpoint, as it was saved.
+    /// 1: the text is not a whole checkpoint, as it was saved.
+    #[error("{}", CheckpointFault::Damaged)]
     Damaged,
-    /// The checkpoint is of another version.
+    /// 2: the checkpoint is of another version.
+    #[error("{}", CheckpointFault::Version)]
     Version,
-    /// The checkpoint is of another boot: the log leaves other registers than those that it began from.
+    /// 3: the checkpoint is of another boot: the log leaves other registers than those that it began from.
+    #[error("{}", ResumeFault::OtherBoot)]
     OtherBoot,
 }
 
@@ -80,21 +83,18 @@ pub enum RunFault {
     Memory,
 }
 
-/// What is wrong, in words: of a fault of a part by the tables of docs/formats.md. `TooLong`, `Read`, `Write` and `NotUtf8`
-/// name their file.
+/// What is wrong, in words. `TooLong`, `Read`, `Write` and `NotUtf8` name their file.
 impl fmt::Display for RunFault {
     fn fmt<W: fmt::Write>(&self, f: &mut fmt::Formatter<W>) -> fmt::Result {
         match self {
             RunFault::Usage => f.write_str("the arguments are not those of a command"),
             RunFault::NotHex => f.write_str("the text is not hexadecimal"),
-            RunFault::Log(fault) => say_cause("event", fault.event(), log_cause(*fault), f),
-            RunFault::List(fault) => say_cause("entry", fault.entry(), list_cause(*fault), f),
-            RunFault::Replay(fault) => {
-                say_cause("entry", Some(fault.entry()), replay_cause(*fault), f)
-            }
+            RunFault::Log(fault) => say_fault("", fault, f),
+            RunFault::List(fault) => say_fault("", fault, f),
+            RunFault::Replay(fault) => say_fault("", fault, f),
             RunFault::Expect(fault) => say_fault("", fault, f),
-            RunFault::Checkpoint(fault) => f.write_str(checkpoint_cause(*fault)),
-            RunFault::Book(fault) => f.write_str(book_cause(*fault)),
+            RunFault::Checkpoint(fault) => say_fault("", fault, f),
+            RunFault::Book(fault) => say_fault("", fault, f),
             RunFault::Outcome { job, fault } => say_outcome(*job, *fault, f),
             RunFault::TooLong(name) => say_name("", name, " is longer than 64 MiB", f),
             RunFault::Read(name) => say_name("cannot read ", name, "", f),
@@ -105,19 +105,6 @@ impl fmt::Display for RunFault {
             }
             RunFault::Memory => f.write_str("out of memory"),
         }
-    }
-}
-
-// The place of a fault, if it names one, and its cause.
-fn say_cause<W: fmt::Write>(
-    kind: &str,
-    place: Option<usize>,
-    cause: &str,
-    f: &mut fmt::Formatter<W>,
-) -> fmt::Result {
-    match place {
-        Some(place) => write!(f, "{kind} {place}: {cause}"),
-        None => f.write_str(cause),
     }
 }
 
@@ -136,8 +123,7 @@ fn say_outcome<W: fmt::Write>(
     fault: BookFault,
     f: &mut fmt::Formatter<W>,
 ) -> fmt::Result {
-    let cause = book_cause(fault);
-    write!(f, "file {job} is refused: {cause}")
+    write!(f, "file {job} is refused: {fault}")
 }
 
 // A name between words.

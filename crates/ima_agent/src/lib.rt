@@ -2,7 +2,6 @@
 //! streams. Re-exports what `command_line` reads from arguments, and the verdict and its texts from `boot_verdict`.
 #![tactic(auto)]
 
-mod causes;
 mod escaping;
 mod evidence;
 mod expecting;

@@ -5,13 +5,25 @@ use std::test::Fail;
 use test_kit::words_of;
 
 const WORDS: [(BookFault, &str); 8] = [
-    (BookFault::WrongHash, "the digest is of another algorithm"),
-    (BookFault::NoBank, "the bank is not active"),
+    (
+        BookFault::WrongHash,
+        "the template or the book does not take digests of this algorithm",
+    ),
+    (BookFault::NoBank, "there is no bank of this algorithm"),
     (BookFault::BadRegister, "there is no such register"),
     (BookFault::NulInPath, "the path has a NUL"),
-    (BookFault::PathTooLong, "the path is too long"),
-    (BookFault::ZeroDigest, "the template digest is zero"),
-    (BookFault::Full, "the book is full"),
+    (
+        BookFault::PathTooLong,
+        "the path is longer than the template takes",
+    ),
+    (
+        BookFault::ZeroDigest,
+        "the template digest is all zeros, which would mark a violation",
+    ),
+    (
+        BookFault::Full,
+        "there are as many records as the limit allows",
+    ),
     (BookFault::Memory, "out of memory"),
 ];
 
