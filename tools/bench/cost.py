@@ -1,18 +1,25 @@
-#!/usr/bin/env python3
-"""Runs a command, and says what it cost, with all that it started.
-
-tools/bench/cost.py FILE COMMAND..: writes a line to FILE: minutes of processor time, minutes from start to end, and the most memory in GB, of
-the command and of all processes below it (what they share counts once), as looked at every few seconds. Exits with the command's
-status."""
+"""Runs a command, and says what it cost, with all that it started: for `check`."""
 
 import os
-import resource
 import subprocess
-import sys
+import threading
 import time
+from dataclasses import dataclass
 from pathlib import Path
 
 SECONDS_BETWEEN_LOOKS = 3
+
+
+@dataclass(frozen=True)
+class Ran:
+    """What came of a command: its exit status and the lines of its output; minutes of processor time, and from start to end; and the most
+    memory in GB, as looked at every few seconds, where what processes share counts once."""
+
+    status: int
+    lines: list
+    processor: float
+    minutes: float
+    memory: float
 
 
 def children():
@@ -45,22 +52,28 @@ def memory_below(process):
     return sum(map(memory_of, reached))
 
 
-def main():
-    file, *words = sys.argv[1:]
-    started, most = time.monotonic(), 0
-    command = subprocess.Popen(words)
-    while command.poll() is None:
-        most = max(most, memory_below(command.pid))
-        try:
-            command.wait(SECONDS_BETWEEN_LOOKS)
-        except subprocess.TimeoutExpired:
-            pass
-    used = resource.getrusage(resource.RUSAGE_CHILDREN)
-    minutes = (used.ru_utime + used.ru_stime) / 60, (time.monotonic() - started) / 60
-    with open(file, "w") as costs:
-        costs.write(f"{minutes[0]:.1f} {minutes[1]:.1f} {most / 1e6:.1f}\n")
-    return command.returncode if command.returncode >= 0 else 128 - command.returncode
+def measured(words, show=None, **settings):
+    """Runs a command, with these settings in its environment, and shows each line of its output as it comes."""
+    started, looks, ended = time.monotonic(), [0], threading.Event()
+    command = subprocess.Popen(words, env={**os.environ, **settings}, stdin=subprocess.DEVNULL, stdout=subprocess.PIPE,
+                               stderr=subprocess.STDOUT, text=True, errors="replace")
 
+    def look():
+        while not ended.wait(SECONDS_BETWEEN_LOOKS):
+            looks.append(memory_below(command.pid))
 
-if __name__ == "__main__":
-    sys.exit(main())
+    watch = threading.Thread(target=look)
+    watch.start()
+    try:
+        lines = []
+        for line in command.stdout:
+            lines.append(line.rstrip("\n"))
+            if show:
+                show(lines[-1])
+        _, status, used = os.wait4(command.pid, 0)
+    finally:
+        ended.set()
+        watch.join()
+    command.returncode = os.waitstatus_to_exitcode(status)
+    minutes = (time.monotonic() - started) / 60
+    return Ran(command.returncode, lines, (used.ru_utime + used.ru_stime) / 60, minutes, max(looks) / 1e6)
