@@ -6,6 +6,7 @@ and something passed or was skipped."""
 
 import shutil
 import sys
+import tempfile
 import unittest
 from pathlib import Path
 
@@ -19,23 +20,46 @@ class TestCase(unittest.TestCase):
     """Tests that go on after a check that fails."""
 
     def check(self, title, found, wanted=True):
-        """Counts whether what was found is what was wanted, and shows both if not."""
+        """Counts whether what was found is what was wanted, and shows both if not. A fault is what was found where None was wanted."""
         with self.subTest(title=title):
             if found != wanted:
-                raise self.failureException(f"{str(found)[-MOST_SHOWN:]}, and not {str(wanted)[-MOST_SHOWN:]}")
+                others = "" if wanted is None else f", and not {str(wanted)[-MOST_SHOWN:]}"
+                raise self.failureException(f"{str(found)[-MOST_SHOWN:]}{others}")
 
     def check_all(self, title, passed, faults):
         """Counts many checks of one kind: how many passed, and what is wrong with each of the others, of which the first are shown."""
-        print(f"{title}: {passed} passed, {len(faults)} failed", flush=True)
-        self.result.passed += passed
-        self.result.failed += len(faults)
-        self.result.tell(*faults[:MOST_FAULTS])
+        self.count(title, passed, len(faults), *faults[:MOST_FAULTS])
 
-    def needs(self, *tools):
-        """Skips the test if the machine lacks one of these tools."""
-        lacking = [tool for tool in tools if not shutil.which(tool)]
-        if lacking:
-            self.skipTest(f"this machine has no {' and no '.join(lacking)}")
+    def count(self, title, passed, failed, *said):
+        """Counts the checks of another tool, and shows what it said."""
+        self.result.before = None  # (many checks, of which there may be none, are not one check)
+        self.result.passed += passed
+        self.result.failed += failed
+        self.result.tell(f"{title}: {passed} passed, {failed} failed", *said)
+
+    def folder(self):
+        """Makes a folder, which is removed after the test."""
+        made = tempfile.TemporaryDirectory()
+        self.addCleanup(made.cleanup)
+        return Path(made.name)
+
+    @classmethod
+    def enter(cls, manager):
+        """What a context manager gives; it ends after the last test of the class."""
+        given = manager.__enter__()
+        cls.addClassCleanup(manager.__exit__, None, None, None)
+        return given
+
+    @classmethod
+    def needs(cls, *tools, path=None):
+        """Skips the test, the block of `subTest`, or in `setUpClass` the class, if the machine lacks one of these tools. `path` replaces PATH."""
+        cls.lacks(*(tool for tool in tools if not shutil.which(tool, path=path)))
+
+    @staticmethod
+    def lacks(*what):
+        """Skips as `needs` does, if the machine lacks anything that is named here."""
+        if what:
+            raise unittest.SkipTest(f"this machine has no {' and no '.join(what)}")
 
     def run(self, result=None):
         self.result = result
@@ -64,7 +88,7 @@ class Result(unittest.TestResult):
             self.passed += 1
             self.tell(f"ok: {title}")
         else:
-            self.fail(title, error)
+            self.fail(f"{title} ({test.id().rpartition('.')[2]})", error)
 
     def addSuccess(self, test):
         if self.passed + self.failed == self.before:
@@ -86,19 +110,42 @@ class Result(unittest.TestResult):
     def fail(self, title, error):
         kind, value, _ = error
         self.failed += 1
+        if kind is SystemExit:  # (by which a signal ends the tests)
+            self.stop()
         self.tell(f"WRONG: {title}: {value if kind is TestCase.failureException else f'{kind.__name__}: {value}'}")
 
 
+def argument(default=PROGRAM):
+    """The path that the script's first argument names, or this one without arguments."""
+    return Path(sys.argv[1] if len(sys.argv) > 1 else default).resolve()
+
+
 def title_of(test):
-    """The first line of what a test says of itself, or its name."""
-    return (test.shortDescription() if hasattr(test, "shortDescription") else None) or str(test)
+    """The title of a block of `subTest`, the first line of what a test says of itself, or its name."""
+    title = getattr(test, "params", {}).get("title")
+    return title or (test.shortDescription() if hasattr(test, "shortDescription") else None) or str(test)
 
 
-def main(module="__main__"):
-    """Runs the tests of a module in the order in which they stand there, and says how many checks passed: the exit status."""
+def cases_of(module):
+    """The classes of tests of a module, which may be given by its name."""
+    module = sys.modules.get(module, module)
+    for case in vars(module).values():
+        if isinstance(case, type) and issubclass(case, TestCase) and case.__module__ == module.__name__:
+            yield case
+
+
+def main(*modules, at_failure=lambda: None):
+    """Runs the tests of these modules, or of the script, in the order in which they stand there, and says how many checks passed: the exit
+    status. If something failed, `at_failure` is called before that is said."""
     result = Result()
-    for case in list(vars(sys.modules[module]).values()):
-        if isinstance(case, type) and issubclass(case, TestCase) and case.__module__ == module:
-            unittest.TestSuite(case(name) for name in vars(case) if name.startswith("test")).run(result)
+    cases = [case for module in modules or ["__main__"] for case in cases_of(module)]
+    try:
+        # (one suite, so that each `setUpClass` and `setUpModule` has its end once, and after the last test)
+        unittest.TestSuite(case(name) for case in cases for name in vars(case) if name.startswith("test")).run(result)
+    finally:
+        for case in cases:  # (an interrupt leaves out what ends a class)
+            case.doClassCleanups()
+    if result.failed:
+        at_failure()
     print(f"{result.passed} passed, {result.failed} failed", flush=True)
     return 0 if result.failed == 0 and (result.passed or result.skipped) else 1
