@@ -26,6 +26,7 @@ RULES = (
      "`ima-agent` there"),
     (re.compile(r", as the\s+definitions in `crates/\*/specs/` do(?: \(\[definitions\.md\]\(definitions\.md\)\))?"), ""),
     (re.compile(r"(?:(?<=\$PWD/)|(?<![\w/]))samples/"), f"{SAMPLES}/"),
+    (re.compile(r"(?<![\w/])bindings/c/ima_verify\.h"), "include/ima_verify.h"),
     # of the page of the fleet
     (re.compile(r"`fleet/verify\.py`, installed as `fleet-verify`,"), "`fleet-verify`"),
     (re.compile(r"(?:/usr/bin/python3 )?(?<![\w/])fleet/verify\.py"), "fleet-verify"),
@@ -39,7 +40,7 @@ RULES = (
 )
 
 # What only the repository has: its scripts, and its folders.
-SCRIPTS = re.compile(r"(?<![\w/])\./(?:ima-agent|try|check|edits)\b")
+SCRIPTS = re.compile(r"(?<![\w/])\./(?:ima-agent|try|check)\b")
 
 
 def anchors(text):
