@@ -5,7 +5,9 @@ tests/faults/words.py [ROOT]: the tree whose crates are read, or else the one th
 
 A fault has one sentence, its `#[error("..")]`, by which it is displayed; the program tells it to a terminal. The faults with a number must
 have the sentences of the tables of docs/formats.md, which the help prints. All others, and the texts of `ima_agent/src/fault.rt` and
-`explaining.rt` that put sentences together, must be those of words.txt, by crate and fault."""
+`explaining.rt` that put sentences together, must be those of words.txt, by crate and fault.
+
+A row of a table that begins with 'it' or 'its' says what is wrong at a place, which its sentence names first."""
 
 import re
 import sys
@@ -16,23 +18,25 @@ sys.path[:0] = [str(HERE.parent), str(HERE.parent / "cases")]
 import harness  # noqa: E402
 from form import sentences_of  # noqa: E402
 
+# The table of each type of faults with numbers, and the place that its rows call 'it'.
 NUMBERED = {
-    "boot_log LogFault": "Log",
-    "ima_list ListFault": "List",
-    "ima_list ReplayFault": "Replay",
-    "boot_verdict ExpectFault": "Expected",
-    "ima_agent NotResumed": "Checkpoint",
-    "measure_book BookFault": "Book",
-    "measure_book GatherFault": "Gather",
+    "boot_log LogFault": ("Log", "event"),
+    "ima_list ListFault": ("List", "entry"),
+    "ima_list ReplayFault": ("Replay", "entry"),
+    "boot_verdict ExpectFault": ("Expected", "line"),
+    "ima_agent NotResumed": ("Checkpoint", None),
+    "measure_book BookFault": ("Book", None),
+    "measure_book GatherFault": ("Gather", None),
 }
+MEMORY = "out of memory"  # (which no table has)
 FAULT = re.compile(
     r"pub enum (?P<type>\w+)"
-    r'|(?:/// (?P<number>\d+): .*\n(?:\s+///.*\n)*\s+)?#\[error\("(?P<words>[^"]*)"(?:, (?P<other>\w+::\w+))?\)\]\s+'
+    r'|(?:/// (?P<number>\d+): .*\n(?:\s+///.*\n)*\s+)?#\[error\((?:"\{\}", (?P<other>\w+::\w+)|"(?P<words>[^"]*)")\)\]\s+'
     r"(?:pub struct (?P<unit>\w+)|(?P<name>\w+))"
     r"|(?P<unread>#\[error)"
 )
 TEXT = re.compile(r'(?:const|fn) (?P<function>\w+)|^ +(?P<fault>RunFault::\w+)[^=\n]*=>|"(?P<words>[^"]*)"', re.MULTILINE)
-PLACE = re.compile(r"^(?:event|entry|line) \{\w+\}: ")
+NOT_READ = "its sentence is not read"
 # What stands in a table for a number that a sentence has.
 NUMBERS = {"{index}": "I", "{group}": "G", "{place}": "R"}
 
@@ -49,7 +53,7 @@ def texts_in(file):
 
 
 def faults_in(root):
-    """The number, if it has one, and the sentence of each fault, by its name. An `#[error]` in another form has no sentence.
+    """The number, if it has one, and the sentence of each fault, by its name. An `#[error]` in another form counts as one more fault.
 
     A fault that is displayed as another has its sentence, and the other is not among these."""
     found = {}
@@ -58,8 +62,8 @@ def faults_in(root):
         for each in FAULT.finditer(file.read_text()):
             kind = each["type"] or kind
             if each["unread"]:
-                found[f"{crate} {kind} in another form"] = None, None
-            elif each["words"] is not None:
+                found[f"{crate} {kind} in another form"] = None, NOT_READ
+            elif each["words"] is not None or each["other"]:
                 name = each["unit"] or f"{kind}::{each['name']}"
                 found[f"{crate} {name}"] = each["number"], each["other"] or each["words"]
     cited = {name: sentence for name, (_, sentence) in found.items() if any(name.endswith(f" {other}") for _, other in found.values())}
@@ -78,8 +82,13 @@ def is_numbered(name):
 
 
 def in_table(sentence):
-    """A sentence as a table has it."""
-    return re.sub(r"\{\w+\}", lambda number: NUMBERS.get(number[0], number[0]), PLACE.sub("", sentence))
+    """A sentence with the letters by which a table names its numbers."""
+    return re.sub(r"\{\w+\}", lambda number: NUMBERS.get(number[0], number[0]), sentence)
+
+
+def of_row(row, place):
+    """The sentence of a table's row."""
+    return f"{place} {{{place}}}: {row}" if place and re.match("its? ", row) else row
 
 
 class Words(harness.TestCase):
@@ -88,10 +97,12 @@ class Words(harness.TestCase):
     def test_numbered_faults(self):
         found = {kind: {} for kind in NUMBERED}
         for name, (number, sentence) in faults_in(self.root).items():
-            if is_numbered(name) and sentence != "out of memory":
-                found[kind_of(name)][int(number or 0)] = in_table(sentence)
-        for kind, table in NUMBERED.items():
-            wanted = sentences_of(table)
+            if is_numbered(name) and name.endswith("::Memory"):
+                self.check(name, sentence, MEMORY)
+            elif is_numbered(name):
+                found[kind_of(name)].setdefault(int(number or 0), []).append(in_table(sentence))
+        for kind, (table, place) in NUMBERED.items():
+            wanted = {number: [of_row(row, place)] for number, row in sentences_of(table).items()}
             for number in sorted({*found[kind], *wanted}):
                 self.check(f"{kind}, {number}", found[kind].get(number), wanted.get(number))
 
