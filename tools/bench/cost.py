@@ -52,11 +52,10 @@ def memory_below(process):
     return sum(map(memory_of, reached))
 
 
-def measured(words, show=None, **settings):
-    """Runs a command, with these settings in its environment, and shows each line of its output as it comes."""
+def measured(words, show=None):
+    """Runs a command, and shows each line of its output as it comes."""
     started, looks, ended = time.monotonic(), [0], threading.Event()
-    command = subprocess.Popen(words, env={**os.environ, **settings}, stdin=subprocess.DEVNULL, stdout=subprocess.PIPE,
-                               stderr=subprocess.STDOUT, text=True, errors="replace")
+    command = subprocess.Popen(words, stdin=subprocess.DEVNULL, stdout=subprocess.PIPE, stderr=subprocess.STDOUT, text=True, errors="replace")
 
     def look():
         while not ended.wait(SECONDS_BETWEEN_LOOKS):
