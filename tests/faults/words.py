@@ -4,8 +4,8 @@
 tests/faults/words.py [ROOT]: the tree whose crates are read, or else the one that this file is in.
 
 A fault has one sentence, its `#[error("..")]`, by which it is displayed; the program tells it to a terminal. The faults with a number must
-have the sentences of the tables of docs/formats.md, which the help prints. All others, and the texts of `ima_agent/src/fault.rt` and
-`explaining.rt` that put sentences together, must be those of words.txt, by crate and fault.
+have the sentences of the tables of docs/formats.md, which the help prints. All others, and the texts of `agent_inputs/src/fault.rt` and
+`ima_agent/src/explaining.rt` that put sentences together, must be those of words.txt, by crate and fault.
 
 A row of a table that begins with 'it' or 'its' says what is wrong at a place, which its sentence names first."""
 
@@ -24,7 +24,7 @@ NUMBERED = {
     "ima_list ListFault": ("List", "entry"),
     "ima_list ReplayFault": ("Replay", "entry"),
     "boot_verdict ExpectFault": ("Expected", "line"),
-    "ima_agent NotResumed": ("Checkpoint", None),
+    "agent_inputs NotResumed": ("Checkpoint", None),
     "measure_book BookFault": ("Book", None),
     "measure_book GatherFault": ("Gather", None),
 }
@@ -42,13 +42,14 @@ NUMBERS = {"{index}": "I", "{group}": "G", "{place}": "R"}
 
 
 def texts_in(file):
-    """The texts of a file of the program, without white space around them, by the constant, the function or the fault before them."""
+    """The texts of a file of src/, without white space around them, by its crate and the constant, the function or the fault before them."""
     found, name = {}, ""
+    crate = file.parents[1].name
     for each in TEXT.finditer(re.sub(r"#\[error\(.*\)\]", "", file.read_text())):
         name = each["function"] or each["fault"] or name
         if each["words"]:
             texts = sum(known.split()[1] == name for known in found)
-            found[f"ima_agent {name}" + (f" {texts + 1}" if texts else "")] = each["words"].strip()
+            found[f"{crate} {name}" + (f" {texts + 1}" if texts else "")] = each["words"].strip()
     return found
 
 
@@ -108,8 +109,8 @@ class Words(harness.TestCase):
 
     def test_other_words(self):
         found = {name: sentence for name, (_, sentence) in faults_in(self.root).items() if not is_numbered(name)}
-        for name in ("fault.rt", "explaining.rt"):
-            found |= texts_in(self.root / "crates/ima_agent/src" / name)
+        for file in ("agent_inputs/src/fault.rt", "ima_agent/src/explaining.rt"):
+            found |= texts_in(self.root / "crates" / file)
         wanted = dict(line.split(": ", 1) for line in (HERE / "words.txt").read_text().splitlines())
         for name in sorted({*found, *wanted}):
             self.check(name, found.get(name), wanted.get(name))

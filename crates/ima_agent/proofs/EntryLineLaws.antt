@@ -10,7 +10,7 @@ use Rattle.ima_list.specs.ListFaults.{list_fault_entry}
 use Rattle.ima_list.specs.Spelling.{BeginsWith, IsFaultOfRest, IsReading}
 use Rattle.json_texts.specs.EntryJson.{entry_json}
 use Rattle.json_texts.specs.JsonValues.{line_of}
-use Rattle.ima_agent.specs.declared.fault.RunFault.TheVariants as runs
+use Rattle.agent_inputs.specs.declared.fault.RunFault.TheVariants as runs
 use Rattle.ima_agent.specs.JsonFaults.{ToldAsJson}
 use Rattle.ima_agent.specs.JsonShowing.{ShowsEntries, entry_lines, numbered_lines}
 use Rattle.ima_agent.specs.parts.Showing.{IsKept}

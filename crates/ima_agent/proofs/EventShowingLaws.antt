@@ -10,10 +10,10 @@ use Rattle.boot_log.specs.Spelling.{IsLog, LogEvent}
 use Rattle.boot_verdict.specs.EventTexts.{events_text}
 use Rattle.command_line.specs.declared.plan.DataShown.{DataShown}
 use Rattle.command_line.specs.declared.plan.Plan.TheVariants as plans
-use Rattle.ima_agent.specs.declared.fault.RunFault.{RunFault}
+use Rattle.agent_inputs.specs.declared.fault.RunFault.{RunFault}
 use Rattle.ima_agent.specs.declared.streaming.StreamFault.{StreamFault}
 use Rattle.ima_agent.specs.declared.streaming.StreamFault.TheVariants as streams
-use Rattle.ima_agent.specs.Loading.{Holds, Inputs, IsInputFault, Saved}
+use Rattle.agent_inputs.specs.Loading.{Holds, Inputs, IsInputFault, Saved}
 use Rattle.ima_agent.specs.Program.{IsOutcome}
 use Rattle.ima_agent.specs.Showing.{IsNoLogFor, data_of}
 use Rattle.ima_agent.specs.Streaming.{Streams}

@@ -15,13 +15,13 @@ use Rattle.json_texts.specs.JsonValues.{line_of}
 use Rattle.json_texts.specs.SentEvents.{SendsEvents, SendsLines, SendsNothing, log_lines}
 use Rattle.command_line.specs.declared.json_plan.JsonPlan.TheVariants as jsons
 use Rattle.command_line.specs.declared.plan.Plan.TheVariants as plans
-use Rattle.ima_agent.specs.declared.fault.RunFault.{RunFault}
-use Rattle.ima_agent.specs.declared.fault.RunFault.TheVariants as runs
+use Rattle.agent_inputs.specs.declared.fault.RunFault.{RunFault}
+use Rattle.agent_inputs.specs.declared.fault.RunFault.TheVariants as runs
 use Rattle.ima_agent.specs.declared.streaming.StreamFault.{StreamFault}
 use Rattle.ima_agent.specs.declared.streaming.StreamFault.TheVariants as streams
 use Rattle.ima_agent.specs.JsonFaults.{IsFailure, ToldAsJson}
 use Rattle.ima_agent.specs.JsonShowing.{ShowsEventsOf, ShowsJsonEvents}
-use Rattle.ima_agent.specs.Loading.{Holds, Inputs, IsInputFault, Saved}
+use Rattle.agent_inputs.specs.Loading.{Holds, Inputs, IsInputFault, Saved}
 use Rattle.ima_agent.specs.Program.{IsOutcome}
 use Rattle.ima_agent.specs.Streaming.{Streams}
 use Rattle.ima_agent.specs.parts.Streaming.{ShowsEventsIn}

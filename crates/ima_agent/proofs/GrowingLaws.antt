@@ -21,16 +21,16 @@ use Rattle.growing_lists.specs.Fronts.{CameUnconfirmed, IsFrontReport, IsUnconfi
 use Rattle.boot_verdict.specs.ListSources.{CameFrom, CameWhole, FailsFor, IsListFaultAfter}
 use Rattle.growing_lists.specs.Sessions.{HasTaken, IsOfBoot, TakesMore}
 use Rattle.boot_verdict.specs.Verdicts.{IsSomeLog, Verdict, verdict_of}
-use Rattle.ima_agent.specs.declared.fault.NotResumed.TheVariants.{OtherBoot}
-use Rattle.ima_agent.specs.declared.fault.RunFault.{RunFault}
-use Rattle.ima_agent.specs.declared.fault.RunFault.TheVariants as runs
+use Rattle.agent_inputs.specs.declared.fault.NotResumed.TheVariants.{OtherBoot}
+use Rattle.agent_inputs.specs.declared.fault.RunFault.{RunFault}
+use Rattle.agent_inputs.specs.declared.fault.RunFault.TheVariants as runs
 use Rattle.ima_agent.specs.declared.grown_reports.Judged.{Judged}
 use Rattle.ima_agent.specs.declared.grown_reports.Judged.TheVariants as judged
 use Rattle.ima_agent.specs.declared.output.Form.{Form}
 use Rattle.ima_agent.specs.declared.output.Output.{Output}
 use Rattle.ima_agent.specs.Growing.{AreGrounds, Growth, HasSaved, IsFaultAfter, IsFrontAfter, IsGrownFault, IsGrownFaultWith, IsKnown, IsNext, IsNotSaved, IsNotTaken, IsOfOtherBoot, IsRefusedUnconfirmed, IsTaken, IsUnconfirmed, IsUnconfirmedBefore, IsVerdictAfter, IsWrongAfter, ShowsAndSaves, ShowsGrownWith, ShowsGrowth, entries_taken, most_more, name_after, seeks_front}
 use Rattle.ima_agent.specs.JsonJudging.{IsRequired}
-use Rattle.ima_agent.specs.Loading.{HasFailed, Inputs, Holds, OfInput, Saved, input_limit}
+use Rattle.agent_inputs.specs.Loading.{HasFailed, Inputs, Holds, OfInput, Saved, input_limit}
 use Rattle.ima_agent.specs.Measuring.{HasLogFault}
 use Rattle.ima_agent.specs.parts.Growing.{CanBeReadBack, IsNotJudged, IsNotTakenFrom, Judges, TakesVerdict, judged_text, judged_well}
 use Rattle.ima_agent.proofs.VerifyingLaws.{HasAll, held_more, held_whole, longer}

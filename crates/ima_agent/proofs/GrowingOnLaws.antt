@@ -22,9 +22,9 @@ use Rattle.boot_verdict.specs.ListSources.{CameFrom, CameWhole, FailsFor, IsList
 use Rattle.growing_lists.specs.Sessions.{HasTaken, IsOfBoot, TakesMore}
 use Rattle.boot_verdict.specs.ExpectedTexts.{IsExpectedText}
 use Rattle.boot_verdict.specs.Verdicts.{IsForged, verdict_of}
-use Rattle.ima_agent.specs.declared.fault.NotResumed.TheVariants.{OtherBoot}
-use Rattle.ima_agent.specs.declared.fault.RunFault.{RunFault}
-use Rattle.ima_agent.specs.declared.fault.RunFault.TheVariants as runs
+use Rattle.agent_inputs.specs.declared.fault.NotResumed.TheVariants.{OtherBoot}
+use Rattle.agent_inputs.specs.declared.fault.RunFault.{RunFault}
+use Rattle.agent_inputs.specs.declared.fault.RunFault.TheVariants as runs
 use Rattle.ima_agent.specs.declared.grown_reports.Judged.{Judged}
 use Rattle.ima_agent.specs.declared.grown_reports.Judged.TheVariants as judged
 use Rattle.ima_agent.specs.declared.output.Form.{Form}

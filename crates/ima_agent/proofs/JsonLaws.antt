@@ -5,10 +5,10 @@ use Rattle.std.specs.Global.{Global}
 use Rattle.boot_verdict.specs.declared.requirement.BankRange.{BankRange}
 use Rattle.boot_verdict.specs.Requirements.{IsRequirementText}
 use Rattle.command_line.specs.declared.json_plan.JsonPlan.TheVariants as jsons
-use Rattle.ima_agent.specs.declared.fault.RunFault.{RunFault}
+use Rattle.agent_inputs.specs.declared.fault.RunFault.{RunFault}
 use Rattle.ima_agent.specs.JsonJudging.{IsFaultWhere}
 use Rattle.ima_agent.specs.ListVerifying.{IsListReportFault}
-use Rattle.ima_agent.specs.Loading.{Inputs}
+use Rattle.agent_inputs.specs.Loading.{Inputs}
 use Rattle.ima_agent.specs.Program.{IsJsonFaultOf}
 use Rattle.ima_agent.specs.Requiring.{IsFaultWith}
 use Rattle.ima_agent.specs.Verifying.{IsReportFault}

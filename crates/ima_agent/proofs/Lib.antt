@@ -1,5 +1,3 @@
-pub mod LoadingLemmas
-pub mod HashingLaws
 pub mod MeasuringLaws
 pub mod FaultLaws
 pub mod VerifyingLaws

@@ -8,9 +8,9 @@ use Rattle.boot_verdict.specs.declared.verifier.VerifyFault.{VerifyFault}
 use Rattle.boot_verdict.specs.ExpectedTexts.{IsExpectedText}
 use Rattle.boot_verdict.specs.ListVerdicts.{IsListVerdict, IsListVerdictFrom, ListVerdict, list_verdict_of}
 use Rattle.boot_verdict.specs.Replays.{IsListReplayFault}
-use Rattle.ima_agent.specs.declared.fault.RunFault.{RunFault}
+use Rattle.agent_inputs.specs.declared.fault.RunFault.{RunFault}
 use Rattle.ima_agent.specs.ListVerifying.{HasListVerdict, IsListReportFault, IsListVerdictOn, IsNoListReportOn}
-use Rattle.ima_agent.specs.Loading.{HasFailed, Inputs, Holds, input_limit}
+use Rattle.agent_inputs.specs.Loading.{HasFailed, Inputs, Holds, input_limit}
 use Rattle.ima_agent.specs.Replaying.{IsNoReplayOn}
 use Rattle.ima_agent.specs.Verifying.{fault_of_verdict}
 use Rattle.ima_agent.specs.parts.Replaying.{IsNoReplayFrom}

@@ -7,8 +7,8 @@ use Rattle.boot_verdict.specs.declared.expected.Expected.{Expected}
 use Rattle.boot_verdict.specs.declared.places.Located.{Located}
 use Rattle.boot_verdict.specs.Places.{AreLocatedFrom}
 use Rattle.boot_verdict.specs.PlaceTexts.{places_text}
-use Rattle.ima_agent.specs.declared.fault.RunFault.{RunFault}
-use Rattle.ima_agent.specs.Loading.{Inputs, input_limit}
+use Rattle.agent_inputs.specs.declared.fault.RunFault.{RunFault}
+use Rattle.agent_inputs.specs.Loading.{Inputs, input_limit}
 use Rattle.ima_agent.specs.Locating.{ArePlacesIn, HasPlaces, ShowsPlaces, ShowsPlacesOn, places_status}
 use Rattle.ima_agent.specs.parts.Verifying.{IsEvidence}
 use Rattle.ima_agent.proofs.VerifyingLaws.{held_whole}

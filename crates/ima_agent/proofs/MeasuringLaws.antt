@@ -30,12 +30,12 @@ use Rattle.hash_workers.specs.declared.fault.JobFault.{JobFault}
 use Rattle.hash_workers.specs.declared.fault.JobFault.TheVariants as lacks
 use Rattle.hash_workers.specs.Batches.{IsBatchOf}
 use Rattle.hash_workers.proofs.ListLaws.{at_map, map_at, within_at}
-use Rattle.ima_agent.specs.declared.fault.RunFault.{RunFault}
-use Rattle.ima_agent.specs.declared.loading.LoadFault.{LoadFault}
-use Rattle.ima_agent.specs.declared.loading.LoadFault.TheVariants as loads
-use Rattle.ima_agent.specs.Faults.{fault_of_log}
-use Rattle.ima_agent.specs.Hashing.{IsHashOfAll}
-use Rattle.ima_agent.specs.Loading.{Holds, Inputs, IsInputFault, IsNotRead, IsTooLong, OfInput, input_limit}
+use Rattle.agent_inputs.specs.declared.fault.RunFault.{RunFault}
+use Rattle.agent_inputs.specs.declared.loading.LoadFault.{LoadFault}
+use Rattle.agent_inputs.specs.declared.loading.LoadFault.TheVariants as loads
+use Rattle.agent_inputs.specs.Faults.{fault_of_log}
+use Rattle.agent_inputs.specs.Hashing.{IsHashOfAll}
+use Rattle.agent_inputs.specs.Loading.{Holds, Inputs, IsInputFault, IsNotRead, IsTooLong, OfInput, input_limit}
 use Rattle.ima_agent.specs.Measuring.{AreAllDone, Contents, HasFile, HasMeasured, IsFileFault, IsFileMeasure, IsFirstRefusal, IsMeasuringFault, IsNamesFault, IsRecordingFault, IsSetOut, IsUnhashed, Manner, ShowsMeasured, all_names, failing_in, files_in}
 use Rattle.ima_agent.specs.parts.Measuring.{IsFileFaultOf, IsFileFailure, names_lent}
 use Rattle.ima_agent.specs.Program.{IsListedFault}

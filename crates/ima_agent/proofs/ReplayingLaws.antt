@@ -15,9 +15,9 @@ use Rattle.boot_verdict.specs.declared.verifier.VerifyFault.TheVariants as verdi
 use Rattle.boot_verdict.specs.ListSources.{CameFrom, CameWhole, FailsFor}
 use Rattle.boot_verdict.specs.Replays.{IsListReplayFault, IsListReplayFrom, IsListStart}
 use Rattle.boot_verdict.specs.Verdicts.{IsForged}
-use Rattle.ima_agent.specs.declared.fault.RunFault.{RunFault}
-use Rattle.ima_agent.specs.Faults.{IsFaultOfVerdict, fault_of_list}
-use Rattle.ima_agent.specs.Loading.{HasFailed, Inputs, OfInput, input_limit}
+use Rattle.agent_inputs.specs.declared.fault.RunFault.{RunFault}
+use Rattle.agent_inputs.specs.Faults.{IsFaultOfVerdict, fault_of_list}
+use Rattle.agent_inputs.specs.Loading.{HasFailed, Inputs, OfInput, input_limit}
 use Rattle.ima_agent.specs.declared.output.Form.{Form}
 use Rattle.ima_agent.specs.Replaying.{IsNoReplayOn, IsReplayFaultOf, ShowsReplay, registers_in}
 use Rattle.ima_agent.specs.Verifying.{fault_of_verdict}

@@ -8,7 +8,7 @@ use Rattle.boot_verdict.specs.declared.checkpoint.Checkpoint.{Checkpoint}
 use Rattle.growing_lists.specs.declared.session.Session.{Session}
 use Rattle.boot_verdict.specs.Checkpoints.{most_after}
 use Rattle.growing_lists.specs.Sessions.{HasTaken}
-use Rattle.ima_agent.specs.Loading.{input_limit}
+use Rattle.agent_inputs.specs.Loading.{input_limit}
 
 count_in : Result (List ListEntry) ListFault → ℕ
 count_in (Ok entries) = length entries

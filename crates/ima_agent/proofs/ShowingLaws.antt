@@ -9,8 +9,8 @@ use Rattle.ima_list.specs.declared.fault.ListFault.{ListFault}
 use Rattle.ima_list.specs.ListEntry.{ListEntry}
 use Rattle.ima_list.specs.Lines.{line_of}
 use Rattle.ima_list.specs.Spelling.{BeginsWith, IsReading}
-use Rattle.ima_agent.specs.Faults.{fault_of_list}
-use Rattle.ima_agent.specs.declared.fault.RunFault.{RunFault}
+use Rattle.agent_inputs.specs.Faults.{fault_of_list}
+use Rattle.agent_inputs.specs.declared.fault.RunFault.{RunFault}
 use Rattle.ima_agent.specs.Hexadecimal.{without_white_space}
 use Rattle.ima_agent.specs.parts.Showing.{HasAdded, IsKept}
 use Rattle.ima_agent.specs.Showing.{IsNoListFor, IsNoLogFor, IsRefusedFor, ShowsList}

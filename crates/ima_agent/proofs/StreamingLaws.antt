@@ -21,13 +21,13 @@ use Rattle.json_texts.specs.JsonValues.{line_of}
 use Rattle.json_texts.specs.SentEntries.{AreAllIn, SendsEntries}
 use Rattle.command_line.specs.declared.json_plan.JsonPlan.TheVariants as jsons
 use Rattle.command_line.specs.declared.plan.Plan.TheVariants.{Json}
-use Rattle.ima_agent.specs.declared.fault.RunFault.{RunFault}
-use Rattle.ima_agent.specs.declared.fault.RunFault.TheVariants as runs
+use Rattle.agent_inputs.specs.declared.fault.RunFault.{RunFault}
+use Rattle.agent_inputs.specs.declared.fault.RunFault.TheVariants as runs
 use Rattle.ima_agent.specs.declared.streaming.StreamFault.{StreamFault}
 use Rattle.ima_agent.specs.declared.streaming.StreamFault.TheVariants as streams
 use Rattle.ima_agent.specs.JsonFaults.{IsFailure, ToldAsJson}
 use Rattle.ima_agent.specs.JsonShowing.{EndsAfterEntries, ShowsEntriesOf}
-use Rattle.ima_agent.specs.Loading.{HasFailed, Holds, Inputs, IsNotRead, IsTooLong, Saved, input_limit}
+use Rattle.agent_inputs.specs.Loading.{HasFailed, Holds, Inputs, IsNotRead, IsTooLong, Saved, input_limit}
 use Rattle.ima_agent.specs.Program.{Answers, IsOutcome}
 use Rattle.ima_agent.specs.Streaming.{Streams}
 use Rattle.ima_agent.specs.parts.Streaming.{IsStreamResultOf, SendsEntriesOf}

@@ -13,9 +13,9 @@ use Rattle.boot_verdict.specs.ReportTexts.{report_text}
 use Rattle.boot_verdict.specs.Verdicts.{IsSomeLog, IsVerdictFrom, IsVerifyFault, Verdict, verdict_of}
 use Rattle.boot_verdict.specs.declared.expected.Expected.{Expected}
 use Rattle.boot_verdict.specs.declared.report.Report.{Report}
-use Rattle.ima_agent.specs.declared.fault.RunFault.{RunFault}
-use Rattle.ima_agent.specs.Faults.{IsFaultOfVerdict}
-use Rattle.ima_agent.specs.Loading.{HasFailed, Inputs, Holds, input_limit}
+use Rattle.agent_inputs.specs.declared.fault.RunFault.{RunFault}
+use Rattle.agent_inputs.specs.Faults.{IsFaultOfVerdict}
+use Rattle.agent_inputs.specs.Loading.{HasFailed, Inputs, Holds, input_limit}
 use Rattle.ima_agent.specs.parts.Verifying.{IsEvidence, IsNoVerdictFrom}
 use Rattle.ima_agent.specs.Verifying.{HasVerdict, IsReportFault, IsVerdictOn, ShowsReport, ShowsReportOn, verdict_status}
 

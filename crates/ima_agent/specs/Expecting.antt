@@ -8,12 +8,12 @@ use Rattle.boot_verdict.specs.declared.register_range.RegisterRange.{RegisterRan
 use Rattle.boot_verdict.specs.PrintedTexts.{HasPrintedFault, IsPrintedText}
 use Rattle.boot_verdict.specs.RegisterRanges.{IsRangeText, is_within}
 use Rattle.boot_verdict.specs.WrittenTexts.{expected_text, those_within}
-use Rattle.ima_agent.specs.declared.fault.RunFault.{RunFault}
-use Rattle.ima_agent.specs.declared.fault.RunFault.TheVariants as runs
+use Rattle.agent_inputs.specs.declared.fault.RunFault.{RunFault}
+use Rattle.agent_inputs.specs.declared.fault.RunFault.TheVariants as runs
 use Rattle.json_texts.specs.JsonValues.{line_of}
 use Rattle.json_texts.specs.RegisterJson.{expected_json}
-use Rattle.ima_agent.specs.Faults.{fault_of_expected}
-use Rattle.ima_agent.specs.Loading.{Inputs, IsInputFault, OfInput}
+use Rattle.agent_inputs.specs.Faults.{fault_of_expected}
+use Rattle.agent_inputs.specs.Loading.{Inputs, IsInputFault, OfInput}
 use Rattle.ima_agent.specs.declared.output.Form.{Form}
 use Rattle.ima_agent.specs.declared.output.Form.TheVariants as forms
 

@@ -14,16 +14,9 @@ use Rattle.measure_book.specs.Faults.{fault_number, gather_fault_number}
 use Rattle.boot_verdict.specs.declared.expected.ExpectFault.{ExpectFault}
 use Rattle.boot_verdict.specs.declared.expected.ExpectFault.TheVariants as expects
 use Rattle.boot_verdict.specs.ExpectFaults.{expect_fault_number, expect_fault_line}
-use Rattle.ima_agent.specs.declared.fault.NotResumed.{NotResumed}
-use Rattle.ima_agent.specs.declared.fault.NotResumed.TheVariants as resumes
-use Rattle.ima_agent.specs.declared.fault.RunFault.{RunFault}
-use Rattle.ima_agent.specs.declared.fault.RunFault.TheVariants as runs
-
--- The numbers of why there is no going on from a checkpoint.
-abbrev pub not_resumed_number : NotResumed → ℕ
-not_resumed_number resumes.Damaged = 1
-not_resumed_number resumes.Version = 2
-not_resumed_number resumes.OtherBoot = 3
+use Rattle.agent_inputs.specs.declared.fault.RunFault.{RunFault}
+use Rattle.agent_inputs.specs.declared.fault.RunFault.TheVariants as runs
+use Rattle.agent_inputs.specs.Faults.{not_resumed_number}
 
 -- ---- lines
 

@@ -31,14 +31,14 @@ use Rattle.command_line.specs.declared.plan.Extent.TheVariants.{Whole, Front}
 use Rattle.command_line.specs.declared.plan.Growing.{Growing}
 use Rattle.json_texts.specs.JsonValues.{line_of}
 use Rattle.json_texts.specs.ReportJson.{front_report_json, meets, report_json}
-use Rattle.ima_agent.specs.declared.fault.NotResumed.TheVariants.{Damaged, OtherBoot, Version}
-use Rattle.ima_agent.specs.declared.fault.RunFault.{RunFault}
-use Rattle.ima_agent.specs.declared.fault.RunFault.TheVariants as runs
+use Rattle.agent_inputs.specs.declared.fault.NotResumed.TheVariants.{Damaged, OtherBoot, Version}
+use Rattle.agent_inputs.specs.declared.fault.RunFault.{RunFault}
+use Rattle.agent_inputs.specs.declared.fault.RunFault.TheVariants as runs
 use Rattle.ima_agent.specs.declared.output.Form.{Form}
 use Rattle.ima_agent.specs.declared.output.Form.TheVariants as forms
-use Rattle.ima_agent.specs.Faults.{IsFaultOfVerdict}
+use Rattle.agent_inputs.specs.Faults.{IsFaultOfVerdict}
 use Rattle.ima_agent.specs.JsonJudging.{IsRequired, judged_status}
-use Rattle.ima_agent.specs.Loading.{HasReplaced, Inputs, Holds, IsInputFault, IsNotWritten, IsReadFailure, OfInput, Saved, input_limit}
+use Rattle.agent_inputs.specs.Loading.{HasReplaced, Inputs, Holds, IsInputFault, IsNotWritten, IsReadFailure, OfInput, Saved, input_limit}
 use Rattle.ima_agent.specs.Measuring.{HasLogFault}
 use Rattle.ima_agent.specs.Requiring.{IsRequirementFault}
 use Rattle.ima_agent.specs.Verifying.{IsNotExpected}

@@ -22,9 +22,9 @@ use Rattle.boot_verdict.specs.Verdicts.{IsForged, IsSomeLog, IsVerdict, Verdict,
 use Rattle.command_line.specs.declared.plan.Extent.{Extent}
 use Rattle.command_line.specs.declared.plan.Extent.TheVariants.{Front, Whole}
 use Rattle.json_texts.specs.ReportJson.{meets}
-use Rattle.ima_agent.specs.declared.fault.NotResumed.TheVariants.{OtherBoot}
-use Rattle.ima_agent.specs.declared.fault.RunFault.{RunFault}
-use Rattle.ima_agent.specs.declared.fault.RunFault.TheVariants as runs
+use Rattle.agent_inputs.specs.declared.fault.NotResumed.TheVariants.{OtherBoot}
+use Rattle.agent_inputs.specs.declared.fault.RunFault.{RunFault}
+use Rattle.agent_inputs.specs.declared.fault.RunFault.TheVariants as runs
 use Rattle.ima_agent.specs.declared.growing_on.GrowingOn.{GrowingOn}
 use Rattle.ima_agent.specs.declared.output.Form.{Form}
 use Rattle.ima_agent.specs.Growing.{IsCheckpointText, IsNext, IsNoCheckpoint, IsNotRequired, IsOfOtherBoot, IsTaken, entries_taken, front_report_in, grown_meets, report_in, seeks_front}

@@ -18,9 +18,10 @@ use Rattle.json_texts.specs.declared.faults.FaultPlace.{FaultPlace}
 use Rattle.json_texts.specs.declared.faults.FaultPlace.TheVariants.{Event, Entry}
 use Rattle.json_texts.specs.FaultJson.{fault_json}
 use Rattle.json_texts.specs.JsonValues.{line_of}
-use Rattle.ima_agent.specs.declared.fault.RunFault.{RunFault}
-use Rattle.ima_agent.specs.declared.fault.RunFault.TheVariants as runs
-use Rattle.ima_agent.specs.FaultTexts.{fault_line, fault_status, not_resumed_number}
+use Rattle.agent_inputs.specs.declared.fault.RunFault.{RunFault}
+use Rattle.agent_inputs.specs.declared.fault.RunFault.TheVariants as runs
+use Rattle.agent_inputs.specs.Faults.{not_resumed_number}
+use Rattle.ima_agent.specs.FaultTexts.{fault_line, fault_status}
 
 -- ---- what the line tells beside its message
 

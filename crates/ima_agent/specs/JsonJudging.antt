@@ -8,9 +8,9 @@ use Rattle.boot_verdict.specs.Verdicts.{Verdict}
 use Rattle.json_texts.specs.JsonValues.{line_of}
 use Rattle.json_texts.specs.PlaceJson.{finds, places_json}
 use Rattle.json_texts.specs.ReportJson.{list_meets, list_report_json, meets, report_json}
-use Rattle.ima_agent.specs.declared.fault.RunFault.{RunFault}
+use Rattle.agent_inputs.specs.declared.fault.RunFault.{RunFault}
 use Rattle.ima_agent.specs.ListVerifying.{HasListVerdict, IsListVerdictOn}
-use Rattle.ima_agent.specs.Loading.{Inputs}
+use Rattle.agent_inputs.specs.Loading.{Inputs}
 use Rattle.ima_agent.specs.Locating.{ArePlacesIn, HasPlaces}
 use Rattle.ima_agent.specs.Requiring.{IsFaultWith}
 use Rattle.ima_agent.specs.Verifying.{HasVerdict, IsVerdictOn}

@@ -6,7 +6,7 @@ use Rattle.ima_agent.specs.Expecting.{ShowsExpectedIn}
 use Rattle.ima_agent.specs.Growing.{ShowsGrowth, growth}
 use Rattle.ima_agent.specs.JsonJudging.{ShowsJsonListReport, ShowsJsonPlaces, ShowsJsonReport}
 use Rattle.ima_agent.specs.JsonShowing.{ShowsEntries, ShowsJsonEvents, ShowsJsonRegisters}
-use Rattle.ima_agent.specs.Loading.{Inputs, OfInput}
+use Rattle.agent_inputs.specs.Loading.{Inputs, OfInput}
 use Rattle.ima_agent.specs.Measuring.{ShowsMeasured, all_names, files_in}
 use Rattle.ima_agent.specs.Replaying.{ShowsReplay}
 use Rattle.ima_agent.specs.declared.measuring.Printing.TheVariants as printings

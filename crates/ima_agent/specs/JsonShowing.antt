@@ -14,10 +14,10 @@ pub use Rattle.json_texts.specs.ItemLines.{entry_lines, event_lines, numbered_li
 pub use Rattle.json_texts.specs.SentEvents.{log_lines}
 use Rattle.json_texts.specs.JsonValues.{line_of}
 use Rattle.json_texts.specs.RegisterJson.{registers_json}
-use Rattle.ima_agent.specs.declared.fault.RunFault.{RunFault}
-use Rattle.ima_agent.specs.declared.fault.RunFault.TheVariants as runs
+use Rattle.agent_inputs.specs.declared.fault.RunFault.{RunFault}
+use Rattle.agent_inputs.specs.declared.fault.RunFault.TheVariants as runs
 use Rattle.ima_agent.specs.JsonFaults.{ToldAsJson}
-use Rattle.ima_agent.specs.Loading.{Holds, HoldsTooMuch, Inputs, IsInputFault, IsReadFailure, IsTooLong, OfInput, input_limit}
+use Rattle.agent_inputs.specs.Loading.{Holds, HoldsTooMuch, Inputs, IsInputFault, IsReadFailure, IsTooLong, OfInput, input_limit}
 use Rattle.ima_agent.specs.Showing.{AreRegistersAfter}
 
 -- The bytes are a firmware event log, and what is shown is the line of the registers that differ from their reset values after its

@@ -1,8 +1,5 @@
 pub mod Hexadecimal
-pub mod Loading
-pub mod Hashing
 pub mod Names
-pub mod Faults
 pub mod FaultTexts
 pub mod Escaping
 pub mod Showing
@@ -23,5 +20,8 @@ pub mod JsonOutputs
 pub mod Streaming
 pub mod Version
 pub mod Program
-pub mod System
 pub mod parts
+pub use Rattle.agent_inputs.specs.Loading
+pub use Rattle.agent_inputs.specs.Hashing
+pub use Rattle.agent_inputs.specs.Faults
+pub use Rattle.agent_inputs.specs.System

@@ -5,9 +5,9 @@ use Rattle.boot_verdict.specs.declared.requirement.BankRange.{BankRange}
 use Rattle.boot_verdict.specs.ExpectedTexts.{IsExpectedText}
 use Rattle.boot_verdict.specs.ListVerdicts.{IsListVerdict, ListVerdict, list_matches, list_report_text, required_list_matches, required_list_report_text}
 use Rattle.boot_verdict.specs.Requirements.{IsRequirementText}
-use Rattle.ima_agent.specs.declared.fault.RunFault.{RunFault}
-use Rattle.ima_agent.specs.declared.fault.RunFault.TheVariants as runs
-use Rattle.ima_agent.specs.Loading.{Inputs, Holds, IsInputFault}
+use Rattle.agent_inputs.specs.declared.fault.RunFault.{RunFault}
+use Rattle.agent_inputs.specs.declared.fault.RunFault.TheVariants as runs
+use Rattle.agent_inputs.specs.Loading.{Inputs, Holds, IsInputFault}
 use Rattle.ima_agent.specs.Replaying.{IsRefusedList, IsReplayFaultOf}
 use Rattle.ima_agent.specs.Requiring.{IsFaultWith}
 use Rattle.ima_agent.specs.Verifying.{IsNoExpectedText, IsNotExpected}

@@ -5,7 +5,7 @@ use Rattle.boot_verdict.specs.declared.places.Located.{Located}
 use Rattle.boot_verdict.specs.ExpectedTexts.{IsExpectedText}
 use Rattle.boot_verdict.specs.Places.{AreLocated, all_found}
 use Rattle.boot_verdict.specs.PlaceTexts.{places_text}
-use Rattle.ima_agent.specs.Loading.{Inputs, Holds}
+use Rattle.agent_inputs.specs.Loading.{Inputs, Holds}
 
 -- The exit status of places: 0 if some register is expected and each value was reached, else 1.
 abbrev pub places_status : List Located → ℕ

@@ -23,8 +23,8 @@ use Rattle.hash_workers.specs.Batches.{IsBatchOf}
 use Rattle.hash_workers.specs.Faults.{IsAgentFaultOf}
 use Rattle.hash_workers.specs.Causes.{IsCauseOf}
 use Rattle.boot_verdict.specs.RegisterTexts.{registers_text}
-use Rattle.ima_agent.specs.declared.fault.RunFault.{RunFault}
-use Rattle.ima_agent.specs.declared.fault.RunFault.TheVariants as runs
+use Rattle.agent_inputs.specs.declared.fault.RunFault.{RunFault}
+use Rattle.agent_inputs.specs.declared.fault.RunFault.TheVariants as runs
 use Rattle.ima_agent.specs.declared.measuring.Printing.{Printing}
 use Rattle.ima_agent.specs.declared.measuring.Printing.TheVariants as printings
 use Rattle.ima_agent.specs.declared.output.Form.TheVariants as forms
@@ -32,9 +32,9 @@ use Rattle.command_line.specs.declared.json_plan.JsonPrint.TheVariants as json_p
 use Rattle.ima_agent.specs.JsonShowing.{entry_lines}
 use Rattle.ima_agent.specs.Replaying.{registers_in}
 use Rattle.command_line.specs.declared.plan.Print.TheVariants.{Ascii, Binary, Registers}
-use Rattle.ima_agent.specs.Faults.{fault_of_log, fault_of_agent, fault_of_job}
+use Rattle.agent_inputs.specs.Faults.{fault_of_log, fault_of_agent, fault_of_job}
 use Rattle.command_line.specs.declared.plan.NameEnd.{NameEnd}
-use Rattle.ima_agent.specs.Loading.{Inputs, IsNotRead, IsNotUtf8, IsTooLong, input_limit}
+use Rattle.agent_inputs.specs.Loading.{Inputs, IsNotRead, IsNotUtf8, IsTooLong, input_limit}
 use Rattle.ima_agent.specs.Names.{names_of}
 
 -- ---- what is measured

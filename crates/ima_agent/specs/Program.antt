@@ -3,8 +3,8 @@ use Rattle.std.specs.Prelude.{◌≡◌, ℕ, ◌⊎◌, List, map, string_bytes
 use Rattle.std.specs.Global.{Global, Vec}
 use Rattle.byte_streams.specs.declared.streams.Failed.{Failed}
 use Rattle.byte_streams.specs.Streams.{SinkState, Sends}
-use Rattle.ima_agent.specs.declared.fault.RunFault.{RunFault}
-use Rattle.ima_agent.specs.declared.fault.RunFault.TheVariants as runs
+use Rattle.agent_inputs.specs.declared.fault.RunFault.{RunFault}
+use Rattle.agent_inputs.specs.declared.fault.RunFault.TheVariants as runs
 use Rattle.ima_agent.specs.declared.measuring.Printing.TheVariants as printings
 use Rattle.ima_agent.specs.declared.output.Form.TheVariants as forms
 use Rattle.command_line.specs.declared.json_plan.JsonPlan.{JsonPlan}
@@ -16,7 +16,7 @@ use Rattle.ima_agent.specs.JsonFaults.{IsFailure}
 use Rattle.ima_agent.specs.JsonOutputs.{IsJsonOutputFor}
 use Rattle.ima_agent.specs.JsonPlans.{plain_of}
 use Rattle.ima_agent.specs.JsonShowing.{FailsAfterEntries, RunsOutAfterEvents}
-use Rattle.ima_agent.specs.Loading.{Inputs, IsInputFault, OfInput, Saved}
+use Rattle.agent_inputs.specs.Loading.{Inputs, IsInputFault, OfInput, Saved}
 use Rattle.ima_agent.specs.Expecting.{IsExpectingFault, ShowsExpected}
 use Rattle.ima_agent.specs.Growing.{IsGrownFault, ShowsAndSaves, ShowsGrowth, growth}
 use Rattle.ima_agent.specs.ListVerifying.{IsListReportFaultWith, ShowsListReport}
@@ -29,7 +29,7 @@ use Rattle.ima_agent.specs.Verifying.{IsReportFault, ShowsReport}
 use Rattle.ima_agent.specs.Version.{version_text}
 use Rattle.command_line.specs.Commands.{is_json}
 use Rattle.command_line.specs.Plans.{IsAskedBy, IsWithinRanges}
-use Rattle.ima_agent.specs.Faults.{IsWordsFault}
+use Rattle.agent_inputs.specs.Faults.{IsWordsFault}
 use Rattle.ima_agent.specs.FaultTexts.{fault_line, fault_status}
 
 -- ---- a plan

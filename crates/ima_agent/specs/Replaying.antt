@@ -12,9 +12,9 @@ use Rattle.ima_agent.specs.declared.output.Form.{Form}
 use Rattle.ima_agent.specs.declared.output.Form.TheVariants as forms
 use Rattle.boot_verdict.specs.Replays.{IsListStart}
 use Rattle.boot_verdict.specs.Verdicts.{IsForged}
-use Rattle.ima_agent.specs.declared.fault.RunFault.{RunFault}
-use Rattle.ima_agent.specs.declared.fault.RunFault.TheVariants as runs
-use Rattle.ima_agent.specs.Loading.{Inputs, Holds, IsReadFailure, IsTooLong}
+use Rattle.agent_inputs.specs.declared.fault.RunFault.{RunFault}
+use Rattle.agent_inputs.specs.declared.fault.RunFault.TheVariants as runs
+use Rattle.agent_inputs.specs.Loading.{Inputs, Holds, IsReadFailure, IsTooLong}
 use Rattle.ima_agent.specs.Showing.{IsNoList}
 use Rattle.ima_agent.specs.Verifying.{HoldsSoundBytesAndMore}
 

@@ -5,9 +5,9 @@ use Rattle.boot_verdict.specs.declared.requirement.BankRange.{BankRange}
 use Rattle.boot_verdict.specs.RequiredTexts.{required_places_text, required_report_text}
 use Rattle.boot_verdict.specs.Requirements.{IsRequirementText, required_found, required_matches}
 use Rattle.boot_verdict.specs.Verdicts.{Verdict}
-use Rattle.ima_agent.specs.declared.fault.RunFault.{RunFault}
-use Rattle.ima_agent.specs.declared.fault.RunFault.TheVariants as runs
-use Rattle.ima_agent.specs.Loading.{Inputs}
+use Rattle.agent_inputs.specs.declared.fault.RunFault.{RunFault}
+use Rattle.agent_inputs.specs.declared.fault.RunFault.TheVariants as runs
+use Rattle.agent_inputs.specs.Loading.{Inputs}
 use Rattle.ima_agent.specs.Locating.{ArePlacesIn, HasPlaces}
 use Rattle.ima_agent.specs.Verifying.{HasVerdict, IsVerdictOn}
 

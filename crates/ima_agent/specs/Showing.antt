@@ -18,9 +18,9 @@ use Rattle.boot_verdict.specs.EventTexts.{events_text}
 use Rattle.boot_verdict.specs.RegisterTexts.{registers_text}
 use Rattle.command_line.specs.declared.plan.DataShown.{DataShown}
 use Rattle.command_line.specs.declared.plan.DataShown.TheVariants as words
-use Rattle.ima_agent.specs.declared.fault.RunFault.{RunFault}
-use Rattle.ima_agent.specs.declared.fault.RunFault.TheVariants as runs
-use Rattle.ima_agent.specs.Faults.{fault_of_log, fault_of_list}
+use Rattle.agent_inputs.specs.declared.fault.RunFault.{RunFault}
+use Rattle.agent_inputs.specs.declared.fault.RunFault.TheVariants as runs
+use Rattle.agent_inputs.specs.Faults.{fault_of_log, fault_of_list}
 use Rattle.ima_agent.specs.declared.showing.Fitted.{Fitted}
 use Rattle.ima_agent.specs.declared.showing.Fitted.TheVariants.{Longer, Text}
 use Rattle.ima_agent.specs.Hexadecimal.{without_white_space}

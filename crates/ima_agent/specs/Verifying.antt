@@ -8,10 +8,10 @@ use Rattle.boot_verdict.specs.ExpectedTexts.{IsExpectedText, HasFirstFault}
 use Rattle.boot_verdict.specs.ListSources.{IsSound}
 use Rattle.boot_verdict.specs.Verdicts.{Verdict, IsSomeLog, IsVerdict, IsVerifyFault, matches}
 use Rattle.boot_verdict.specs.ReportTexts.{report_text}
-use Rattle.ima_agent.specs.declared.fault.RunFault.{RunFault}
-use Rattle.ima_agent.specs.declared.fault.RunFault.TheVariants as runs
-use Rattle.ima_agent.specs.Faults.{IsFaultOfVerdict, fault_of_expected, fault_of_list, fault_of_log}
-use Rattle.ima_agent.specs.Loading.{Inputs, Holds, IsInputFault, IsReadFailure, IsTooLong, input_limit}
+use Rattle.agent_inputs.specs.declared.fault.RunFault.{RunFault}
+use Rattle.agent_inputs.specs.declared.fault.RunFault.TheVariants as runs
+use Rattle.agent_inputs.specs.Faults.{IsFaultOfVerdict, fault_of_expected, fault_of_list, fault_of_log}
+use Rattle.agent_inputs.specs.Loading.{Inputs, Holds, IsInputFault, IsReadFailure, IsTooLong, input_limit}
 
 -- The exit status of a verdict: 0 if all matches, else 1.
 abbrev pub verdict_status : Verdict → ℕ

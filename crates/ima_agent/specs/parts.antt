@@ -1,7 +1,6 @@
 pub mod FaultTexts
 pub mod JsonFaults
 pub mod JsonOutputs
-pub mod Loading
 pub mod Measuring
 pub mod NamedFiles
 pub mod Growing

@@ -1,13 +1,11 @@
 //! What a verdict is on: a log, a list and expected registers, from the files of their names.
 
 ghost use Rattle.std.specs.Prelude.{◌≡◌, Some, IfOk, IfErr, IsTrue};
-ghost use Rattle.ima_agent.specs.Loading.{HasFailed};
+ghost use Rattle.agent_inputs.specs.Loading.{HasFailed};
 ghost use Rattle.ima_agent.specs.parts.Verifying.{IsEvidence};
 ghost use Rattle.ima_agent.specs.Verifying.{IsReportFault};
 
-use crate::fault::RunFault;
-use crate::files::AgentFiles;
-use crate::inputs::{loaded, not_read};
+use agent_inputs::{AgentFiles, RunFault, loaded, not_read};
 use boot_verdict::{Expected, read_expected};
 use byte_streams::Failed;
 use std::alloc::Global;

@@ -5,12 +5,10 @@ ghost use Rattle.std.specs.List.{list_any};
 ghost use Rattle.boot_verdict.specs.RegisterRanges.{is_within};
 ghost use Rattle.boot_verdict.specs.WrittenTexts.{expected_text};
 ghost use Rattle.ima_agent.specs.Expecting.{IsExpectingFault, IsNotExpectedOn, IsNotPrintedFor, IsRangeFault, IsRequested, ShowsExpected, ShowsExpectedIn, expected_in, range_text};
-ghost use Rattle.ima_agent.specs.Loading.{OfInput};
+ghost use Rattle.agent_inputs.specs.Loading.{OfInput};
 
-use crate::fault::RunFault;
-use crate::files::AgentFiles;
-use crate::inputs::loaded;
 use crate::output::Form;
+use agent_inputs::{AgentFiles, RunFault, loaded};
 use boot_verdict::{ExpectFault, Expected, RegisterRange, read_printed, write_expected};
 use byte_streams::{Failed, VecSink};
 use json_texts::append_expected;

@@ -5,9 +5,9 @@ ghost use Rattle.std.specs.List.{list_all};
 ghost use Rattle.ima_agent.specs.Escaping.{is_shown};
 
 use crate::escaping::{escaped_each, shown_line, shown_lines};
-use crate::fault::RunFault;
 use crate::json_plans::plain_of;
 use crate::words::read_words;
+use agent_inputs::RunFault;
 use command_line::{Growing, Plan, refusal_of};
 use measure_book::BookFault;
 use std::alloc::{AllocError, Global};

@@ -5,12 +5,12 @@ ghost use Rattle.boot_verdict.specs.declared.checkpoint.Checkpoint.{Checkpoint a
 ghost use Rattle.ima_agent.specs.GrowingOn.{IsKnownIn, IsNotGrownOn, IsNotGrownOnWith, IsNotKnownIn, ShowsGrownOn, ShowsGrownOnWith, growth_on, state_after};
 ghost use Rattle.ima_agent.specs.parts.GrowingOn.{IsNotJudgedOn, JudgesOn, JudgesWholeOn};
 
-use crate::fault::RunFault;
 use crate::growing::{checkpoint_in, report_of, require_room, seeks_front, session_of};
 use crate::grown_reports::{Judged, judged_output};
 use crate::output::{DONE, Form, Output};
 use crate::requiring::requirement_in;
 use crate::verifying::first_cause;
+use agent_inputs::RunFault;
 use boot_verdict::{Checkpoint, Expected, Report, Requirement, read_expected};
 use byte_streams::SliceSource;
 use command_line::Extent;

@@ -16,13 +16,12 @@ mod judging_bytes;
 mod registers;
 
 use crate::expecting::expected_from;
-use crate::fault::RunFault;
-use crate::files::AgentFiles;
 use crate::growing::grown;
 use crate::measuring::measured_as_json;
 use crate::output::{Form, Output};
 use crate::progress::Progress;
 use crate::replaying::replayed;
+use agent_inputs::{AgentFiles, RunFault};
 use command_line::JsonPlan;
 pub(crate) use entries::{entries_sent, entry_lines};
 pub use entries_within::{FittedOutput, json_entries_within};

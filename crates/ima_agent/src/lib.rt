@@ -1,24 +1,19 @@
-//! The agent as a library: the program, what some of its commands show, of bytes in memory, loading, and the system's files and
-//! streams. Re-exports what `command_line` reads from arguments, and the verdict and its texts from `boot_verdict`.
+//! The agent as a library: the program, and what some of its commands show, of bytes in memory. Re-exports inputs and faults from
+//! `agent_inputs`, what `command_line` reads from arguments, and the verdict and its texts from `boot_verdict`.
 #![tactic(auto)]
 
 mod escaping;
 mod evidence;
 mod expecting;
 mod explaining;
-mod fault;
-mod files;
 mod growing;
 mod growing_on;
 mod grown_reports;
-mod hashing;
 mod hexadecimal;
-mod inputs;
 mod json_outputs;
 mod json_plans;
 mod list_verifying;
 mod listing;
-mod loading;
 mod locating;
 mod measuring;
 mod named_files;
@@ -30,12 +25,15 @@ mod replaying;
 mod requiring;
 mod showing;
 mod streaming;
-mod system;
 mod texts;
 mod verifying;
 mod version;
 mod words;
 
+pub use agent_inputs::{
+    AgentFiles, Files, Input, LoadFault, NotResumed, ReadSource, RunFault, SharedFiles,
+    SystemFiles, WriteSink, hash_from, load,
+};
 pub use boot_verdict::{
     Aggregate, BankRange, EventData, ExpectFault, Expected, Located, Place, RegisterRange, Report,
     Requirement, RequirementFault, Row, State, VerifyFault, all_found, list_start, locate,
@@ -49,23 +47,18 @@ pub use command_line::{
 pub use escaping::escaped;
 pub use expecting::expected_on;
 pub use explaining::{Failure, explanation};
-pub use fault::{NotResumed, RunFault};
-pub use files::{AgentFiles, Files, SharedFiles};
 pub use growing_on::{GrowingOn, Grown, grown_on};
-pub use hashing::hash_from;
 pub use json_outputs::{
     FittedOutput, json_entries_within, json_events_on, json_list_report_on, json_places_on,
     json_registers_on, json_report_on,
 };
 pub use list_verifying::{list_report_on, required_list_report_on};
-pub use loading::{LoadFault, load};
 pub use locating::{places_on, required_places_on};
 pub use output::{Form, Output};
 pub use program::{exit_code, run, run_with_progress};
 pub use progress::{NoProgress, Progress, SystemProgress};
 pub use replaying::json_replay_on;
 pub use showing::{Fitted, entries_within, registers_on};
-pub use system::{Input, ReadSource, SystemFiles, WriteSink};
 pub use texts::{json_fault_line, json_memory_line, status_of, write_fault};
 pub use verifying::{report_on, required_report_on};
 pub use words::read_words;

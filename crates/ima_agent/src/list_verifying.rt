@@ -3,16 +3,14 @@
 ghost use Rattle.std.specs.Prelude.{◌≡◌, None, Some, option_map, IfOk, IfErr};
 ghost use Rattle.boot_verdict.specs.ListVerdicts.{IsListVerdictFrom, list_report_text, list_verdict_of, required_list_report_text};
 ghost use Rattle.ima_agent.specs.ListVerifying.{HasListVerdict, IsListReportFault, IsListReportFaultWith, IsListVerdictOn, IsNoListReportOn, ShowsListReport, ShowsListReportOn, list_verdict_status, required_list_status};
-ghost use Rattle.ima_agent.specs.Loading.{input_limit};
+ghost use Rattle.agent_inputs.specs.Loading.{input_limit};
 ghost use Rattle.ima_agent.specs.Requiring.{IsFaultWith};
 ghost use Rattle.ima_agent.specs.parts.Replaying.{IsNoReplayFrom};
 
-use crate::fault::RunFault;
-use crate::files::AgentFiles;
-use crate::inputs::{INPUT_LIMIT, loaded, not_read};
 use crate::output::Output;
 use crate::requiring::requirement_in;
 use crate::verifying::{first_cause, verdict_fault};
+use agent_inputs::{AgentFiles, INPUT_LIMIT, RunFault, loaded, not_read};
 use boot_verdict::{
     Expected, ListReport, Requirement, read_expected, verify_list_from, write_list_report,
     write_required_list_report,

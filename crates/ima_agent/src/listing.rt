@@ -4,9 +4,8 @@ ghost use Rattle.std.specs.Prelude.{◌≡◌, ◌<◌, ◌^◌, length, map, st
 ghost use Rattle.ima_agent.specs.Measuring.{IsNamesFault, all_names};
 ghost use Rattle.ima_agent.specs.parts.Measuring.{names_lent};
 
-use crate::fault::RunFault;
-use crate::inputs::not_utf8;
 use crate::names::{NamesFault, names_in};
+use agent_inputs::{RunFault, not_utf8};
 use command_line::NameEnd;
 use std::alloc::{AllocError, Global};
 

@@ -4,19 +4,17 @@ ghost use Rattle.std.specs.Prelude.{◌≡◌, IfOk, IfErr};
 ghost use Rattle.boot_verdict.specs.PlaceTexts.{places_text};
 ghost use Rattle.boot_verdict.specs.Places.{AreLocatedFrom};
 ghost use Rattle.boot_verdict.specs.RequiredTexts.{required_places_text};
-ghost use Rattle.ima_agent.specs.Loading.{input_limit};
+ghost use Rattle.agent_inputs.specs.Loading.{input_limit};
 ghost use Rattle.ima_agent.specs.Locating.{ArePlacesIn, HasPlaces, ShowsPlaces, ShowsPlacesOn, places_status};
 ghost use Rattle.ima_agent.specs.Requiring.{IsFaultWith, ShowsRequiredPlaces, ShowsRequiredPlacesOn, required_places_status};
 ghost use Rattle.ima_agent.specs.Verifying.{IsNoReportOn, IsReportFault};
 ghost use Rattle.ima_agent.specs.parts.Verifying.{IsNoVerdictFrom};
 
 use crate::evidence::{Evidence, opened};
-use crate::fault::RunFault;
-use crate::files::AgentFiles;
-use crate::inputs::INPUT_LIMIT;
 use crate::output::Output;
 use crate::requiring::requirement_in;
 use crate::verifying::{first_cause, verdict_fault};
+use agent_inputs::{AgentFiles, INPUT_LIMIT, RunFault};
 use boot_verdict::{
     Expected, Located, Requirement, all_found, locate, locate_from, read_expected, required_found,
     write_places, write_required_places,

@@ -3,7 +3,7 @@
 ghost use Rattle.std.specs.Prelude.{◌≡◌, ◌<◌, ◌⊎◌, ◌^◌, length, map, string_bytes, Some, IfOk, IfErr, IfSome, IfNone};
 ghost use Rattle.measure_book.specs.Books.{IsBook};
 ghost use Rattle.measure_book.specs.Operations.{book_outcome_of};
-ghost use Rattle.ima_agent.specs.Loading.{IsInputFault, OfInput};
+ghost use Rattle.agent_inputs.specs.Loading.{IsInputFault, OfInput};
 ghost use Rattle.ima_agent.specs.Measuring.{AreAllDone, HasMeasured, IsFileFault, IsFileMeasure, IsFirstRefusal, IsFirstRefused, IsMeasuringFault, IsRecordingFault, ShowsMeasured, all_names, failing_in, files_in, printed};
 ghost use Rattle.ima_agent.specs.parts.Measuring.{IsAskedAsJson, IsAskedOf, MeasuresAsJson, MeasuresFiles, IsReadLog, manner_of, names_lent};
 ghost use Rattle.ima_agent.specs.Program.{IsFaultOf, IsListedFault, IsOutputFor, IsPlainFaultOf};
@@ -12,9 +12,6 @@ ghost use Rattle.ima_agent.specs.JsonOutputs.{IsJsonOutputFor};
 ghost use Rattle.ima_agent.specs.JsonPlans.{plain_of};
 ghost use Rattle.command_line.specs.Plans.{IsWithinJsonRanges, IsWithinRanges};
 
-use crate::fault::RunFault;
-use crate::files::{AgentFiles, SharedFiles};
-use crate::inputs::loaded;
 use crate::json_outputs::entry_lines;
 use crate::listing::{lent, with_names_in};
 use crate::named_files::{NamedFiles, ProgressGate};
@@ -22,6 +19,7 @@ use crate::output::Form;
 use crate::progress::Progress;
 use crate::replaying::registers_in;
 use crate::showing::lines;
+use agent_inputs::{AgentFiles, RunFault, SharedFiles, loaded};
 use boot_log::LogView;
 use boot_verdict::write_registers;
 use byte_streams::VecSink;

@@ -5,11 +5,8 @@ ghost use Rattle.ima_agent.specs.Measuring.{IsFileFault, IsFileMeasure};
 ghost use Rattle.ima_agent.specs.parts.Measuring.{IsFileFaultOf, IsFileFailure, names_lent};
 ghost use Rattle.ima_agent.specs.parts.NamedFiles.{job_fault_of};
 
-use crate::fault::RunFault;
-use crate::files::SharedFiles;
-use crate::inputs::{INPUT_LIMIT, not_read, too_long};
-use crate::loading::LoadFault;
 use crate::progress::Progress;
+use agent_inputs::{INPUT_LIMIT, LoadFault, RunFault, SharedFiles, not_read, too_long};
 use hash_workers::{Gate, JobFault, Jobs};
 use ima_list::Sig;
 use measure_book::Op;

@@ -12,8 +12,6 @@ ghost use Rattle.ima_agent.specs.parts.Program.{IsStreamed, IsWhole, IsNoHelp, S
 
 use crate::expecting::expected_from;
 use crate::explaining::Failure;
-use crate::fault::RunFault;
-use crate::files::AgentFiles;
 use crate::growing::grown;
 use crate::json_outputs::json_for;
 use crate::list_verifying::list_verified;
@@ -28,6 +26,7 @@ use crate::texts::{json_fault_line, json_memory_line, status_of, write_fault};
 use crate::verifying::{verified, verified_with};
 use crate::version::version_text;
 use crate::words::read_words;
+use agent_inputs::{AgentFiles, RunFault};
 use byte_streams::{Failed, Sink, send};
 use command_line::Plan;
 use std::alloc::{AllocError, Global};

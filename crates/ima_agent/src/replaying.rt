@@ -2,16 +2,14 @@
 
 ghost use Rattle.std.specs.Prelude.{◌≡◌, Some, IfOk, IfErr};
 ghost use Rattle.boot_verdict.specs.RegisterTexts.{registers_text};
-ghost use Rattle.ima_agent.specs.Loading.{OfInput};
+ghost use Rattle.agent_inputs.specs.Loading.{OfInput};
 ghost use Rattle.ima_agent.specs.Replaying.{IsNoReplayOn, IsReplayFaultOf, ShowsReplay, registers_in};
 ghost use Rattle.ima_agent.specs.declared.output.Form.TheVariants.{Json};
 ghost use Rattle.ima_agent.specs.parts.Replaying.{AreListRegisters, IsNoReplayFrom, ShowsReplayFrom};
 
-use crate::fault::RunFault;
-use crate::files::AgentFiles;
-use crate::inputs::{INPUT_LIMIT, not_read};
 use crate::output::{Form, Output};
 use crate::verifying::{first_cause, verdict_fault};
+use agent_inputs::{AgentFiles, INPUT_LIMIT, RunFault, not_read};
 use boot_verdict::{list_start, replay_from, write_registers};
 use byte_streams::{Failed, SliceSource, Source, VecSink};
 use json_texts::append_registers;

@@ -4,7 +4,7 @@ ghost use Rattle.std.specs.Prelude.{IfOk, IfErr};
 ghost use Rattle.boot_verdict.specs.Requirements.{IsRequirementText};
 ghost use Rattle.ima_agent.specs.Requiring.{IsRequirementFault};
 
-use crate::fault::RunFault;
+use agent_inputs::RunFault;
 use boot_verdict::{Requirement, RequirementFault};
 use std::alloc::Global;
 

@@ -2,7 +2,7 @@
 
 ghost use Rattle.std.specs.Prelude.{◌≡◌, ◌⊎◌, ◌++◌, List, ℕ, false, flat_map, None, Some, IfOk, IfErr, OnOk};
 ghost use Rattle.ima_list.specs.Lines.{line_of};
-ghost use Rattle.ima_agent.specs.Loading.{IsInputFault, OfInput};
+ghost use Rattle.agent_inputs.specs.Loading.{IsInputFault, OfInput};
 ghost use Rattle.ima_agent.specs.Showing.{AreRegistersAfter, IsFitted, IsNoListFor, IsNoLogFor, IsRefusedFor, ShowsList, ShowsRegisters, ShowsRegistersAfter, data_of};
 ghost use Rattle.ima_agent.specs.parts.Showing.{HasAdded, IsKept};
 ghost use Rattle.boot_log.specs.declared.header.Row.{Row};
@@ -11,11 +11,9 @@ ghost use Rattle.boot_log.specs.Spelling.{IsLog, LogEvent};
 ghost use Rattle.ima_agent.specs.Streaming.{Streams};
 ghost use Rattle.ima_agent.specs.parts.Streaming.{ShowsPlainEventsIn, ShowsPlainEventsOf};
 
-use crate::fault::RunFault;
-use crate::files::AgentFiles;
 use crate::hexadecimal::{HexFault, decode_hexadecimal};
-use crate::inputs::loaded;
 use crate::streaming::StreamFault;
+use agent_inputs::{AgentFiles, RunFault, loaded};
 use boot_log::LogView;
 use boot_verdict::{EventData, write_events, write_registers};
 use byte_streams::{Failed, Sink, VecSink};

@@ -7,10 +7,9 @@ ghost use Rattle.ima_agent.specs.Program.{IsOutcome};
 ghost use Rattle.ima_agent.specs.Streaming.{Streams};
 ghost use Rattle.ima_agent.specs.parts.Program.{IsStreamed, IsStreamedJson, IsWhole};
 
-use crate::fault::RunFault;
-use crate::files::AgentFiles;
 use crate::json_outputs::{entries_sent, events_sent};
 use crate::showing::events_written;
+use agent_inputs::{AgentFiles, RunFault};
 use byte_streams::{Failed, Sink};
 use command_line::{JsonPlan, Plan};
 use std::alloc::Global;

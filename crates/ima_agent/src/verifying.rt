@@ -4,18 +4,16 @@ ghost use Rattle.std.specs.Prelude.{◌≡◌, IfOk, IfErr};
 ghost use Rattle.boot_verdict.specs.RequiredTexts.{required_report_text};
 ghost use Rattle.boot_verdict.specs.Verdicts.{IsVerdictFrom, verdict_of};
 ghost use Rattle.boot_verdict.specs.ReportTexts.{report_text};
-ghost use Rattle.ima_agent.specs.Faults.{IsFaultOfVerdict};
-ghost use Rattle.ima_agent.specs.Loading.{input_limit};
+ghost use Rattle.agent_inputs.specs.Faults.{IsFaultOfVerdict};
+ghost use Rattle.agent_inputs.specs.Loading.{input_limit};
 ghost use Rattle.ima_agent.specs.parts.Verifying.{IsNoVerdictFrom};
 ghost use Rattle.ima_agent.specs.Requiring.{IsFaultWith, ShowsRequiredReport, ShowsRequiredReportOn, required_verdict_status};
 ghost use Rattle.ima_agent.specs.Verifying.{HasVerdict, IsNoReportOn, IsReportFault, IsVerdictOn, ShowsReport, ShowsReportOn, fault_of_verdict, verdict_status};
 
 use crate::evidence::{Evidence, opened};
-use crate::fault::RunFault;
-use crate::files::AgentFiles;
-use crate::inputs::{INPUT_LIMIT, not_read, too_long};
 use crate::output::Output;
 use crate::requiring::requirement_in;
+use agent_inputs::{AgentFiles, INPUT_LIMIT, RunFault, not_read, too_long};
 use boot_verdict::{
     Expected, Report, Requirement, VerifyFault, read_expected, verify, verify_from, write_report,
     write_required_report,

@@ -3,9 +3,9 @@
 ghost use Rattle.std.specs.Prelude.{◌≡◌, [], Ok, IfOk, IfErr};
 ghost use Rattle.command_line.specs.Plans.{BeginsWithVersion, IsAskedBy, IsWithinRanges};
 ghost use Rattle.command_line.specs.declared.plan.Plan.TheVariants.{Registers, Version};
-ghost use Rattle.ima_agent.specs.Faults.{IsWordsFault};
+ghost use Rattle.agent_inputs.specs.Faults.{IsWordsFault};
 
-use crate::fault::RunFault;
+use agent_inputs::RunFault;
 use command_line::Plan;
 use std::alloc::Global;
 

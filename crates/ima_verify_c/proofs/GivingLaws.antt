@@ -2,8 +2,8 @@
 use Rattle.std.proofs.Common.{◌≡◌, ℕ, ◌<◌, arith, List, [], length, true, Option, None, Some, Ok, Err, refl, sym, subst, inl, inr, Result}
 use Rattle.std.specs.Prelude.{ℤ, ◌⊎◌, IfOk, IfErr}
 use Rattle.std.specs.Global.{Vec}
-use Rattle.ima_agent.specs.declared.fault.RunFault.{RunFault}
-use Rattle.ima_agent.specs.declared.fault.RunFault.TheVariants.{Memory}
+use Rattle.agent_inputs.specs.declared.fault.RunFault.{RunFault}
+use Rattle.agent_inputs.specs.declared.fault.RunFault.TheVariants.{Memory}
 use Rattle.ima_agent.specs.declared.growing_on.Grown.{Grown}
 use Rattle.ima_agent.specs.declared.output.Output.{Output}
 use Rattle.ima_agent.specs.declared.json_outputs.entries_within.FittedOutput.{FittedOutput}

@@ -1,7 +1,7 @@
 -- What a caller in C finds after a call. All of this is this project's choice.
 use Rattle.std.specs.Prelude.{◌≡◌, ℕ, ℤ, pos, ◌<◌, ◌≤◌, ◌⊎◌, if◌then◌else◌, Bool, List, [], ◌++◌, bytes_eq, codes, length, drop, Option, None, Some}
-use Rattle.ima_agent.specs.declared.fault.RunFault.{RunFault}
-use Rattle.ima_agent.specs.declared.fault.RunFault.TheVariants.{Memory}
+use Rattle.agent_inputs.specs.declared.fault.RunFault.{RunFault}
+use Rattle.agent_inputs.specs.declared.fault.RunFault.TheVariants.{Memory}
 use Rattle.ima_agent.specs.declared.output.Form.TheVariants.{Json, Text}
 use Rattle.ima_agent.specs.Expecting.{IsNotExpectedOn, ShowsExpected, range_text}
 use Rattle.ima_agent.specs.FaultTexts.{fault_line, fault_status}

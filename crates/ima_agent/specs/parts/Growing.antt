@@ -15,16 +15,16 @@ use Rattle.growing_lists.specs.Fronts.{IsFrontReport, IsUnconfirmedFault, TakesU
 use Rattle.growing_lists.specs.Sessions.{HasTaken, TakesMore}
 use Rattle.boot_verdict.specs.Verdicts.{IsVerdict, Verdict, verdict_of}
 use Rattle.json_texts.specs.ReportJson.{meets}
-use Rattle.ima_agent.specs.declared.fault.RunFault.{RunFault}
-use Rattle.ima_agent.specs.declared.fault.RunFault.TheVariants as runs
+use Rattle.agent_inputs.specs.declared.fault.RunFault.{RunFault}
+use Rattle.agent_inputs.specs.declared.fault.RunFault.TheVariants as runs
 use Rattle.ima_agent.specs.declared.growing.Asked.{Asked}
 use Rattle.ima_agent.specs.declared.grown_reports.Judged.{Judged}
 use Rattle.ima_agent.specs.declared.grown_reports.Judged.TheVariants as judged
 use Rattle.ima_agent.specs.declared.output.Form.{Form}
 use Rattle.ima_agent.specs.Growing.{Growth, front_report_in, grown_meets, report_in}
-use Rattle.ima_agent.specs.Faults.{IsFaultOfVerdict}
+use Rattle.agent_inputs.specs.Faults.{IsFaultOfVerdict}
 use Rattle.ima_agent.specs.JsonJudging.{judged_status}
-use Rattle.ima_agent.specs.Loading.{HasFailed, input_limit}
+use Rattle.agent_inputs.specs.Loading.{HasFailed, input_limit}
 
 -- What is asked.
 abbrev pub growth_of : Asked → Growth

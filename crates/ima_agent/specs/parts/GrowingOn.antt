@@ -7,8 +7,8 @@ use Rattle.growing_lists.specs.declared.session.Session.{Session}
 use Rattle.boot_verdict.specs.declared.verifier.VerifyFault.{VerifyFault}
 use Rattle.growing_lists.specs.Sessions.{HasTaken}
 use Rattle.boot_verdict.specs.Verdicts.{verdict_of}
-use Rattle.ima_agent.specs.declared.fault.RunFault.{RunFault}
-use Rattle.ima_agent.specs.declared.fault.RunFault.TheVariants as runs
+use Rattle.agent_inputs.specs.declared.fault.RunFault.{RunFault}
+use Rattle.agent_inputs.specs.declared.fault.RunFault.TheVariants as runs
 use Rattle.ima_agent.specs.declared.grown_reports.Judged.{Judged}
 use Rattle.ima_agent.specs.declared.grown_reports.Judged.TheVariants as judged
 use Rattle.ima_agent.specs.GrowingOn.{HasNoFront, IsFaultIn, IsFrontOf, IsUnconfirmedIn, IsWholeOf}

@@ -14,10 +14,10 @@ use Rattle.command_line.specs.declared.json_plan.JsonPlan.{JsonPlan}
 use Rattle.command_line.specs.declared.json_plan.JsonPlan.TheVariants as jsons
 use Rattle.ima_agent.specs.declared.measuring.Printing.{Printing}
 use Rattle.ima_agent.specs.declared.measuring.Printing.TheVariants as printings
-use Rattle.ima_agent.specs.declared.fault.RunFault.{RunFault}
+use Rattle.agent_inputs.specs.declared.fault.RunFault.{RunFault}
 use Rattle.ima_agent.specs.declared.measuring.Measuring.{Measuring}
-use Rattle.ima_agent.specs.declared.fault.RunFault.TheVariants as runs
-use Rattle.ima_agent.specs.Loading.{IsNotRead, IsTooLong, input_limit}
+use Rattle.agent_inputs.specs.declared.fault.RunFault.TheVariants as runs
+use Rattle.agent_inputs.specs.Loading.{IsNotRead, IsTooLong, input_limit}
 use Rattle.ima_agent.specs.Measuring.{Contents, Manner}
 
 -- The names that are lent.

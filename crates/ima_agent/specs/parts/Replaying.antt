@@ -9,11 +9,11 @@ use Rattle.boot_verdict.specs.declared.verifier.VerifyFault.{VerifyFault}
 use Rattle.boot_verdict.specs.declared.verifier.VerifyFault.TheVariants as verdicts
 use Rattle.boot_verdict.specs.ListSources.{CameWhole}
 use Rattle.boot_verdict.specs.Replays.{IsListReplay, IsListReplayFault}
-use Rattle.ima_agent.specs.declared.fault.RunFault.{RunFault}
+use Rattle.agent_inputs.specs.declared.fault.RunFault.{RunFault}
 use Rattle.ima_agent.specs.declared.output.Form.{Form}
-use Rattle.ima_agent.specs.declared.fault.RunFault.TheVariants as runs
-use Rattle.ima_agent.specs.Faults.{IsFaultOfVerdict}
-use Rattle.ima_agent.specs.Loading.{HasFailed, input_limit}
+use Rattle.agent_inputs.specs.declared.fault.RunFault.TheVariants as runs
+use Rattle.agent_inputs.specs.Faults.{IsFaultOfVerdict}
+use Rattle.agent_inputs.specs.Loading.{HasFailed, input_limit}
 use Rattle.ima_agent.specs.Replaying.{ShowsReplay}
 
 -- What is shown are the registers of all that the source had left.

@@ -5,15 +5,15 @@ use Rattle.byte_streams.specs.Streams.{SinkState, SourceState}
 use Rattle.json_texts.specs.declared.entry_lines.EntriesFault.{EntriesFault}
 use Rattle.json_texts.specs.declared.entry_lines.EntriesFault.TheVariants as entries
 use Rattle.json_texts.specs.SentEntries.{SendsEntries}
-use Rattle.ima_agent.specs.declared.fault.RunFault.{RunFault}
-use Rattle.ima_agent.specs.declared.fault.RunFault.TheVariants as runs
+use Rattle.agent_inputs.specs.declared.fault.RunFault.{RunFault}
+use Rattle.agent_inputs.specs.declared.fault.RunFault.TheVariants as runs
 use Rattle.ima_agent.specs.declared.streaming.StreamFault.{StreamFault}
 use Rattle.ima_agent.specs.declared.streaming.StreamFault.TheVariants as streams
-use Rattle.ima_agent.specs.Faults.{fault_of_list}
+use Rattle.agent_inputs.specs.Faults.{fault_of_list}
 use Rattle.command_line.specs.declared.plan.DataShown.{DataShown}
 use Rattle.ima_agent.specs.JsonFaults.{IsFailure, ToldAsJson}
 use Rattle.ima_agent.specs.JsonShowing.{RunsOutAfterEvents, ShowsJsonEvents}
-use Rattle.ima_agent.specs.Loading.{HasFailed, Inputs, IsInputFault, IsNotRead, IsTooLong, OfInput, input_limit}
+use Rattle.agent_inputs.specs.Loading.{HasFailed, Inputs, IsInputFault, IsNotRead, IsTooLong, OfInput, input_limit}
 use Rattle.ima_agent.specs.Showing.{IsNoLogFor, ShowsEvents}
 
 -- The fault of the run for why not all entries of the input of this name were sent.

@@ -6,10 +6,10 @@ use Rattle.boot_verdict.specs.declared.verifier.VerifyFault.{VerifyFault}
 use Rattle.boot_verdict.specs.declared.verifier.VerifyFault.TheVariants as verdicts
 use Rattle.boot_verdict.specs.ExpectedTexts.{IsExpectedText}
 use Rattle.boot_verdict.specs.Verdicts.{IsVerifyFaultFrom}
-use Rattle.ima_agent.specs.declared.fault.RunFault.{RunFault}
-use Rattle.ima_agent.specs.declared.fault.RunFault.TheVariants as runs
-use Rattle.ima_agent.specs.Faults.{IsFaultOfVerdict}
-use Rattle.ima_agent.specs.Loading.{Inputs, HasFailed, Holds, GivesAll, input_limit}
+use Rattle.agent_inputs.specs.declared.fault.RunFault.{RunFault}
+use Rattle.agent_inputs.specs.declared.fault.RunFault.TheVariants as runs
+use Rattle.agent_inputs.specs.Faults.{IsFaultOfVerdict}
+use Rattle.agent_inputs.specs.Loading.{Inputs, HasFailed, Holds, GivesAll, input_limit}
 
 -- The log, and the expected registers of the text, of the inputs of these names, and a source that gives all of the list.
 pub record IsEvidence (inputs : Inputs) (log_name list_name text_name : List ℕ) (log : List ℕ) (expected : List Expected) (source : SourceState) : Type 0 where

@@ -5,10 +5,8 @@ ghost use Rattle.ima_agent.specs.JsonShowing.{ShowsEntriesOf, entry_lines};
 ghost use Rattle.ima_agent.specs.Streaming.{Streams};
 ghost use Rattle.ima_agent.specs.parts.Streaming.{IsStreamFaultOf, SendsEntriesOf};
 
-use crate::fault::RunFault;
-use crate::files::AgentFiles;
-use crate::inputs::{INPUT_LIMIT, not_read, too_long};
 use crate::streaming::StreamFault;
+use agent_inputs::{AgentFiles, INPUT_LIMIT, RunFault, not_read, too_long};
 use byte_streams::{Failed, Sink, Source};
 use ima_list::Entry;
 use ima_list::laws::entries_to_the_end_are_the_reading;

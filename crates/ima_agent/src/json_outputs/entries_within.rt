@@ -6,13 +6,13 @@ ghost use Rattle.json_texts.specs.JsonValues.{line_of};
 ghost use Rattle.ima_agent.specs.JsonFaults.{ToldAsJson};
 ghost use Rattle.ima_agent.specs.JsonShowing.{ShowsEntries};
 ghost use Rattle.ima_agent.specs.Showing.{IsFitted};
-ghost use Rattle.ima_agent.specs.declared.fault.RunFault.TheVariants.{Memory};
+ghost use Rattle.agent_inputs.specs.declared.fault.RunFault.TheVariants.{Memory};
 ghost use Rattle.ima_agent.specs.parts.Showing.{IsKept};
 
-use crate::fault::RunFault;
 use crate::output::DONE;
 use crate::showing::{Fitted, as_kept, count_longer};
 use crate::texts::{append_json_fault, status_of};
+use agent_inputs::RunFault;
 use ima_list::EntryRef;
 use ima_list::laws::entries_to_the_end_are_the_reading;
 use json_texts::append_entry;

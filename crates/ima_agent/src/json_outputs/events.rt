@@ -4,15 +4,13 @@ ghost use Rattle.std.specs.Prelude.{true, ◌≡◌, ◌++◌, List, ℕ, IfOk, 
 ghost use Rattle.ima_agent.specs.JsonFaults.{ToldAsJson};
 ghost use Rattle.ima_agent.specs.JsonShowing.{ShowsEventsOf, ShowsJsonEvents};
 ghost use Rattle.ima_agent.specs.Streaming.{Streams};
-ghost use Rattle.ima_agent.specs.declared.fault.RunFault.TheVariants.{Memory};
+ghost use Rattle.agent_inputs.specs.declared.fault.RunFault.TheVariants.{Memory};
 ghost use Rattle.ima_agent.specs.parts.Streaming.{ShowsEventsIn};
 
-use crate::fault::RunFault;
-use crate::files::AgentFiles;
-use crate::inputs::loaded;
 use crate::output::Output;
 use crate::streaming::StreamFault;
 use crate::texts::{append_json_fault, status_of};
+use agent_inputs::{AgentFiles, RunFault, loaded};
 use byte_streams::{Failed, Sink, VecSink};
 use json_texts::{EventsFault, send_events};
 use std::alloc::{AllocError, Global};

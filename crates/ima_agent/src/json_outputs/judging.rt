@@ -10,13 +10,12 @@ ghost use Rattle.ima_agent.specs.JsonJudging.{AreJsonPlaces, IsFaultWhere, IsJso
 ghost use Rattle.ima_agent.specs.ListVerifying.{IsListReportFault};
 ghost use Rattle.ima_agent.specs.Verifying.{IsReportFault};
 
-use crate::fault::RunFault;
-use crate::files::AgentFiles;
 use crate::list_verifying::list_judged;
 use crate::locating::found;
 use crate::output::Output;
 use crate::requiring::requirement_in;
 use crate::verifying::judged;
+use agent_inputs::{AgentFiles, RunFault};
 use boot_verdict::{ListReport, Located, Report, Requirement};
 use json_texts::{append_list_report, append_places, append_report, finds, list_meets, meets};
 use std::alloc::{AllocError, Global};

@@ -6,12 +6,12 @@ ghost use Rattle.ima_agent.specs.ListVerifying.{IsNoListReportOn};
 ghost use Rattle.ima_agent.specs.Verifying.{IsNoReportOn};
 
 use super::judging::{list_report_line, places_line, report_line};
-use crate::fault::RunFault;
 use crate::list_verifying::list_judged_on;
 use crate::locating::found_on;
 use crate::output::Output;
 use crate::requiring::requirement_in;
 use crate::verifying::judged_on;
+use agent_inputs::RunFault;
 use boot_verdict::Requirement;
 use std::alloc::Global;
 

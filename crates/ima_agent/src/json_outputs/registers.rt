@@ -2,15 +2,13 @@
 
 ghost use Rattle.std.specs.Prelude.{◌≡◌, ◌⊎◌, Some, IfOk, IfErr};
 ghost use Rattle.ima_agent.specs.JsonShowing.{ShowsJsonRegisters};
-ghost use Rattle.ima_agent.specs.Loading.{IsInputFault, OfInput};
+ghost use Rattle.agent_inputs.specs.Loading.{IsInputFault, OfInput};
 ghost use Rattle.ima_agent.specs.Showing.{IsNoLogFor};
 
-use crate::fault::RunFault;
-use crate::files::AgentFiles;
-use crate::inputs::loaded;
 use crate::output::{Form, Output};
 use crate::replaying::registers_in;
 use crate::showing::registers_of;
+use agent_inputs::{AgentFiles, RunFault, loaded};
 use std::alloc::Global;
 
 /// The line of the registers that differ from their reset values after the log in the file of this name.

@@ -4,11 +4,11 @@ ghost use Rattle.std.specs.Prelude.{◌≡◌, ◌++◌, ℕ, List, None, option
 ghost use Rattle.ima_agent.specs.FaultTexts.{fault_line};
 ghost use Rattle.ima_agent.specs.JsonFaults.{IsFaultAsJson, IsFailure, book_head, expected_head, fault_head, gather_head, job_head, list_head, log_head, with_number, without_number};
 ghost use Rattle.ima_agent.specs.parts.JsonFaults.{head_in};
-ghost use Rattle.ima_agent.specs.declared.fault.RunFault.TheVariants.{Memory};
+ghost use Rattle.agent_inputs.specs.declared.fault.RunFault.TheVariants.{Memory};
 ghost use Rattle.json_texts.specs.declared.faults.FaultPlace.TheVariants.{Event, Entry};
 
 use super::faults::{line_of, message_of};
-use crate::fault::RunFault;
+use agent_inputs::RunFault;
 use boot_log::LogFault;
 use boot_verdict::ExpectFault;
 use ima_list::ListFault;

@@ -3,7 +3,7 @@ use Rattle.std.specs.Prelude.{IfErr, IfOk}
 use Rattle.std.proofs.lemmas.Result.{err_from_is_err_and}
 use Rattle.ima_agent.specs.Measuring.{IsMeasuringFault, IsNamesFault, ShowsMeasured, all_names, failing_in, files_in}
 use Rattle.ima_agent.specs.parts.Measuring.{manner_of, names_lent}
-use Rattle.ima_agent.specs.Loading.{OfInput}
+use Rattle.agent_inputs.specs.Loading.{OfInput}
 use Rattle.ima_agent.specs.Program.{IsListedFault}
 use Rattle.ima_agent.proofs.MeasuringLaws.{err_inr, err_of, fault_of, listed_err, listed_log, named_so, ok_of, shown_of}
 use Rattle.ima_agent.proofs.measuring.measured_listed.Goals as goal

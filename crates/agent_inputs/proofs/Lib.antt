@@ -1,0 +1,2 @@
+pub mod LoadingLemmas
+pub mod HashingLaws

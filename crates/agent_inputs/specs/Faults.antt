@@ -1,0 +1,69 @@
+-- How the faults of the parts become faults of the program. Out of memory is one fault, wherever it happens. All of this is this
+-- project's choice.
+use Rattle.std.specs.Prelude.{◌≡◌, ℕ, ◌⊎◌, List}
+use Rattle.command_line.specs.declared.fault.WordsFault.{WordsFault}
+use Rattle.command_line.specs.declared.fault.WordsFault.TheVariants as words
+use Rattle.boot_log.specs.declared.fault.LogFault.{LogFault}
+use Rattle.boot_log.specs.declared.fault.LogFault.TheVariants as logs
+use Rattle.ima_list.specs.declared.fault.ListFault.{ListFault}
+use Rattle.ima_list.specs.declared.fault.ListFault.TheVariants as lists
+use Rattle.measure_book.specs.declared.fault.BookFault.{BookFault}
+use Rattle.measure_book.specs.declared.fault.BookFault.TheVariants as books
+use Rattle.hash_workers.specs.declared.fault.AgentFault.{AgentFault}
+use Rattle.hash_workers.specs.declared.fault.AgentFault.TheVariants as agents
+use Rattle.boot_verdict.specs.declared.expected.ExpectFault.{ExpectFault}
+use Rattle.boot_verdict.specs.declared.expected.ExpectFault.TheVariants as expects
+use Rattle.boot_verdict.specs.declared.verifier.VerifyFault.{VerifyFault}
+use Rattle.boot_verdict.specs.declared.verifier.VerifyFault.TheVariants as verdicts
+use Rattle.agent_inputs.specs.declared.fault.NotResumed.{NotResumed}
+use Rattle.agent_inputs.specs.declared.fault.NotResumed.TheVariants as resumes
+use Rattle.agent_inputs.specs.declared.fault.RunFault.{RunFault}
+use Rattle.agent_inputs.specs.declared.fault.RunFault.TheVariants as runs
+use Rattle.agent_inputs.specs.Loading.{IsNotRead, IsTooLong}
+
+-- The numbers of why there is no going on from a checkpoint.
+abbrev pub not_resumed_number : NotResumed → ℕ
+not_resumed_number resumes.Damaged = 1
+not_resumed_number resumes.Version = 2
+not_resumed_number resumes.OtherBoot = 3
+
+abbrev pub fault_of_words : WordsFault → RunFault
+fault_of_words words.Usage = runs.Usage
+fault_of_words words.Memory = runs.Memory
+
+abbrev pub fault_of_log : LogFault → RunFault
+fault_of_log logs.Memory = runs.Memory
+fault_of_log fault = runs.Log fault
+
+abbrev pub fault_of_list : ListFault → RunFault
+fault_of_list lists.Memory = runs.Memory
+fault_of_list fault = runs.List fault
+
+abbrev pub fault_of_expected : ExpectFault → RunFault
+fault_of_expected expects.Memory = runs.Memory
+fault_of_expected fault = runs.Expect fault
+
+-- The program's fault for a verifier's fault, where the list is the input of this name; a fault of its source names it.
+abbrev pub IsFaultOfVerdict : List ℕ → VerifyFault → RunFault → Type 0
+IsFaultOfVerdict name (verdicts.Log first) fault = fault ≡ fault_of_log first
+IsFaultOfVerdict name (verdicts.List first) fault = fault ≡ fault_of_list first
+IsFaultOfVerdict name (verdicts.Replay first) fault = fault ≡ runs.Replay first
+IsFaultOfVerdict name verdicts.Source fault = IsNotRead name fault ⊎ (fault ≡ runs.Memory)
+IsFaultOfVerdict name verdicts.TooLong fault = IsTooLong name fault ⊎ (fault ≡ runs.Memory)
+IsFaultOfVerdict name verdicts.Memory fault = fault ≡ runs.Memory
+
+-- The program's fault for a fault of the workers. A wrong number of workers is a fault of the command line.
+abbrev pub fault_of_agent : AgentFault → RunFault
+fault_of_agent agents.Workers = runs.Usage
+fault_of_agent (agents.Book fault) = runs.Book fault
+fault_of_agent (agents.Gather fault) = runs.Gather fault
+fault_of_agent agents.Memory = runs.Memory
+
+-- The file of this number was refused for this cause.
+abbrev pub fault_of_job : ℕ → BookFault → RunFault
+fault_of_job job books.Memory = runs.Memory
+fault_of_job job fault = runs.Outcome job fault
+
+-- The arguments are not those of a command, or memory ran out.
+abbrev pub IsWordsFault : RunFault → Type 0
+IsWordsFault fault = (fault ≡ runs.Usage) ⊎ (fault ≡ runs.Memory)

@@ -1,0 +1,5 @@
+pub mod Loading
+pub mod Hashing
+pub mod Faults
+pub mod System
+pub mod parts

@@ -1,0 +1,46 @@
+-- What the program's sources read and its sinks write to.
+use Rattle.std.specs.Prelude.{ℕ, Bool, true, false, List, Option, None}
+use Rattle.byte_streams.specs.Streams.{SinkState, SourceState}
+use Rattle.agent_inputs.specs.declared.system.Input.{Input}
+use Rattle.agent_inputs.specs.declared.system.Input.TheVariants.{File, StandardInput}
+use Rattle.agent_inputs.specs.declared.system.ReadSource.{ReadSource}
+use Rattle.agent_inputs.specs.declared.system.SystemFiles.{SystemFiles}
+use Rattle.agent_inputs.specs.declared.system.WriteSink.{WriteSink}
+
+-- The reader that a source reads.
+abbrev pub reader_of : {R : Type 0} → ReadSource R → R
+reader_of source = source.reader
+
+-- How often a source has failed.
+abbrev pub reads_failed : {R : Type 0} → ReadSource R → ℕ
+reads_failed source = source.failures
+
+-- A source's bytes are not told; it counts its failures.
+abbrev pub read_source_state : {R : Type 0} → ReadSource R → SourceState
+read_source_state source = record { remaining = None; failures = reads_failed source }
+
+-- The writer that a sink writes to.
+abbrev pub writer_of : {W : Type 0} → WriteSink W → W
+writer_of sink = sink.writer
+
+-- How often a sink has failed.
+abbrev pub writes_failed : {W : Type 0} → WriteSink W → ℕ
+writes_failed sink = sink.failures
+
+-- A sink's bytes are not told; it counts its failures.
+abbrev pub write_sink_state : {W : Type 0} → WriteSink W → SinkState
+write_sink_state sink = record { taken = None; failures = writes_failed sink }
+
+-- The runtime whose files and standard input these are.
+abbrev pub runtime_of : {R : Type 0} → SystemFiles R → R
+runtime_of files = files.runtime.now
+
+-- Whether the bytes come from a file rather than standard input.
+abbrev pub is_file : {F I : Type 0} → Input F I → Bool
+is_file (File file) = true
+is_file (StandardInput input) = false
+
+-- The remaining bytes, if the file or the standard input tells them.
+abbrev pub remaining_bytes : {F I : Type 0} → (F → Option (List ℕ)) → (I → Option (List ℕ)) → Input F I → Option (List ℕ)
+remaining_bytes of_file of_input (File file) = of_file file
+remaining_bytes of_file of_input (StandardInput input) = of_input input

@@ -1,0 +1,209 @@
+//! Why the program failed.
+
+ghost use Rattle.std.specs.Prelude.{◌≡◌};
+ghost use Rattle.agent_inputs.specs.Faults.{fault_of_agent, fault_of_expected, fault_of_list, fault_of_log, fault_of_words, not_resumed_number};
+ghost use Rattle.agent_inputs.specs.declared.fault.RunFault.TheVariants.{Memory};
+
+use boot_log::LogFault;
+use boot_verdict::ExpectFault;
+use command_line::WordsFault;
+use growing_lists::{CheckpointFault, ResumeFault};
+use hash_workers::AgentFault;
+use ima_list::{ListFault, ReplayFault};
+use measure_book::{BookFault, GatherFault};
+use std::alloc::{AllocError, AllocFailed};
+use std::fmt;
+use thiserror::Error;
+
+/// Why there is no going on from a checkpoint.
+#[derive(Clone, Copy, Debug, PartialEq, Eq, Error)]
+pub enum NotResumed {
+    /// 1: the text is not a whole checkpoint, as it was saved.
+    #[error("{}", CheckpointFault::Damaged)]
+    Damaged,
+    /// 2: the checkpoint is of another version.
+    #[error("{}", CheckpointFault::Version)]
+    Version,
+    /// 3: the checkpoint is of another boot: the log leaves other registers than those that it began from.
+    #[error("{}", ResumeFault::OtherBoot)]
+    OtherBoot,
+}
+
+impl NotResumed {
+    /// The fault's number, from 1 to 3.
+    pub fn number(self) -> u32
+        ensures { result ≡ not_resumed_number self }
+    {
+        match self {
+            NotResumed::Damaged => 1,
+            NotResumed::Version => 2,
+            NotResumed::OtherBoot => 3,
+        }
+    }
+}
+
+/// Why the program failed.
+#[derive(Debug, Drop, Error)]
+pub enum RunFault {
+    /// The arguments are not those of a command, they name a range of registers that is none, or 2^32 files or more are named.
+    Usage,
+    /// A text is not hexadecimal.
+    NotHex,
+    /// An input is not a firmware event log.
+    Log(LogFault),
+    /// An input is not a measurement list.
+    List(ListFault),
+    /// An entry of the list is not genuine.
+    Replay(ReplayFault),
+    /// An input does not state expected registers, or was not printed by tpm2-tools as one that states some.
+    Expect(ExpectFault),
+    /// There is no going on from a checkpoint.
+    Checkpoint(NotResumed),
+    /// The book could not be opened.
+    Book(BookFault),
+    /// The book refused the file of this number; files count from 0.
+    Outcome {
+        /// The number of the file.
+        job: u32,
+        /// Why the book refused it.
+        fault: BookFault,
+    },
+    /// The input of this name is longer than 64 MiB.
+    TooLong(String),
+    /// The input of this name could not be opened, or failed while it was read.
+    Read(String),
+    /// The file of this name could not be written.
+    Write(String),
+    /// The text of file names in this input is not UTF-8.
+    NotUtf8(String),
+    /// The workers' outcomes do not account for the book's records.
+    Gather(GatherFault),
+    /// Out of memory.
+    Memory,
+}
+
+/// What is wrong, in words. `TooLong`, `Read`, `Write` and `NotUtf8` name their file.
+impl fmt::Display for RunFault {
+    fn fmt<W: fmt::Write>(&self, f: &mut fmt::Formatter<W>) -> fmt::Result {
+        match self {
+            RunFault::Usage => f.write_str("the arguments are not those of a command"),
+            RunFault::NotHex => f.write_str("the text is not hexadecimal"),
+            RunFault::Log(fault) => say_fault("", fault, f),
+            RunFault::List(fault) => say_fault("", fault, f),
+            RunFault::Replay(fault) => say_fault("", fault, f),
+            RunFault::Expect(fault) => say_fault("", fault, f),
+            RunFault::Checkpoint(fault) => say_fault("", fault, f),
+            RunFault::Book(fault) => say_fault("", fault, f),
+            RunFault::Outcome { job, fault } => say_outcome(*job, *fault, f),
+            RunFault::TooLong(name) => say_name("", name, " is longer than 64 MiB", f),
+            RunFault::Read(name) => say_name("cannot read ", name, "", f),
+            RunFault::Write(name) => say_name("cannot write ", name, "", f),
+            RunFault::NotUtf8(name) => say_name("", name, " is not UTF-8", f),
+            RunFault::Gather(fault) => {
+                say_fault("the outcomes do not account for the book: ", fault, f)
+            }
+            RunFault::Memory => f.write_str("out of memory"),
+        }
+    }
+}
+
+// Words, and the fault that is their cause.
+fn say_fault<D: fmt::Display, W: fmt::Write>(
+    words: &str,
+    fault: &D,
+    f: &mut fmt::Formatter<W>,
+) -> fmt::Result {
+    write!(f, "{words}{fault}")
+}
+
+// That the file of this number is refused, and why.
+fn say_outcome<W: fmt::Write>(
+    job: u32,
+    fault: BookFault,
+    f: &mut fmt::Formatter<W>,
+) -> fmt::Result {
+    write!(f, "file {job} is refused: {fault}")
+}
+
+// A name between words.
+fn say_name<W: fmt::Write>(
+    before: &str,
+    name: &str,
+    after: &str,
+    f: &mut fmt::Formatter<W>,
+) -> fmt::Result {
+    write!(f, "{before}{name}{after}")
+}
+
+impl From<WordsFault> for RunFault {
+    ghost from_gives = { λ words_fault fault. fault ≡ fault_of_words words_fault };
+
+    fn from(fault: WordsFault) -> Self {
+        match fault {
+            WordsFault::Usage => RunFault::Usage,
+            WordsFault::Memory => RunFault::Memory,
+        }
+    }
+}
+
+impl From<LogFault> for RunFault {
+    ghost from_gives = { λ log_fault fault. fault ≡ fault_of_log log_fault };
+
+    fn from(fault: LogFault) -> Self {
+        match fault {
+            LogFault::Memory => RunFault::Memory,
+            other => RunFault::Log(other),
+        }
+    }
+}
+
+impl From<ListFault> for RunFault {
+    ghost from_gives = { λ list_fault fault. fault ≡ fault_of_list list_fault };
+
+    fn from(fault: ListFault) -> Self {
+        match fault {
+            ListFault::Memory => RunFault::Memory,
+            other => RunFault::List(other),
+        }
+    }
+}
+
+impl From<ExpectFault> for RunFault {
+    ghost from_gives = { λ expect_fault fault. fault ≡ fault_of_expected expect_fault };
+
+    fn from(fault: ExpectFault) -> Self {
+        match fault {
+            ExpectFault::Memory => RunFault::Memory,
+            other => RunFault::Expect(other),
+        }
+    }
+}
+
+impl From<AgentFault> for RunFault {
+    ghost from_gives = { λ agent_fault fault. fault ≡ fault_of_agent agent_fault };
+
+    fn from(fault: AgentFault) -> Self {
+        match fault {
+            AgentFault::Workers => RunFault::Usage,
+            AgentFault::Book(fault) => RunFault::Book(fault),
+            AgentFault::Gather(fault) => RunFault::Gather(fault),
+            AgentFault::Memory => RunFault::Memory,
+        }
+    }
+}
+
+impl From<AllocError> for RunFault {
+    ghost from_gives = { λ _ fault. fault ≡ Memory };
+
+    fn from(_refused: AllocError) -> Self {
+        RunFault::Memory
+    }
+}
+
+impl<T: Drop> From<AllocFailed<T>> for RunFault {
+    ghost from_gives = { λ _ fault. fault ≡ Memory };
+
+    fn from(_refused: AllocFailed<T>) -> Self {
+        RunFault::Memory
+    }
+}

@@ -1,0 +1,269 @@
+//! The system's files and streams, as sources and sinks.
+
+ghost use Rattle.std.specs.Prelude.{◌≡◌, ◌<◌, ◌≤◌, length, None, is_some, option_map, IfOk, IsErr, IsNone, IsOk, IsTrue};
+ghost use Rattle.std.specs.Io.KnownBytes.{ReadConsumes, WriteAppends};
+ghost use Rattle.byte_streams.specs.Streams.{failures_after};
+ghost use Rattle.agent_inputs.specs.Loading.{GivesAll, HasFailed, untold};
+ghost use Rattle.agent_inputs.specs.System.{reader_of, writer_of, reads_failed, writes_failed, read_source_state, write_sink_state, runtime_of, is_file, remaining_bytes};
+
+use crate::files::{AgentFiles, Files, SharedFiles};
+use crate::hashing::hash_from;
+use crate::loading::LoadFault;
+use arrayvec::ArrayString;
+use byte_streams::{Failed, Sink, Source};
+use pcr_banks::{Alg, Digest};
+use std::alloc::Global;
+use std::fmt::Write as _;
+use std::fs::{File, OpenFile};
+use std::io::{Read, Write};
+use std::os::unix::fs::{OpenOptionsExt, PermissionsExt};
+use std::rt::Files as FileSystem;
+use std::{fs, io};
+
+// How many names there are for a file beside one that is replaced.
+const MOST_BESIDE: u32 = 100;
+
+// The size of the longest path that a system takes, in bytes (Linux, `PATH_MAX`).
+const MOST_PATH: usize = 4096;
+
+// The mode of a file that its user alone reads and writes.
+const PRIVATE: u32 = 0o600;
+
+/// A source over a `std` reader.
+///
+/// Its bytes are not told. Each error of the reader, an interrupted call included, counts as a failure.
+#[derive(Drop)]
+pub struct ReadSource<R> {
+    reader: R,
+    failures: u64,
+}
+
+impl<R: Read> ReadSource<R> {
+    /// A source that gives the reader's bytes, with no failures so far.
+    pub fn new(reader: R) -> Self
+        ensures reader { reader_of result ≡ reader }
+        ensures failures { reads_failed result ≡ 0 }
+    {
+        ReadSource {
+            reader,
+            failures: 0,
+        }
+    }
+}
+
+impl<R: Read> Source for ReadSource<R> {
+    ghost state = { read_source_state };
+
+    /// Reads once from the reader.
+    fn read(&mut self, buffer: &mut [u8]) -> Result<usize, Failed>
+        ensures within { IfOk result (λ n. n ≤ length buffer.old) }
+        ensures reads { ReadConsumes (R.remaining (reader_of self.old)) (R.remaining (reader_of self.new)) result buffer.new }
+        ensures counts { reads_failed self.new ≡ failures_after result (reads_failed self.old) }
+    {
+        match self.reader.read(buffer) {
+            Ok(count) => Ok(count),
+            Err(_) => {
+                self.failures = self.failures.saturating_add(1);
+                Err(Failed)
+            }
+        }
+    }
+}
+
+/// A sink over a `std` writer.
+///
+/// Its bytes are not told. Each error of the writer, an interrupted call included, counts as a failure, and so does a write that
+/// takes none of the bytes offered.
+#[derive(Drop)]
+pub struct WriteSink<W> {
+    writer: W,
+    failures: u64,
+}
+
+impl<W: Write> WriteSink<W> {
+    /// A sink that hands bytes to the writer, with no failures so far.
+    pub fn new(writer: W) -> Self
+        ensures writer { writer_of result ≡ writer }
+        ensures failures { writes_failed result ≡ 0 }
+    {
+        WriteSink {
+            writer,
+            failures: 0,
+        }
+    }
+}
+
+impl<W: Write> Sink for WriteSink<W> {
+    ghost state = { write_sink_state };
+
+    /// Writes once to the writer.
+    fn write(&mut self, bytes: &[u8]) -> Result<usize, Failed>
+        ensures within { IfOk result (λ n. n ≤ length bytes.now) }
+        ensures advances { IfOk result (λ n. 0 < length bytes.now → 0 < n) }
+        ensures writes { WriteAppends (W.contents (writer_of self.old)) (W.contents (writer_of self.new)) result bytes.now }
+        ensures counts { writes_failed self.new ≡ failures_after result (writes_failed self.old) }
+    {
+        match self.writer.write(bytes) {
+            Ok(count) if count > 0 || bytes.is_empty() => Ok(count),
+            _ => {
+                self.failures = self.failures.saturating_add(1);
+                Err(Failed)
+            }
+        }
+    }
+}
+
+/// Where the bytes of an input come from.
+#[derive(Drop)]
+pub enum Input<F, I> {
+    /// A file.
+    File(F),
+    /// Standard input.
+    StandardInput(I),
+}
+
+impl<F: Read, I: Read> Read for Input<F, I> {
+    ghost remaining = { λ input. remaining_bytes F.remaining I.remaining input };
+
+    fn read(&mut self, buffer: &mut [u8]) -> io::Result<usize> {
+        match self {
+            Input::File(file) => file.read(buffer),
+            Input::StandardInput(stream) => stream.read(buffer),
+        }
+    }
+}
+
+/// The files and the standard input of a runtime.
+///
+/// A name is a path, relative to the working directory. The name `-` is that of a file.
+#[derive(Drop)]
+pub struct SystemFiles<'a, R> {
+    runtime: &'a R,
+}
+
+impl<'a, R: FileSystem + io::Input> SystemFiles<'a, R> {
+    /// The files and the standard input of this runtime.
+    pub fn new(runtime: &'a R) -> Self
+        ensures { runtime_of result ≡ runtime.now }
+    {
+        SystemFiles { runtime }
+    }
+}
+
+impl<R: FileSystem + io::Input + Sync> Files for SystemFiles<'_, R> {
+    type Src = ReadSource<Input<R::File, R::Reader>>;
+
+    // Nothing is told of the system's files.
+    ghost told = { λ _. untold };
+
+    /// Opens the file of this name, or standard input.
+    fn source(&mut self, name: Option<&str>) -> Result<Self::Src, Failed>
+        ensures origin { IfOk result (λ source. is_file (reader_of source) ≡ is_some name.entry) }
+        ensures standard_input { IsNone name.entry → IsOk result }
+        ensures failures { IfOk result (λ source. reads_failed source ≡ 0) }
+        ensures gives { IfOk result (λ source. GivesAll None (read_source_state source)) }
+        ensures refused { IsErr result → IsTrue (untold.may_fail (option_map (λ name. name.now) name.entry)) }
+        ensures failing { IfOk result (λ source. (later : ReadSource (Input R.File R.Reader)) → HasFailed (read_source_state source) (read_source_state later)
+            → IsTrue (untold.may_fail (option_map (λ name. name.now) name.entry))) }
+    {
+        let input = match name {
+            None => Input::StandardInput(self.runtime.reader()),
+            Some(name) => match File::open(self.runtime, name) {
+                Ok(file) => Input::File(file),
+                Err(_) => return Err(Failed),
+            },
+        };
+        Ok(ReadSource::new(input))
+    }
+}
+
+impl<R: FileSystem + io::Input + Sync> AgentFiles for SystemFiles<'_, R> {
+    type Shared = Self;
+
+    /// Writes and syncs a new file beside it, and renames that.
+    fn replace(&mut self, name: &str, bytes: &[u8]) -> Result<(), Failed> {
+        match replaced(self.runtime, name, bytes) {
+            Ok(()) => Ok(()),
+            Err(_) => Err(Failed),
+        }
+    }
+
+    /// These files.
+    fn shared(&self) -> &Self
+        ensures { result.now ≡ self.now }
+    {
+        self
+    }
+}
+
+// Has the file of this name be these bytes, by way of a new file beside it. That is removed if this fails.
+fn replaced<R: FileSystem>(rt: &R, name: &str, bytes: &[u8]) -> io::Result<()> {
+    let mode = mode_in_place_of(rt, name)?;
+    let (mut file, beside) = created_beside(rt, name, mode)?;
+    let renamed = match written(&mut file, bytes) {
+        Ok(()) => fs::rename(rt, beside.as_str(), name),
+        Err(fault) => Err(fault),
+    };
+    if renamed.is_err() {
+        let _ = fs::remove_file(rt, beside.as_str());
+    }
+    renamed
+}
+
+// The mode of the file that takes the place of what has this name: its user alone reads and writes it, if that one allows it. Fails if that
+// is no regular file.
+fn mode_in_place_of<R: FileSystem>(rt: &R, name: &str) -> io::Result<u32> {
+    match fs::symlink_metadata(rt, name) {
+        Ok(present) if present.is_file() => Ok(PRIVATE & present.permissions().mode()),
+        Ok(_) => Err(io::Error::from(io::ErrorKind::InvalidInput)),
+        Err(fault) if fault.kind() == io::ErrorKind::NotFound => Ok(PRIVATE),
+        Err(fault) => Err(fault),
+    }
+}
+
+// Creates a file of this mode beside that of the name, under the first of the names for it that nothing has. Returns it with its name.
+fn created_beside<R: FileSystem>(
+    rt: &R,
+    name: &str,
+    mode: u32,
+) -> io::Result<(R::File, ArrayString<MOST_PATH>)> {
+    let mut options = File::options();
+    options.write(true).create_new(true).mode(mode);
+    for number in 0..MOST_BESIDE {
+        let beside = name_beside(name, number)?;
+        match options.open(rt, beside.as_str()) {
+            Ok(file) => return Ok((file, beside)),
+            Err(fault) if fault.kind() == io::ErrorKind::AlreadyExists => {}
+            Err(fault) => return Err(fault),
+        }
+    }
+    Err(io::Error::from(io::ErrorKind::AlreadyExists))
+}
+
+// The name of a file beside that of the name, for this number.
+fn name_beside(name: &str, number: u32) -> io::Result<ArrayString<MOST_PATH>> {
+    let mut beside = ArrayString::new();
+    match write!(beside, "{name}.{number}.new") {
+        Ok(()) => Ok(beside),
+        Err(_) => Err(io::Error::from(io::ErrorKind::InvalidFilename)),
+    }
+}
+
+// Writes the bytes to the file, and syncs it.
+fn written<F: Write + OpenFile>(file: &mut F, bytes: &[u8]) -> io::Result<()> {
+    file.write_all(bytes)?;
+    file.sync_all()
+}
+
+impl<R: FileSystem> SharedFiles for SystemFiles<'_, R> {
+    // The contents of files are not told.
+    ghost held = { λ _ _. None };
+
+    /// Opens and hashes the file of this name.
+    fn hash(&self, alloc: Global, name: &str, alg: Alg, limit: u64) -> Result<Digest, LoadFault> {
+        match File::open(self.runtime, name) {
+            Ok(file) => hash_from(alloc, &mut ReadSource::new(file), alg, limit),
+            Err(_) => Err(LoadFault::Source),
+        }
+    }
+}

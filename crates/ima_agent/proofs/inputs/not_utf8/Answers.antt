@@ -1,5 +1,0 @@
-use Rattle.std.proofs.Common.{refl, inl}
-use Rattle.ima_agent.proofs.inputs.not_utf8.Goals as goal
-
-pub returns-in-Ok : goal.returns-in-Ok
-returns-in-Ok c = inl (record { input = c.in-Ok.input; names = c.in-Ok.ensures.ok; says = refl })
