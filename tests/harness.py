@@ -6,6 +6,7 @@ and something passed or was skipped."""
 
 import shutil
 import sys
+import tempfile
 import unittest
 from pathlib import Path
 
@@ -19,17 +20,25 @@ class TestCase(unittest.TestCase):
     """Tests that go on after a check that fails."""
 
     def check(self, title, found, wanted=True):
-        """Counts whether what was found is what was wanted, and shows both if not."""
+        """Counts whether what was found is what was wanted, and shows both if not. A fault is what was found where None was wanted."""
         with self.subTest(title=title):
             if found != wanted:
-                raise self.failureException(f"{str(found)[-MOST_SHOWN:]}, and not {str(wanted)[-MOST_SHOWN:]}")
+                others = "" if wanted is None else f", and not {str(wanted)[-MOST_SHOWN:]}"
+                raise self.failureException(f"{str(found)[-MOST_SHOWN:]}{others}")
 
     def check_all(self, title, passed, faults):
         """Counts many checks of one kind: how many passed, and what is wrong with each of the others, of which the first are shown."""
         print(f"{title}: {passed} passed, {len(faults)} failed", flush=True)
+        self.result.before = None  # (many checks, of which there may be none, are not one check)
         self.result.passed += passed
         self.result.failed += len(faults)
         self.result.tell(*faults[:MOST_FAULTS])
+
+    def folder(self):
+        """Makes a folder, which is removed after the test."""
+        made = tempfile.TemporaryDirectory()
+        self.addCleanup(made.cleanup)
+        return Path(made.name)
 
     def needs(self, *tools):
         """Skips the test if the machine lacks one of these tools."""
@@ -64,7 +73,7 @@ class Result(unittest.TestResult):
             self.passed += 1
             self.tell(f"ok: {title}")
         else:
-            self.fail(title, error)
+            self.fail(f"{title} ({test.id().rpartition('.')[2]})", error)
 
     def addSuccess(self, test):
         if self.passed + self.failed == self.before:
@@ -87,6 +96,11 @@ class Result(unittest.TestResult):
         kind, value, _ = error
         self.failed += 1
         self.tell(f"WRONG: {title}: {value if kind is TestCase.failureException else f'{kind.__name__}: {value}'}")
+
+
+def argument(default=PROGRAM):
+    """The path that the script's first argument names, or this one without arguments."""
+    return Path(sys.argv[1] if len(sys.argv) > 1 else default).resolve()
 
 
 def title_of(test):
