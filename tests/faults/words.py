@@ -1,18 +1,21 @@
 #!/usr/bin/env python3
 """Compares the words of each fault of the libraries with those of words.txt.
 
-tests/faults/words.py [ROOT]: the tree whose crates are read, or else the one that this file is in.
+tests/faults/words.py [ROOT]: the tree whose crates are read, by default the one that this file is in.
 
-The words are those by which a fault is displayed (`#[error("..")]`), and those by which the program tells a terminal its cause
-(`ima_agent/src/causes.rt`). words.txt has them as people read them, by crate and fault; no fault may be missing there or in the sources. The
-texts of `ima_agent/src/fault.rt` and `explaining.rt`, which put these together, are there by constant or function, or by the fault that
-they are for. How they are filled in is in the tests of the crates. The last line, 'N passed, M failed', counts faults and texts."""
+The words are those that display a fault (`#[error("..")]`), and those that give a terminal its cause (`ima_agent/src/causes.rt`).
+words.txt has them as people read them, by crate and fault. Each fault must be there and in the sources. The texts of
+`ima_agent/src/fault.rt` and `explaining.rt`, which join the words, are there by constant or function, or by their fault. The tests of the
+crates show how they are filled in. The script counts faults and texts."""
 
 import re
 import sys
 from pathlib import Path
 
 HERE = Path(__file__).resolve().parent
+sys.path.insert(0, str(HERE.parent))
+import harness  # noqa: E402
+
 SHOWN = re.compile(
     r'pub enum (?P<type>\w+)|#\[error\("(?P<words>[^"]*)"\)\]\s+(?:pub struct (?P<unit>\w+)|(?P<name>\w+))|(?P<other>#\[error)'
 )
@@ -50,21 +53,16 @@ def words_in(root):
     return found
 
 
-def words_of(text):
-    """The words that a text has, by the fault's name: lines `NAME: WORDS`."""
-    return {name: words.strip() for name, words in (line.split(": ", 1) for line in text.splitlines())}
-
-
-def main():
-    root = Path(sys.argv[1]).resolve() if len(sys.argv) > 1 else HERE.parents[1]
-    found, wanted = words_in(root), words_of((HERE / "words.txt").read_text())
-    names = sorted({*found, *wanted})
-    failed = [name for name in names if found.get(name) is None or found[name] != wanted.get(name)]
-    for name in failed:
-        print(f"{name}: {found.get(name)!r} in the sources, {wanted.get(name)!r} in words.txt")
-    print(f"{len(names) - len(failed)} passed, {len(failed)} failed")
-    return 1 if failed or not names else 0
+class Words(harness.TestCase):
+    def test_words(self):
+        """The words in the sources are those in the lines `NAME: WORDS` of words.txt."""
+        found, lines = words_in(harness.argument(harness.ROOT)), (HERE / "words.txt").read_text().splitlines()
+        wanted = {name: words.strip() for name, words in (line.split(": ", 1) for line in lines)}
+        names = sorted({*found, *wanted})
+        wrong = [name for name in names if found.get(name) is None or found[name] != wanted.get(name)]
+        faults = [f"{name}: {found.get(name)!r} in the sources, {wanted.get(name)!r} in words.txt" for name in wrong]
+        self.check_all("words of faults and texts", len(names) - len(wrong), faults)
 
 
 if __name__ == "__main__":
-    sys.exit(main())
+    sys.exit(harness.main())
