@@ -29,8 +29,7 @@ sys.path.insert(0, str(Path(__file__).resolve().parents[1]))
 import form  # noqa: E402
 import harness  # noqa: E402
 from answers import Answer, fault_of  # noqa: E402
-from reference.command_line import HelpAsked, read_words  # noqa: E402
-from reference.faults import Fault  # noqa: E402
+from reference.command_line import read_words  # noqa: E402
 from reference.log import Log  # noqa: E402
 from reference.registers import SHA256  # noqa: E402
 

@@ -17,7 +17,6 @@ For each command the script prints how many calls failed. It counts commands."""
 
 import errno
 import json
-import os
 import subprocess
 import sys
 import tempfile
