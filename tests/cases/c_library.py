@@ -53,7 +53,7 @@ class Library:
     """The library for C, by the lowest functions of the package for Python, which give its texts as they are."""
 
     def __init__(self, file):
-        os.environ["IMA_VERIFY_LIBRARY"] = str(file)
+        os.environ["IMA_VERIFY_LIBRARY"] = os.path.abspath(file)
         self.package = importlib.import_module("ima_verify._library")
         # (the package types the functions that it calls itself, and not all are among them)
         for (name, files, has_option), function in [*FUNCTIONS.items(), *JSON_FUNCTIONS.items()]:

@@ -3,29 +3,27 @@
 
 tests/cases/json_lines.py [PROGRAM]: by default the program that was built in this tree.
 
-The members of each object must stand in one table of docs/formats.md ('As JSON'), in its order.
+The members of each object must be in one table of docs/formats.md ('As JSON'), in its order.
 
-Each line must be one value of ASCII or UTF-8 that json writes in the same way, without white space, and has no byte below 32. All lines
-must be what `tests/reference/` answers, and each must tell what the same command's text tells: of the sample, of lists of all templates whose paths
-and payloads are hostile, of damaged lists and logs, and of a list of 12,000 entries. The last line is 'N passed, M failed', of commands."""
+Each line must be one value of ASCII or UTF-8 that json writes in the same way, without white space, and has no byte below 32. All lines must
+be what `tests/reference/` answers, and each must say what the same command's text says. The commands read the sample, lists of all templates
+whose paths and payloads are hostile, damaged lists and logs, and a list of 12,000 entries. The script counts commands."""
 
 import json
 import random
 import re
 import subprocess
 import sys
-import tempfile
 from pathlib import Path
 
-ROOT = Path(__file__).resolve().parents[2]
-sys.path.insert(0, str(ROOT / "tests"))
+sys.path.insert(0, str(Path(__file__).resolve().parents[1]))
+import harness  # noqa: E402
 import reference  # noqa: E402
-from reference.log import read_log  # noqa: E402
+from harness import ROOT  # noqa: E402
+from reference.log import EV_NO_ACTION, STARTUP_LOCALITY, TYPE_NAMES, Event, Log, read_log  # noqa: E402
 from reference.measurement_list import IMA, IMA_NG, IMA_SIG, VIOLATION, Entry, entry_of, list_spelling  # noqa: E402
 from reference.registers import ALGORITHMS, SHA1, SHA256  # noqa: E402
-from reference.log import EV_NO_ACTION, STARTUP_LOCALITY, TYPE_NAMES, Event, Log  # noqa: E402
 
-PROGRAM = ROOT / "crates/ima_agent_program/out/ima_agent_program"
 SECONDS = 60
 ENTRIES = 12_000
 HOSTILE = [
@@ -198,18 +196,12 @@ def fault_of_command(program, words, folder):
     return None if is_told(words, [json.loads(line) for line in lines], text) else "not what the text tells"
 
 
-def main():
-    program = Path(sys.argv[1] if len(sys.argv) > 1 else PROGRAM).resolve()
-    passed = failed = 0
-    with tempfile.TemporaryDirectory() as folder:
-        for words in commands(Path(folder)):
-            fault = fault_of_command(program, words, Path(folder))
-            passed, failed = (passed, failed + 1) if fault else (passed + 1, failed)
-            if fault:
-                print(f"$ ima-agent {' '.join(words)}\n    {fault}")
-    print(f"{passed} passed, {failed} failed")
-    return 1 if failed else 0
+class JsonLines(harness.TestCase):
+    def test_commands(self):
+        program, folder = harness.argument(), self.folder()
+        for words in commands(folder):
+            self.check(f"ima-agent {' '.join(words)}", fault_of_command(program, words, folder), None)
 
 
 if __name__ == "__main__":
-    sys.exit(main())
+    sys.exit(harness.main())

@@ -3,32 +3,33 @@
 
 tests/cases/limits.py [--library FILE] [PROGRAM]: by default the program that was built in this tree, and no library for C.
 
-What is to be answered is what `tests/reference/` answers: to the same inputs; to these without lines and names that are skipped; or of parts
-that come again and again, which it need not read. What the program is to refuse goes by docs/formats.md ("The program's input"). The
-library for C is asked too, wherever it has the function of a command, and takes longer inputs. Memory is ample: up to 2 GB are used.
-The last line is 'N passed, M failed', of commands."""
+The program must answer what `tests/reference/` answers: to the same inputs, to these without lines and names that are skipped, or of parts
+that come again and again, which the reference need not read. What the program must refuse goes by docs/formats.md ("The program's input").
+The library for C is asked too, wherever it has the function of a command. It takes longer inputs. Memory is ample: up to 2 GB are used.
+The script counts commands."""
 
 import argparse
 import subprocess
 import sys
-import tempfile
 from contextlib import nullcontext
 from dataclasses import dataclass
 from pathlib import Path
 from typing import Callable, Optional
 
-from c_library import MOST_BYTES, Library
-from form import ROOT
-
-sys.path.insert(0, str(ROOT / "tests"))
+sys.path.insert(0, str(Path(__file__).resolve().parents[1]))
+import harness  # noqa: E402
 import reference  # noqa: E402
+from c_library import MOST_BYTES, Library  # noqa: E402
 from reference.log import Event, Log  # noqa: E402
 from reference.measurement_list import BOOT_AGGREGATE, IMA_NG, Entry, entry_of, list_spelling, list_text, replay  # noqa: E402
 from reference.registers import ALGORITHMS, SHA1, SHA256, Registers, register_line  # noqa: E402
 from reference.texts import Expected, pcrread_text  # noqa: E402
 from reference.verdict import locate, verdict  # noqa: E402
 
-PROGRAM = ROOT / "crates/ima_agent_program/out/ima_agent_program"
+parser = argparse.ArgumentParser(usage="tests/cases/limits.py [--library FILE] [PROGRAM]")
+parser.add_argument("--library", type=Library)
+parser.add_argument("program", nargs="?", type=Path, default=harness.PROGRAM)
+ASKED = parser.parse_args()
 SECONDS = 60
 MEBIBYTE = 1 << 20
 SIZES = (63 * MEBIBYTE, MOST_BYTES, MOST_BYTES + 1, 65 * MEBIBYTE)
@@ -44,39 +45,6 @@ MOST_SHOWN = 200
 BANKS = {algorithm.identifier: algorithm.size for algorithm in ALGORITHMS}
 BANK = {SHA256.identifier: SHA256.size}
 REQUIRE = ",".join(f"{algorithm.name}:0-23" for algorithm in ALGORITHMS)
-
-
-class Asker:
-    """Asks a program, and the library for C if there is one, and counts the commands that they answer as wanted."""
-
-    def __init__(self, program, library):
-        self.program, self.library = program, library
-        self.passed = self.failed = 0
-
-    def ask(self, title, words, folder, wanted, given=None):
-        """Wants a status and a text, a str or bytes, of the program in a folder, where `given` names its standard input."""
-        with open(folder / given, "rb") if given else nullcontext(subprocess.DEVNULL) as stream:
-            try:
-                ran = subprocess.run([self.program, *words], cwd=folder, env={}, stdin=stream, capture_output=True, timeout=SECONDS)
-                found, errors = (ran.returncode, ran.stdout), ran.stderr
-            except subprocess.TimeoutExpired:
-                found, errors = (None, b""), f"more than {SECONDS} seconds".encode()
-        self.count(f"{title}: {' '.join(words)[:MOST_SHOWN]}", found, wanted, errors)
-
-    def has_function(self, words, folder):
-        """Whether the library has a function for this command."""
-        return self.library is not None and self.library.takes(words, folder, 2 * MOST_BYTES)
-
-    def ask_library(self, title, words, folder, wanted):
-        """Wants the same of the library, which has a function for this."""
-        self.count(f"the library, {title}: {' '.join(words)[:MOST_SHOWN]}", self.library.answer(words, folder), wanted)
-
-    def count(self, title, found, wanted, errors=b""):
-        status, text = wanted
-        is_wanted = found == (status, text.encode() if isinstance(text, str) else text) and not errors
-        self.passed, self.failed = self.passed + is_wanted, self.failed + (not is_wanted)
-        told = "ok" if is_wanted else f"status {found[0]}, {len(found[1])} bytes that end in {(found[1] + errors)[-200:]!r}"
-        print(f"{told}: {title}", flush=True)
 
 
 # Inputs of a size.
@@ -174,90 +142,11 @@ INPUTS = (
 )
 
 
-def ask_of_sizes(asker, folder):
-    """Each input by each command, of sizes up to the limit and just above it; a longer one by one command alone, but by each function."""
-    given, short = folder / "given", folder / "short"
-    for each in (given, short):
-        each.mkdir()
-        files = {"L": LOG.spelling(), "list": list_spelling(ENTRIES), "expected": EXPECTED.encode(), "f": b"abc"}
-        for name, data in files.items():
-            (each / name).write_bytes(data)
-    for size in SIZES:
-        for it in INPUTS:
-            (given / "input").write_bytes(it.of_size(size))
-            if it.short is not None:
-                (short / "input").write_bytes(it.short)
-            for command in it.commands:
-                is_asked = size <= MOST_BYTES + 1 or command == it.commands[0]
-                ask_of_size(asker, f"{it.title}, {size} bytes", command.split(), given, given if it.short is None else short, is_asked)
-
-
-def ask_of_size(asker, title, words, folder, short, is_asked):
-    """One command, which the reference answers in the folder `short`; of the program only if that is asked."""
-    size = (folder / "input").stat().st_size
-    name = "input" if words else "-"
-    is_taken, has_function = size <= MOST_BYTES, size in LIBRARY_SIZES and asker.has_function(words, folder)
-    if is_taken or has_function:
-        unlimited = reference.answer(words, short, b"" if words else (short / "input").read_bytes(), 2 * MOST_BYTES)
-    if is_asked:
-        asker.ask(title, words, folder, unlimited if is_taken else (2, f"refused: too long {name}\n"), None if words else "input")
-    if has_function:
-        asker.ask_library(title, words, folder, unlimited)
-
-
-# Inputs of very many parts.
-
-
-def ask_of_events(asker, folder):
-    """Logs with an event again and again: the shortest, which is not extended, and one that is, also in hexadecimal."""
-    (folder / "list").write_bytes(b"")
-    for size, event in ((60 * MEBIBYTE, Event(0, 3, {}, b"")), (24 * MEBIBYTE, separator_of(4, BANK))):
-        log, spelling = many_events(size, event)
-        (folder / "log").write_bytes(spelling)
-        registers = log.registers()
-        rows = [Expected(SHA256, 4, registers.value(SHA256, 4)), Expected(SHA256, 0, registers.value(SHA256, 0))]
-        (folder / "expected").write_text("".join(row.line() for row in rows))
-        line, numbers = event.line("{}", False), range(1, len(log.events) + 1)
-        ask_of_parts(asker, f"{len(log.events)} events", folder, {
-            "registers log": (0, registers.text()),
-            "events log": (0, Log(BANK, []).text() + "".join(map(line.format, numbers))),
-            "verify log list expected": answer_of(verdict(log, [], rows)),
-        })
-    log, spelling = many_events(30 * MEBIBYTE, event)
-    (folder / "hexadecimal").write_bytes(spelling.hex().encode())
-    asker.ask(f"{len(log.events)} events in hexadecimal", [], folder, (0, log.registers().text()), "hexadecimal")
-
-
 def many_events(size, event):
     """A log of an event again and again, with at most so many bytes, and these bytes."""
     head, spelling = Log(BANK, []).spelling(), event.spelling()
     count = (size - len(head)) // len(spelling)
     return Log(BANK, [event] * count), head + spelling * count
-
-
-def ask_of_entries(asker, folder):
-    """Lists with an entry again and again: one with a payload of a MiB, a measurement, and, for two commands, the shortest violation."""
-    log = Log(BANK, [])
-    (folder / "L").write_bytes(log.spelling())
-    for size, entry in ((63 * MEBIBYTE, payload_of(MEBIBYTE - 100)), (24 * MEBIBYTE, ENTRIES[1])):
-        entries, registers = many_entries(size, entry, folder / "list"), Registers(ALGORITHMS)
-        replay(registers, entries)
-        rows = [Expected(SHA256, 10, registers.value(SHA256, 10)), Expected(SHA256, 23, registers.value(SHA256, 23))]
-        (folder / "expected").write_text("".join(row.line() for row in rows))
-        ask_of_parts(asker, f"{len(entries)} entries", folder, {
-            "show list": (0, entry.line() * len(entries)),
-            "replay list": (0, registers.text()),
-            "verify L list expected": answer_of(verdict(log, entries, rows)),
-            "locate L list expected": answer_of(locate(log, entries, rows)),
-        })
-    violation = Entry(10, bytes(20), b"", b"")
-    entries = many_entries(63 * MEBIBYTE, violation, folder / "list")
-    row = Expected(SHA256, 10, bytes(SHA256.size))
-    (folder / "expected").write_text(row.line())
-    ask_of_parts(asker, f"{len(entries)} entries", folder, {
-        "show list": (0, violation.line() * len(entries)),
-        "verify L list expected": answer_of(verdict(log, entries, [row])),
-    })
 
 
 def many_entries(size, entry, file):
@@ -267,81 +156,167 @@ def many_entries(size, entry, file):
     return [entry] * count
 
 
-def ask_of_parts(asker, title, folder, wanted):
-    for command, answer in wanted.items():
-        words = command.split()
-        asker.ask(title, words, folder, answer)
-        if asker.has_function(words, folder):
-            asker.ask_library(title, words, folder, answer)
-
-
 def answer_of(judged):
     """The answer to a command that judges, of its text and whether that is well."""
     text, is_well = judged
     return 0 if is_well else 1, text
 
 
-def ask_of_files(asker, folder):
-    """Very many names of one file, by folders that are this one: more than `--limit` is by default; and a book that is full just then. And
-    many more of a file that is not there."""
-    for digit in range(10):
-        (folder / str(digit)).symlink_to(".")
-    names = ["/".join(f"{number:06}") + "/f" for number in range(FILES)]
-    (folder / "L").write_bytes(LOG.spelling())
-    (folder / "f").write_bytes(b"abc")
-    (folder / "names").write_text("".join(f"{name}\n" for name in names))
-    opening, digest = entry_of(IMA_NG, SHA256, LOG.registers().boot_aggregate(SHA256), BOOT_AGGREGATE), SHA256.hash(b"abc")
-    entries = [opening, *(entry_of(IMA_NG, SHA256, digest, name.encode()) for name in names)]
-    registers = LOG.registers()
-    replay(registers, entries)
-    for limit, options, answer in (
-        (FILES + 1, "", (0, list_text(entries))),
-        (FILES + 1, " --print registers", (0, registers.text())),
-        (FILES + 1, " --print binary", (0, list_spelling(entries))),
-        (FILES, "", (2, f"refused: job {FILES - 1} book fault 7\n")),
-    ):
-        words = f"measure --workers 1 --limit {limit}{options} L --files-from names".split()
-        asker.ask(f"{FILES} names", words, folder, answer)
-    (folder / "names").write_bytes(b"x\n" * MISSING)
-    asker.ask(f"{MISSING} names", "measure L --files-from names".split(), folder, (3, "failed: read x\n"))
+class Limits(harness.TestCase):
+    """Asks the program, and the library for C if there is one, in a folder of each test."""
 
+    def setUp(self):
+        self.room = self.folder()
 
-def ask_of_words(asker, folder):
-    """Very many words, and words as long as the system takes: a file named again and again before another one, a range, and names in the
-    lines of faults."""
-    files = {"L": LOG.spelling(), "list": list_spelling(ENTRIES), "expected": EXPECTED.encode(), "f": b"abc", "g": b"abc"}
-    for name, data in files.items():
-        (folder / name).write_bytes(data)
-    entries = [ENTRIES[0], *(entry_of(IMA_NG, SHA256, SHA256.hash(b"abc"), name) for name in (b"f", b"g"))]
-    for workers in "28":
-        words = ["measure", "--workers", workers, "--limit", str(2 * WORDS), "L", *["f"] * (WORDS - 1), "g"]
-        asker.ask(f"{WORDS} names as words", words, folder, (0, list_text(entries)))
-    for command in ("verify L list expected", "locate L list expected", "replay list expected"):
-        word, *names = command.split()
-        wanted = reference.answer([word, "--require", "sha256:0-23", *names], folder)
-        ask_of_parts(asker, f"{RANGES} ranges", folder, {f"{word} --require {','.join(['sha256:0-23'] * RANGES)} {' '.join(names)}": wanted})
-    longest = "./" * 2045 + "names"
-    for data, command, fault in (
-        (b"\xff" + bytes(MOST_BYTES), f"show {longest}", (2, f"refused: too long {longest}\n")),
-        (b"\xff", f"measure L --files-from {longest}", (2, f"refused: not UTF-8 {longest}\n")),
-        (b"", f"show {longest[:-1]}", (3, f"failed: read {longest[:-1]}\n")),
-    ):
-        (folder / "names").write_bytes(data)
-        asker.ask("a name of 4,095 bytes", command.split(), folder, fault)
+    def ask(self, title, words, wanted, given=None):
+        """Wants a status and a text, a str or bytes, of the program, where `given` names its standard input."""
+        with open(self.room / given, "rb") if given else nullcontext(subprocess.DEVNULL) as stream:
+            try:
+                ran = subprocess.run([ASKED.program.resolve(), *words], cwd=self.room, env={}, stdin=stream, capture_output=True, timeout=SECONDS)
+                found, errors = (ran.returncode, ran.stdout), ran.stderr
+            except subprocess.TimeoutExpired:
+                found, errors = (None, b""), f"more than {SECONDS} seconds".encode()
+        self.compare(f"{title}: {' '.join(words)[:MOST_SHOWN]}", found, wanted, errors)
 
+    def has_function(self, words):
+        """Whether the library has a function for this command."""
+        return ASKED.library is not None and ASKED.library.takes(words, self.room, 2 * MOST_BYTES)
 
-def main():
-    parser = argparse.ArgumentParser(usage="tests/cases/limits.py [--library FILE] [PROGRAM]")
-    parser.add_argument("--library", type=Path)
-    parser.add_argument("program", nargs="?", type=Path, default=PROGRAM)
-    words = parser.parse_args()
-    asker = Asker(words.program.resolve(), Library(words.library.resolve()) if words.library else None)
-    for part in (ask_of_sizes, ask_of_events, ask_of_entries, ask_of_files, ask_of_words):
-        with tempfile.TemporaryDirectory() as name:
-            part(asker, Path(name))
-    print(f"{asker.passed} passed, {asker.failed} failed")
-    return 1 if asker.failed else 0
+    def ask_library(self, title, words, wanted):
+        """Wants the same of the library, which has a function for this."""
+        self.compare(f"the library, {title}: {' '.join(words)[:MOST_SHOWN]}", ASKED.library.answer(words, self.room), wanted)
+
+    def compare(self, title, found, wanted, errors=b""):
+        (status, text), (wanted_status, wanted_text) = found, wanted
+        wanted_text = wanted_text.encode() if isinstance(wanted_text, str) else wanted_text
+        is_wanted = (status, text, errors) == (wanted_status, wanted_text, b"")
+        self.check(title, None if is_wanted else f"status {status}, {len(text)} bytes that end in {(text + errors)[-200:]!r}", None)
+
+    def ask_of_parts(self, title, wanted):
+        for command, answer in wanted.items():
+            words = command.split()
+            self.ask(title, words, answer)
+            if self.has_function(words):
+                self.ask_library(title, words, answer)
+
+    def ask_of_size(self, title, words, short, is_asked):
+        """One command, which the reference answers in the folder `short`; of the program only if that is asked."""
+        size = (self.room / "input").stat().st_size
+        name = "input" if words else "-"
+        is_taken, has_function = size <= MOST_BYTES, size in LIBRARY_SIZES and self.has_function(words)
+        if is_taken or has_function:
+            unlimited = reference.answer(words, short, b"" if words else (short / "input").read_bytes(), 2 * MOST_BYTES)
+        if is_asked:
+            self.ask(title, words, unlimited if is_taken else (2, f"refused: too long {name}\n"), None if words else "input")
+        if has_function:
+            self.ask_library(title, words, unlimited)
+
+    def test_sizes(self):
+        """Each input by each command, of sizes up to the limit and just above it; a longer one by one command alone, but by each function."""
+        shorter = self.folder()
+        for each in (self.room, shorter):
+            files = {"L": LOG.spelling(), "list": list_spelling(ENTRIES), "expected": EXPECTED.encode(), "f": b"abc"}
+            for name, data in files.items():
+                (each / name).write_bytes(data)
+        for size in SIZES:
+            for it in INPUTS:
+                (self.room / "input").write_bytes(it.of_size(size))
+                if it.short is not None:
+                    (shorter / "input").write_bytes(it.short)
+                for command in it.commands:
+                    is_asked = size <= MOST_BYTES + 1 or command == it.commands[0]
+                    self.ask_of_size(f"{it.title}, {size} bytes", command.split(), self.room if it.short is None else shorter, is_asked)
+
+    def test_events(self):
+        """Logs with an event again and again: the shortest, which is not extended, and one that is, also in hexadecimal."""
+        (self.room / "list").write_bytes(b"")
+        for size, event in ((60 * MEBIBYTE, Event(0, 3, {}, b"")), (24 * MEBIBYTE, separator_of(4, BANK))):
+            log, spelling = many_events(size, event)
+            (self.room / "log").write_bytes(spelling)
+            registers = log.registers()
+            rows = [Expected(SHA256, 4, registers.value(SHA256, 4)), Expected(SHA256, 0, registers.value(SHA256, 0))]
+            (self.room / "expected").write_text("".join(row.line() for row in rows))
+            line, numbers = event.line("{}", False), range(1, len(log.events) + 1)
+            self.ask_of_parts(f"{len(log.events)} events", {
+                "registers log": (0, registers.text()),
+                "events log": (0, Log(BANK, []).text() + "".join(map(line.format, numbers))),
+                "verify log list expected": answer_of(verdict(log, [], rows)),
+            })
+        log, spelling = many_events(30 * MEBIBYTE, event)
+        (self.room / "hexadecimal").write_bytes(spelling.hex().encode())
+        self.ask(f"{len(log.events)} events in hexadecimal", [], (0, log.registers().text()), "hexadecimal")
+
+    def test_entries(self):
+        """Lists with an entry again and again: one with a payload of a MiB, a measurement, and, for two commands, the shortest violation."""
+        log = Log(BANK, [])
+        (self.room / "L").write_bytes(log.spelling())
+        for size, entry in ((63 * MEBIBYTE, payload_of(MEBIBYTE - 100)), (24 * MEBIBYTE, ENTRIES[1])):
+            entries, registers = many_entries(size, entry, self.room / "list"), Registers(ALGORITHMS)
+            replay(registers, entries)
+            rows = [Expected(SHA256, 10, registers.value(SHA256, 10)), Expected(SHA256, 23, registers.value(SHA256, 23))]
+            (self.room / "expected").write_text("".join(row.line() for row in rows))
+            self.ask_of_parts(f"{len(entries)} entries", {
+                "show list": (0, entry.line() * len(entries)),
+                "replay list": (0, registers.text()),
+                "verify L list expected": answer_of(verdict(log, entries, rows)),
+                "locate L list expected": answer_of(locate(log, entries, rows)),
+            })
+        violation = Entry(10, bytes(20), b"", b"")
+        entries = many_entries(63 * MEBIBYTE, violation, self.room / "list")
+        row = Expected(SHA256, 10, bytes(SHA256.size))
+        (self.room / "expected").write_text(row.line())
+        self.ask_of_parts(f"{len(entries)} entries", {
+            "show list": (0, violation.line() * len(entries)),
+            "verify L list expected": answer_of(verdict(log, entries, [row])),
+        })
+
+    def test_files(self):
+        """Very many names of one file, by folders that are this one: more than `--limit` is by default; and a book that is full just then. And
+        many more of a file that is not there."""
+        for digit in range(10):
+            (self.room / str(digit)).symlink_to(".")
+        names = ["/".join(f"{number:06}") + "/f" for number in range(FILES)]
+        (self.room / "L").write_bytes(LOG.spelling())
+        (self.room / "f").write_bytes(b"abc")
+        (self.room / "names").write_text("".join(f"{name}\n" for name in names))
+        opening, digest = entry_of(IMA_NG, SHA256, LOG.registers().boot_aggregate(SHA256), BOOT_AGGREGATE), SHA256.hash(b"abc")
+        entries = [opening, *(entry_of(IMA_NG, SHA256, digest, name.encode()) for name in names)]
+        registers = LOG.registers()
+        replay(registers, entries)
+        for limit, options, answer in (
+            (FILES + 1, "", (0, list_text(entries))),
+            (FILES + 1, " --print registers", (0, registers.text())),
+            (FILES + 1, " --print binary", (0, list_spelling(entries))),
+            (FILES, "", (2, f"refused: job {FILES - 1} book fault 7\n")),
+        ):
+            words = f"measure --workers 1 --limit {limit}{options} L --files-from names".split()
+            self.ask(f"{FILES} names", words, answer)
+        (self.room / "names").write_bytes(b"x\n" * MISSING)
+        self.ask(f"{MISSING} names", "measure L --files-from names".split(), (3, "failed: read x\n"))
+
+    def test_words(self):
+        """Very many words, and words as long as the system takes: a file named again and again before another one, a range, and names in the
+        lines of faults."""
+        files = {"L": LOG.spelling(), "list": list_spelling(ENTRIES), "expected": EXPECTED.encode(), "f": b"abc", "g": b"abc"}
+        for name, data in files.items():
+            (self.room / name).write_bytes(data)
+        entries = [ENTRIES[0], *(entry_of(IMA_NG, SHA256, SHA256.hash(b"abc"), name) for name in (b"f", b"g"))]
+        for workers in "28":
+            words = ["measure", "--workers", workers, "--limit", str(2 * WORDS), "L", *["f"] * (WORDS - 1), "g"]
+            self.ask(f"{WORDS} names as words", words, (0, list_text(entries)))
+        for command in ("verify L list expected", "locate L list expected", "replay list expected"):
+            word, *names = command.split()
+            wanted = reference.answer([word, "--require", "sha256:0-23", *names], self.room)
+            self.ask_of_parts(f"{RANGES} ranges", {f"{word} --require {','.join(['sha256:0-23'] * RANGES)} {' '.join(names)}": wanted})
+        longest = "./" * 2045 + "names"
+        for data, command, fault in (
+            (b"\xff" + bytes(MOST_BYTES), f"show {longest}", (2, f"refused: too long {longest}\n")),
+            (b"\xff", f"measure L --files-from {longest}", (2, f"refused: not UTF-8 {longest}\n")),
+            (b"", f"show {longest[:-1]}", (3, f"failed: read {longest[:-1]}\n")),
+        ):
+            (self.room / "names").write_bytes(data)
+            self.ask("a name of 4,095 bytes", command.split(), fault)
 
 
 if __name__ == "__main__":
-    sys.exit(main())
+    sys.exit(harness.main())

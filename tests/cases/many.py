@@ -3,24 +3,22 @@
 
 tests/cases/many.py [PROGRAM]: by default the program that was built in this tree.
 
-Every file holds its own name, which is short or long, or another one's with `.new` after it; one is as long as the system takes. What the
-program is to answer is what `tests/reference/` answers to the same words in the same folder; of several workers, these lines in any order, but
-for the first. The last line is 'N passed, M failed', of commands."""
+Every file holds its own name, which is short or long, or another one's with `.new` after it. One name is as long as the system takes. The
+program must answer what `tests/reference/` answers to the same words in the same folder. With several workers the lines may come in any
+order, but for the first. The script counts commands."""
 
 import os
 import subprocess
 import sys
-import tempfile
 from dataclasses import dataclass
 from pathlib import Path
 
-ROOT = Path(__file__).resolve().parents[2]
-sys.path.insert(0, str(ROOT / "tests"))
+sys.path.insert(0, str(Path(__file__).resolve().parents[1]))
+import harness  # noqa: E402
 import reference  # noqa: E402
 from reference.log import Log  # noqa: E402
 from reference.registers import SHA256  # noqa: E402
 
-PROGRAM = ROOT / "crates/ima_agent_program/out/ima_agent_program"
 SECONDS = 60
 FILES = 10_000
 LONG = "usr/lib/modules/6.12.38-generic/kernel/drivers/measured/boot/agent"
@@ -105,21 +103,16 @@ def in_any_order(answer):
     return status, first, sorted(rest)
 
 
-def main():
-    program = Path(sys.argv[1] if len(sys.argv) > 1 else PROGRAM).resolve()
-    failed = passed = 0
-    with tempfile.TemporaryDirectory() as name:
-        folder = Path(name)
+class Many(harness.TestCase):
+    def test_measurements(self):
+        program, folder = harness.argument(), self.folder()
         make_files(folder)
         for measurement in measurements():
             # (with more workers the value of a register depends on their order)
             for workers in ("1",) if "registers" in measurement.words else ("1", "8"):
                 fault = fault_of(program, measurement, workers, folder)
-                failed, passed = failed + (fault is not None), passed + (fault is None)
-                print(f"{fault or 'ok'}: {measurement.title}, --workers {workers}", flush=True)
-    print(f"{passed} passed, {failed} failed")
-    return 1 if failed else 0
+                self.check(f"{measurement.title}, --workers {workers}", fault, None)
 
 
 if __name__ == "__main__":
-    sys.exit(main())
+    sys.exit(harness.main())

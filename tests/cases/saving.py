@@ -3,61 +3,26 @@
 
 tests/cases/saving.py [PROGRAM]: by default the program that was built in this tree.
 
-What `verify --save` leaves goes by docs/formats.md ('Going on from a checkpoint'): the checkpoint is that of tests/cases/shared.files, only its
-user can read it, a FILE that is no regular file is refused, and nothing else in the folder is changed. The last line is 'N passed, M failed',
-of trials."""
+What `verify --save` leaves goes by docs/formats.md ('Going on from a checkpoint'). The checkpoint is that of tests/cases/shared.files, and only
+its user can read it. A FILE that is no regular file is refused. Nothing else in the folder is changed."""
 
 import os
 import socket
 import stat
 import subprocess
 import sys
-import tempfile
 from pathlib import Path
 
-import form
+sys.path.insert(0, str(Path(__file__).resolve().parents[1]))
+import form  # noqa: E402
+import harness  # noqa: E402
 
-PROGRAM = form.ROOT / "crates/ima_agent_program/out/ima_agent_program"
 SECONDS = 60
 MOST_BESIDE = 100
 FILE, OTHER = "saved", b"another's\n"
 REPORT = b"events 1 locality 0\nentries 3\nboot_aggregate good\nsha256 10 match\nverdict match\n"
 EXPECTED = b"sha256 10 d54d476b0532a0a009e48de651cd01544e8d093d584ca3dbb93dd0f1b69b7cc4\n"
 DONE = (0, REPORT)
-
-
-class Room:
-    """A folder with a log, a list and an expected register, in which a program saves."""
-
-    def __init__(self, program, folder, shared):
-        self.program, self.folder, self.checkpoint = program, folder, shared["checkpoint"]
-        for name, data in (("log", shared["log"]), ("list", shared["list"]), ("expected", EXPECTED)):
-            self.lay(name, data)
-
-    def lay(self, name, data=OTHER, mode=0o644):
-        (self.folder / name).write_bytes(data)
-        (self.folder / name).chmod(mode)
-
-    def begun(self, listed="list", file=FILE):
-        """The program at work, which saves the checkpoint of a list; its files may have any mode that it asks for."""
-        words = [self.program, "verify", "--save", file, "log", listed, "expected"]
-        return subprocess.Popen(words, cwd=self.folder, env={}, stdin=subprocess.DEVNULL, stdout=subprocess.PIPE, stderr=subprocess.STDOUT, umask=0)
-
-    def left(self):
-        """What is in the folder, by its name: the kind and mode, and the bytes or where a link leads."""
-        return {path.name: (path.lstat().st_mode, path.is_file() and not path.is_symlink() and path.read_bytes(), path.is_symlink() and os.readlink(path))
-                for path in self.folder.iterdir()}
-
-    def saves(self, mode, listed="list"):
-        """What is wrong where the checkpoint is to be saved with a mode, and all else is to stay."""
-        before = self.left()
-        wanted = {**before, FILE: (stat.S_IFREG | mode, self.checkpoint, False)}
-        return differences(ended(self.begun(listed)), DONE, self.left(), wanted)
-
-    def refuses(self, file=FILE):
-        """What is wrong where FILE is to be refused, and all is to stay."""
-        before = self.left()
-        return differences(ended(self.begun(file=file)), (3, f"failed: write {file}\n".encode()), self.left(), before)
 
 
 def ended(process):
@@ -70,127 +35,143 @@ def ended(process):
     return process.returncode, output
 
 
-def differences(answer, answer_wanted, left, left_wanted):
-    """What is not as wanted."""
-    names = sorted(name for name in {*left, *left_wanted} if left.get(name) != left_wanted.get(name))
-    return [*([f"answers {answer}"] if answer != answer_wanted else []), *(f"{name}: {str(left.get(name))[:90]}" for name in names)]
+def state_of(path):
+    """The kind and mode of a file, its bytes, and where it leads as a link."""
+    is_link = path.is_symlink()
+    return path.lstat().st_mode, path.is_file() and not is_link and path.read_bytes(), is_link and os.readlink(path)
 
 
 def beside(number):
     return f"{FILE}.{number}.new"
 
 
-def new_file(room):
-    return room.saves(0o600)
+class Saving(harness.TestCase):
+    """Each test has a folder with a log, a list and an expected register, in which the program saves."""
 
+    def setUp(self):
+        self.program, self.room, shared = harness.argument(), self.folder(), form.read_shared()
+        self.checkpoint = shared["checkpoint"]
+        for name, data in (("log", shared["log"]), ("list", shared["list"]), ("expected", EXPECTED)):
+            self.lay(name, data)
 
-def replaced_with_mode(before, after):
-    def trial(room):
-        room.lay(FILE, mode=before)
-        return room.saves(after)
+    def lay(self, name, data=OTHER, mode=0o644):
+        (self.room / name).write_bytes(data)
+        (self.room / name).chmod(mode)
 
-    return trial
+    def begun(self, listed="list", file=FILE):
+        """The program at work, which saves the checkpoint of a list. Its files may have any mode that it asks for."""
+        words = [self.program, "verify", "--save", file, "log", listed, "expected"]
+        return subprocess.Popen(words, cwd=self.room, env={}, stdin=subprocess.DEVNULL, stdout=subprocess.PIPE, stderr=subprocess.STDOUT, umask=0)
 
+    def left(self):
+        """What is in the folder, by its name."""
+        return {path.name: state_of(path) for path in self.room.iterdir()}
 
-def names_taken(room):
-    """The names that are tried first are taken: by a file that anyone may read, by a link to one, which is not followed, and by LIST."""
-    room.lay(beside(0))
-    room.lay("target")
-    (room.folder / beside(1)).symlink_to("target")
-    (room.folder / beside(2)).symlink_to("not there")
-    (room.folder / beside(3)).mkdir()
-    (room.folder / "list").rename(room.folder / beside(4))
-    return room.saves(0o600, beside(4))
+    def wants(self, wanted, left, *processes):
+        """Requires the answer of each process, and then what is in the folder."""
+        answers, found = [ended(process) for process in processes], self.left()
+        faults = [f"answers {answer}" for answer in answers if answer != wanted]
+        names = sorted(name for name in {*found, *left} if found.get(name) != left.get(name))
+        faults += (f"{name}: {str(found.get(name))[:90]}" for name in names)
+        if faults:
+            self.fail("; ".join(faults))
 
+    def saves(self, mode, listed="list", count=1):
+        """Requires that the checkpoint is saved with a mode, and that all else stays."""
+        wanted = {**self.left(), FILE: (stat.S_IFREG | mode, self.checkpoint, False)}
+        self.wants(DONE, wanted, *[self.begun(listed) for _ in range(count)])
 
-def last_name_free(room):
-    for number in range(MOST_BESIDE - 1):
-        room.lay(beside(number))
-    return room.saves(0o600)
+    def refuses(self, file=FILE):
+        """Requires that FILE is refused, and that all stays."""
+        self.wants((3, f"failed: write {file}\n".encode()), self.left(), self.begun(file=file))
 
+    def replaces(self, before, after):
+        """Requires that a FILE with one mode is replaced, and what has its name then has another."""
+        self.lay(FILE, mode=before)
+        self.saves(after)
 
-def all_names_taken(room):
-    for number in range(MOST_BESIDE):
-        room.lay(beside(number))
-    room.lay(FILE)
-    return room.refuses()
+    def test_new_file(self):
+        """a new FILE"""
+        self.saves(0o600)
 
+    def test_private_file(self):
+        """a FILE of its user alone"""
+        self.replaces(0o600, 0o600)
 
-def fifo(room):
-    os.mkfifo(room.folder / FILE)
-    return room.refuses()
+    def test_readable_file(self):
+        """a FILE that all may read"""
+        self.replaces(0o644, 0o600)
 
+    def test_open_file(self):
+        """a FILE that all may write and run"""
+        self.replaces(0o4777, 0o600)
 
-def folder(room):
-    (room.folder / FILE).mkdir()
-    return room.refuses()
+    def test_read_only_file(self):
+        """a FILE that none may write"""
+        self.replaces(0o444, 0o400)
 
+    def test_names_taken(self):
+        """names beside it are taken: by a file that anyone may read, by links, which are not followed, by a folder, and by LIST"""
+        self.lay(beside(0))
+        self.lay("target")
+        (self.room / beside(1)).symlink_to("target")
+        (self.room / beside(2)).symlink_to("not there")
+        (self.room / beside(3)).mkdir()
+        (self.room / "list").rename(self.room / beside(4))
+        self.saves(0o600, beside(4))
 
-def link_to_file(room):
-    room.lay("target")
-    (room.folder / FILE).symlink_to("target")
-    return room.refuses()
+    def test_last_name_free(self):
+        """one name beside it is left"""
+        for number in range(MOST_BESIDE - 1):
+            self.lay(beside(number))
+        self.saves(0o600)
 
+    def test_all_names_taken(self):
+        """all names beside it are taken"""
+        for name in (*map(beside, range(MOST_BESIDE)), FILE):
+            self.lay(name)
+        self.refuses()
 
-def link_to_nothing(room):
-    (room.folder / FILE).symlink_to("not there")
-    return room.refuses()
+    def test_fifo(self):
+        """FILE is a FIFO"""
+        os.mkfifo(self.room / FILE)
+        self.refuses()
 
+    def test_folder(self):
+        """FILE is a folder"""
+        (self.room / FILE).mkdir()
+        self.refuses()
 
-def bound_socket(room):
-    with socket.socket(socket.AF_UNIX) as server:
-        # (its whole path may be too long for a socket)
-        place = os.open(room.folder, os.O_RDONLY)
-        try:
-            server.bind(f"/proc/self/fd/{place}/{FILE}")
-        finally:
-            os.close(place)
-        return room.refuses()
+    def test_link_to_file(self):
+        """FILE is a link to a file"""
+        self.lay("target")
+        (self.room / FILE).symlink_to("target")
+        self.refuses()
 
+    def test_link_to_nothing(self):
+        """FILE is a link to nothing"""
+        (self.room / FILE).symlink_to("not there")
+        self.refuses()
 
-def no_name(room):
-    """A file beside FILE can be made, and not be renamed: it is removed."""
-    return room.refuses("")
+    def test_socket(self):
+        """FILE is a socket"""
+        with socket.socket(socket.AF_UNIX) as server:
+            # (its whole path may be too long for a socket)
+            place = os.open(self.room, os.O_RDONLY)
+            try:
+                server.bind(f"/proc/self/fd/{place}/{FILE}")
+            finally:
+                os.close(place)
+            self.refuses()
 
+    def test_no_name(self):
+        """FILE has no name: a file beside it can be made, and not be renamed, and is removed"""
+        self.refuses("")
 
-def several_at_once(room):
-    """Runs that save to one FILE side by side: each is done, FILE is whole, and nothing is left beside it."""
-    before = room.left()
-    answers = [ended(process) for process in [room.begun() for _ in range(8)]]
-    wanted = {**before, FILE: (stat.S_IFREG | 0o600, room.checkpoint, False)}
-    return [fault for answer in answers for fault in differences(answer, DONE, room.left(), wanted)]
-
-
-TRIALS = {
-    "a new FILE": new_file,
-    "a FILE of its user alone": replaced_with_mode(0o600, 0o600),
-    "a FILE that all may read": replaced_with_mode(0o644, 0o600),
-    "a FILE that all may write and run": replaced_with_mode(0o4777, 0o600),
-    "a FILE that none may write": replaced_with_mode(0o444, 0o400),
-    "names beside it are taken": names_taken,
-    "one name beside it is left": last_name_free,
-    "all names beside it are taken": all_names_taken,
-    "FILE is a FIFO": fifo,
-    "FILE is a folder": folder,
-    "FILE is a link to a file": link_to_file,
-    "FILE is a link to nothing": link_to_nothing,
-    "FILE is a socket": bound_socket,
-    "FILE has no name": no_name,
-    "several runs at once": several_at_once,
-}
-
-
-def main():
-    program = Path(sys.argv[1] if len(sys.argv) > 1 else PROGRAM).resolve()
-    shared, failed = form.read_shared(), 0
-    for title, trial in TRIALS.items():
-        with tempfile.TemporaryDirectory() as name:
-            faults = trial(Room(program, Path(name), shared))
-        failed += bool(faults)
-        print(f"{title}: {'; '.join(faults) or 'ok'}", flush=True)
-    print(f"{len(TRIALS) - failed} passed, {failed} failed")
-    return 1 if failed else 0
+    def test_several_at_once(self):
+        """several runs at once: each is done, FILE is whole, and nothing is left beside it"""
+        self.saves(0o600, count=8)
 
 
 if __name__ == "__main__":
-    sys.exit(main())
+    sys.exit(harness.main())

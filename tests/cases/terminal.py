@@ -1,14 +1,14 @@
 #!/usr/bin/env python3
-"""Tries what a terminal is told beside the output: why a run failed, and how far a measurement is.
+"""Tries what a terminal gets beside the output: why a run failed, and how far a measurement is.
 
 tests/cases/terminal.py [PROGRAM]: by default the program that was built in this tree.
 
-Each command of the cases whose files have at most 4 MiB runs with a terminal as its standard error. Status and output are to be what the
-case wants; the terminal is to get the sentence of the fault, which is made here of the fault's line, by the tables of docs/formats.md, and
-nothing after a success. Where the output goes to the same terminal, the sentence is to come after the line. Of a refused command line it is
-to get some text of clap's; which one, `USAGES` has for some. Further commands have names with bytes that a terminal acts upon, are out of
-memory, have an output that fails, or measure for more than a second; each of these runs without a terminal too, and then standard error is
-to get nothing. Pipes that are closed one after another tell when which number is due. The last line is 'N passed, M failed', of commands."""
+Each command of the cases whose files have at most 4 MiB runs with a terminal as its standard error. Status and output must be what the
+case wants. After a fault the terminal must get its sentence, which is made here of the fault's line, by the tables of docs/formats.md.
+After a success it must get nothing, and after a refused command line some text of clap's: `USAGES` has some. Where the output goes to the
+same terminal, the sentence must come after the line. Further commands have names with bytes that a terminal acts upon, are out of memory,
+have an output that fails, or measure for more than a second. Each of these runs without a terminal too, and standard error must then get
+nothing. Pipes that are closed one after another show when which number is due. The script counts commands."""
 
 import json
 import os
@@ -25,16 +25,15 @@ import tty
 from pathlib import Path
 from typing import NamedTuple
 
-import form
-from answers import Answer, fault_of
-
-sys.path.insert(0, str(form.ROOT / "tests"))
-from reference.command_line import HelpAsked, read_words  # noqa: E402
-from reference.faults import Fault  # noqa: E402
+sys.path.insert(0, str(Path(__file__).resolve().parents[1]))
+import form  # noqa: E402
+import harness  # noqa: E402
+from answers import Answer, fault_of  # noqa: E402
+from reference.command_line import read_words  # noqa: E402
 from reference.log import Log  # noqa: E402
 from reference.registers import SHA256  # noqa: E402
 
-PROGRAM = form.ROOT / "crates/ima_agent_program/out/ima_agent_program"
+PROGRAM = harness.argument()
 SECONDS = 60
 MEBIBYTE = 1 << 20
 MOST_BYTES = 4 * MEBIBYTE
@@ -106,12 +105,12 @@ class Command(NamedTuple):
     settle: object = None
 
 
-def run_on_terminal(program, words, folder, given, output, settle=None):
+def run_on_terminal(words, folder, given, output, settle=None):
     """Runs the program with a terminal as its standard error, and returns its status and what that got."""
     ours, theirs = pty.openpty()
     tty.setraw(theirs)
     try:
-        process = subprocess.Popen([program, *words], stdin=given, stdout=output, stderr=theirs, cwd=folder, env={}, preexec_fn=settle)
+        process = subprocess.Popen([PROGRAM, *words], stdin=given, stdout=output, stderr=theirs, cwd=folder, env={}, preexec_fn=settle)
     finally:
         os.close(theirs)
     said, end = b"", time.monotonic() + SECONDS
@@ -229,11 +228,11 @@ def without_progress(said):
     return re.sub(rb"(?:\r\d+ of \d+ files\x1b\[K)+\r\x1b\[K", b"", said)
 
 
-def case_fault(program, command, folder, output):
+def case_fault(command, folder, output):
     """What is wrong with what a command of a case leaves on a terminal, or None."""
     try:
         with open(folder / command.input if command.input else os.devnull, "rb") as given, open(output, "wb") as sink:
-            status, said = run_on_terminal(program, command.words, folder, given, sink)
+            status, said = run_on_terminal(command.words, folder, given, sink)
         said = without_progress(said)
         text = output.read_bytes()
     except (OSError, subprocess.TimeoutExpired) as error:
@@ -252,7 +251,7 @@ def case_fault(program, command, folder, output):
     return f"the terminal got {said!r}, and not {'a text of clap' if wanted is None else wanted!r}"
 
 
-def case_results(program):
+def case_results():
     """Each command of the cases with small files, and what is wrong with what it leaves, or None."""
     shared = form.read_shared()
     for path in form.case_files():
@@ -264,7 +263,7 @@ def case_results(program):
             folder.mkdir()
             case.lay(folder, shared)
             for command in case.commands:
-                yield f"{case.name}: {command.text}", case_fault(program, command, folder, output)
+                yield f"{case.name}: {command.text}", case_fault(command, folder, output)
 
 
 def further_commands():
@@ -312,41 +311,17 @@ def make_files(folder):
             file.truncate(LARGE_BYTES)
 
 
-def left_on_terminal(program, command, folder):
+def left_on_terminal(command, folder):
     with tempfile.TemporaryFile() as sink:
-        status, said = run_on_terminal(program, command.words, folder, subprocess.DEVNULL, sink, command.settle)
+        status, said = run_on_terminal(command.words, folder, subprocess.DEVNULL, sink, command.settle)
         sink.seek(0)
         return Ended(status, sink.read(), said)
 
 
-def left_elsewhere(program, command, folder):
-    ran = subprocess.run([program, *command.words], stdin=subprocess.DEVNULL, capture_output=True, cwd=folder, env={}, timeout=SECONDS,
+def left_elsewhere(command, folder):
+    ran = subprocess.run([PROGRAM, *command.words], stdin=subprocess.DEVNULL, capture_output=True, cwd=folder, env={}, timeout=SECONDS,
                          preexec_fn=command.settle)
     return Ended(ran.returncode, ran.stdout, ran.stderr)
-
-
-def further_results(program, folder):
-    """Each further command, on a terminal and elsewhere, and what is wrong with what it leaves, or None."""
-    for command in further_commands():
-        for where, found, wanted in (
-            ("on a terminal", left_on_terminal(program, command, folder), command.wanted),
-            ("elsewhere", left_elsewhere(program, command, folder), command.wanted._replace(said=b"")),
-        ):
-            yield f"{command.title}, {where}", None if found == wanted else f"{found}, and not {wanted}"
-
-
-def progress_results(program, folder):
-    """Measurements that last: of files that are all there, and with one at the end that is not."""
-    files = [f"large {number}" for number in range(LARGE_FILES)]
-    for title, names, end in (
-        ("a long measurement", files, b""),
-        ("a long measurement that fails", [*files, "none"], b"cannot read none: No such file or directory\n"),
-    ):
-        command = Command(title, ["measure", "--workers", "1", "L", *names], None)
-        found, plain = left_on_terminal(program, command, folder), left_elsewhere(program, command, folder)
-        yield f"{title}, on a terminal", progress_fault(found.said, len(names), end)
-        is_same = found[:2] == plain[:2] and (found.status == 0) == (end == b"")
-        yield f"{title}, elsewhere", None if is_same and plain.said == b"" else f"{found[:2]} on a terminal, and {plain}"
 
 
 def progress_fault(said, count, end):
@@ -359,30 +334,7 @@ def progress_fault(said, count, end):
     return None if len(numbers) > 1 and rises and numbers[-1] <= count else f"the numbers are {numbers}"
 
 
-def order_results(program, folder):
-    """A refusal where the output and standard error are one terminal: the line, and then the sentence."""
-    status, said = run_on_terminal(program, ["show", "none"], folder, subprocess.DEVNULL, subprocess.DEVNULL, lambda: os.dup2(2, 1))
-    wanted = b"failed: read none\ncannot read none: No such file or directory\n"
-    yield "a refusal, all on one terminal", None if (status, said) == (3, wanted) else f"status {status}, the terminal got {said!r}"
-
-
-def pace_results(program, folder):
-    """Measurements of pipes: each number in turn, from 1 on, after more than a second; and none before."""
-    names = [f"pipe {number}" for number, _ in enumerate(PACES)]
-    for name in names:
-        os.mkfifo(folder / name)
-    said, _ = paced(program, folder, names, PACES)
-    wanted = b"".join(b"\r%d of %d files\x1b[K" % (number + 1, len(names)) for number, _ in enumerate(names)) + b"\r\x1b[K"
-    yield "a measurement of pipes", None if said == wanted else f"the terminal got {said!r}, and not {wanted!r}"
-    for _ in range(ATTEMPTS):
-        said, seconds = paced(program, folder, names[:1], (0.5,))
-        if seconds < 1:
-            yield "a measurement of less than a second", f"the terminal got {said!r}" if said else None
-            return
-    yield "a measurement of less than a second", f"it took {seconds} seconds"
-
-
-def paced(program, folder, names, paces):
+def paced(folder, names, paces):
     """What a terminal gets of a measurement of pipes that are closed after these times, and how long it took."""
     def close_in_turn():
         for name, pace in zip(names, paces):
@@ -392,30 +344,64 @@ def paced(program, folder, names, paces):
     thread, begun = threading.Thread(target=close_in_turn, daemon=True), time.monotonic()
     thread.start()
     words = ["measure", "--workers", "1", "L", *names]
-    _, said = run_on_terminal(program, words, folder, subprocess.DEVNULL, subprocess.DEVNULL)
+    _, said = run_on_terminal(words, folder, subprocess.DEVNULL, subprocess.DEVNULL)
     return said, time.monotonic() - begun
 
 
-def results(program):
-    yield from case_results(program)
-    with tempfile.TemporaryDirectory() as name:
-        make_files(Path(name))
-        yield from further_results(program, Path(name))
-        yield from order_results(program, Path(name))
-        yield from pace_results(program, Path(name))
-        yield from progress_results(program, Path(name))
+class Cases(harness.TestCase):
+    """Commands of the cases."""
+
+    def test_cases(self):
+        results = list(case_results())
+        faults = [f"{title!r}: {fault}" for title, fault in results if fault is not None]
+        self.check_all("commands of the cases, on a terminal", len(results) - len(faults), faults)
 
 
-def main():
-    program = Path(sys.argv[1] if len(sys.argv) > 1 else PROGRAM).resolve()
-    failed = passed = 0
-    for title, fault in results(program):
-        failed, passed = failed + (fault is not None), passed + (fault is None)
-        if fault is not None:
-            print(f"{title!r}: {fault}", flush=True)
-    print(f"{passed} passed, {failed} failed")
-    return 1 if failed else 0
+class Further(harness.TestCase):
+    """Commands that no case can have, in a folder with their files."""
+
+    def setUp(self):
+        self.room = self.folder()
+        make_files(self.room)
+
+    def test_commands(self):
+        for command in further_commands():
+            self.check(f"{command.title}, on a terminal", left_on_terminal(command, self.room), command.wanted)
+            self.check(f"{command.title}, elsewhere", left_elsewhere(command, self.room), command.wanted._replace(said=b""))
+
+    def test_order(self):
+        """Where the output and standard error are one terminal, the line of a refusal comes before the sentence."""
+        found = run_on_terminal(["show", "none"], self.room, subprocess.DEVNULL, subprocess.DEVNULL, lambda: os.dup2(2, 1))
+        wanted = (3, b"failed: read none\ncannot read none: No such file or directory\n")
+        self.check("a refusal, all on one terminal", found, wanted)
+
+    def test_pace(self):
+        """Measurements of pipes show each number in turn, from 1 on, after more than a second, and none before."""
+        names = [f"pipe {number}" for number, _ in enumerate(PACES)]
+        for name in names:
+            os.mkfifo(self.room / name)
+        said, _ = paced(self.room, names, PACES)
+        wanted = b"".join(b"\r%d of %d files\x1b[K" % (number + 1, len(names)) for number, _ in enumerate(names)) + b"\r\x1b[K"
+        self.check("a measurement of pipes", said, wanted)
+        for _ in range(ATTEMPTS):
+            said, seconds = paced(self.room, names[:1], (0.5,))
+            if seconds < 1:
+                break
+        self.check("a measurement of less than a second", (said, seconds < 1), (b"", True))
+
+    def test_progress(self):
+        """Measurements that last: of files that are all there, and with one at the end that is not."""
+        files = [f"large {number}" for number in range(LARGE_FILES)]
+        for title, names, end in (
+            ("a long measurement", files, b""),
+            ("a long measurement that fails", [*files, "none"], b"cannot read none: No such file or directory\n"),
+        ):
+            command = Command(title, ["measure", "--workers", "1", "L", *names], None)
+            found, plain = left_on_terminal(command, self.room), left_elsewhere(command, self.room)
+            self.check(f"{title}, on a terminal", progress_fault(found.said, len(names), end), None)
+            is_same = found[:2] == plain[:2] and (found.status == 0) == (end == b"")
+            self.check(f"{title}, elsewhere", None if is_same and plain.said == b"" else f"{found[:2]} on a terminal, and {plain}", None)
 
 
 if __name__ == "__main__":
-    sys.exit(main())
+    sys.exit(harness.main())

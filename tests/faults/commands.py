@@ -1,11 +1,11 @@
 #!/usr/bin/env python3
 """Tries ./ima-agent and ./try with a stand-in for the kit: a copy of the tree in which `rt` proves nothing, counts its builds, and makes
-a program that answers as it is told.
+a program that answers as its arguments ask.
 
 tests/faults/commands.py
 
-That the program which answers is always one of the present sources and the present kit, that its status and output reach the caller, and
-that nothing but a program's own answer has one of its statuses. The last line is 'N passed, M failed'."""
+The program that answers must always be made of the present sources by the present kit. Its status and its output must reach the caller.
+Nothing but a program's own answer may have one of its statuses."""
 
 import os
 import shutil
@@ -15,7 +15,10 @@ import tempfile
 import time
 from pathlib import Path
 
-ROOT = Path(__file__).resolve().parents[2]
+sys.path.insert(0, str(Path(__file__).resolve().parents[1]))
+import harness  # noqa: E402
+from harness import ROOT  # noqa: E402
+
 PROGRAM = Path("crates/ima_agent_program")
 MAIN = PROGRAM / "src/main.rt"
 NOT_BUILT = 125
@@ -43,16 +46,6 @@ try)
     ;;
 esac
 """
-
-passed = failed = 0
-
-
-def check(title, found, wanted):
-    """Counts whether what was found is what was wanted, and shows it if not."""
-    global passed, failed
-    is_right = found == wanted
-    passed, failed = passed + is_right, failed + (not is_right)
-    print(f"ok: {title}" if is_right else f"WRONG: {title}: {found!r}, and not {wanted!r}", flush=True)
 
 
 class Tree:
@@ -87,13 +80,6 @@ class Tree:
         answer, said = process.communicate(timeout=60)
         return process.returncode, answer, said
 
-    def builds_for(self, *words, **settings):
-        """How many builds a call makes that the program answers."""
-        before = len(self.builds.read_text().splitlines())
-        status, answer, _ = self.call("0", *words, **settings)
-        check("  and the program answers", (status, answer), (0, "".join(f"<{word}>\n" for word in ("0", *words))))
-        return len(self.builds.read_text().splitlines()) - before
-
 
 def edit(file, old_time=False):
     """Changes a file, which then is newer than all else, or older."""
@@ -102,102 +88,105 @@ def edit(file, old_time=False):
         os.utime(file, (1, 1))
 
 
-def test_answers(tree):
-    for status in range(4):
-        answer = tree.call(str(status), "a b", "*")
-        check(f"status {status} and the arguments reach the caller", answer[:2], (status, f"<{status}>\n<a b>\n<*>\n"))
-    check("the program that was built is run again", tree.builds_for("again"), 0)
+class Commands(harness.TestCase):
+    """Tests of one tree: each begins with what the one before it left."""
 
+    @classmethod
+    def setUpClass(cls):
+        room = tempfile.TemporaryDirectory()
+        cls.addClassCleanup(room.cleanup)
+        cls.tree = Tree(Path(room.name))
 
-def test_changes(tree):
-    """After each change the program is built anew, and once."""
-    source, table = tree.root / "crates/byte_fields/src/fields.rt", tree.root / "crates.txt"
+    def builds_for(self, *words, **settings):
+        """How many builds a call makes that the program answers."""
+        before = len(self.tree.builds.read_text().splitlines())
+        status, answer, _ = self.tree.call("0", *words, **settings)
+        self.check("  and the program answers", (status, answer), (0, "".join(f"<{word}>\n" for word in ("0", *words))))
+        return len(self.tree.builds.read_text().splitlines()) - before
 
-    def rename():
-        source.rename(source.with_name("renamed.rt"))
+    def test_answers(self):
+        for status in range(4):
+            answer = self.tree.call(str(status), "a b", "*")
+            self.check(f"status {status} and the arguments reach the caller", answer[:2], (status, f"<{status}>\n<a b>\n<*>\n"))
+        self.check("the program that was built is run again", self.builds_for("again"), 0)
 
-    changes = {
-        "a source is edited": lambda: edit(source),
-        "a source comes with an older time": lambda: edit(source, old_time=True),
-        "a definition comes with an older time": lambda: edit(tree.root / "crates/pcr_banks/specs/Hashing.antt", old_time=True),
-        "a source has another name": rename,
-        "a source is gone": lambda: source.with_name("renamed.rt").unlink(),
-        "a crate stands on others": lambda: table.write_text(table.read_text().replace("hex json itoa thiserror", "hex json thiserror")),
-        "the handles are others": lambda: edit(tree.root / "HANDLES", old_time=True),
-        "the kit is another": lambda: tree.name_kit("second kit"),
-        "the program is another": lambda: edit(tree.root / PROGRAM / "out/ima_agent_program"),
-        "the program is gone": lambda: (tree.root / PROGRAM / "out/ima_agent_program").unlink(),
-        "what is kept beside it is gone": lambda: (tree.root / PROGRAM / "out/ima_agent_program.made").unlink(),
-    }
-    for title, change in changes.items():
-        change()
-        check(f"built where {title}", tree.builds_for(), 1)
-        check("  and not again", tree.builds_for(), 0)
-    for name in ("crates/format_tests/src/lib.rt", "crates/pcr_banks/further-edits/extend_digest_first.edit"):
-        edit(tree.root / name)
-        check(f"not built where {name} is edited", tree.builds_for(), 0)
+    def test_changes(self):
+        """After each change the program is built anew, and once."""
+        source, table = self.tree.root / "crates/byte_fields/src/fields.rt", self.tree.root / "crates.txt"
 
+        def rename():
+            source.rename(source.with_name("renamed.rt"))
 
-def test_builds(tree):
-    main = tree.root / MAIN
-    edit(main)
-    status, answer, said = tree.call("1", FAIL="1")
-    check("a failed build has a status of its own, and no answer", (status, answer), (NOT_BUILT, ""))
-    check("and what rt said is shown", "the proof of main is open" in said, True)
-    check("the program is built by the next call", tree.builds_for(), 1)
-    edit(main)
-    check("edited while it is built", tree.builds_for(DURING=f"echo '// meanwhile' >>'{main}'"), 1)
-    check("it is built again by the next call", tree.builds_for(), 1)
-    built = (tree.root / PROGRAM / "out/ima_agent_program").read_text()
-    check("of the sources as they are then", "# // meanwhile\n" in built, True)
-    edit(main)
-    before = tree.builds.read_text()
-    calls = [tree.start("2", DURING="sleep 1") for _ in range(3)]
-    check("three calls at once are answered", [(call.communicate(timeout=60)[0], call.returncode) for call in calls], 3 * [("<2>\n", 2)])
-    check("by one build", tree.builds.read_text().removeprefix(before), "built\n")
-    edit(main)
-    tree.builds_for(DURING="sleep 50 >/dev/null 2>&1 &")
-    edit(main)
-    started = time.monotonic()
-    check("built while something runs that a build left", tree.builds_for(), 1)
-    check("for which no call waits", time.monotonic() - started < 40, True)
+        changes = {
+            "a source is edited": lambda: edit(source),
+            "a source comes with an older time": lambda: edit(source, old_time=True),
+            "a definition comes with an older time": lambda: edit(self.tree.root / "crates/pcr_banks/specs/Hashing.antt", old_time=True),
+            "a source has another name": rename,
+            "a source is gone": lambda: source.with_name("renamed.rt").unlink(),
+            "a crate stands on others": lambda: table.write_text(table.read_text().replace("hex json itoa thiserror", "hex json thiserror")),
+            "the handles are others": lambda: edit(self.tree.root / "HANDLES", old_time=True),
+            "the kit is another": lambda: self.tree.name_kit("second kit"),
+            "the program is another": lambda: edit(self.tree.root / PROGRAM / "out/ima_agent_program"),
+            "the program is gone": lambda: (self.tree.root / PROGRAM / "out/ima_agent_program").unlink(),
+            "what is kept beside it is gone": lambda: (self.tree.root / PROGRAM / "out/ima_agent_program.made").unlink(),
+        }
+        for title, change in changes.items():
+            change()
+            self.check(f"built where {title}", self.builds_for(), 1)
+            self.check("  and not again", self.builds_for(), 0)
+        for name in ("crates/format_tests/src/lib.rt", "crates/pcr_banks/further-edits/extend_digest_first.edit"):
+            edit(self.tree.root / name)
+            self.check(f"not built where {name} is edited", self.builds_for(), 0)
 
+    def test_builds(self):
+        main = self.tree.root / MAIN
+        edit(main)
+        status, answer, said = self.tree.call("1", FAIL="1")
+        self.check("a failed build has a status of its own, and no answer", (status, answer), (NOT_BUILT, ""))
+        self.check("and what rt said is shown", "the proof of main is open" in said)
+        self.check("the program is built by the next call", self.builds_for(), 1)
+        edit(main)
+        self.check("edited while it is built", self.builds_for(DURING=f"echo '// meanwhile' >>'{main}'"), 1)
+        self.check("it is built again by the next call", self.builds_for(), 1)
+        built = (self.tree.root / PROGRAM / "out/ima_agent_program").read_text()
+        self.check("of the sources as they are then", "# // meanwhile\n" in built)
+        edit(main)
+        before = self.tree.builds.read_text()
+        calls = [self.tree.start("2", DURING="sleep 1") for _ in range(3)]
+        answers = [(call.communicate(timeout=60)[0], call.returncode) for call in calls]
+        self.check("three calls at once are answered", answers, 3 * [("<2>\n", 2)])
+        self.check("by one build", self.tree.builds.read_text().removeprefix(before), "built\n")
+        edit(main)
+        self.builds_for(DURING="sleep 50 >/dev/null 2>&1 &")
+        edit(main)
+        started = time.monotonic()
+        self.check("built while something runs that a build left", self.builds_for(), 1)
+        self.check("for which no call waits", time.monotonic() - started < 40)
 
-def test_try(tree):
-    folder = tree.root.parent / "inputs"
-    (folder / "below").mkdir(parents=True)
-    (folder / "log").touch()
-    (folder / "below/file").touch()
-    (folder / "names").write_text("below/file\n")
+    def test_try(self):
+        folder = self.tree.root.parent / "inputs"
+        (folder / "below").mkdir(parents=True)
+        (folder / "log").touch()
+        (folder / "below/file").touch()
+        (folder / "names").write_text("below/file\n")
 
-    def tried(*words, ended="run=ended status=0 runners=1"):
-        return tree.call(*words, command="try", folder=folder, ENDED=ended)
+        def tried(*words, ended="run=ended status=0 runners=1"):
+            return self.tree.call(*words, command="try", folder=folder, ENDED=ended)
 
-    for status in range(4):
-        found = tried("show", ended=f"run=ended status={status} runners=1")
-        check(f"try: status {status} reaches the caller", found[:2], (status, "<-->\n<show>\n"))
-    for ended in ("run=no-answer proved=no", "run=ended status=4 runners=1", "run=ended status=10 runners=1", "run=none", ""):
-        check(f"try: no answer where the kit says {ended!r}", tried("show", ended=ended)[0], NOT_BUILT)
-    given = f"<--data>\n<log={folder}/log>\n"
-    check("try: a file of the caller's folder is given", tried("show", "log")[1], f"{given}<-->\n<show>\n<log>\n")
-    listed = f"<--data>\n<below/file={folder}/below/file>\n"
-    named = tried("measure", "--files-from", "names")[1]
-    check("try: and those that a text of names has", listed in named and f"<names={folder}/names>\n" in named, True)
-    check("try: a file above the folder is refused", tried("show", "../inputs/log")[0], NOT_BUILT)
-    for words in (("--save", "x"), ("--save=x",)):
-        check(f"try: {words[0]} is refused", tried("verify", *words)[0], NOT_BUILT)
-
-
-def main():
-    started = time.monotonic()
-    with tempfile.TemporaryDirectory() as room:
-        tree = Tree(Path(room))
-        for test in (test_answers, test_changes, test_builds, test_try):
-            test(tree)
-    print(f"{time.monotonic() - started:.0f} seconds")
-    print(f"{passed} passed, {failed} failed")
-    return failed > 0
+        for status in range(4):
+            found = tried("show", ended=f"run=ended status={status} runners=1")
+            self.check(f"try: status {status} reaches the caller", found[:2], (status, "<-->\n<show>\n"))
+        for ended in ("run=no-answer proved=no", "run=ended status=4 runners=1", "run=ended status=10 runners=1", "run=none", ""):
+            self.check(f"try: no answer where the kit says {ended!r}", tried("show", ended=ended)[0], NOT_BUILT)
+        given = f"<--data>\n<log={folder}/log>\n"
+        self.check("try: a file of the caller's folder is given", tried("show", "log")[1], f"{given}<-->\n<show>\n<log>\n")
+        listed = f"<--data>\n<below/file={folder}/below/file>\n"
+        named = tried("measure", "--files-from", "names")[1]
+        self.check("try: and those that a text of names has", listed in named and f"<names={folder}/names>\n" in named)
+        self.check("try: a file above the folder is refused", tried("show", "../inputs/log")[0], NOT_BUILT)
+        for words in (("--save", "x"), ("--save=x",)):
+            self.check(f"try: {words[0]} is refused", tried("verify", *words)[0], NOT_BUILT)
 
 
 if __name__ == "__main__":
-    sys.exit(main())
+    sys.exit(harness.main())

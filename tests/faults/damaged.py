@@ -1,23 +1,23 @@
 #!/usr/bin/env python3
-"""Compares what the library for C and `tests/reference/` answer on damaged inputs: each front of the sample's log and of its list, and each of
-the two with the lowest bit of one byte turned.
+"""Compares what the library for C and `tests/reference/` answer on damaged inputs: each prefix of the sample's log and of its list, and each
+of the two with the lowest bit of one byte turned.
 
 tests/faults/damaged.py [LIBRARY]: a libima_verify.so; without it `dist/library` makes one, which builds what is not up to date.
 
-Of each input wanted are its own text and its verdict. Most of a log is data of which no register tells, so a log is judged with the
-first entry of the list alone. How many inputs had which answer is told of each kind. The last line is 'N passed, M failed', of inputs."""
+The text of each input is compared, and its verdict. Most of a log is data that no register depends on, so a log is judged with the first
+entry of the list alone. For each kind of input the script prints how many have which answer. It counts inputs."""
 
 import ctypes
 import os
 import subprocess
 import sys
-import tempfile
 from collections import Counter
 from concurrent.futures import ProcessPoolExecutor
 from pathlib import Path
 
-ROOT = Path(__file__).resolve().parents[2]
-sys.path.insert(0, str(ROOT / "tests"))
+sys.path.insert(0, str(Path(__file__).resolve().parents[1]))
+import harness  # noqa: E402
+from harness import ROOT  # noqa: E402
 from reference.faults import Fault  # noqa: E402
 from reference.log import read_log  # noqa: E402
 from reference.measurement_list import read_list  # noqa: E402
@@ -95,29 +95,23 @@ def compared(file, kind, damage):
     return counts, wrong
 
 
-def compare(file):
-    """The numbers of inputs with the same answer and with another."""
-    passed = failed = 0
-    groups = [(kind, damage) for kind in KINDS for damage in DAMAGES]
-    with ProcessPoolExecutor(os.cpu_count()) as pool:
-        runs = [pool.submit(compared, str(file), *group) for group in groups]
-        for (kind, damage), run in zip(groups, runs):
-            counts, wrong = run.result()
-            print(f"{kind}, {damage}:", ", ".join(f"{answer} {times}" for answer, times in sorted(counts.items())))
-            print(*wrong[:3], sep="\n", end="\n" if wrong else "", flush=True)
-            passed, failed = passed + sum(counts.values()) - len(wrong), failed + len(wrong)
-    return passed, failed
+class Damaged(harness.TestCase):
+    def test_answers(self):
+        file, groups = self.library(), [(kind, damage) for kind in KINDS for damage in DAMAGES]
+        with ProcessPoolExecutor(os.cpu_count()) as pool:
+            runs = [pool.submit(compared, str(file), *group) for group in groups]
+            for (kind, damage), run in zip(groups, runs):
+                counts, wrong = run.result()
+                answers = ", ".join(f"{answer} {times}" for answer, times in sorted(counts.items()))
+                self.check_all(f"{kind}, {damage}: {answers}", sum(counts.values()) - len(wrong), wrong)
 
-
-def main():
-    with tempfile.TemporaryDirectory() as folder:
-        file = Path(sys.argv[1]).resolve() if len(sys.argv) > 1 else Path(folder, "libima_verify.so")
+    def library(self):
+        """The library that is asked, which is made if the script has no argument."""
+        folder = self.folder()
         if len(sys.argv) == 1:
             subprocess.run([ROOT / "dist/library", folder], check=True)
-        passed, failed = compare(file)
-    print(f"{passed} passed, {failed} failed")
-    return 1 if failed or not passed else 0
+        return harness.argument(folder / "libima_verify.so")
 
 
 if __name__ == "__main__":
-    sys.exit(main())
+    sys.exit(harness.main())

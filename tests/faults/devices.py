@@ -3,30 +3,32 @@
 
 tests/faults/devices.py [PROGRAM]: by default the program that was built in this tree.
 
-Of the cases a command of each kind (those of `tests/faults/sweep.py`) runs again and again, with tests/faults/devices.c before the C library. Where a
-read gives one byte at most and a write takes one, its answer and the checkpoint that it saves are to be the same. Then each opening of a
-file fails in turn, and each read, the one at the end of a file too: the answer is to be `failed: read` with the name of that file, which
-`--json` has as JSON, and status 3; before it stand the lines of entries that `show --json` wrote while it read, if any. A command that is
-refused without that may be refused as it is then. Where a checkpoint is saved, its file is to be synced before it is renamed. The opening,
-each write, the syncing and the renaming of that file fail in turn: the answer is to be `failed: write` with its name, and what had that
-name stays as it was. And each write fails in turn, or takes no byte: what was written is to be a front of the output, with nothing after
-it, and the status 3. A command without such a call is told. The last line, 'N passed, M failed', counts commands."""
+A command of each kind (those of `tests/faults/sweep.py`) runs again and again, with tests/faults/devices.c before the C library:
+
+- Each read gives one byte at most, and each write takes one. The answer, and the checkpoint that is saved, must be the same.
+- Each opening of a file fails in turn, and each read, even the one at the end of a file. The answer must be `failed: read` with the name of
+  that file, which `--json` has as JSON, and status 3. Lines of entries that `show --json` wrote while it read may come before it. A command
+  that is refused in any case may be refused as it is then.
+- Where a checkpoint is saved, its file must be synced before it is renamed. The opening, each write, the syncing and the renaming of that
+  file fail in turn. The answer must be `failed: write` with its name, and what has that name must stay as it was.
+- Each write fails in turn, or takes no byte. What was written must be a prefix of the output, with nothing after it, and the status 3.
+
+For each command the script prints how many calls failed. It counts commands."""
 
 import errno
 import json
-import os
 import subprocess
 import sys
 import tempfile
-from concurrent.futures import ThreadPoolExecutor
 from dataclasses import dataclass
 from pathlib import Path
 
 HERE = Path(__file__).resolve().parent
 sys.path[:0] = [str(HERE.parent), str(HERE.parent / "cases"), str(HERE)]
 
+import harness  # noqa: E402
 from answers import answer_of, saved_by  # noqa: E402
-from sweep import command_runs  # noqa: E402
+from sweep import check_runs, command_runs  # noqa: E402
 
 MOST_CALLS = 10_000
 FAILED = 3
@@ -54,11 +56,11 @@ class Devices:
             answer = answer_of(self.run.program, self.run.command, self.run.folder, output, settings)
             return (answer.status, output.read_bytes(), answer.errors), met.read_bytes() if met.exists() else None
 
-    def faults(self):
-        """What is wrong with the command's answers; and how many calls failed."""
+    def tried(self):
+        """How many calls failed, and the first thing that is wrong with the command's answers, or None."""
         wanted, unsynced = self.answer({})
         if unsynced is not None:
-            return [f"{unsynced!r} is renamed before it is synced"], 0
+            return 0, f"{unsynced!r} is renamed before it is synced"
         saved = saved_by(self.run.command, self.run.folder)
         short, _ = self.answer({"MOST_BYTES": "1"})
         beside = self.run.folder / f"{self.run.command.saved}.0.new"
@@ -80,7 +82,7 @@ class Devices:
                         faults.append(f"{kind} {number} of {name!r} fails with error {error}, and {self.run.command.saved} is another")
                     if beside.exists():
                         faults.append(f"{kind} {number} of {name!r} fails with error {error}, and leaves {beside.name}")
-        return faults, count
+        return count, faults[0] if faults else None
 
 
 def is_told(found, wanted, name, command):
@@ -111,22 +113,16 @@ def is_cut(found, wanted, _name, _command):
     return status == FAILED and errors == b"" and text != wanted[1] and wanted[1].startswith(text)
 
 
-def main():
-    root = HERE.parents[1]
-    program = Path(sys.argv[1] if len(sys.argv) > 1 else root / "crates/ima_agent_program/out/ima_agent_program").resolve()
-    with tempfile.TemporaryDirectory() as name, ThreadPoolExecutor(os.cpu_count()) as pool:
-        folder = Path(name)
+class FailingDevices(harness.TestCase):
+    def test_commands(self):
+        folder = self.folder()
         library = folder / "devices.so"
         subprocess.run(["cc", "-O2", "-shared", "-fPIC", "-o", library, HERE / "devices.c", "-ldl"], check=True)
-        runs, wrong = command_runs(program, folder)
-        failed, total = len(wrong), 0
-        for run, (faults, count) in zip(runs, pool.map(lambda run: Devices(library, run).faults(), runs)):
-            total += count
-            failed += bool(faults)
-            print(f"{count:6} failed, {faults[0] if faults else 'ok'}: {run.title()}", flush=True)
-        print(*wrong, f"{total} calls failed", f"{len(runs) + len(wrong) - failed} passed, {failed} failed", sep="\n")
-    return 1 if failed or not runs else 0
+        runs, wrong = command_runs(harness.argument(), folder)
+        for fault in wrong:
+            self.check("the cases", fault, None)
+        check_runs(self, runs, lambda run: Devices(library, run).tried(), "calls failed")
 
 
 if __name__ == "__main__":
-    sys.exit(main())
+    sys.exit(harness.main())

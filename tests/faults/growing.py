@@ -3,13 +3,13 @@
 
 tests/faults/growing.py [PROGRAM]: by default the program that was built in this tree.
 
-A list is cut at each entry, and a small one, of all kinds of entries, at each byte. Of the first part the checkpoint is saved with the registers
-that it leaves, or is the reference's where it does not match; it is gone on from with the rest, and that must be the verdict of the whole list.
-So it must be in three parts, with one entry forged, and where the first part ends within an entry, so that the front before it is saved. Fronts
-that registers confirm are looked for in lists with an entry forged before or after their end. A checkpoint with the lowest bit of one byte
-turned, and a front of one, must be refused; the former also goes with a last line that is right again. So must checkpoints that no list leaves.
-Each answer is compared with the reference's, and so is each file that is saved.
-How many trials had which answer is told of each kind. The last line is 'N passed, M failed', of trials."""
+A list is cut at each entry, and a small one, of all kinds of entries, at each byte. The checkpoint of the first part is saved with the
+registers that it leaves, or is the reference's where it does not match. The rest continues from it, and the verdict must be that of the whole
+list. So it must be in three parts, with an entry whose digest does not match, and where the first part ends within an entry, so that the
+prefix before it is saved. Prefixes that registers confirm are looked for in lists with such an entry before or after their end. A checkpoint
+with the lowest bit of one byte turned, and a prefix of one, must be refused. The former is also tried with a last line that is right again. A
+checkpoint that no list leaves must be refused, too. Each answer is compared with the reference's, and so is each file that is saved. For each
+kind of trial the script prints how many had which answer. It counts trials."""
 
 import os
 import random
@@ -20,26 +20,16 @@ from collections import Counter
 from concurrent.futures import ProcessPoolExecutor
 from pathlib import Path
 
-ROOT = Path(__file__).resolve().parents[2]
-sys.path.insert(0, str(ROOT / "tests"))
+sys.path.insert(0, str(Path(__file__).resolve().parents[1]))
+import harness  # noqa: E402
 import reference  # noqa: E402
+from harness import ROOT  # noqa: E402
 from reference.checkpoint import before_a_list  # noqa: E402
 from reference.fields import with_length  # noqa: E402
 from reference.log import Event, Log, read_log  # noqa: E402
-from reference.measurement_list import (  # noqa: E402
-    BOOT_AGGREGATE,
-    IMA,
-    IMA_NG,
-    IMA_SIG,
-    VIOLATION,
-    Entry,
-    entry_of,
-    list_spelling,
-    read_list,
-)
+from reference.measurement_list import BOOT_AGGREGATE, IMA, IMA_NG, IMA_SIG, VIOLATION, Entry, entry_of, list_spelling, read_list  # noqa: E402
 from reference.registers import SHA1, SHA256, Registers, register_line  # noqa: E402
 
-PROGRAM = ROOT / "crates/ima_agent_program/out/ima_agent_program"
 SECONDS = 60
 CHUNKS = 8
 ODD_BYTES = 41
@@ -322,25 +312,22 @@ def outcomes(program, chunk):
     return counts, wrong
 
 
-def main():
-    program = Path(sys.argv[1] if len(sys.argv) > 1 else PROGRAM).resolve()
-    passed = failed = 0
-    with ProcessPoolExecutor(os.cpu_count()) as pool:
-        runs = [
-            (kind, [pool.submit(outcomes, program, chunk) for chunk in (group[start::CHUNKS] for start in range(CHUNKS)) if chunk])
-            for kind, group in trials()
-        ]
-        for kind, chunks in runs:
-            counts, wrong = Counter(), []
-            for run in chunks:
-                counts.update(run.result()[0])
-                wrong += run.result()[1]
-            print(f"{kind}:", ", ".join(f"{answer} {times}" for answer, times in sorted(counts.items())))
-            print(*wrong[:3], sep="\n", end="\n" if wrong else "", flush=True)
-            passed, failed = passed + sum(counts.values()), failed + len(wrong)
-    print(f"{passed} passed, {failed} failed")
-    return 1 if failed or not passed else 0
+class Growing(harness.TestCase):
+    def test_trials(self):
+        program = harness.argument()
+        with ProcessPoolExecutor(os.cpu_count()) as pool:
+            runs = [
+                (kind, [pool.submit(outcomes, program, chunk) for chunk in (group[start::CHUNKS] for start in range(CHUNKS)) if chunk])
+                for kind, group in trials()
+            ]
+            for kind, chunks in runs:
+                counts, wrong = Counter(), []
+                for run in chunks:
+                    counts.update(run.result()[0])
+                    wrong += run.result()[1]
+                answers = ", ".join(f"{answer} {times}" for answer, times in sorted(counts.items()))
+                self.check_all(f"{kind}: {answers}", sum(counts.values()), wrong)
 
 
 if __name__ == "__main__":
-    sys.exit(main())
+    sys.exit(harness.main())

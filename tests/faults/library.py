@@ -4,24 +4,24 @@
 tests/faults/library.py [PROGRAM ARCHIVE]: the program and the static library that the toolchain made; without them, those of this tree,
 which `dist/library` builds first if they are not there or are older than a source.
 
-The answers that are wanted, and the checkpoints, are those of the program to the same files. Each function is called with each input, and with buffers
-that have room to spare, just enough, and too little. In the Nth turn the Nth allocation is refused (tests/faults/library.c, which gives
-the library its memory), until a turn ends with none refused. A call must have the answer, or say that memory ran out; write
-nothing but its text, and nothing to a checkpoint's buffer if memory ran out; give back, once, all memory that it took; and have the answer when it is made again. A function that takes
-no memory at all fails, and so does one that takes it elsewhere, a crash, and a run of more than a minute.
+The answers that are wanted, and the checkpoints, are those of the program to the same files. Each function is called with each input, and
+with buffers that have room to spare, just enough, and too little. In the Nth turn the Nth allocation is refused (tests/faults/library.c, which
+gives the library its memory), until a turn ends with none refused. A call must have the answer, or say that memory ran out. It must write
+nothing but its text, and nothing to a checkpoint's buffer if memory ran out. It must give back, once, all memory that it took, and have the
+answer when it is made again. A function that takes no memory at all fails, and so does one that takes it elsewhere, a crash, and a run of more
+than a minute. Needs cc and nm."""
 
-Needs cc and nm. The last line is 'N passed, M failed'."""
-
-import os
 import subprocess
 import sys
-import tempfile
-from concurrent.futures import ThreadPoolExecutor
 from dataclasses import dataclass
 from itertools import product
 from pathlib import Path
 
-ROOT = Path(__file__).resolve().parents[2]
+sys.path.insert(0, str(Path(__file__).resolve().parents[1]))
+import harness  # noqa: E402
+from harness import PROGRAM, ROOT  # noqa: E402
+from sweep import check_runs  # noqa: E402
+
 SECONDS = 60
 MEMORY = b"failed: memory\n"
 JSON_MEMORY = b'{"fault":{"kind":"memory","message":"failed: memory"}}\n'
@@ -222,7 +222,7 @@ def runs_of(case, program, file):
     following = file.with_suffix(".next")
     answer = subprocess.run([program, *case.words(following)], capture_output=True, timeout=SECONDS)
     if answer.returncode not in (0, 1, 2):
-        sys.exit(f"{program} {case.function} of {case.title}: status {answer.returncode}, {answer.stderr[-500:]!r}")
+        raise RuntimeError(f"{program} {case.function} of {case.title}: status {answer.returncode}, {answer.stderr[-500:]!r}")
     file.write_bytes(answer.stdout)
     size = len(answer.stdout)
     following.touch()
@@ -250,7 +250,7 @@ def swept(run, caller):
 def built_files(folder):
     """The program and the static library of this tree, after `dist/library` has built what is not up to date."""
     subprocess.run([ROOT / "dist/library", folder / "made"], check=True)
-    return [ROOT / "crates/ima_agent_program/out/ima_agent_program", ROOT / "crates/ima_verify_c/out/libima_verify_c.a"]
+    return [PROGRAM, ROOT / "crates/ima_verify_c/out/libima_verify_c.a"]
 
 
 def caller_of(archive, folder):
@@ -271,26 +271,18 @@ def memory_fault(archive):
     return None if REPLACED <= names else f"it does not call {', '.join(sorted(REPLACED - names))}"
 
 
-def main():
-    if len(sys.argv) not in (1, 3):
-        sys.exit("usage: tests/faults/library.py [PROGRAM ARCHIVE]")
-    with tempfile.TemporaryDirectory() as name, ThreadPoolExecutor(os.cpu_count()) as pool:
-        folder = Path(name)
+class Library(harness.TestCase):
+    def test_allocations(self):
+        folder = self.folder()
         program, archive = (Path(name).resolve() for name in sys.argv[1:] or built_files(folder))
-        caller = caller_of(archive, folder)
-        fault = memory_fault(archive)
-        print(f"{fault or 'ok'}: where the library takes its memory", flush=True)
-        runs = []
+        caller, runs = caller_of(archive, folder), []
+        self.check("where the library takes its memory", memory_fault(archive), None)
         for number, case in enumerate(cases(made_files(folder, program))):
             runs += runs_of(case, program, folder / f"answer-{number}")
-        total, failed = 0, int(fault is not None)
-        for run, (refusals, fault) in zip(runs, pool.map(lambda run: swept(run, caller), runs)):
-            total += refusals
-            failed += fault is not None
-            print(f"{refusals:6} refused, {fault or 'ok'}: {run.title()}", flush=True)
-        print(f"{total} allocations were refused\n{len(runs) + 1 - failed} passed, {failed} failed")
-    return 1 if failed else 0
+        check_runs(self, runs, lambda run: swept(run, caller), "allocations refused")
 
 
 if __name__ == "__main__":
-    sys.exit(main())
+    if len(sys.argv) not in (1, 3):
+        sys.exit("usage: tests/faults/library.py [PROGRAM ARCHIVE]")
+    sys.exit(harness.main())

@@ -4,11 +4,11 @@
 tests/faults/sweep.py [ROOT]: the tree with the test binaries and the program that `rt ci` made; by default the one that this file is in.
 
 Each test whose name contains `each_allocation_refused`, and a command of each kind that the cases have, runs again and again. In the
-Nth run its Nth allocation is refused (tests/faults/refuse.c), until a run ends with none refused. A test must pass each time; a command must
-answer as its case wants, or with `failed: memory`, which `--json` has as JSON, and status 3 (`show` and `events` with `--json` after lines that are due). A test or command without a refused
-allocation fails, and so does a run that crashes or takes longer than a minute. Allocations of a test's binary that runs no test do not
-count: as many as that makes, a test makes before it begins. (What a test allocates to prepare its call does count: nothing outside
-tells where that begins.)
+Nth run its Nth allocation is refused (tests/faults/refuse.c), until a run ends with none refused. A test must pass each time. A command must
+answer as its case wants, or with `failed: memory`, which `--json` has as JSON, and status 3. `show` and `events` with `--json` may print lines
+that are due before that. A test or command without a refused allocation fails, and so does a run that crashes or takes longer than a minute.
+Allocations of a test's binary that runs no test do not count: a test makes as many before it begins. What a test allocates to prepare its
+call does count, since nothing outside shows where that begins.
 
 Each crate of crates.txt that has such tests in its sources must have its binary, which must list just these. The help of the program and
 of each command must be among the commands, with a file of its case that it has to be, and so must each command with `--json`.
@@ -17,9 +17,9 @@ Commands are of one kind if they have the same word, options and status, as many
 they are refused, and both or neither ask for help or the version, name a sample, or have a text with more names. Of each kind the first
 runs, in the order of the cases, that names no file of the system, in a case whose files have at most 64 KiB.
 
-Before that, the program measures 50 files of 40 MiB within 64 MiB of address space, and shows a list of 64 MiB as JSON, with a peak of
-memory at most 8 MiB above that of an empty one; and it replays a log of 64 MiB, of events of 16 bytes, and shows its events, with a peak
-at most as much above the log's size. The last line, 'N passed, M failed', counts all."""
+Before that, the program measures 50 files of 40 MiB within 64 MiB of address space. It shows a list of 64 MiB as JSON, with a peak of memory
+at most 8 MiB above that of an empty list. It replays a log of 64 MiB, of events of 16 bytes, and shows its events, with a peak at most as
+much above the log's size."""
 
 import json
 import os
@@ -36,6 +36,7 @@ HERE = Path(__file__).resolve().parent
 sys.path[:0] = [str(HERE.parent), str(HERE.parent / "cases")]
 
 import form  # noqa: E402
+import harness  # noqa: E402
 import reference  # noqa: E402
 from answers import answer_of, fault_of  # noqa: E402
 from reference.command_line import COMMANDS, HelpAsked, asks_for_help, asks_for_version, read_arguments  # noqa: E402
@@ -237,29 +238,14 @@ def sweep(run, library, folder):
     return refusals, None if refusals > 0 else "no allocation was refused"
 
 
-def large_files_fault(root, program, folder):
-    """What is wrong with a measurement of large files in less memory than two of them take, or None."""
-    log = root / "samples/real-boot/firmware.log"
-    names = [f"large-{number:02}" for number in range(LARGE_FILES)]
-    with open(folder / names[0], "wb") as file:
-        file.truncate(LARGE_FILE_BYTES)
-    for name in names[1:]:
-        os.link(folder / names[0], folder / name)
-    digest = SHA256.hash(bytes(LARGE_FILE_BYTES))
-    aggregate = read_log(log.read_bytes()).registers().boot_aggregate(SHA256)
-    files = [(BOOT_AGGREGATE, aggregate), *((name.encode(), digest) for name in names)]
-    wanted = list_text(entry_of(IMA_NG, SHA256, digest, name) for name, digest in files)
-    try:
-        ended = subprocess.run(
-            [program, "measure", "--workers", "2", log, *names],
-            cwd=folder, stdin=subprocess.DEVNULL, capture_output=True, timeout=LARGE_SECONDS,
-            preexec_fn=lambda: resource.setrlimit(resource.RLIMIT_AS, (ADDRESS_SPACE, ADDRESS_SPACE)),
-        )
-    except subprocess.TimeoutExpired:
-        return f"more than {LARGE_SECONDS} seconds"
-    if ended.returncode == 0 and sorted(ended.stdout.splitlines()) == sorted(wanted.splitlines()):
-        return None
-    return f"status {ended.returncode}, {(ended.stdout + ended.stderr)[-500:]!r}"
+def check_runs(test, runs, tried, counted):
+    """Checks runs side by side. Of each, which has a title, `tried` says how many calls were counted, and what is wrong, or None."""
+    total = 0
+    with ThreadPoolExecutor(os.cpu_count()) as pool:
+        for run, (count, fault) in zip(runs, pool.map(tried, runs)):
+            total += count
+            test.check(f"{run.title()}: {count} {counted}", fault, None)
+    print(f"{total} {counted}", flush=True)
 
 
 def peak_of(words, folder, output):
@@ -271,85 +257,82 @@ def peak_of(words, folder, output):
     return status, kibibytes * 1024
 
 
-def large_list_fault(program, folder):
-    """What is wrong with a list of 64 MiB as JSON, in little more memory than an empty one takes, or None."""
-    entry = entry_of(IMA_NG, SHA256, SHA256.hash(b""), b"/usr/bin/program")
-    count = LARGE_LIST_BYTES // len(entry.spelling())
-    (folder / "empty-list").write_bytes(b"")
-    (folder / "large-list").write_bytes(entry.spelling() * count)
-    wanted = json.dumps({**entry.as_json(0), "entry": "N"}, separators=(",", ":")).replace('"N"', "%d").encode() + b"\n"
-    output = folder / "large-list.json"
-    try:
+class Sweep(harness.TestCase):
+    def setUp(self):
+        self.root, self.room = harness.argument(harness.ROOT), self.folder()
+        self.program = self.root / harness.PROGRAM.relative_to(harness.ROOT)
+
+    def test_large_files(self):
+        """50 files of 40 MiB measured within 64 MiB of address space"""
+        log = self.root / "samples/real-boot/firmware.log"
+        names = [f"large-{number:02}" for number in range(LARGE_FILES)]
+        with open(self.room / names[0], "wb") as file:
+            file.truncate(LARGE_FILE_BYTES)
+        for name in names[1:]:
+            os.link(self.room / names[0], self.room / name)
+        digest = SHA256.hash(bytes(LARGE_FILE_BYTES))
+        aggregate = read_log(log.read_bytes()).registers().boot_aggregate(SHA256)
+        files = [(BOOT_AGGREGATE, aggregate), *((name.encode(), digest) for name in names)]
+        wanted = list_text(entry_of(IMA_NG, SHA256, digest, name) for name, digest in files)
+        ended = subprocess.run(
+            [self.program, "measure", "--workers", "2", log, *names],
+            cwd=self.room, stdin=subprocess.DEVNULL, capture_output=True, timeout=LARGE_SECONDS,
+            preexec_fn=lambda: resource.setrlimit(resource.RLIMIT_AS, (ADDRESS_SPACE, ADDRESS_SPACE)),
+        )
+        if ended.returncode != 0 or sorted(ended.stdout.splitlines()) != sorted(wanted.splitlines()):
+            self.fail(f"status {ended.returncode}, {(ended.stdout + ended.stderr)[-500:]!r}")
+
+    def test_large_list(self):
+        """a list of 64 MiB as JSON within 8 MiB more than an empty one"""
+        entry = entry_of(IMA_NG, SHA256, SHA256.hash(b""), b"/usr/bin/program")
+        count = LARGE_LIST_BYTES // len(entry.spelling())
+        (self.room / "empty-list").write_bytes(b"")
+        (self.room / "large-list").write_bytes(entry.spelling() * count)
+        wanted = json.dumps({**entry.as_json(0), "entry": "N"}, separators=(",", ":")).replace('"N"', "%d").encode() + b"\n"
+        output = self.room / "large-list.json"
         (empty_status, least), (status, peak) = (
-            peak_of([program, "show", "--json", name], folder, output) for name in ("empty-list", "large-list"))
-    except (subprocess.TimeoutExpired, ValueError) as fault:
-        return repr(fault)
-    with open(output, "rb") as lines:
-        wrong = next((number for number, line in enumerate(lines) if line != wanted % number), None)
-        size = lines.tell()
-    output.unlink()
-    if (empty_status, status) != (0, 0):
-        return f"status {empty_status} of an empty list, and {status}"
-    if wrong is not None or size != sum(len(wanted % number) for number in range(count)):
-        return f"{size} bytes, and a wrong line: {wrong}"
-    return None if peak <= least + MOST_ABOVE_EMPTY else f"{(peak - least) / MEBIBYTE:.1f} MiB more than an empty list"
+            peak_of([self.program, "show", "--json", name], self.room, output) for name in ("empty-list", "large-list"))
+        with open(output, "rb") as lines:
+            wrong = next((number for number, line in enumerate(lines) if line != wanted % number), None)
+            size = lines.tell()
+        self.assertEqual((empty_status, status), (0, 0))
+        self.assertIsNone(wrong, "a wrong line")
+        self.assertEqual(size, sum(len(wanted % number) for number in range(count)))
+        self.assertLessEqual(peak, least + MOST_ABOVE_EMPTY)
 
+    def test_large_log(self):
+        """a log of 64 MiB of small events within its size and 8 MiB"""
+        small = Event(0, EV_NO_ACTION, {}, b"")
+        header, event = Log({SHA256.identifier: SHA256.size}, []).spelling(), small.spelling()
+        count = (LARGE_LOG_BYTES - len(header)) // len(event)
+        (self.room / "empty-list").write_bytes(b"")
+        (self.room / "empty-log").write_bytes(header)
+        (self.room / "large-log").write_bytes(header + event * count)
+        (self.room / "expected").write_text(f"sha256 0 {bytes(SHA256.size).hex()}\n")
+        output = self.room / "large-log.text"
+        line = small.line("%d", False).encode()
+        lines = b"".join(line % number for number in range(1, count + 1))
+        for words, more in ((["registers", "LOG"], b""), (["events", "LOG"], lines), (["verify", "LOG", "empty-list", "expected"], b""),
+                            (["locate", "LOG", "empty-list", "expected"], b""), (["measure", "LOG", "empty-list"], b"")):
+            empty, large = ([name if word == "LOG" else word for word in words] for name in ("empty-log", "large-log"))
+            wanted_status, wanted = reference.answer(empty, self.room, b"")
+            _, least = peak_of([self.program, *empty], self.room, output)
+            status, peak = peak_of([self.program, *large], self.room, output)
+            text = output.read_bytes()
+            if (status, text) != (wanted_status, wanted.replace(b"events 0 ", b"events %d " % count) + more):
+                self.fail(f"{words[0]}: status {status}, {text[:200]!r}")
+            self.assertLessEqual(peak, least + len(header) + len(event) * count + MOST_ABOVE_EMPTY, words[0])
 
-def large_log_fault(program, folder):
-    """What is wrong with the answers to a log of 64 MiB of events of 16 bytes, or with the memory that they take, or None."""
-    small = Event(0, EV_NO_ACTION, {}, b"")
-    header, event = Log({SHA256.identifier: SHA256.size}, []).spelling(), small.spelling()
-    count = (LARGE_LOG_BYTES - len(header)) // len(event)
-    (folder / "empty-log").write_bytes(header)
-    (folder / "large-log").write_bytes(header + event * count)
-    (folder / "expected").write_text(f"sha256 0 {bytes(SHA256.size).hex()}\n")
-    output = folder / "large-log.text"
-    line = small.line("%d", False).encode()
-    lines = b"".join(line % number for number in range(1, count + 1))
-    for words, more in ((["registers", "LOG"], b""), (["events", "LOG"], lines), (["verify", "LOG", "empty-list", "expected"], b""),
-                        (["locate", "LOG", "empty-list", "expected"], b""), (["measure", "LOG", "empty-list"], b"")):
-        empty, large = ([name if word == "LOG" else word for word in words] for name in ("empty-log", "large-log"))
-        wanted_status, wanted = reference.answer(empty, folder, b"")
-        try:
-            _, least = peak_of([program, *empty], folder, output)
-            status, peak = peak_of([program, *large], folder, output)
-        except (subprocess.TimeoutExpired, ValueError) as fault:
-            return f"{words[0]}: {fault!r}"
-        text = output.read_bytes()
-        if (status, text) != (wanted_status, wanted.replace(b"events 0 ", b"events %d " % count) + more):
-            return f"{words[0]}: status {status}, {text[:200]!r}"
-        if peak > least + len(header) + len(event) * count + MOST_ABOVE_EMPTY:
-            return f"{words[0]}: {(peak - least) / MEBIBYTE:.1f} MiB more than without events"
-    return None
-
-
-def main():
-    root = Path(sys.argv[1] if len(sys.argv) > 1 else HERE.parents[1]).resolve()
-    program = root / "crates/ima_agent_program/out/ima_agent_program"
-    with tempfile.TemporaryDirectory() as name, ThreadPoolExecutor(os.cpu_count()) as pool:
-        folder = Path(name)
-        large_fault = large_files_fault(root, program, folder)
-        print(f"{large_fault or 'ok'}: {LARGE_FILES} files of 40 MiB measured within 64 MiB of address space", flush=True)
-        list_fault = large_list_fault(program, folder)
-        print(f"{list_fault or 'ok'}: a list of 64 MiB as JSON within 8 MiB more than an empty one", flush=True)
-        log_fault = large_log_fault(program, folder)
-        print(f"{log_fault or 'ok'}: a log of 64 MiB of small events within its size and 8 MiB", flush=True)
-        library = folder / "refuse.so"
+    def test_allocations(self):
+        library = self.room / "refuse.so"
         subprocess.run(["cc", "-O2", "-shared", "-fPIC", "-o", library, HERE / "refuse.c", "-ldl"], check=True)
-        (tests, faults), (commands, wrong_cases) = test_runs(root, library, folder), command_runs(program, folder)
+        (tests, faults), (commands, wrong_cases) = test_runs(self.root, library, self.room), command_runs(self.program, self.room)
         faults += wrong_cases + help_faults(commands)
         faults += [f"no {what} is made to have an allocation refused" for what, runs in (("test", tests), ("case", commands)) if not runs]
-        large = [large_fault, list_fault, log_fault]
-        failed = len(faults) + sum(fault is not None for fault in large)
-        total, passed = 0, large.count(None)
-        for run, (refusals, fault) in zip([*tests, *commands], pool.map(lambda run: sweep(run, library, folder), [*tests, *commands])):
-            total += refusals
-            failed += fault is not None
-            passed += fault is None
-            print(f"{refusals:6} refused, {fault or 'ok'}: {run.title()}", flush=True)
-        print(*faults, f"{total} allocations were refused", f"{passed} passed, {failed} failed", sep="\n")
-    return 1 if failed else 0
+        for fault in faults:
+            self.check("the tests and cases", fault, None)
+        check_runs(self, [*tests, *commands], lambda run: sweep(run, library, self.room), "allocations refused")
 
 
 if __name__ == "__main__":
-    sys.exit(main())
+    sys.exit(harness.main())

@@ -2,20 +2,19 @@
 """Requires that the pages quote proved callers, and the tables of faults in the program's help, to the letter, that their links lead to
 what is there, and that the picture is what its script makes.
 
-tests/pages/quotes.py [ROOT]: the tree whose README.md and docs/*.md are read, or else the one that this file is in.
+tests/pages/quotes.py [ROOT]: the tree whose README.md and docs/*.md are read, by default the one that this file is in.
 
-Each block that begins with ```rust must stand, as whole lines that follow one another, in one file of crates/uses/src: as they are in
-that file, or as they are in it with contracts, doc comments or both left out. A contract is what stands between the signature of a
-function and the line `{` of its body; where it is left out, the `{` ends the signature's last line. A doc comment is a line that begins
-with `///`. At least one block must be there.
+Each block that begins with ```rust must be in one file of crates/uses/src, as whole lines in a row: as they are in that file, or with
+contracts, doc comments or both left out. A contract is what is between the signature of a function and the line `{` of its body. Where it
+is left out, the `{` ends the signature's last line. A doc comment is a line that begins with `///`. There must be at least one block.
 
-Each block that begins with ```text faults must be one of the tables of crates/command_line/src/fault_tables.rt, and each of these must
-be quoted once.
+Each block that begins with ```text faults must be one of the tables of crates/command_line/src/fault_tables.rt. Each of these must be
+quoted once.
 
-Each link to a file of the tree must lead to one, and if it names a heading of a page, to that; so must those of the README of tests/cases/ and
-of each folder of bindings/. docs/trust.svg must be what tools/picture.py prints.
+Each link to a file of the tree must lead to one, and if it names a heading of a page, to that. The links of the README of tests/cases/ and
+of each folder of bindings/ are checked too. docs/trust.svg must be what tools/picture.py prints.
 
-For a block that is not found, the lines are printed in which it differs from what is nearest to it. The last line is 'N passed, M failed'."""
+For a block that is not found, the script prints the lines in which it differs from what is nearest to it."""
 
 import difflib
 import re
@@ -23,6 +22,9 @@ import subprocess
 import sys
 from collections import Counter
 from pathlib import Path
+
+sys.path.insert(0, str(Path(__file__).resolve().parents[1]))
+import harness  # noqa: E402
 
 BLOCK = re.compile(r"^```rust\n(.*?)^```$", re.MULTILINE | re.DOTALL)
 FAULTS = re.compile(r"^```text faults\n(.*?)^```$", re.MULTILINE | re.DOTALL)
@@ -59,46 +61,9 @@ def nearest(block, sources):
     return max(windows, key=lambda lines: difflib.SequenceMatcher(None, block, lines).ratio())
 
 
-def check_callers(root, pages):
-    """How many blocks of callers stand in the sources, and how many do not."""
-    files = sorted((root / "crates/uses/src").glob("**/*.rt"))
-    sources = [lines for file in files for lines in readings(file.read_text())]
-    passed = failed = 0
-    for page, line, text in blocks(root, pages, BLOCK):
-        block = text.splitlines()
-        if block and any(stands_in(block, lines) for lines in sources):
-            passed += 1
-            continue
-        failed += 1
-        print(f"{page}:{line}: the block does not stand in crates/uses/src")
-        print_differences(block, nearest(block, sources))
-    if passed + failed == 0:
-        print("no block to look for in README.md and docs/*.md")
-        failed = 1
-    return passed, failed
-
-
-def check_tables(root, pages):
-    """How many tables of faults are quoted once and to the letter, and how many are not."""
-    tables = TABLE.findall((root / "crates/command_line/src/fault_tables.rt").read_text())
-    quoted = list(blocks(root, pages, FAULTS))
-    passed = failed = 0
-    for table in tables:
-        count = sum(text == table for _, _, text in quoted)
-        if count == 1:
-            passed += 1
-            continue
-        failed += 1
-        print(f"quoted {count} times, and not once: {table.splitlines()[0]}")
-    for page, line, text in quoted:
-        if text not in tables:
-            failed += 1
-            print(f"{page}:{line}: the block is no table of the help")
-            print_differences(text.splitlines(), nearest(text.splitlines(), [table.splitlines() for table in tables]))
-    if not tables:
-        print("no table of faults in crates/command_line/src/fault_tables.rt")
-        failed += 1
-    return passed, failed
+def difference(block, sources):
+    """The lines in which a block differs from the nearest lines of these sources."""
+    return "\n    ".join(difflib.unified_diff(block, nearest(block, sources), "page", "source", lineterm="", n=1))
 
 
 def headings(page):
@@ -110,51 +75,55 @@ def headings(page):
         seen[name] += 1
 
 
-def check_links(root, pages):
-    """How many links lead to a file and a heading that are there, and how many do not."""
-    passed = failed = 0
-    for page in pages:
-        for name, heading in LINK.findall(FENCED.sub("", page.read_text())):
-            target = page.parent / name if name else page
-            if target.exists() and (not heading or heading in headings(target)):
-                passed += 1
-                continue
-            failed += 1
-            print(f"{page.relative_to(root)}: no {name}{heading and '#' + heading}")
-    return passed, failed
+class Quotes(harness.TestCase):
+    def setUp(self):
+        self.root = harness.argument(harness.ROOT)
+        self.pages = [self.root / "README.md", *sorted((self.root / "docs").glob("*.md"))]
 
+    def blocks(self, pattern):
+        """The blocks of the pages that match: the place and the text of each."""
+        for page in self.pages:
+            text = page.read_text()
+            for found in pattern.finditer(text):
+                line = text.count("\n", 0, found.start()) + 1
+                yield f"{page.relative_to(self.root)}:{line}", found[1]
 
-def check_picture(root):
-    """Whether the picture is what its script makes."""
-    made = subprocess.run([sys.executable, root / "tools/picture.py"], stdout=subprocess.PIPE, check=True).stdout
-    if made == (root / "docs/trust.svg").read_bytes():
-        return 1, 0
-    print("docs/trust.svg is not what tools/picture.py makes")
-    return 0, 1
+    def test_callers(self):
+        files = sorted((self.root / "crates/uses/src").glob("**/*.rt"))
+        sources = [lines for file in files for lines in readings(file.read_text())]
+        blocks = list(self.blocks(BLOCK))
+        for place, text in blocks:
+            block = text.splitlines()
+            is_there = block and any(stands_in(block, lines) for lines in sources)
+            self.check(f"{place}: the block is in crates/uses/src", None if is_there else difference(block, sources), None)
+        self.assertTrue(blocks, "no block to look for in README.md and docs/*.md")
 
+    def test_tables(self):
+        tables = TABLE.findall((self.root / "crates/command_line/src/fault_tables.rt").read_text())
+        quoted = list(self.blocks(FAULTS))
+        for table in tables:
+            self.check(f"how often this is quoted: {table.splitlines()[0]}", sum(text == table for _, text in quoted), 1)
+        for place, text in quoted:
+            if text not in tables:
+                fault = difference(text.splitlines(), map(str.splitlines, tables))
+                self.check(f"{place}: the block is a table of the help", fault, None)
+        self.assertTrue(tables, "no table of faults in crates/command_line/src/fault_tables.rt")
 
-def blocks(root, pages, pattern):
-    """The blocks of the pages that match: the page, the line and the text of each."""
-    for page in pages:
-        text = page.read_text()
-        for found in pattern.finditer(text):
-            yield page.relative_to(root), text.count("\n", 0, found.start()) + 1, found[1]
+    def test_links(self):
+        passed, faults = 0, []
+        for page in [*self.pages, self.root / "tests/cases/README.md", *sorted((self.root / "bindings").glob("*/README.md"))]:
+            for name, heading in LINK.findall(FENCED.sub("", page.read_text())):
+                target = page.parent / name if name else page
+                if target.exists() and (not heading or heading in headings(target)):
+                    passed += 1
+                else:
+                    faults.append(f"{page.relative_to(self.root)}: no {name}{heading and '#' + heading}")
+        self.check_all("links", passed, faults)
 
-
-def print_differences(block, source):
-    for difference in difflib.unified_diff(block, source, "page", "source", lineterm="", n=1):
-        print(f"    {difference}")
-
-
-def main():
-    root = Path(sys.argv[1]) if len(sys.argv) > 1 else Path(__file__).resolve().parents[2]
-    pages = [root / "README.md", *sorted((root / "docs").glob("*.md"))]
-    linking = [*pages, root / "tests/cases/README.md", *sorted((root / "bindings").glob("*/README.md"))]
-    counts = [check_callers(root, pages), check_tables(root, pages), check_links(root, linking), check_picture(root)]
-    passed, failed = (sum(column) for column in zip(*counts))
-    print(f"{passed} passed, {failed} failed")
-    return failed != 0
+    def test_picture(self):
+        made = subprocess.run([sys.executable, self.root / "tools/picture.py"], stdout=subprocess.PIPE, check=True).stdout
+        self.check("docs/trust.svg is what tools/picture.py prints", made == (self.root / "docs/trust.svg").read_bytes())
 
 
 if __name__ == "__main__":
-    sys.exit(main())
+    sys.exit(harness.main())

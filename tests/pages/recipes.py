@@ -1,10 +1,10 @@
 #!/usr/bin/env python3
 """Runs the guide's recipes with jq, as they are on the page, on lists and logs that try to evade them; its check of a key from afar, on
-emulated TPMs; and the examples of README and guide, which have to print what is below them.
+emulated TPMs; and the examples of README and guide, which must print what is below them.
 
-tests/pages/recipes.py PROGRAM: the program that is installed as `ima-agent`. What a recipe shows is due as JSON, by `tests/reference/`, or it has to
-fail: with an empty, a cut and a missing input, and with a program that dies after its last line. Each runs in a folder in which a machine
-left an `ima-agent` and a `known.txt` of its own. What lacks a tool is not tried, which is said. The last line is 'N passed, M failed'."""
+tests/pages/recipes.py PROGRAM: the program that is installed as `ima-agent`. A recipe must show what is due as JSON, by `tests/reference/`. It
+must fail with an empty, a cut and a missing input, and with a program that dies after its last line. Each runs in a folder in which a machine
+left an `ima-agent` and a `known.txt` of its own."""
 
 import json
 import os
@@ -12,22 +12,22 @@ import re
 import shutil
 import subprocess
 import sys
-import tempfile
 from pathlib import Path
 
-ROOT = Path(__file__).resolve().parents[2]
-sys.path[:0] = [str(ROOT / "tests"), str(ROOT / "tests/attest")]
+TESTS = Path(__file__).resolve().parents[1]
+sys.path[:0] = [str(TESTS), str(TESTS / "attest")]
 
-from emulated import TOOLS as TPM_TOOLS
-from emulated import emulated
-from reference.fields import with_length
-from reference.log import EV_NO_ACTION, read_log
-from reference.measurement_list import IMA, IMA_NG, IMA_SIG, VIOLATION, Entry, entry_of, list_spelling
-from reference.registers import BY_NAME, SHA1
+import harness  # noqa: E402
+from emulated import TOOLS as TPM_TOOLS  # noqa: E402
+from emulated import emulated  # noqa: E402
+from harness import ROOT  # noqa: E402
+from reference.fields import with_length  # noqa: E402
+from reference.log import EV_NO_ACTION, read_log  # noqa: E402
+from reference.measurement_list import IMA, IMA_NG, IMA_SIG, VIOLATION, Entry, entry_of, list_spelling  # noqa: E402
+from reference.registers import BY_NAME, SHA1  # noqa: E402
 
-TOOLS = ("bash", "jq")
-QUOTE_TOOLS = (*TOOLS, "tpm2_checkquote")
-KEY_TOOLS = (*TOOLS, "swtpm", "openssl", "tpm2_print", "tpm2_makecredential", "tpm2_activatecredential", *TPM_TOOLS)
+[PROGRAM] = (Path(name).resolve() for name in sys.argv[1:])
+KEY_TOOLS = ("swtpm", "openssl", "tpm2_print", "tpm2_makecredential", "tpm2_activatecredential", *TPM_TOOLS)
 BLOCK = re.compile(r"^```sh\n(.*?)^```$", re.MULTILINE | re.DOTALL)
 EXAMPLES = re.compile(r"(?:^    \$ .*\n(?:^    .*\n)*)", re.MULTILINE)
 EXAMPLE = re.compile(r"^\$ ((?:.*\\\n)*.*)\n((?:(?!\$ ).*\n)*)", re.MULTILINE)
@@ -125,54 +125,6 @@ def shown(number, entry):
     return {name: told[name] for name in ("entry", "register", "violation")} if entry.is_violation else told
 
 
-class Recipes:
-    """The recipes, in a folder with what a machine sent; what the verifier keeps and what is installed are elsewhere."""
-
-    def __init__(self, program, top):
-        self.program, self.folder, self.kept, self.installed = program, top / "sent", top / "kept", top / "bin"
-        self.blocks = BLOCK.findall((ROOT / "docs/guide.md").read_text())
-        for made in (self.folder, self.kept, self.installed):
-            made.mkdir()
-
-    def block(self, mark):
-        [block] = [block for block in self.blocks if mark in block]
-        return block
-
-    def put(self, files):
-        """These files alone, those of `kept/` where the verifier keeps them, beside what a machine left to be taken for another's."""
-        for path in (*self.folder.iterdir(), *self.kept.iterdir()):
-            path.unlink()
-        left = {"ima-agent": b"#!/bin/sh\nexit 0\n", "known.txt": b"%s  /usr/bin/ls\n" % UNKNOWN.hex().encode()}
-        for name, data in (left | files).items():
-            path = self.kept / name[5:] if name.startswith("kept/") else self.folder / name
-            path.write_bytes(data)
-        self.folder.joinpath("ima-agent").chmod(0o755)
-
-    def run(self, mark, files, agent="", **settings):
-        """The status and the output of the recipe with this mark, of these files; `agent` is what the program's output passes through,
-        `settings` what the environment has beside the caller's."""
-        block = self.block(mark)
-        self.put(files)
-        script = self.installed / "ima-agent"
-        script.write_text(f'#!/bin/sh\n"{self.program}" "$@"{agent}\n')
-        script.chmod(0o755)
-        own = {"PATH": f"{self.installed}:{os.environ['PATH']}", "known": str(self.kept / "known.txt"), "before": str(self.kept)}
-        done = subprocess.run(["bash", "-c", block], cwd=self.folder, env={**os.environ, **own, **settings}, stdin=subprocess.DEVNULL,
-                              capture_output=True, timeout=60)
-        return done.returncode, done.stdout
-
-    def shown(self, mark, files):
-        """The values that the recipe shows, if each is a line of ASCII that no terminal obeys; or else its status and its output."""
-        status, output = self.run(mark, files)
-        if status or any(byte != 10 and not 32 <= byte < 127 for byte in output):
-            return status, output
-        return [json.loads(line) for line in output.splitlines()]
-
-    def fails(self, mark, files, agent="", **settings):
-        """Whether the recipe fails, and with another status than those of answers (4: no entry, of jq)."""
-        return self.run(mark, files, agent, **settings)[0] not in (0, 1, 4)
-
-
 def of_list(*entries):
     return {"ima.list": list_spelling(entries)}
 
@@ -185,180 +137,6 @@ def damaged_lists():
 
 DYING = "\nkill -9 $$"
 FOREIGN = " | sed 's/.*/{}/'"
-
-
-def judged(recipes):
-    """The recipe for known digests."""
-    sums = {"kept/known.txt": SUMS}
-    for what, entry in (PASSED_OVER | SHOWN).items():
-        rest = [shown(1, entry)] if what in SHOWN else []
-        yield what, recipes.shown(JUDGE, of_list(FIRST, entry) | sums) == [shown(0, FIRST), *rest, {"judged": 2}]
-    known = measured(KNOWN)
-    yield "a known digest as the first entry", recipes.shown(JUDGE, of_list(known, known) | sums) == [shown(0, known), {"judged": 2}]
-    for what, text, is_known in (
-        ("no sums", b"", False), ("sums of white space", b" \n\n  \n", False), ("a sum without a name", KNOWN.hex().encode(), True),
-        ("a part of a sum", SUMS[1:], False), ("a known digest as a name", b"0  %s\n" % KNOWN.hex().encode(), False),
-        ("sums that are not UTF-8", b"00  \xff\n" + SUMS, True),
-    ):
-        rest = [] if is_known else [shown(1, known)]
-        yield what, recipes.shown(JUDGE, of_list(FIRST, known) | {"kept/known.txt": text}) == [shown(0, FIRST), *rest, {"judged": 2}]
-    bare = of_template(b"x", b"")
-    yield "sums, and payloads without digests", recipes.shown(JUDGE, of_list(FIRST, bare) | {"kept/known.txt": b"\n null\nnull\n"}) == [
-        shown(0, FIRST), shown(1, bare), {"judged": 2}]
-    for what, files in (*damaged_lists(), ("an empty list", of_list())):
-        yield what, recipes.fails(JUDGE, files | sums)
-    yield "no sums", recipes.fails(JUDGE, of_list(known))
-    yield "no name of sums", recipes.fails(JUDGE, of_list(known) | sums, known="")
-    yield "a program that dies", recipes.fails(JUDGE, of_list(known) | sums, DYING)
-    yield "an entry that is left out", recipes.fails(JUDGE, of_list(FIRST, known) | sums, " | sed 1d")
-    yield "another program's JSON", recipes.fails(JUDGE, of_list(known) | sums, FOREIGN)
-    yield "another program's text", recipes.fails(JUDGE, of_list(known) | sums, " | sed 's/.*/refused/'")
-
-
-def taken(recipes):
-    """The digests of an earlier boot."""
-    entries = [FIRST, *PASSED_OVER.values(), *SHOWN.values()]
-    whole = {"confirmed": str(len(entries))}
-    known = [entry.as_json(0) for number, entry in enumerate(entries) if makes_known(number, entry)]
-    is_done = recipes.run(TAKE, {"kept/ima.list": list_spelling(entries)}, **whole) == (0, b"")
-    sums = (recipes.kept / "known.txt").read_bytes()
-    *lines, end = [line.split("  ", 1) for line in sums.decode().split("\n")]
-    found = [[digest, json.loads(f'"{path}"')] for digest, path in lines]
-    wanted = [[line["digest"], line.get("path", line.get("path_hex"))] for line in known]
-    yield "an earlier list", is_done and end == [""] and found == wanted
-    rest = [shown(number, entry) for number, entry in enumerate(entries) if not makes_known(number, entry)]
-    found = recipes.shown(JUDGE, {"ima.list": list_spelling(entries), "kept/known.txt": sums})
-    yield "what an earlier list makes known", found == [*rest, {"judged": len(entries)}]
-    for what, files in damaged_lists():
-        yield what, recipes.fails(TAKE, {"kept/ima.list": data for data in files.values()}, **whole)
-    for what, agent in (("that dies", DYING), ("with other JSON", FOREIGN)):
-        yield f"a program {what}", recipes.fails(TAKE, {"kept/ima.list": list_spelling(entries)}, agent, **whole)
-    grown = {"kept/ima.list": list_spelling([FIRST, measured(KNOWN), measured(UNKNOWN)])}
-    for what, confirmed, wanted in (
-        ("an entry after the confirmed prefix", "2", [KNOWN.hex()]), ("a prefix of one entry", "1", []), ("a prefix of none", "0", []),
-        ("no verdict with a prefix", "null", []), ("the whole list", "3", [KNOWN.hex(), UNKNOWN.hex()]),
-    ):
-        is_done = recipes.run(TAKE, grown, confirmed=confirmed) == (0, b"")
-        sums = (recipes.kept / "known.txt").read_text()
-        yield what, is_done and [line.split("  ")[0] for line in sums.splitlines()] == wanted
-    for what, confirmed in (("no prefix", ""), ("a line of a report", "confirmed 2 of 3 entries"), ("words", "2 of 3")):
-        is_refused = recipes.fails(TAKE, grown, confirmed=confirmed)
-        yield what, is_refused and not (recipes.kept / "known.txt").read_bytes()
-
-
-def extended(recipes):
-    """Whether log and list keep to their own registers."""
-    whole, event, entries = LOG.spelling(), LOG.events[0]._replace(register=10, type=6), of_list(FIRST, measured(KNOWN))
-    for what, events, is_good in (
-        ("no such event", [], True), ("such an event", [event], False), ("two", [event, event], False),
-        ("one before the others", None, False),
-        ("an event that extends nothing", [event._replace(type=EV_NO_ACTION)], True),
-        ("an event of register 1, with a line as data", [event._replace(register=1, data=b"\n1 10 x\n")], True),
-    ):
-        log = LOG._replace(events=[event, *LOG.events] if events is None else [*LOG.events, *events])
-        wanted = (0, b"true\n") if is_good else (1, b"")
-        yield what, recipes.run(IMA_ALONE, {"firmware.log": log.spelling()} | entries) == wanted
-    other = measured(KNOWN)._replace(register=9)
-    for what, *listed in (
-        ("an entry of register 9", FIRST, other), ("a first entry of another", other, FIRST), ("one between others", FIRST, other, FIRST),
-        ("an entry of register 0", FIRST, other._replace(register=0)), ("of register 11", FIRST, other._replace(register=11)),
-        ("a violation of register 9", FIRST, other._replace(template_digest=VIOLATION)), ("no entry",),
-        ("an entry of register 9 that is not genuine", FIRST, other._replace(payload=UNKNOWN_PAYLOAD)),
-        ("an entry that says 10 in its path", FIRST, measured(KNOWN, b'/x","register":10}')._replace(register=9)),
-    ):
-        yield what, recipes.run(IMA_ALONE, of_list(*listed) | {"firmware.log": whole}) == (1, b"false\n")
-    for what, files in damaged_lists():
-        yield what, recipes.run(IMA_ALONE, {"firmware.log": whole} | files)[0] != 0
-    for what, files in (("no log", {}), ("an empty log", {"firmware.log": b""}), ("a cut log", {"firmware.log": whole[:-1]}),
-                        ("a log cut after its header", {"firmware.log": whole[:40]}), ("another file", {"firmware.log": b"10 10 10\n"})):
-        yield what, recipes.fails(IMA_ALONE, files | entries)
-    for command in ("registers", "show"):
-        dying = f"; [ $1 != {command} ] || kill -9 $$"
-        yield f"a program that dies in {command}", recipes.fails(IMA_ALONE, {"firmware.log": whole} | entries, dying)
-    yield "a program that shows nothing", recipes.run(IMA_ALONE, {"firmware.log": whole} | entries, " | sed -n '/^{/!p'")[0] != 0
-
-
-def measures(recipes):
-    """The list of a file tree, here of a folder with two files."""
-    log = {"firmware.log": LOG.spelling()}
-    block = recipes.block(MEASURED)
-    with tempfile.TemporaryDirectory() as tree:
-        recipes.blocks[recipes.blocks.index(block)] = block.replace("/usr/bin", tree)
-        aggregate = entry_of(IMA_NG, SHA256, LOG.registers().boot_aggregate(SHA256), b"boot_aggregate").line()
-        lines = {aggregate}
-        for name in ("one", "two"):
-            Path(tree, name).write_text(name)
-            lines.add(entry_of(IMA_NG, SHA256, SHA256.hash(name.encode()), f"{tree}/{name}".encode()).line())
-        yield "two files", recipes.run(MEASURED, log) == (0, aggregate)
-        found = (recipes.folder / "measured.txt").read_bytes().splitlines(keepends=True)
-        yield "the list of two files", found[:1] == [aggregate] and len(found) == 3 and set(found) == lines
-        for what, files in (("no log", {}), ("an empty log", {"firmware.log": b""}), ("a cut log", {"firmware.log": LOG.spelling()[:-1]})):
-            yield what, recipes.fails(MEASURED, files)
-        yield "a program that dies", recipes.fails(MEASURED, log, DYING)
-
-
-def compared(recipes):
-    """The events of two boots."""
-    whole, more = LOG.spelling(), LOG._replace(events=[LOG.events[0], *LOG.events]).spelling()
-    lines = [f"> {json.dumps({k: v for k, v in LOG.events[0].as_json(1).items() if k != 'event'}, separators=(',', ':'))}"]
-    yield "the same events", recipes.run(EVENTS, {"kept/firmware.log": whole, "firmware.log": whole}) == (0, b"")
-    status, output = recipes.run(EVENTS, {"kept/firmware.log": whole, "firmware.log": more})
-    yield "one event more", status == 1 and [line for line in output.decode().splitlines() if line[0] in "<>"] == lines
-    status, output = recipes.run(EVENTS, {"kept/firmware.log": more, "firmware.log": whole})
-    yield "one event less", status == 1 and output.count(b"\n< ") == 1
-    for what, before, after in (
-        ("a cut log", whole, whole[:-1]), ("a cut log before", whole[:-1], whole), ("two cut logs", whole[:-1], whole[:-1]),
-        ("two empty logs", b"", b""), ("no log", whole, None), ("no log before", None, whole),
-    ):
-        logs = {"kept/firmware.log": before, "firmware.log": after}
-        files = {name: data for name, data in logs.items() if data is not None}
-        yield what, recipes.fails(EVENTS, files)
-        yield f"{what}, and events that a machine sent", recipes.fails(EVENTS, files | {"before.events": b"", "firmware.events": b""})
-    yield "a program that dies", recipes.fails(EVENTS, {"kept/firmware.log": whole, "firmware.log": whole}, DYING)
-
-
-def aggregated(recipes):
-    """Whether the first entry of a list of another template states the boot aggregate of a log."""
-    log, stated = {"firmware.log": LOG.spelling()}, LOG.registers().boot_aggregate(SHA256)
-    path, wrong = with_length(b"boot_aggregate\0"), bytes([stated[0] ^ 1]) + stated[1:]
-    good = of_template(b"ima-modsig", with_length(b"sha256:\0" + stated) + path + with_length(b""))
-    for what, entry, is_good in (
-        ("of ima-modsig", good, True),
-        ("of ima-sigv2", of_template(b"ima-sigv2", with_length(b"ima:sha256:\0" + stated) + path + with_length(b"")), True),
-        ("of other registers", of_template(b"ima-modsig", with_length(b"sha256:\0" + wrong) + path), False),
-        ("of another path", of_template(b"ima-modsig", with_length(b"sha256:\0" + stated) + with_length(b"/boot_aggregate\0")), False),
-        ("of fs-verity", of_template(b"ima-sigv2", with_length(b"verity:sha256:\0" + stated) + path), False),
-        ("a violation", good._replace(template_digest=VIOLATION), False),
-        ("not genuine", good._replace(template_digest=SHA1.hash(b"")), False),
-        ("of register 11", good._replace(register=11), False),
-    ):
-        wanted = (0, b"true\n") if is_good else (1, b"false\n")
-        yield f"a boot aggregate {what}", recipes.run(AGGREGATE, of_list(entry, FIRST) | log) == wanted
-    yield "a boot aggregate as the second entry", recipes.run(AGGREGATE, of_list(FIRST, good) | log) == (1, b"false\n")
-    yield "an empty list", recipes.run(AGGREGATE, of_list() | log) == (1, b"false\n")
-    for what, files in damaged_lists():
-        yield what, recipes.fails(AGGREGATE, files | log)
-    for what, data in (("a cut log", {"firmware.log": log["firmware.log"][:-1]}), ("no log", {})):
-        yield what, recipes.fails(AGGREGATE, of_list(good) | data)
-    yield "a program that dies", recipes.fails(AGGREGATE, of_list(good) | log, DYING)
-
-
-def paths(recipes):
-    """The paths of entries of other templates."""
-    for what, (payload, path) in PATHS_SHOWN.items():
-        entry = of_template(b"ima-modsig", payload)
-        wanted = {**{name: value for name, value in entry.as_json(1).items() if name != "payload"}, **path}
-        yield what, recipes.shown(PATHS, of_list(FIRST, entry)) == [wanted]
-    violation = of_template(b"ima-modsig", PATHS_SHOWN["ima-ngv2"][0])._replace(template_digest=VIOLATION)
-    for what, entry in (("a violation", violation), ("a template's name that a terminal obeys", of_template("ima-\u009b".encode(), b""))):
-        wanted = {name: value for name, value in entry.as_json(1).items() if name != "payload"} | {"path": None}
-        yield what, recipes.shown(PATHS, of_list(FIRST, entry)) == [wanted]
-    for what, files in (("an empty list", of_list()), ("no such entry", of_list(FIRST))):
-        yield what, recipes.run(PATHS, files) == (4, b"")
-    for what, files in damaged_lists():
-        yield what, recipes.fails(PATHS, files)
-    for what, agent in (("that dies", DYING), ("that dies before its first line", " > /dev/null" + DYING), ("with other JSON", FOREIGN)):
-        yield f"a program {what}", recipes.fails(PATHS, of_list(of_template(b"x", b"")), agent)
 
 
 def pattern_of(lines):
@@ -375,23 +153,10 @@ def printed_by(commands, folder):
     return done.stdout.decode().split(f"{end}\n")
 
 
-def examples(recipes):
-    """An example of a page."""
-    for page in ("README.md", "docs/guide.md"):
-        blocks = [re.sub("^    ", "", block, flags=re.MULTILINE) for block in EXAMPLES.findall((ROOT / page).read_text())]
-        with tempfile.TemporaryDirectory() as name:
-            lay_out(Path(name), recipes.program)
-            found = EXAMPLE.findall("".join(blocks))
-            printed = printed_by([command for command, _ in found], name)
-        yield f"each of {page} is run", len(printed) == len(found) + 1 and len(found) > 5
-        for (command, lines), output in zip(found, printed):
-            yield command, not lines or bool(re.fullmatch(pattern_of(lines), output))
-
-
-def lay_out(folder, program):
+def lay_out(folder):
     """Makes a folder that is both a checkout of this tree, for README, and what the guide's reader has of the sample boot."""
     for name in ("try", "ima-agent"):
-        folder.joinpath(name).symlink_to(program)
+        folder.joinpath(name).symlink_to(PROGRAM)
     folder.joinpath("samples").symlink_to(ROOT / "samples")
     folder.joinpath("attest").mkdir()
     shutil.copy(ROOT / "attest/verify", folder / "attest")
@@ -445,26 +210,12 @@ class Machine:
         is_done = is_made and self.block(PUBLIC) == 0
         return is_done, {name: self.folder.joinpath(name).read_bytes() for name in ("AK.pub", "ek.der")}
 
-    def answers(self, credential):
-        """Whether the TPM opens a credential to the verifier's secret."""
+    def answers(self, credential, secret):
+        """Whether the TPM opens a credential to what is in this file."""
         self.folder.joinpath("answer").unlink(missing_ok=True)
         self.folder.joinpath("credential").write_bytes(credential)
         status, answer = self.block(ANSWER), self.folder / "answer"
-        return status == 0 and answer.read_bytes() == self.recipes.folder.joinpath("secret").read_bytes()
-
-
-def is_taken(recipes, machine, vendor, sent, **settings):
-    """Whether the verifier makes a credential, and whether the machine's TPM opens it."""
-    status, _ = recipes.run(CHALLENGE, sent, vendor=str(vendor.certificate), TPM2TOOLS_TCTI="none", **settings)
-    credential = recipes.folder / "credential"
-    if status or not credential.exists():
-        return False, False
-    return True, machine.answers(credential.read_bytes())
-
-
-def is_key_of(recipes, machine):
-    """Whether the key that the verifier keeps is the one at the machine's handle."""
-    return recipes.folder.joinpath("AK.pem").read_bytes() == machine.folder.joinpath("AK.pem").read_bytes()
+        return status == 0 and answer.read_bytes() == secret.read_bytes()
 
 
 def other_keys(machine, public):
@@ -486,30 +237,6 @@ def other_keys(machine, public):
     yield from (("a byte less", public[:-1], False), ("no public area", b"", False))
 
 
-def certified(recipes):
-    """A key from afar."""
-    home = recipes.folder.parent
-    vendor, stranger = Vendor(home, "vendor"), Vendor(home, "stranger")
-    with emulated() as first, emulated() as second:
-        machine, other = Machine(recipes, home / "first", first), Machine(recipes, home / "second", second)
-        (is_done, sent), (_, foreign) = machine.begin(vendor), other.begin(vendor)
-        yield "the blocks of the machine", is_done
-        yield "the machine's key", is_taken(recipes, machine, vendor, sent) == (True, True) and is_key_of(recipes, machine)
-        left = {"AK.pem": other.folder.joinpath("AK.pem").read_bytes(), "secret": b"secret", "answer": b"secret"}
-        yield "a key beside it", is_taken(recipes, machine, vendor, sent | left) == (True, True) and is_key_of(recipes, machine)
-        yield "another TPM's certificate", is_taken(recipes, machine, vendor, sent | {"ek.der": foreign["ek.der"]}) == (True, False)
-        yield "another TPM's key", is_taken(recipes, machine, vendor, sent | {"AK.pub": foreign["AK.pub"]}) == (True, False)
-        for what, public, is_challenged in other_keys(machine, sent["AK.pub"]):
-            yield what, is_taken(recipes, machine, vendor, sent | {"AK.pub": public}) == (is_challenged, False)
-        own = {"ek.der": stranger.certify(machine.folder / "ek.pem")}
-        yield "a certificate of a stranger", is_taken(recipes, machine, vendor, sent | own) == (False, False)
-        trusted = {"SSL_CERT_FILE": str(stranger.certificate), "SSL_CERT_DIR": str(trusting(home, stranger))}
-        yield "whom the system trusts", is_taken(recipes, machine, vendor, sent | own, **trusted) == (False, False)
-        for name in ("AK.pub", "ek.der"):
-            rest = {each: data for each, data in sent.items() if each != name}
-            yield f"no {name}", is_taken(recipes, machine, vendor, rest) == (False, False)
-
-
 def trusting(folder, authority):
     """A folder of certificates that a system trusts, as OpenSSL names them."""
     made = folder / "trusted"
@@ -519,23 +246,271 @@ def trusting(folder, authority):
     return made
 
 
-def main():
-    [program] = sys.argv[1:]
-    passed = failed = 0
-    with tempfile.TemporaryDirectory() as name:
-        recipes = Recipes(Path(program).resolve(), Path(name))
-        for tried in (extended, judged, taken, measures, compared, aggregated, paths, certified, examples):
-            needed = {certified: KEY_TOOLS, examples: QUOTE_TOOLS}.get(tried, TOOLS)
-            if lacking := [tool for tool in needed if not shutil.which(tool)]:
-                print(f"not tried: {tried.__doc__} {' and '.join(lacking)} not installed")
-                continue
-            for what, is_right in tried(recipes):
-                passed, failed = passed + is_right, failed + (not is_right)
-                if not is_right:
-                    print(f"{tried.__doc__} {what}")
-    print(f"{passed} passed, {failed} failed")
-    return bool(failed)
+class Recipes(harness.TestCase):
+    """Runs recipes in a folder with what a machine sent. What the verifier keeps, and what is installed, are elsewhere."""
+
+    def setUp(self):
+        self.needs("bash", "jq")
+        top = self.folder()
+        self.sent, self.kept, self.installed = top / "sent", top / "kept", top / "bin"
+        self.blocks = BLOCK.findall((ROOT / "docs/guide.md").read_text())
+        for made in (self.sent, self.kept, self.installed):
+            made.mkdir()
+
+    def block(self, mark):
+        [block] = [block for block in self.blocks if mark in block]
+        return block
+
+    def put(self, files):
+        """These files alone, those of `kept/` where the verifier keeps them, beside what a machine left to be taken for another's."""
+        for path in (*self.sent.iterdir(), *self.kept.iterdir()):
+            path.unlink()
+        left = {"ima-agent": b"#!/bin/sh\nexit 0\n", "known.txt": b"%s  /usr/bin/ls\n" % UNKNOWN.hex().encode()}
+        for name, data in (left | files).items():
+            path = self.kept / name[5:] if name.startswith("kept/") else self.sent / name
+            path.write_bytes(data)
+        self.sent.joinpath("ima-agent").chmod(0o755)
+
+    def ran(self, mark, files, agent="", **settings):
+        """The status and the output of the recipe with this mark, of these files; `agent` is what the program's output passes through,
+        `settings` what the environment has beside the caller's."""
+        block = self.block(mark)
+        self.put(files)
+        script = self.installed / "ima-agent"
+        script.write_text(f'#!/bin/sh\n"{PROGRAM}" "$@"{agent}\n')
+        script.chmod(0o755)
+        own = {"PATH": f"{self.installed}:{os.environ['PATH']}", "known": str(self.kept / "known.txt"), "before": str(self.kept)}
+        done = subprocess.run(["bash", "-c", block], cwd=self.sent, env={**os.environ, **own, **settings}, stdin=subprocess.DEVNULL,
+                              capture_output=True, timeout=60)
+        return done.returncode, done.stdout
+
+    def shown(self, mark, files):
+        """The values that the recipe shows, if each is a line of ASCII that no terminal obeys; or else its status and its output."""
+        status, output = self.ran(mark, files)
+        if status or any(byte != 10 and not 32 <= byte < 127 for byte in output):
+            return status, output
+        return [json.loads(line) for line in output.splitlines()]
+
+    def fails(self, mark, files, agent="", **settings):
+        """Whether the recipe fails, and with another status than those of answers (4: no entry, of jq)."""
+        return self.ran(mark, files, agent, **settings)[0] not in (0, 1, 4)
+
+    def is_taken(self, machine, vendor, sent, **settings):
+        """Whether the verifier makes a credential, and whether the machine's TPM opens it."""
+        status, _ = self.ran(CHALLENGE, sent, vendor=str(vendor.certificate), TPM2TOOLS_TCTI="none", **settings)
+        credential = self.sent / "credential"
+        if status or not credential.exists():
+            return False, False
+        return True, machine.answers(credential.read_bytes(), self.sent / "secret")
+
+    def is_key_of(self, machine):
+        """Whether the key that the verifier keeps is the one at the machine's handle."""
+        return self.sent.joinpath("AK.pem").read_bytes() == machine.folder.joinpath("AK.pem").read_bytes()
+
+    def test_judged(self):
+        """the recipe for known digests"""
+        sums = {"kept/known.txt": SUMS}
+        for what, entry in (PASSED_OVER | SHOWN).items():
+            rest = [shown(1, entry)] if what in SHOWN else []
+            self.check(what, self.shown(JUDGE, of_list(FIRST, entry) | sums), [shown(0, FIRST), *rest, {"judged": 2}])
+        known = measured(KNOWN)
+        self.check("a known digest as the first entry", self.shown(JUDGE, of_list(known, known) | sums), [shown(0, known), {"judged": 2}])
+        for what, text, is_known in (
+            ("no sums", b"", False), ("sums of white space", b" \n\n  \n", False), ("a sum without a name", KNOWN.hex().encode(), True),
+            ("a part of a sum", SUMS[1:], False), ("a known digest as a name", b"0  %s\n" % KNOWN.hex().encode(), False),
+            ("sums that are not UTF-8", b"00  \xff\n" + SUMS, True),
+        ):
+            rest = [] if is_known else [shown(1, known)]
+            self.check(what, self.shown(JUDGE, of_list(FIRST, known) | {"kept/known.txt": text}), [shown(0, FIRST), *rest, {"judged": 2}])
+        bare = of_template(b"x", b"")
+        found = self.shown(JUDGE, of_list(FIRST, bare) | {"kept/known.txt": b"\n null\nnull\n"})
+        self.check("sums, and payloads without digests", found, [shown(0, FIRST), shown(1, bare), {"judged": 2}])
+        for what, files in (*damaged_lists(), ("an empty list", of_list())):
+            self.check(what, self.fails(JUDGE, files | sums))
+        self.check("no sums", self.fails(JUDGE, of_list(known)))
+        self.check("no name of sums", self.fails(JUDGE, of_list(known) | sums, known=""))
+        self.check("a program that dies", self.fails(JUDGE, of_list(known) | sums, DYING))
+        self.check("an entry that is left out", self.fails(JUDGE, of_list(FIRST, known) | sums, " | sed 1d"))
+        self.check("another program's JSON", self.fails(JUDGE, of_list(known) | sums, FOREIGN))
+        self.check("another program's text", self.fails(JUDGE, of_list(known) | sums, " | sed 's/.*/refused/'"))
+
+    def test_taken(self):
+        """the digests of an earlier boot"""
+        entries = [FIRST, *PASSED_OVER.values(), *SHOWN.values()]
+        whole = {"confirmed": str(len(entries))}
+        known = [entry.as_json(0) for number, entry in enumerate(entries) if makes_known(number, entry)]
+        is_done = self.ran(TAKE, {"kept/ima.list": list_spelling(entries)}, **whole) == (0, b"")
+        sums = (self.kept / "known.txt").read_bytes()
+        *lines, end = [line.split("  ", 1) for line in sums.decode().split("\n")]
+        found = [[digest, json.loads(f'"{path}"')] for digest, path in lines]
+        wanted = [[line["digest"], line.get("path", line.get("path_hex"))] for line in known]
+        self.check("an earlier list", is_done and end == [""] and found == wanted)
+        rest = [shown(number, entry) for number, entry in enumerate(entries) if not makes_known(number, entry)]
+        found = self.shown(JUDGE, {"ima.list": list_spelling(entries), "kept/known.txt": sums})
+        self.check("what an earlier list makes known", found, [*rest, {"judged": len(entries)}])
+        for what, files in damaged_lists():
+            self.check(what, self.fails(TAKE, {"kept/ima.list": data for data in files.values()}, **whole))
+        for what, agent in (("that dies", DYING), ("with other JSON", FOREIGN)):
+            self.check(f"a program {what}", self.fails(TAKE, {"kept/ima.list": list_spelling(entries)}, agent, **whole))
+        grown = {"kept/ima.list": list_spelling([FIRST, measured(KNOWN), measured(UNKNOWN)])}
+        for what, confirmed, wanted in (
+            ("an entry after the confirmed prefix", "2", [KNOWN.hex()]), ("a prefix of one entry", "1", []), ("a prefix of none", "0", []),
+            ("no verdict with a prefix", "null", []), ("the whole list", "3", [KNOWN.hex(), UNKNOWN.hex()]),
+        ):
+            is_done = self.ran(TAKE, grown, confirmed=confirmed) == (0, b"")
+            sums = (self.kept / "known.txt").read_text()
+            self.check(what, is_done and [line.split("  ")[0] for line in sums.splitlines()] == wanted)
+        for what, confirmed in (("no prefix", ""), ("a line of a report", "confirmed 2 of 3 entries"), ("words", "2 of 3")):
+            is_refused = self.fails(TAKE, grown, confirmed=confirmed)
+            self.check(what, is_refused and not (self.kept / "known.txt").read_bytes())
+
+    def test_extended(self):
+        """whether log and list keep to their own registers"""
+        whole, event, entries = LOG.spelling(), LOG.events[0]._replace(register=10, type=6), of_list(FIRST, measured(KNOWN))
+        for what, events, is_good in (
+            ("no such event", [], True), ("such an event", [event], False), ("two", [event, event], False),
+            ("one before the others", None, False),
+            ("an event that extends nothing", [event._replace(type=EV_NO_ACTION)], True),
+            ("an event of register 1, with a line as data", [event._replace(register=1, data=b"\n1 10 x\n")], True),
+        ):
+            log = LOG._replace(events=[event, *LOG.events] if events is None else [*LOG.events, *events])
+            wanted = (0, b"true\n") if is_good else (1, b"")
+            self.check(what, self.ran(IMA_ALONE, {"firmware.log": log.spelling()} | entries), wanted)
+        other = measured(KNOWN)._replace(register=9)
+        for what, *listed in (
+            ("an entry of register 9", FIRST, other), ("a first entry of another", other, FIRST), ("one between others", FIRST, other, FIRST),
+            ("an entry of register 0", FIRST, other._replace(register=0)), ("of register 11", FIRST, other._replace(register=11)),
+            ("a violation of register 9", FIRST, other._replace(template_digest=VIOLATION)), ("no entry",),
+            ("an entry of register 9 that is not genuine", FIRST, other._replace(payload=UNKNOWN_PAYLOAD)),
+            ("an entry that says 10 in its path", FIRST, measured(KNOWN, b'/x","register":10}')._replace(register=9)),
+        ):
+            self.check(what, self.ran(IMA_ALONE, of_list(*listed) | {"firmware.log": whole}), (1, b"false\n"))
+        for what, files in damaged_lists():
+            self.check(what, self.ran(IMA_ALONE, {"firmware.log": whole} | files)[0] != 0)
+        for what, files in (("no log", {}), ("an empty log", {"firmware.log": b""}), ("a cut log", {"firmware.log": whole[:-1]}),
+                            ("a log cut after its header", {"firmware.log": whole[:40]}), ("another file", {"firmware.log": b"10 10 10\n"})):
+            self.check(what, self.fails(IMA_ALONE, files | entries))
+        for command in ("registers", "show"):
+            dying = f"; [ $1 != {command} ] || kill -9 $$"
+            self.check(f"a program that dies in {command}", self.fails(IMA_ALONE, {"firmware.log": whole} | entries, dying))
+        self.check("a program that shows nothing", self.ran(IMA_ALONE, {"firmware.log": whole} | entries, " | sed -n '/^{/!p'")[0] != 0)
+
+    def test_measures(self):
+        """the list of a file tree, here of a folder with two files"""
+        log = {"firmware.log": LOG.spelling()}
+        block = self.block(MEASURED)
+        tree = self.folder()
+        self.blocks[self.blocks.index(block)] = block.replace("/usr/bin", str(tree))
+        aggregate = entry_of(IMA_NG, SHA256, LOG.registers().boot_aggregate(SHA256), b"boot_aggregate").line()
+        lines = {aggregate}
+        for name in ("one", "two"):
+            (tree / name).write_text(name)
+            lines.add(entry_of(IMA_NG, SHA256, SHA256.hash(name.encode()), f"{tree}/{name}".encode()).line())
+        self.check("two files", self.ran(MEASURED, log), (0, aggregate))
+        found = (self.sent / "measured.txt").read_bytes().splitlines(keepends=True)
+        self.check("the list of two files", found[:1] == [aggregate] and len(found) == 3 and set(found) == lines)
+        for what, files in (("no log", {}), ("an empty log", {"firmware.log": b""}), ("a cut log", {"firmware.log": LOG.spelling()[:-1]})):
+            self.check(what, self.fails(MEASURED, files))
+        self.check("a program that dies", self.fails(MEASURED, log, DYING))
+
+    def test_compared(self):
+        """the events of two boots"""
+        whole, more = LOG.spelling(), LOG._replace(events=[LOG.events[0], *LOG.events]).spelling()
+        lines = [f"> {json.dumps({k: v for k, v in LOG.events[0].as_json(1).items() if k != 'event'}, separators=(',', ':'))}"]
+        self.check("the same events", self.ran(EVENTS, {"kept/firmware.log": whole, "firmware.log": whole}), (0, b""))
+        status, output = self.ran(EVENTS, {"kept/firmware.log": whole, "firmware.log": more})
+        self.check("one event more", status == 1 and [line for line in output.decode().splitlines() if line[0] in "<>"] == lines)
+        status, output = self.ran(EVENTS, {"kept/firmware.log": more, "firmware.log": whole})
+        self.check("one event less", status == 1 and output.count(b"\n< ") == 1)
+        for what, before, after in (
+            ("a cut log", whole, whole[:-1]), ("a cut log before", whole[:-1], whole), ("two cut logs", whole[:-1], whole[:-1]),
+            ("two empty logs", b"", b""), ("no log", whole, None), ("no log before", None, whole),
+        ):
+            logs = {"kept/firmware.log": before, "firmware.log": after}
+            files = {name: data for name, data in logs.items() if data is not None}
+            self.check(what, self.fails(EVENTS, files))
+            self.check(f"{what}, and events that a machine sent", self.fails(EVENTS, files | {"before.events": b"", "firmware.events": b""}))
+        self.check("a program that dies", self.fails(EVENTS, {"kept/firmware.log": whole, "firmware.log": whole}, DYING))
+
+    def test_aggregated(self):
+        """whether the first entry of a list of another template states the boot aggregate of a log"""
+        log, stated = {"firmware.log": LOG.spelling()}, LOG.registers().boot_aggregate(SHA256)
+        path, wrong = with_length(b"boot_aggregate\0"), bytes([stated[0] ^ 1]) + stated[1:]
+        good = of_template(b"ima-modsig", with_length(b"sha256:\0" + stated) + path + with_length(b""))
+        for what, entry, is_good in (
+            ("of ima-modsig", good, True),
+            ("of ima-sigv2", of_template(b"ima-sigv2", with_length(b"ima:sha256:\0" + stated) + path + with_length(b"")), True),
+            ("of other registers", of_template(b"ima-modsig", with_length(b"sha256:\0" + wrong) + path), False),
+            ("of another path", of_template(b"ima-modsig", with_length(b"sha256:\0" + stated) + with_length(b"/boot_aggregate\0")), False),
+            ("of fs-verity", of_template(b"ima-sigv2", with_length(b"verity:sha256:\0" + stated) + path), False),
+            ("a violation", good._replace(template_digest=VIOLATION), False),
+            ("not genuine", good._replace(template_digest=SHA1.hash(b"")), False),
+            ("of register 11", good._replace(register=11), False),
+        ):
+            wanted = (0, b"true\n") if is_good else (1, b"false\n")
+            self.check(f"a boot aggregate {what}", self.ran(AGGREGATE, of_list(entry, FIRST) | log), wanted)
+        self.check("a boot aggregate as the second entry", self.ran(AGGREGATE, of_list(FIRST, good) | log), (1, b"false\n"))
+        self.check("an empty list", self.ran(AGGREGATE, of_list() | log), (1, b"false\n"))
+        for what, files in damaged_lists():
+            self.check(what, self.fails(AGGREGATE, files | log))
+        for what, data in (("a cut log", {"firmware.log": log["firmware.log"][:-1]}), ("no log", {})):
+            self.check(what, self.fails(AGGREGATE, of_list(good) | data))
+        self.check("a program that dies", self.fails(AGGREGATE, of_list(good) | log, DYING))
+
+    def test_paths(self):
+        """the paths of entries of other templates"""
+        for what, (payload, path) in PATHS_SHOWN.items():
+            entry = of_template(b"ima-modsig", payload)
+            wanted = {**{name: value for name, value in entry.as_json(1).items() if name != "payload"}, **path}
+            self.check(what, self.shown(PATHS, of_list(FIRST, entry)), [wanted])
+        violation = of_template(b"ima-modsig", PATHS_SHOWN["ima-ngv2"][0])._replace(template_digest=VIOLATION)
+        for what, entry in (("a violation", violation), ("a template's name that a terminal obeys", of_template("ima-\u009b".encode(), b""))):
+            wanted = {name: value for name, value in entry.as_json(1).items() if name != "payload"} | {"path": None}
+            self.check(what, self.shown(PATHS, of_list(FIRST, entry)), [wanted])
+        for what, files in (("an empty list", of_list()), ("no such entry", of_list(FIRST))):
+            self.check(what, self.ran(PATHS, files), (4, b""))
+        for what, files in damaged_lists():
+            self.check(what, self.fails(PATHS, files))
+        for what, agent in (("that dies", DYING), ("that dies before its first line", " > /dev/null" + DYING), ("with other JSON", FOREIGN)):
+            self.check(f"a program {what}", self.fails(PATHS, of_list(of_template(b"x", b"")), agent))
+
+    def test_certified(self):
+        """a key from afar"""
+        self.needs(*KEY_TOOLS)
+        home = self.sent.parent
+        vendor, stranger = Vendor(home, "vendor"), Vendor(home, "stranger")
+        with emulated() as first, emulated() as second:
+            machine, other = Machine(self, home / "first", first), Machine(self, home / "second", second)
+            (is_done, sent), (_, foreign) = machine.begin(vendor), other.begin(vendor)
+            self.check("the blocks of the machine", is_done)
+            self.check("the machine's key", self.is_taken(machine, vendor, sent) == (True, True) and self.is_key_of(machine))
+            left = {"AK.pem": other.folder.joinpath("AK.pem").read_bytes(), "secret": b"secret", "answer": b"secret"}
+            self.check("a key beside it", self.is_taken(machine, vendor, sent | left) == (True, True) and self.is_key_of(machine))
+            self.check("another TPM's certificate", self.is_taken(machine, vendor, sent | {"ek.der": foreign["ek.der"]}), (True, False))
+            self.check("another TPM's key", self.is_taken(machine, vendor, sent | {"AK.pub": foreign["AK.pub"]}), (True, False))
+            for what, public, is_challenged in other_keys(machine, sent["AK.pub"]):
+                self.check(what, self.is_taken(machine, vendor, sent | {"AK.pub": public}), (is_challenged, False))
+            own = {"ek.der": stranger.certify(machine.folder / "ek.pem")}
+            self.check("a certificate of a stranger", self.is_taken(machine, vendor, sent | own), (False, False))
+            trusted = {"SSL_CERT_FILE": str(stranger.certificate), "SSL_CERT_DIR": str(trusting(home, stranger))}
+            self.check("whom the system trusts", self.is_taken(machine, vendor, sent | own, **trusted), (False, False))
+            for name in ("AK.pub", "ek.der"):
+                rest = {each: data for each, data in sent.items() if each != name}
+                self.check(f"no {name}", self.is_taken(machine, vendor, rest), (False, False))
+
+    def test_examples(self):
+        """an example of a page"""
+        self.needs("tpm2_checkquote")
+        for page in ("README.md", "docs/guide.md"):
+            blocks = [re.sub("^    ", "", block, flags=re.MULTILINE) for block in EXAMPLES.findall((ROOT / page).read_text())]
+            folder, found = self.folder(), EXAMPLE.findall("".join(blocks))
+            lay_out(folder)
+            printed = printed_by([command for command, _ in found], folder)
+            self.check(f"each of {page} is run", len(printed) == len(found) + 1 and len(found) > 5)
+            for (command, lines), output in zip(found, printed):
+                is_right = not lines or re.fullmatch(pattern_of(lines), output)
+                self.check(command, None if is_right else f"printed {output!r}", None)
 
 
 if __name__ == "__main__":
-    sys.exit(main())
+    sys.exit(harness.main())
