@@ -1,19 +1,12 @@
-#!/usr/bin/env python3
-"""Has each shell complete after `ima-agent`, and compares what it offers with the table of the reference and docs/formats.md.
-
-tests/dist/completing.py SHARE SHELL: the folder share/ of a release or a prefix, and bash, zsh or fish. Each difference is printed, and the
-status is 1 if there is one."""
+"""Has each shell complete after `ima-agent`, and compares what it offers with the table of the reference and docs/formats.md."""
 
 import re
 import subprocess
-import sys
 import tempfile
 from pathlib import Path
 
-ROOT = Path(__file__).resolve().parents[2]
-sys.path.insert(0, str(ROOT / "tests"))
-
-from reference.command_line import COMMANDS, FLAG  # noqa: E402
+from harness import ROOT
+from reference.command_line import COMMANDS, FLAG
 
 FILES = ("firmware.log", "ima.list")
 
@@ -39,23 +32,21 @@ source $1/zsh/site-functions/_ima-agent
 """
 
 
+def lines_of(command, folder, **settings):
+    settings = {"PATH": "/usr/bin:/bin", "HOME": folder, **settings}
+    said = subprocess.run(command, cwd=folder, env=settings, stdin=subprocess.DEVNULL, stdout=subprocess.PIPE, check=True)
+    return said.stdout.decode().splitlines()
+
+
 def offered(shell, share, folder, words):
     """What a shell offers for the last of the words."""
-    if shell == "bash":
-        command = ["bash", "--norc", "-c", BASH, "bash", share, *words]
-    else:
-        command = ["fish", "--no-config", "-c", FISH, share, *words]
-    settings = {"PATH": "/usr/bin:/bin", "HOME": str(folder), "TERM": "dumb"}
-    said = subprocess.run(command, cwd=folder, env=settings, stdin=subprocess.DEVNULL, stdout=subprocess.PIPE, check=True)
-    return sorted(line.split("\t")[0] for line in said.stdout.decode().splitlines())
+    call = ["bash", "--norc", "-c", BASH, "bash"] if shell == "bash" else ["fish", "--no-config", "-c", FISH]
+    return sorted(line.split("\t")[0] for line in lines_of([*call, share, *words], folder, TERM="dumb"))
 
 
 def zsh_specifications(share, folder, words):
     """What zsh's function describes and tells `_arguments`, of the options their names and values."""
-    command = ["zsh", "-f", "-c", ZSH, "zsh", share, *words]
-    settings = {"PATH": "/usr/bin:/bin", "HOME": str(folder)}
-    said = subprocess.run(command, cwd=folder, env=settings, stdin=subprocess.DEVNULL, stdout=subprocess.PIPE, check=True)
-    return said.stdout.decode().splitlines()
+    return lines_of(["zsh", "-f", "-c", ZSH, "zsh", share, *words], folder)
 
 
 def choices_of(option):
@@ -112,15 +103,9 @@ def try_zsh(share, folder):
             yield f"zsh: {name}: tells {told}, and not {wanted}"
 
 
-def main():
-    share, shell = sys.argv[1:]
+def faults(share, shell):
+    """Where bash, zsh or fish offers something else than it should, with the folder share/ of a release or a prefix."""
     with tempfile.TemporaryDirectory() as folder:
         for name in FILES:
             Path(folder, name).touch()
-        found = list(try_zsh(share, folder) if shell == "zsh" else try_shell(shell, share, folder))
-    print("\n".join(found), end="\n" if found else "")
-    return bool(found)
-
-
-if __name__ == "__main__":
-    sys.exit(main())
+        return list(try_zsh(share, folder) if shell == "zsh" else try_shell(shell, share, folder))

@@ -1,25 +1,17 @@
-#!/usr/bin/env python3
-"""Requires that the manual pages of docs/man/ say what the program, the header, and the other commands say of themselves.
+"""Compares the manual pages of docs/man/ with what they describe.
 
-tests/dist/manual.py PROGRAM [FLEET WORD..]: the program, and the words that call the fleet's; without these the page of the fleet is not
-looked at.
-
-Of ima-agent.1 the commands with their synopses, the options with their values and defaults, the statuses and the tables of faults must
-be those of the help, and the lines of faults those of docs/formats.md. Of ima_verify.3 the functions must be those of the header, to
-the type, with its constants, and the functions of version 1 those of dist/libima_verify.map. Of ima-attest.1 and fleet-verify.1 the
-options must be those of the usage, and of the second the statuses those of docs/fleet.md. Each difference is printed, and the status is 1
-if there is one."""
+- ima-agent.1: commands, synopses, options with their values and defaults, statuses and tables of faults are those of the program's help.
+  The fault lines are those of docs/formats.md.
+- ima_verify.3: functions with their types, and constants, are those of the header. The functions of version 1 are those of
+  dist/libima_verify.map.
+- ima-attest.1, fleet-verify.1: the options are those of the usage. The statuses of fleet-verify.1 are those of docs/fleet.md."""
 
 import re
 import subprocess
-import sys
-from pathlib import Path
 
-ROOT = Path(__file__).resolve().parents[2]
-sys.path.insert(0, str(ROOT / "dist"))
-
-import help as helps  # noqa: E402
-from header import constants_of, functions_of, versions_of  # noqa: E402
+import help as helps
+from harness import ROOT
+from header import constants_of, functions_of, versions_of
 
 MACROS = re.compile(r"^\.(?:It|Li|Ql|Pa|Cm|Ar|Fl|Dv|Fn|Fa|Dq|Xr|Pq|Sx)\b")
 WORDS = re.compile(r"(?<!\S)(?:No|Ar|Cm|Li|Ql)(?!\S) ?")
@@ -183,15 +175,10 @@ def said_by(*words):
     return subprocess.run(words, stdin=subprocess.DEVNULL, stdout=subprocess.PIPE, stderr=subprocess.STDOUT).stdout.decode()
 
 
-def main():
-    program, *fleet = sys.argv[1:]
-    found = [*check_program(program), *check_library(), *check_usage("ima-attest.1", said_by(ROOT / "attest/verify"))]
-    if fleet:
-        found += check_usage("fleet-verify.1", said_by(*fleet, "--help"))
-        found += check_statuses("fleet-verify.1", "fleet.md")
-    print("\n".join(found), end="\n" if found else "")
-    return bool(found)
-
-
-if __name__ == "__main__":
-    sys.exit(main())
+def faults(program, fleet):
+    """Where the pages differ from this program, the header, ima-attest, and the fleet's command, which the words in `fleet` call."""
+    yield from check_program(program)
+    yield from check_library()
+    yield from check_usage("ima-attest.1", said_by(ROOT / "attest/verify"))
+    yield from check_usage("fleet-verify.1", said_by(*fleet, "--help"))
+    yield from check_statuses("fleet-verify.1", "fleet.md")

@@ -1,0 +1,92 @@
+"""The programs of the bindings' pages: what they read, and what they must print."""
+
+import re
+
+import inputs
+from harness import ROOT
+from reference import answer
+from reference.log import Event
+from reference.measurement_list import IMA_NG, Entry, entry_of, list_spelling
+from reference.registers import SHA1, SHA256
+
+SAMPLE = ROOT / "samples/real-boot"
+FILES = "firmware.log", "ima.list", "expected.txt"
+
+# What `sha256sum` may print of a path, after which no line starts.
+MARKS = b" ", b"\t", b"\r", b"\v", b"\f", b"\x1c", b"\xc2\x85", b"\xe2\x80\xa8", b"\xff "
+
+# What the programs of the pages print about the sample, if the digests of these files are not known: the files by their entries, and
+# each register by the event (by `ima-agent locate` and `events`, and by the reference).
+UNKNOWN = (b"/init", b"/mnt/odd/bad\xff\xfebytes", b"/mnt/odd/new")  # (the last goes on after a line feed)
+PAGE = r"""match 99
+1 /init
+78 /mnt/odd/bad\xff\xfebytes
+81 /mnt/odd/new\nline
+93 /mnt/viol/tomtou
+94 /mnt/viol/open_writers.log
+97 /mnt/viol/tomtou
+PCR 0 has its value after event 14, EV_SEPARATOR
+PCR 1 has its value after event 15, EV_SEPARATOR
+PCR 2 has its value after event 16, EV_SEPARATOR
+PCR 3 has its value after event 17, EV_SEPARATOR
+PCR 4 has its value after event 18, EV_SEPARATOR
+PCR 5 has its value after event 24, EV_EFI_ACTION
+PCR 6 has its value after event 20, EV_SEPARATOR
+PCR 7 has its value after event 9, EV_SEPARATOR
+PCR 9 has its value after event 22, EV_EVENT_TAG
+"""
+
+
+def page_of(language):
+    """The program of a language's page, and after it the function of a list that grows."""
+    page = (ROOT / "bindings" / language / "README.md").read_text()
+    program, function = re.findall(rf"^```{language}(?:,no_run)?\n(.*?)^```", page, re.MULTILINE | re.DOTALL)
+    return f"{program}\n{function}"
+
+
+def page_inputs(folder):
+    """A folder with what the programs of the pages read."""
+    folder.mkdir(parents=True)
+    for name in FILES:
+        (folder / name).symlink_to(SAMPLE / name)
+    files = re.findall(rb"^10 (?!0{40}).* sha[0-9]+:([0-9a-f]+) (.*)$", (SAMPLE / "ima.ascii").read_bytes(), re.MULTILINE)
+    known = [(digest, path) for digest, path in files if path not in UNKNOWN]
+    # (and a known digest of paths that end with one that is not)
+    known += [(known[0][0], b"/x" + mark + digest) for digest, path in files if path in UNKNOWN for mark in MARKS]
+    (folder / "known.txt").write_bytes(b"".join(b"%b  %b\n" % line for line in known))
+    return folder
+
+
+def sha1_inputs(folder):
+    """A folder with a log and a list with an entry whose digest is a SHA-1, and that as a known digest."""
+    log, files = inputs.made_log([SHA256], 12), list(inputs.made_measurements(3))
+    digest = SHA1.hash(b"x")
+    made_folder(folder, log, [*inputs.made_entries(log, files), entry_of(IMA_NG, SHA1, digest, b"/short")])
+    (folder / "known.txt").write_text("".join(f"{known.hex()}  /x\n" for known in [*(known for _, known in files), digest]))
+    return folder
+
+
+def hiding_inputs():
+    """Logs and lists that are not apart, and say nothing of some entries or of an event, though all registers match."""
+    log = inputs.made_log([SHA256], 12)
+    entries = inputs.made_entries(log, inputs.made_measurements(5))
+    moved = [Event(10, inputs.EV_EVENT_TAG, {SHA256.identifier: entry.digest_of(SHA256)}, b"") for entry in entries]
+    yield "entries in the log", log._replace(events=[*log.events, *moved]), entries[:1]
+    log, event = log._replace(events=log.events[:-1]), log.events[-1]
+    moved = Entry(event.register, SHA1.hash(event.data), b"x", event.data)
+    yield "an event in the list", log, [*inputs.made_entries(log, inputs.made_measurements(5)), moved]
+
+
+def made_folder(folder, log, entries):
+    """A folder with this log and list, and the registers after them, so that all match."""
+    folder.mkdir()
+    expected = inputs.expected_text(inputs.expected_after(log, entries))
+    for file, data in zip(FILES, (log.spelling(), list_spelling(entries), expected)):
+        (folder / file).write_bytes(data)
+    assert answer(["verify", "--require=sha256:0-10", *FILES], folder)[0] == 0
+    return folder
+
+
+def said_by(ended):
+    """What a page's program printed, without the marks that its language has around a path."""
+    return re.sub(r"^(\d+ )b?(['\"])(.*)\2$", r"\1\3", ended.stdout, flags=re.MULTILINE)
