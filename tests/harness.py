@@ -31,11 +31,19 @@ class TestCase(unittest.TestCase):
         self.result.failed += len(faults)
         self.result.tell(*faults[:MOST_FAULTS])
 
-    def needs(self, *tools):
-        """Skips the test if the machine lacks one of these tools."""
+    @staticmethod
+    def needs(*tools):
+        """Skips the test, or in `setUpClass` all tests of the class, if the machine lacks one of these tools."""
         lacking = [tool for tool in tools if not shutil.which(tool)]
         if lacking:
-            self.skipTest(f"this machine has no {' and no '.join(lacking)}")
+            raise unittest.SkipTest(f"this machine has no {' and no '.join(lacking)}")
+
+    @classmethod
+    def enter(cls, manager):
+        """What a context manager gives; it ends after the last test of the class."""
+        given = manager.__enter__()
+        cls.addClassCleanup(manager.__exit__, None, None, None)
+        return given
 
     def run(self, result=None):
         self.result = result
@@ -86,6 +94,8 @@ class Result(unittest.TestResult):
     def fail(self, title, error):
         kind, value, _ = error
         self.failed += 1
+        if kind is SystemExit:  # (by which a signal ends the tests)
+            self.stop()
         self.tell(f"WRONG: {title}: {value if kind is TestCase.failureException else f'{kind.__name__}: {value}'}")
 
 
@@ -94,11 +104,25 @@ def title_of(test):
     return (test.shortDescription() if hasattr(test, "shortDescription") else None) or str(test)
 
 
-def main(module="__main__"):
-    """Runs the tests of a module in the order in which they stand there, and says how many checks passed: the exit status."""
+def cases_of(module):
+    """The classes of tests of a module, which may be given by its name."""
+    module = sys.modules.get(module, module)
+    for case in vars(module).values():
+        if isinstance(case, type) and issubclass(case, TestCase) and case.__module__ == module.__name__:
+            yield case
+
+
+def main(*modules, at_failure=lambda: None):
+    """Runs the tests of these modules, or of the script, in the order in which they stand there, and says how many checks passed: the exit
+    status. If something failed, `at_failure` is called before that is said."""
     result = Result()
-    for case in list(vars(sys.modules[module]).values()):
-        if isinstance(case, type) and issubclass(case, TestCase) and case.__module__ == module:
-            unittest.TestSuite(case(name) for name in vars(case) if name.startswith("test")).run(result)
+    cases = [case for module in modules or ["__main__"] for case in cases_of(module)]
+    try:
+        unittest.TestSuite(case(name) for case in cases for name in vars(case) if name.startswith("test")).run(result)
+    finally:
+        for case in cases:  # (an interrupt leaves out what ends a class)
+            case.doClassCleanups()
+    if result.failed:
+        at_failure()
     print(f"{result.passed} passed, {result.failed} failed", flush=True)
     return 0 if result.failed == 0 and (result.passed or result.skipped) else 1
