@@ -30,7 +30,7 @@ from tables import query  # noqa: E402
 WORKERS = 4
 LOOK_SECONDS = 0.2
 MOST_SECONDS = 1800
-NOTED = ("--preload", Path(__file__).resolve().parents[1] / "tests/noted_calls.py")
+NOTED = ("--preload", Path(__file__).resolve().parents[2] / "tests/fleet/noted_calls.py")
 PARTS = 10
 SETTINGS = dict(re.findall(r"`(DASK_\w+)=(\w+)`", (Path(__file__).resolve().parents[2] / "docs/fleet.md").read_text()))
 
