@@ -1,0 +1,197 @@
+"""What the tests of attest/verify share: the arguments of a call and its end, stand-ins for tools, and made logs and lists."""
+
+import os
+import shutil
+import subprocess
+import tempfile
+from contextlib import contextmanager
+from dataclasses import dataclass, replace
+from pathlib import Path
+
+import harness
+from emulated import BOOT, ROOT, TOOLS
+from reference.log import Event, read_log
+from reference.measurement_list import IMA_NG, entry_of, list_spelling, read_list, replay
+from reference.registers import SHA256
+
+QUOTED = ROOT / "samples/quoted"
+NEEDED = ("swtpm", "openssl", "tpm2_checkquote", "tpm2_flushcontext", "tpm2_pcrread", "tpm2_pcrextend", "tpm2_pcrreset", "tpm2_readpublic", *TOOLS)
+NONCE = (QUOTED / "nonce").read_text().strip()
+LOW = [f"sha256 {register} match" for register in range(11)]
+LAST_ENTRY = 95  # bytes
+EV_EVENT_TAG = 6
+LOG = read_log((BOOT / "firmware.log").read_bytes())
+ENTRIES = read_list((BOOT / "ima.list").read_bytes())
+LONGER = "a2bcf779880ae33077f9e7992851299f30cea5f6cffc6512de6cd10aa457a7f3"  # register 10 after the longer list, in README
+SECONDS = 60
+
+
+@dataclass
+class Evidence:
+    """The arguments of a call, by name."""
+
+    key: Path = QUOTED / "AK.pem"
+    nonce: str = NONCE
+    quote: Path = QUOTED / "quote.msg"
+    signature: Path = QUOTED / "quote.sig"
+    values: Path = QUOTED / "quote.pcrs"
+    require: str = "sha256:0-10"
+    log: Path = BOOT / "firmware.log"
+    list: Path = BOOT / "ima.list"
+    prefix: bool = False
+
+    def options(self):
+        """The options, each with its value."""
+        return [[f"--{name}", str(getattr(self, name))] for name in ("key", "nonce", "quote", "signature", "values", "require")]
+
+    def words(self):
+        flags = ["--prefix"] if self.prefix else []
+        return ["ima-attest", *sum(self.options(), []), *flags, "--", str(self.log), str(self.list)]
+
+
+GOOD = Evidence()  # samples/quoted
+
+
+@dataclass
+class Ended:
+    """A call's status, its output, and what it said on standard error."""
+
+    status: int
+    output: str
+    errors: str
+
+    @property
+    def last(self):
+        return self.output.rstrip("\n").rsplit("\n", 1)[-1]
+
+
+class AttestTests(harness.TestCase):
+    """Tests of what is installed in a folder of the class: `ima-attest`, beside `ima-agent`, which is the program."""
+
+    program, needed = harness.PROGRAM, ()
+
+    @classmethod
+    def setUpClass(cls):
+        cls.needs(*cls.needed)
+        cls.folder = Path(cls.enter(tempfile.TemporaryDirectory())).resolve()
+        cls.bin, cls.scratch = cls.folder / "bin", cls.folder / "scratch"
+        for made in (cls.bin, cls.scratch):
+            made.mkdir()
+        shutil.copy(ROOT / "attest/verify", cls.bin / "ima-attest")
+        cls.agent = cls.bin / "ima-agent"
+        cls.agent.symlink_to(cls.program)
+        cls.use(os.environ)
+
+    @classmethod
+    def use(cls, environment):
+        """The tools of this environment come after what is installed."""
+        cls.environment = {**environment, "TMPDIR": str(cls.scratch), "PATH": f"{cls.bin}:{environment['PATH']}"}
+
+    def call(self, words, folder=None, standard_input=b"", **settings):
+        """A call, after which no temporary file is left."""
+        ended = subprocess.run(words, cwd=folder or self.folder, env={**self.environment, **settings}, input=standard_input,
+                               capture_output=True, timeout=SECONDS)
+        if left := list(self.scratch.iterdir()):
+            self.check(f"no temporary file is left by {words}", left, [])
+        return Ended(ended.returncode, ended.stdout.decode(), ended.stderr.decode())
+
+    def attest(self, evidence=GOOD, settings=None, folder=None, **changes):
+        """A call with this evidence, but for these changes."""
+        return self.call(replace(evidence, **changes).words(), folder, **(settings or {}))
+
+    def attest_from(self, path, evidence):
+        """A call whose standard input is a file."""
+        return self.call(["bash", "-c", 'exec "${@:2}" <"$1"', "bash", str(path), *evidence.words()])
+
+    def said_on_terminal(self, evidence):
+        """The status of a call, and what it says on standard error where that is a terminal."""
+        primary, terminal = os.openpty()
+        with os.fdopen(primary, "rb", buffering=0) as shown:
+            ended = subprocess.run(evidence.words(), env=self.environment, stdin=subprocess.DEVNULL, stdout=subprocess.DEVNULL,
+                                   stderr=terminal, timeout=SECONDS)
+            os.close(terminal)
+            try:
+                return ended.returncode, shown.read(1000).decode()
+            except OSError:  # (nothing was said)
+                return ended.returncode, ""
+
+    def put(self, name, data):
+        """A file with these bytes."""
+        path = self.folder / name
+        path.write_bytes(data)
+        return path
+
+    def stand_in(self, name, body):
+        """Settings with which a script stands in for a tool; what it stands in for is `$real`."""
+        folder = Path(tempfile.mkdtemp(dir=self.folder))
+        real = shutil.which(name, path=self.environment["PATH"]) or "false"
+        folder.joinpath(name).write_text(f"#!/bin/bash\nreal={real}\n{body}\n")
+        folder.joinpath(name).chmod(0o755)
+        return {"PATH": f"{folder}:{self.environment['PATH']}"}
+
+    def have_confirmed(self, body):
+        """Has a script stand in for tpm2_checkquote until the test ends."""
+        self.environment = {**self.environment, **self.stand_in("tpm2_checkquote", body)}
+
+    def state(self, name, values, algorithm=SHA256):
+        """A message that states these values of registers 0 to 10 of a bank. Until the test ends tpm2_checkquote prints them of any message."""
+        message = (QUOTED / "quote.msg").read_bytes()
+        bank = message.index(bytes.fromhex("000b03ff0700"))
+        changed = message[:bank] + algorithm.identifier.to_bytes(2, "big") + message[bank + 2 : -32] + SHA256.hash(b"".join(values))
+        text = "".join(f"    {register:<2}: 0x{value.hex()}\n" for register, value in enumerate(values))
+        self.have_confirmed(f"printf 'pcrs:\\n  {algorithm.name}:\\n{text}sig: 00\\n'")
+        return self.put(f"{name}.msg", changed)
+
+    @contextmanager
+    def other_agent(self, body):
+        """Has a script stand in for ima-agent, which is `$real`."""
+        self.agent.unlink()
+        self.agent.write_text(f'#!/bin/bash\nreal={self.program}\n{body}\nexec "$real" "$@"\n')
+        self.agent.chmod(0o755)
+        try:
+            yield
+        finally:
+            self.agent.unlink()
+            self.agent.symlink_to(self.program)
+
+    def check_match(self, title, ended):
+        """The verdict is `match`, on registers 0 to 10, and nothing else is said."""
+        rows = [line for line in ended.output.splitlines() if line.startswith("sha256 ")]
+        self.check(title, (ended.status, rows, ended.last, ended.errors), (0, LOW, "verdict match", ""))
+
+    def check_refused(self, title, ended, status=4, words="the quote does not hold"):
+        """There is no report, and a sentence says why."""
+        self.check(title, (ended.status, ended.output, words in ended.errors or ended.errors), (status, "", True))
+
+    def check_differ(self, title, ended, *rows):
+        """The verdict is `differ`, and the report has these rows."""
+        lines = ended.output.splitlines()
+        self.check(title, (ended.status, ended.last, [row for row in rows if row not in lines]), (1, "verdict differ", []))
+
+
+class LenientTests(AttestTests):
+    """Tests without a TPM: tpm2_checkquote takes any message, and prints the registers of samples/quoted, unless a test has it print others."""
+
+    def setUp(self):
+        self.have_confirmed(f"cat '{QUOTED}/sha256.txt'")
+
+
+def executable(path, register=10):
+    """The entry of a file whose content is its path."""
+    return entry_of(IMA_NG, SHA256, SHA256.hash(path), path)._replace(register=register)
+
+
+def moved(entries, count, kind=EV_EVENT_TAG, register=10, log=LOG):
+    """A log and a list of which the log has the first entries, as events of a register that extend what these do."""
+    events = [Event(register, kind, {it.identifier: entry.digest_of(it) for it in log.algorithms}, b"") for entry in entries[:count]]
+    return log._replace(events=[*log.events, *events]).spelling(), list_spelling(entries[count:])
+
+
+def values_after(entries, log=LOG, algorithm=SHA256):
+    """The values of registers 0 to 10 of a bank after a log and a list."""
+    registers = log.registers()
+    replay(registers, entries)
+    return [registers.value(algorithm, register) for register in range(11)]
+
+
+SECOND_KERNEL = [ENTRIES[0], executable(b"/bin/after")]  # what a list has after kexec, when it begins anew

@@ -1,0 +1,134 @@
+"""Tests of logs and lists that make the quoted registers with entries in the wrong places. They need no TPM."""
+
+import os
+from dataclasses import replace
+
+from calling import ENTRIES, LOG, SECOND_KERNEL, Evidence, LenientTests, executable, moved, values_after
+from reference.log import EV_NO_ACTION
+from reference.measurement_list import BOOT_AGGREGATE, IMA_NG, Entry, entry_of, list_spelling
+from reference.registers import SHA1, SHA256, SHA384, SHA512
+
+EXTENDS_TEN = "the log extends register 10"
+OTHER_REGISTER = "the list has an entry of another register than 10"
+
+
+class EntriesInLog(LenientTests):
+    """A log has entries of the list as events of register 10, so that the registers are those that were quoted."""
+
+    def setUp(self):
+        """`honest` has a list of two kernels, and in `forged` the log has the entries of the first."""
+        self.entries = [*ENTRIES, *SECOND_KERNEL]
+        self.values = values_after(self.entries)
+        quote, (log, rest) = self.state("of-values", self.values), moved(self.entries, 99)
+        self.honest = Evidence(quote=quote, list=self.put("whole.list", list_spelling(self.entries)))
+        self.forged = replace(self.honest, log=self.put("forged.log", log), list=self.put("rest.list", rest))
+
+    def test_entries_in_log(self):
+        honest, forged = self.honest, self.forged
+        self.check_match("a list of two kernels", self.attest(honest))
+        self.check("a match says nothing on a terminal", self.said_on_terminal(honest), (0, ""))
+        lines = [f"sha256 {register} {value.hex()}\n" for register, value in enumerate(self.values)]
+        expected = self.put("expected.txt", "".join(lines).encode())
+        ended = self.call(["ima-agent", "verify", "--require", "sha256:0-10", str(forged.log), str(forged.list), str(expected)])
+        self.check("the registers match a log with entries of the list", (ended.status, ended.last), (0, "verdict match"))
+        self.check_refused("a log with entries of the list", self.attest(forged), 2, EXTENDS_TEN)
+        self.check_refused("with the front of the list", self.attest(forged, prefix=True), 2, EXTENDS_TEN)
+        self.check_refused("from standard input", self.attest_from(forged.log, replace(forged, log="/dev/stdin")), 2, EXTENDS_TEN)
+        one = self.put("one.log", moved(self.entries, 1)[0])
+        self.check_refused("a log with one entry, of a list that has it too", self.attest(honest, log=one), 2, EXTENDS_TEN)
+        cut = replace(forged, log=self.put("cut.log", forged.log.read_bytes()[:-1]))
+        ended = self.attest(cut)
+        self.check("a log with entries of the list, cut", (ended.status, ended.output), (2, f"refused: log fault 1 at event {24 + 99}\n"))
+        status, said = self.said_on_terminal(cut)
+        self.check("a terminal has a fault of the log in words", (status, said.startswith("log: event 123: ") or said), (2, True))
+        self.check_refused("a log with entries of the list, and no list", self.attest(forged, list="none"), 3, "cannot read 'none'")
+        harmless = self.put("harmless.log", moved(self.entries, 99, EV_NO_ACTION)[0])
+        self.check_match("events of register 10 that extend nothing", self.attest(honest, log=harmless))
+        for title, path in (("a missing log", "none"), ("a folder as a log", str(self.scratch))):
+            self.check_refused(title, self.attest(honest, log=path), 3, "cannot read")
+        ended = self.attest(honest, log=self.put("empty.log", b""))
+        self.check("an empty log", (ended.status, ended.output), (2, "refused: log fault 1 at event 0\n"))
+
+    def test_searches(self):
+        """A log or a list that is not copied whole, or cannot be searched, has no verdict."""
+        for name, command in (("log", "registers"), ("list", "show")):
+            ended = self.attest(self.honest, self.stand_in("dd", f'[[ $2 != */{name} ]] || exit 1; exec "$real" "$@"'))
+            self.check_refused(f"a {name} that is not copied", ended, 3, f"cannot read '{getattr(self.honest, name)}'")
+            for title, body in (("fails", "exit 1"), ("prints nothing", "exit 0"), ("is killed", "kill -KILL $$"),
+                                ("dies after its lines", '"$real" "$@"; exit 3'), ("prints a part", '"$real" "$@" | head -c 100; exit 0'),
+                                ("lacks a line", '"$real" "$@" | sed 1d; exit 0')):
+                with self.other_agent(f"[[ $1 != {command} ]] || {{ {body}; }}"):
+                    self.check_refused(f"the search of the {name} {title}", self.attest(self.honest), 3, "searched")
+
+    def test_longest(self):
+        """A log, and a list of one entry, as long as the program reads, and longer by a byte."""
+        most = 64 << 20
+        entry = Entry(10, bytes(20), b"", bytes(100)).spelling()[:28] + (most - 32).to_bytes(4, "little")
+        for name, start, ends in (("log", b"", (2, "refused: log fault 2")), ("list", entry, (1, "verdict differ"))):
+            path = self.put(f"longest.{name}", start)
+            for size, wanted in ((most, ends), (most + 1, (2, f"refused: too long {name}"))):
+                os.truncate(path, size)
+                ended = self.attest(self.honest, **{name: path})
+                self.check(f"a {name} of {size} bytes", (ended.status, ended.last), wanted)
+
+
+class OddLists(LenientTests):
+    """Logs and lists that are odd in other ways."""
+
+    def test_logs_of_one_bank(self):
+        """A log of one bank, which is not SHA-256's, has entries of the list as events of register 10."""
+        for algorithm in (SHA1, SHA384, SHA512):
+            name = algorithm.name
+            events = [event._replace(digests={algorithm.identifier: algorithm.hash(event.digest_of(SHA256))}) for event in LOG.events]
+            log = LOG._replace(declared={algorithm.identifier: algorithm.size}, events=events)
+            aggregate = entry_of(IMA_NG, algorithm, log.registers().boot_aggregate(algorithm), BOOT_AGGREGATE)
+            entries = [aggregate, executable(b"/bin/hidden"), aggregate, executable(b"/bin/shown")]
+            names = {"log": self.put(f"{name}.log", log.spelling()), "list": self.put(f"{name}.list", list_spelling(entries))}
+            honest = Evidence(quote=self.state(name, values_after(entries, log, algorithm), algorithm), require=f"{name}:0-10", **names)
+            ended = self.attest(honest)
+            self.check(f"a log of {name} alone", (ended.status, ended.last, ended.errors), (0, "verdict match", ""))
+            log, rest = moved(entries, 2, log=log)
+            forged = replace(honest, log=self.put("forged.log", log), list=self.put("rest.list", rest))
+            self.check_refused(f"a log of {name} alone with entries of the list", self.attest(forged), 2, EXTENDS_TEN)
+
+    def test_entries_of_others(self):
+        """A list has entries of other registers than 10, or of 10 whose names would have one think so."""
+        names = [b'{"entry":0,"register":%d,"template":"ima-ng","path":"' % register for register in (10, 11)]
+        names += [b'/bin/a\n' + name for name in names]
+        entries = [*ENTRIES, *map(executable, names), *(Entry(10, SHA1.hash(b""), name, b"") for name in names)]
+        quote = self.state("of-names", values_after(entries))
+
+        def attested(entries, end=b"", **changes):
+            return self.attest(quote=quote, list=self.put("others.list", list_spelling(entries) + end), **changes)
+
+        def check_other(title, entries, **given):
+            self.check_refused(title, attested(entries, **given), 2, OTHER_REGISTER)
+
+        self.check_match("entries of register 10 with odd names", attested(entries))
+        for register in (0, 1, 9, 11, 23):
+            check_other(f"an entry of register {register}", [*entries, executable(b"/bin/other", register)])
+        for place in (0, 1, len(ENTRIES)):
+            check_other(f"an entry of register 11 at {place}", [*entries[:place], executable(b"/bin/other", 11), *entries[place:]])
+        for name in names:
+            for other in (executable(name, 11), Entry(11, SHA1.hash(b""), name, b"")):
+                check_other(f"an entry of register 11 with an odd name: {other.template} {name}", [*entries, other])
+        later, eleven = executable(b"/bin/later"), executable(b"/bin/later", 11)
+        check_other("an entry of register 11 after the front", [*entries, eleven, later], prefix=True)
+        forged = later._replace(template_digest=SHA1.hash(b""))
+        self.check_match("damage after the front", attested([*entries, later, forged, later], end=b"\n", prefix=True))
+        said = self.said_on_terminal(Evidence(quote=quote, list=self.folder / "others.list", prefix=True))
+        self.check("damage after the front says nothing on a terminal", said, (0, ""))
+        title = "damage, and before it an entry of register 11, after the front"
+        check_other(title, [*entries, forged, eleven], end=b"\n", prefix=True)
+        for title, body in (("fails", "exit 2"), ("dies after its lines", '"$real" "$@"; exit 3'),
+                            ("is refused memory", 'echo \'{"fault":{"kind":"memory","message":"failed: memory"}}\'; exit 3')):
+            with self.other_agent(f"[[ $1 != show ]] || {{ {body}; }}"):
+                ended = attested([*entries, later], end=b"\n", prefix=True)
+            self.check_refused(f"the search of a list with damage after the front {title}", ended, 3, "searched")
+
+    def test_many_entries(self):
+        """A list is long, as that of a machine that runs for months."""
+        entries = [*ENTRIES, *[executable(b"/bin/often")] * 10_000]
+        quote = self.state("of-many", values_after(entries))
+        many = self.put("many.list", list_spelling(entries))
+        self.check_match("a list of more than 10,000 entries", self.attest(quote=quote, list=many))
