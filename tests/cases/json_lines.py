@@ -1,13 +1,13 @@
 #!/usr/bin/env python3
 """Reads back what the program shows with `--json`, by Python's own json.
 
-tests/cases/json_lines.py [PROGRAM]: by default the program that was built in this tree.
+tests/cases/json_lines.py [PROGRAM [ENTRIES]]: by default the program that was built in this tree, and a long list of 12,000 entries.
 
 The members of each object must be in one table of docs/formats.md ('As JSON'), in its order.
 
 Each line must be one value of ASCII or UTF-8 that json writes in the same way, without white space, and has no byte below 32. All lines must
 be what `tests/reference/` answers, and each must say what the same command's text says. The commands read the sample, lists of all templates
-whose paths and payloads are hostile, damaged lists and logs, and a list of 12,000 entries. The script counts commands."""
+whose paths and payloads are hostile, damaged lists and logs, and the long list. The script counts commands."""
 
 import json
 import random
@@ -25,7 +25,7 @@ from reference.measurement_list import IMA, IMA_NG, IMA_SIG, VIOLATION, Entry, e
 from reference.registers import ALGORITHMS, SHA1, SHA256  # noqa: E402
 
 SECONDS = 60
-ENTRIES = 12_000
+ENTRIES = int(sys.argv[2]) if len(sys.argv) > 2 else 12_000
 HOSTILE = [
     *(bytes([byte]) for byte in range(1, 256)),
     b"\n\n", b'"', b"\\", b'\\"', b"\x1b[2J\x1b[31m", b"\r\n", b"/bin/x 030204", "\u2028\u202e\ufeff".encode(), "\U0001f600".encode(),
