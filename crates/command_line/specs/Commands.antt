@@ -19,11 +19,14 @@ use Rattle.command_line.specs.declared.plan.DataShown.{DataShown}
 use Rattle.command_line.specs.declared.plan.DataShown.TheVariants.{Size, Bytes}
 use Rattle.command_line.specs.declared.plan.Extent.{Extent}
 use Rattle.command_line.specs.declared.plan.Extent.TheVariants.{Whole, Front}
-use Rattle.command_line.specs.declared.plan.Growing.{Growing}
+use Rattle.command_line.specs.declared.plan.Form.{Form}
+use Rattle.command_line.specs.declared.plan.Form.TheVariants as forms
+use Rattle.command_line.specs.declared.plan.Judged.{Judged}
+use Rattle.command_line.specs.declared.plan.Judged.TheVariants as judged
 use Rattle.command_line.specs.declared.plan.NameEnd.{NameEnd}
 use Rattle.command_line.specs.declared.plan.NameEnd.TheVariants.{LineFeed, Nul}
 use Rattle.command_line.specs.declared.plan.Plan.{Plan}
-use Rattle.command_line.specs.declared.plan.Plan.TheVariants.{Registers, Measure, MeasureListed, Verify, VerifyRequired, VerifyGrowing, Locate, LocateRequired, Expected, RegistersAfter, Events, Show, Replay, ReplayExpected, Json, Help, Version}
+use Rattle.command_line.specs.declared.plan.Plan.TheVariants.{Registers, Measure, MeasureListed, Verify, Judge, Expected, RegistersAfter, Events, Show, Replay, Json, Help, Version}
 use Rattle.command_line.specs.declared.plan.Print.{Print}
 use Rattle.command_line.specs.declared.plan.Print.TheVariants as prints
 
@@ -148,15 +151,16 @@ abbrev pub json_print_name : JsonPrint → Text
 json_print_name json_prints.Entries = codes "ascii"
 json_print_name json_prints.Registers = codes "registers"
 
--- The value that clap gives a flag: `true` if it is present, else `false`.
-abbrev pub flag_value : Bool → Text
-flag_value false = codes "false"
-flag_value true = codes "true"
+-- How the result of the plan is shown.
+abbrev pub form_of : Plan → Form
+form_of (Judge judge) = judge.form
+form_of (Json plan) = forms.Json
+form_of plan = forms.Text
 
--- The plan has its result printed as JSON.
-abbrev pub is_json : Plan → Bool
-is_json (Json plan) = true
-is_json plan = false
+-- The value that clap gives `--json`: `true` if it is present, else `false`.
+abbrev pub form_value : Form → Text
+form_value forms.Text = codes "false"
+form_value forms.Json = codes "true"
 
 -- The value that clap gives `--null`: `true` if it is present, else `false`.
 abbrev pub null_value : NameEnd → Text
@@ -207,22 +211,21 @@ pub record HasGrowth (rows : List Row) (extent : Extent) (resume save : Option (
   pub resume_is : IsGivenAs (codes "resume") rows resume
   pub save_is : IsGivenAs (codes "save") rows save
 
--- At least one of these options is present.
-abbrev pub has_growth : Extent → Option (String Global) → Option (String Global) → Bool
-has_growth Whole None None = false
-has_growth extent resume save = true
+-- The matches have these names, and those of what is judged.
+abbrev pub HasJudged : List Row → Judged → Text → Text → Type 0
+HasJudged rows (judged.Verdict log extent resume save) list expected =
+    HasEvidence rows (string_bytes log) list expected × HasGrowth rows extent resume save
+HasJudged rows (judged.Places log) list expected = HasEvidence rows (string_bytes log) list expected
+HasJudged rows judged.ListVerdict list expected =
+    (first_of (codes "LIST") rows ≡ Some list) × (first_of (codes "EXPECTED") rows ≡ Some expected)
 
--- The matches have these options and names of a list that grows, at least one of which goes beyond those of a whole list.
-abbrev pub HasGrowing : List Row → Growing → Type 0
-HasGrowing rows asked =
-    HasEvidence rows (string_bytes asked.log) (string_bytes asked.list) (string_bytes asked.expected)
-    × IsGivenAs (codes "require") rows asked.required
-    × HasGrowth rows asked.extent asked.resume asked.save
-    × (has_growth asked.extent asked.resume asked.save ≡ true)
+-- Nothing more is asked for than `Verify` requests.
+abbrev pub is_plain_verdict : Judged → Option (String Global) → Form → Bool
+is_plain_verdict (judged.Verdict log Whole None None) None forms.Text = true
+is_plain_verdict judged required form = false
 
 -- The plan with `--json` has the options and names of these matches. `Measure` requires that neither `--files-from` nor `--null` is
--- present, `Verify` that none of `--prefix`, `--resume` and `--save` is, where `VerifyGrowing` requires one of them, and `Replay` that
--- neither EXPECTED nor `--require` is. `Events` has the data with `--data` and without.
+-- present, and `Replay` that neither EXPECTED nor `--require` is. `Events` has the data with `--data` and without.
 abbrev pub HasJsonValues : List Row → JsonPlan → Type 0
 HasJsonValues rows (jsons.Measure alg template workers limit print log files) =
     HasMeasure rows (name_of alg) (template_name template) (json_print_name print) (string_bytes log) workers limit (map string_bytes files.items)
@@ -232,14 +235,6 @@ HasJsonValues rows (jsons.MeasureListed alg template workers limit print log fil
     HasMeasure rows (name_of alg) (template_name template) (json_print_name print) (string_bytes log) workers limit (map string_bytes files.items)
     × (first_of (codes "files-from") rows ≡ Some (string_bytes names))
     × (first_of (codes "null") rows ≡ Some (null_value ends))
-HasJsonValues rows (jsons.Verify log list expected required) =
-    HasEvidence rows (string_bytes log) (string_bytes list) (string_bytes expected)
-    × IsGivenAs (codes "require") rows required
-    × HasGrowth rows Whole None None
-HasJsonValues rows (jsons.VerifyGrowing asked) = HasGrowing rows asked
-HasJsonValues rows (jsons.Locate log list expected required) =
-    HasEvidence rows (string_bytes log) (string_bytes list) (string_bytes expected)
-    × IsGivenAs (codes "require") rows required
 HasJsonValues rows (jsons.Expected printed registers) =
     (first_of (codes "PCRREAD") rows ≡ Some (string_bytes printed))
     × IsGivenAs (codes "registers") rows registers
@@ -250,14 +245,9 @@ HasJsonValues rows (jsons.Replay list) =
     (first_of (codes "LIST") rows ≡ Some (string_bytes list))
     × (all_of (codes "EXPECTED") rows ≡ None)
     × (all_of (codes "require") rows ≡ None)
-HasJsonValues rows (jsons.ReplayExpected list expected required) =
-    (first_of (codes "LIST") rows ≡ Some (string_bytes list))
-    × (first_of (codes "EXPECTED") rows ≡ Some (string_bytes expected))
-    × IsGivenAs (codes "require") rows required
 
--- The plan has the options and names of these matches. `Measure` requires that neither `--files-from` nor `--null` is present,
--- `Verify`, `Locate` and `Replay` that `--require` is not, and `Replay` also that EXPECTED is not. `Verify` and `VerifyRequired` require
--- that none of `--prefix`, `--resume` and `--save` is present, and `VerifyGrowing` that one of them is.
+-- The plan has the options and names of these matches. `Measure` requires that neither `--files-from` nor `--null` is present, `Verify`
+-- that none of `--require`, `--prefix`, `--resume` and `--save` is, and `Replay` that neither EXPECTED nor `--require` is.
 abbrev pub HasValues : List Row → Plan → Type 0
 HasValues rows Registers = ⊥
 HasValues rows (Measure alg template workers limit print log files) =
@@ -272,17 +262,10 @@ HasValues rows (Verify log list expected) =
     HasEvidence rows (string_bytes log) (string_bytes list) (string_bytes expected)
     × (all_of (codes "require") rows ≡ None)
     × HasGrowth rows Whole None None
-HasValues rows (VerifyRequired log list expected required) =
-    HasEvidence rows (string_bytes log) (string_bytes list) (string_bytes expected)
-    × (first_of (codes "require") rows ≡ Some (string_bytes required))
-    × HasGrowth rows Whole None None
-HasValues rows (VerifyGrowing asked) = HasGrowing rows asked
-HasValues rows (Locate log list expected) =
-    HasEvidence rows (string_bytes log) (string_bytes list) (string_bytes expected)
-    × (all_of (codes "require") rows ≡ None)
-HasValues rows (LocateRequired log list expected required) =
-    HasEvidence rows (string_bytes log) (string_bytes list) (string_bytes expected)
-    × (first_of (codes "require") rows ≡ Some (string_bytes required))
+HasValues rows (Judge judge) =
+    HasJudged rows judge.judged (string_bytes judge.list) (string_bytes judge.expected)
+    × IsGivenAs (codes "require") rows judge.required
+    × (is_plain_verdict judge.judged judge.required judge.form ≡ false)
 HasValues rows (Expected printed registers) =
     (first_of (codes "PCRREAD") rows ≡ Some (string_bytes printed))
     × IsGivenAs (codes "registers") rows registers
@@ -295,19 +278,15 @@ HasValues rows (Replay list) =
     (first_of (codes "LIST") rows ≡ Some (string_bytes list))
     × (all_of (codes "EXPECTED") rows ≡ None)
     × (all_of (codes "require") rows ≡ None)
-HasValues rows (ReplayExpected list expected required) =
-    (first_of (codes "LIST") rows ≡ Some (string_bytes list))
-    × (first_of (codes "EXPECTED") rows ≡ Some (string_bytes expected))
-    × IsGivenAs (codes "require") rows required
 HasValues rows (Json plan) = HasJsonValues rows plan
 HasValues rows (Help text) = ⊥
 HasValues rows Version = ⊥
 
--- The same of the matches of a command, which was found. With `--json` the result is printed as JSON, and without it it is not.
+-- The same of the matches of a command, which was found. With `--json` the result is shown as JSON, and without it as text.
 pub record HasValuesIn (found : Option (Text × List Row)) (plan : Plan) : Type 0 where
   pub rows : List Row
   pub rows_are : option_map (λ command. command.1) found ≡ Some rows
-  pub json_is : first_of (codes "json") rows ≡ Some (flag_value (is_json plan))
+  pub form_is : first_of (codes "json") rows ≡ Some (form_value (form_of plan))
   pub values : HasValues rows plan
 
 -- By its own definition clap does not take the arguments. (Of `measure` and `replay`, some of whose options go only with others, that says

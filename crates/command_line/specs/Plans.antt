@@ -5,8 +5,10 @@ use Rattle.std.specs.Global.{Global}
 use Rattle.command_line.specs.Commands.{AreNotTaken, IsMatched}
 use Rattle.command_line.specs.declared.json_plan.JsonPlan.{JsonPlan}
 use Rattle.command_line.specs.declared.json_plan.JsonPlan.TheVariants as jsons
+use Rattle.command_line.specs.declared.plan.Judged.{Judged}
+use Rattle.command_line.specs.declared.plan.Judged.TheVariants as judged
 use Rattle.command_line.specs.declared.plan.Plan.{Plan}
-use Rattle.command_line.specs.declared.plan.Plan.TheVariants.{Registers, Measure, MeasureListed, Verify, VerifyRequired, VerifyGrowing, Locate, LocateRequired, Expected, RegistersAfter, Events, Show, Replay, ReplayExpected, Json, Help, Version}
+use Rattle.command_line.specs.declared.plan.Plan.TheVariants.{Registers, Measure, MeasureListed, Verify, Judge, Expected, RegistersAfter, Events, Show, Replay, Json, Help, Version}
 
 -- A measurement has 1 to 8 workers, a limit of at least one record, and fewer than 2^32 files named by arguments. Here of a plan with
 -- `--json`, and then of any plan.
@@ -24,16 +26,12 @@ IsWithinRanges (Measure alg template workers limit print log files) =
 IsWithinRanges (MeasureListed alg template workers limit print log files names ends) =
     (1 ≤ workers) × (workers ≤ 8) × (1 ≤ limit) × (vec_len files < 2 ^ 32)
 IsWithinRanges (Verify log list expected) = Unit {0}
-IsWithinRanges (VerifyRequired log list expected required) = Unit {0}
-IsWithinRanges (VerifyGrowing asked) = Unit {0}
-IsWithinRanges (Locate log list expected) = Unit {0}
-IsWithinRanges (LocateRequired log list expected required) = Unit {0}
+IsWithinRanges (Judge judge) = Unit {0}
 IsWithinRanges (Expected printed registers) = Unit {0}
 IsWithinRanges (RegistersAfter log) = Unit {0}
 IsWithinRanges (Events log shown) = Unit {0}
 IsWithinRanges (Show list) = Unit {0}
 IsWithinRanges (Replay list) = Unit {0}
-IsWithinRanges (ReplayExpected list expected required) = Unit {0}
 IsWithinRanges (Json plan) = IsWithinJsonRanges plan
 IsWithinRanges (Help text) = Unit {0}
 IsWithinRanges Version = Unit {0}
@@ -42,15 +40,17 @@ IsWithinRanges Version = Unit {0}
 abbrev pub json_command : JsonPlan → List ℕ
 json_command (jsons.Measure alg template workers limit print log files) = codes "measure"
 json_command (jsons.MeasureListed alg template workers limit print log files names ends) = codes "measure"
-json_command (jsons.Verify log list expected required) = codes "verify"
-json_command (jsons.VerifyGrowing asked) = codes "verify"
-json_command (jsons.Locate log list expected required) = codes "locate"
 json_command (jsons.Expected printed registers) = codes "expected"
 json_command (jsons.RegistersAfter log) = codes "registers"
 json_command (jsons.Events log) = codes "events"
 json_command (jsons.Show list) = codes "show"
 json_command (jsons.Replay list) = codes "replay"
-json_command (jsons.ReplayExpected list expected required) = codes "replay"
+
+-- The name of the command that judges this.
+abbrev pub judge_command : Judged → List ℕ
+judge_command (judged.Verdict log extent resume save) = codes "verify"
+judge_command (judged.Places log) = codes "locate"
+judge_command judged.ListVerdict = codes "replay"
 
 -- The plan is of the command with this name.
 abbrev pub IsOfCommand : List ℕ → Plan → Type 0
@@ -58,16 +58,12 @@ IsOfCommand command Registers = ⊥
 IsOfCommand command (Measure alg template workers limit print log files) = command ≡ codes "measure"
 IsOfCommand command (MeasureListed alg template workers limit print log files names ends) = command ≡ codes "measure"
 IsOfCommand command (Verify log list expected) = command ≡ codes "verify"
-IsOfCommand command (VerifyRequired log list expected required) = command ≡ codes "verify"
-IsOfCommand command (VerifyGrowing asked) = command ≡ codes "verify"
-IsOfCommand command (Locate log list expected) = command ≡ codes "locate"
-IsOfCommand command (LocateRequired log list expected required) = command ≡ codes "locate"
+IsOfCommand command (Judge judge) = command ≡ judge_command judge.judged
 IsOfCommand command (Expected printed registers) = command ≡ codes "expected"
 IsOfCommand command (RegistersAfter log) = command ≡ codes "registers"
 IsOfCommand command (Events log shown) = command ≡ codes "events"
 IsOfCommand command (Show list) = command ≡ codes "show"
 IsOfCommand command (Replay list) = command ≡ codes "replay"
-IsOfCommand command (ReplayExpected list expected required) = command ≡ codes "replay"
 IsOfCommand command (Json plan) = command ≡ json_command plan
 IsOfCommand command (Help text) = ⊥
 IsOfCommand command Version = ⊥

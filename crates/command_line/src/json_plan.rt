@@ -1,6 +1,6 @@
 //! What the program's arguments request with `--json`.
 
-use crate::plan::{Growing, NameEnd};
+use crate::plan::NameEnd;
 use ima_list::Template;
 use pcr_banks::Alg;
 
@@ -55,30 +55,6 @@ pub enum JsonPlan {
         /// What ends each name in that text.
         ends: NameEnd,
     },
-    /// Replay a log and a list, and compare the registers with expected ones.
-    Verify {
-        /// The name of the firmware event log, binary.
-        log: String,
-        /// The name of the measurement list, binary.
-        list: String,
-        /// The name of the text of expected registers.
-        expected: String,
-        /// The text of the registers that have to be among them, as `sha256:0-10`, if there is one. It is any text here.
-        required: Option<String>,
-    },
-    /// As `Verify`, for a list that grows: of a front of it, or going on from a checkpoint.
-    VerifyGrowing(Growing),
-    /// Find where the expected registers first have their values, in a log and a list.
-    Locate {
-        /// The name of the firmware event log, binary.
-        log: String,
-        /// The name of the measurement list, binary.
-        list: String,
-        /// The name of the text of expected registers.
-        expected: String,
-        /// The text of the registers that have to be among them, as `sha256:0-10`, if there is one. It is any text here.
-        required: Option<String>,
-    },
     /// State the registers that `tpm2_pcrread` or `tpm2_checkquote` printed.
     Expected {
         /// The name of the text that one of them printed.
@@ -105,14 +81,5 @@ pub enum JsonPlan {
     Replay {
         /// The name of the measurement list, binary.
         list: String,
-    },
-    /// Replay a list alone, and compare the registers it gives with expected ones.
-    ReplayExpected {
-        /// The name of the measurement list, binary.
-        list: String,
-        /// The name of the text of expected registers.
-        expected: String,
-        /// The text of the registers that have to be among them, as `sha256:0-10`, if there is one. It is any text here.
-        required: Option<String>,
     },
 }

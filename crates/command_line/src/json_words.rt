@@ -8,10 +8,7 @@ ghost use Rattle.command_line.specs.parts.Plans.{IsJsonPlan};
 use crate::fault::WordsFault;
 use crate::json_plan::{JsonPlan, JsonPrint};
 use crate::plan::Print;
-use crate::values::{
-    Evidence, evidence_of, further_names_of, growing_of, growth_of, measurement_of, name_of,
-    text_if_given,
-};
+use crate::values::{further_names_of, measurement_of, name_of, text_if_given};
 use clap::ArgMatches;
 use std::alloc::Global;
 
@@ -25,13 +22,10 @@ pub(crate) fn json_plan_of(
 {
     match command {
         "measure" => measure_of(alloc, matches),
-        "verify" => verify_of(alloc, matches),
-        "locate" => locate_of(alloc, matches),
         "expected" => expected_of(alloc, matches),
         "registers" => registers_of(alloc, matches),
         "events" => events_of(alloc, matches),
         "show" => show_of(alloc, matches),
-        "replay" => replay_of(alloc, matches),
         _ => Err(WordsFault::Usage),
     }
 }
@@ -77,40 +71,6 @@ fn json_print_of(print: Print) -> Result<JsonPrint, WordsFault>
     }
 }
 
-// The plan of `verify`; of a list that grows, if one of `--prefix`, `--resume` and `--save` is present.
-fn verify_of(alloc: Global, matches: &ArgMatches) -> Result<JsonPlan, WordsFault>
-    ensures { IfOk result (IsJsonPlan (codes "verify") (rows_of (found_of matches.now))) }
-{
-    let evidence = evidence_of(alloc, matches)?;
-    match growth_of(alloc, matches)? {
-        None => Ok(JsonPlan::Verify {
-            log: evidence.log,
-            list: evidence.list,
-            expected: evidence.expected,
-            required: evidence.required,
-        }),
-        Some(growth) => Ok(JsonPlan::VerifyGrowing(growing_of(evidence, growth))),
-    }
-}
-
-// The plan of `locate`.
-fn locate_of(alloc: Global, matches: &ArgMatches) -> Result<JsonPlan, WordsFault>
-    ensures { IfOk result (IsJsonPlan (codes "locate") (rows_of (found_of matches.now))) }
-{
-    let Evidence {
-        log,
-        list,
-        expected,
-        required,
-    } = evidence_of(alloc, matches)?;
-    Ok(JsonPlan::Locate {
-        log,
-        list,
-        expected,
-        required,
-    })
-}
-
 // The plan of `expected`.
 fn expected_of(alloc: Global, matches: &ArgMatches) -> Result<JsonPlan, WordsFault>
     ensures { IfOk result (IsJsonPlan (codes "expected") (rows_of (found_of matches.now))) }
@@ -146,22 +106,4 @@ fn show_of(alloc: Global, matches: &ArgMatches) -> Result<JsonPlan, WordsFault>
     Ok(JsonPlan::Show {
         list: name_of(alloc, matches, "LIST")?,
     })
-}
-
-// The plan of `replay`. Refuses `--require` without EXPECTED.
-fn replay_of(alloc: Global, matches: &ArgMatches) -> Result<JsonPlan, WordsFault>
-    ensures { IfOk result (IsJsonPlan (codes "replay") (rows_of (found_of matches.now))) }
-{
-    let list = name_of(alloc, matches, "LIST")?;
-    let expected = text_if_given(alloc, matches, "EXPECTED")?;
-    let required = text_if_given(alloc, matches, "require")?;
-    match (expected, required) {
-        (Some(expected), required) => Ok(JsonPlan::ReplayExpected {
-            list,
-            expected,
-            required,
-        }),
-        (None, None) => Ok(JsonPlan::Replay { list }),
-        (None, Some(_)) => Err(WordsFault::Usage),
-    }
 }

@@ -13,5 +13,5 @@ mod words;
 
 pub use fault::WordsFault;
 pub use json_plan::{JsonPlan, JsonPrint};
-pub use plan::{DataShown, Extent, Growing, NameEnd, Plan, Print};
+pub use plan::{DataShown, Extent, Form, Judge, Judged, NameEnd, Plan, Print};
 pub use words::{read_words, refusal_of, words_after_name};

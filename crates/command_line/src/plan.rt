@@ -42,23 +42,51 @@ pub enum Extent {
     Front,
 }
 
-/// What is asked of a list that grows. At least one of `extent`, `resume` and `save` asks for more than `Verify` does.
+/// In which form a result is shown.
+#[derive(Clone, Copy, PartialEq, Eq)]
+pub enum Form {
+    /// As lines of text.
+    Text,
+    /// As a line of JSON.
+    Json,
+}
+
+/// What is judged, with what only it is of.
 #[derive(Drop)]
-pub struct Growing {
-    /// The name of the firmware event log, binary.
-    pub log: String,
-    /// The name of the measurement list, binary; with `resume`, of what follows the checkpoint.
+pub enum Judged {
+    /// A log, a list and expected registers.
+    Verdict {
+        /// The name of the firmware event log, binary.
+        log: String,
+        /// Which part of the list the verdict is on.
+        extent: Extent,
+        /// The name of the checkpoint to go on from, if there is one.
+        resume: Option<String>,
+        /// The name under which the checkpoint is saved, if it is.
+        save: Option<String>,
+    },
+    /// Where the expected registers first have their values, in a log and a list.
+    Places {
+        /// The name of the firmware event log, binary.
+        log: String,
+    },
+    /// A list alone and expected registers.
+    ListVerdict,
+}
+
+/// What is asked of a list and expected registers, and how the result is shown.
+#[derive(Drop)]
+pub struct Judge {
+    /// What is judged.
+    pub judged: Judged,
+    /// The name of the measurement list, binary; with a checkpoint, of what follows it.
     pub list: String,
     /// The name of the text of expected registers.
     pub expected: String,
     /// The text of the registers that have to be among them, as `sha256:0-10`, if there is one. It is any text here.
     pub required: Option<String>,
-    /// Which part of the list the verdict is on.
-    pub extent: Extent,
-    /// The name of the checkpoint to go on from, if there is one.
-    pub resume: Option<String>,
-    /// The name under which the checkpoint is saved, if it is.
-    pub save: Option<String>,
+    /// How the result is shown.
+    pub form: Form,
 }
 
 /// What the program's arguments request.
@@ -113,39 +141,8 @@ pub enum Plan {
         /// The name of the text of expected registers.
         expected: String,
     },
-    /// As `Verify`, with registers that the expected ones have to include.
-    VerifyRequired {
-        /// The name of the firmware event log, binary.
-        log: String,
-        /// The name of the measurement list, binary.
-        list: String,
-        /// The name of the text of expected registers.
-        expected: String,
-        /// The text of the registers that have to be among them, as `sha256:0-10`. It is any text here.
-        required: String,
-    },
-    /// As `Verify`, for a list that grows: of a front of it, or going on from a checkpoint.
-    VerifyGrowing(Growing),
-    /// Find where the expected registers first have their values, in a log and a list.
-    Locate {
-        /// The name of the firmware event log, binary.
-        log: String,
-        /// The name of the measurement list, binary.
-        list: String,
-        /// The name of the text of expected registers.
-        expected: String,
-    },
-    /// As `Locate`, with registers that the expected ones have to include.
-    LocateRequired {
-        /// The name of the firmware event log, binary.
-        log: String,
-        /// The name of the measurement list, binary.
-        list: String,
-        /// The name of the text of expected registers.
-        expected: String,
-        /// The text of the registers that have to be among them, as `sha256:0-10`. It is any text here.
-        required: String,
-    },
+    /// Judge a list, in any other way.
+    Judge(Judge),
     /// Write the text of expected registers from what `tpm2_pcrread` or `tpm2_checkquote` printed.
     Expected {
         /// The name of the text that one of them printed.
@@ -174,15 +171,6 @@ pub enum Plan {
     Replay {
         /// The name of the measurement list, binary.
         list: String,
-    },
-    /// Replay a list alone, and compare the registers it gives with expected ones.
-    ReplayExpected {
-        /// The name of the measurement list, binary.
-        list: String,
-        /// The name of the text of expected registers.
-        expected: String,
-        /// The text of the registers that have to be among them, as `sha256:0-10`, if there is one. It is any text here.
-        required: Option<String>,
     },
     /// Do what this plan says, and print the result as JSON.
     Json(JsonPlan),

@@ -2,14 +2,14 @@
 
 ghost use Rattle.std.specs.Prelude.{◌≡◌, ◌<◌, ◌≤◌, ◌^◌, [], Some, codes, map, string_bytes, unwrap_or, vec_len, IfOk};
 ghost use Rattle.clap.specs.Words.{all_of, first_of, found_of, rows_of};
-ghost use Rattle.command_line.specs.Commands.{HasEvidence, HasMeasure, HasNumber, IsGivenAs, data_value, extent_value, flag_value, null_value, print_name};
-ghost use Rattle.command_line.specs.parts.Plans.{AreFurtherNames, IsGrowth};
+ghost use Rattle.command_line.specs.Commands.{HasEvidence, HasGrowth, HasMeasure, HasNumber, IsGivenAs, data_value, extent_value, form_value, null_value, print_name};
+ghost use Rattle.command_line.specs.parts.Plans.{AreFurtherNames};
 ghost use Rattle.pcr_banks.specs.Hashing.{name_of};
 ghost use Rattle.ima_list.specs.Templates.{template_name};
 
 use crate::command_table::MOST_WORKERS;
 use crate::fault::WordsFault;
-use crate::plan::{DataShown, Extent, Growing, NameEnd, Print};
+use crate::plan::{DataShown, Extent, Form, NameEnd, Print};
 use clap::ArgMatches;
 use ima_list::Template;
 use pcr_banks::Alg;
@@ -97,44 +97,15 @@ pub(crate) struct Growth {
     pub(crate) save: Option<String>,
 }
 
-/// What is asked of a list that grows, by all that `verify` takes.
-pub(crate) fn growing_of(evidence: Evidence, growth: Growth) -> Growing
-    ensures { result ≡ record {
-      log = evidence.log;
-      list = evidence.list;
-      expected = evidence.expected;
-      required = evidence.required;
-      extent = growth.extent;
-      resume = growth.resume;
-      save = growth.save;
-    } }
+/// The options `--prefix`, `--resume` and `--save`.
+pub(crate) fn growth_of(alloc: Global, matches: &ArgMatches) -> Result<Growth, WordsFault>
+    ensures { IfOk result (λ growth. HasGrowth (rows_of (found_of matches.now)) growth.extent growth.resume growth.save) }
 {
-    Growing {
-        log: evidence.log,
-        list: evidence.list,
-        expected: evidence.expected,
-        required: evidence.required,
-        extent: growth.extent,
-        resume: growth.resume,
-        save: growth.save,
-    }
-}
-
-/// The options `--prefix`, `--resume` and `--save`, if one of them is present.
-pub(crate) fn growth_of(alloc: Global, matches: &ArgMatches) -> Result<Option<Growth>, WordsFault>
-    ensures { IfOk result (IsGrowth (rows_of (found_of matches.now))) }
-{
-    let extent = extent_of(matches)?;
-    let resume = text_if_given(alloc, matches, "resume")?;
-    let save = text_if_given(alloc, matches, "save")?;
-    match (extent, resume, save) {
-        (Extent::Whole, None, None) => Ok(None),
-        (extent, resume, save) => Ok(Some(Growth {
-            extent,
-            resume,
-            save,
-        })),
-    }
+    Ok(Growth {
+        extent: extent_of(matches)?,
+        resume: text_if_given(alloc, matches, "resume")?,
+        save: text_if_given(alloc, matches, "save")?,
+    })
 }
 
 // Which part of the list the verdict is on. `clap` gives `--prefix` the value `true` if it is present, else `false`.
@@ -182,13 +153,13 @@ pub(crate) fn data_of(matches: &ArgMatches) -> Result<DataShown, WordsFault>
     }
 }
 
-/// Whether this flag is present. `clap` then gives it the value `true`, else `false`.
-pub(crate) fn flag_of(matches: &ArgMatches, id: &str) -> Result<bool, WordsFault>
-    ensures { IfOk result (λ given. first_of id.now (rows_of (found_of matches.now)) ≡ Some (flag_value given)) }
+/// How the result is shown. `clap` gives `--json` the value `true` if it is present, else `false`.
+pub(crate) fn form_of(matches: &ArgMatches) -> Result<Form, WordsFault>
+    ensures { IfOk result (λ form. first_of (codes "json") (rows_of (found_of matches.now)) ≡ Some (form_value form)) }
 {
-    match text_of(matches, id)? {
-        "true" => Ok(true),
-        "false" => Ok(false),
+    match text_of(matches, "json")? {
+        "true" => Ok(Form::Json),
+        "false" => Ok(Form::Text),
         _ => Err(WordsFault::Usage),
     }
 }

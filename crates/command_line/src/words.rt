@@ -4,21 +4,22 @@ ghost use Rattle.std.specs.Prelude.{◌≡◌, ◌⊎◌, List, [], None, Ok, co
 ghost use Rattle.clap.specs.Values.{kind_of};
 ghost use Rattle.clap.specs.Words.{Row, found_of, rows_of, subcommand_rows_of};
 ghost use Rattle.command_line.specs.parts.Commands.{IsCommand};
-ghost use Rattle.command_line.specs.parts.Plans.{IsTextPlan};
+ghost use Rattle.command_line.specs.parts.Plans.{IsPlanIn};
 ghost use Rattle.command_line.specs.Commands.{AreNotTaken, HasEvidence, HasGrowth, HasValuesIn, IsGivenAs, IsMatched, Parsers, commands};
 ghost use Rattle.std.specs.Vec.Iter.{into_iter_items};
 ghost use Rattle.command_line.specs.Plans.{BeginsWithVersion, HasHelpWord, IsAskedBy, IsHelp, IsOfCommand, IsWithinRanges, asks_help};
 ghost use Rattle.std.specs.List.{list_any};
-ghost use Rattle.command_line.specs.declared.plan.Extent.TheVariants.{Whole};
+ghost use Rattle.command_line.specs.declared.plan.Form.TheVariants.{Text};
 ghost use Rattle.command_line.specs.declared.plan.Plan.TheVariants.{Registers, Version};
 
 use crate::commands::{KnownNames, VERSION, all_commands};
 use crate::fault::WordsFault;
+use crate::json_plan::JsonPlan;
 use crate::json_words::json_plan_of;
-use crate::plan::Plan;
+use crate::plan::{Extent, Form, Judge, Judged, Plan};
 use crate::values::{
-    Evidence, data_of, evidence_of, flag_of, further_names_of, growing_of, growth_of,
-    measurement_of, name_of, text_if_given,
+    Evidence, Growth, data_of, evidence_of, form_of, further_names_of, growth_of, measurement_of,
+    name_of, text_if_given,
 };
 use clap::error::ErrorKind;
 use clap::{ArgMatches, Command, Error};
@@ -144,32 +145,126 @@ fn plan_of(alloc: Global, command: &str, matches: &ArgMatches) -> Result<Plan, W
     let Some(matches) = matches.subcommand_matches(command) else {
         return Err(WordsFault::Usage);
     };
-    if flag_of(matches, "json")? {
-        return Ok(Plan::Json(json_plan_of(alloc, command, matches)?));
+    plan_in_form(alloc, command, matches, form_of(matches)?)
+}
+
+// The plan of the command of this name, whose result is shown in this form.
+fn plan_in_form(
+    alloc: Global,
+    command: &str,
+    matches: &ArgMatches,
+    form: Form,
+) -> Result<Plan, WordsFault>
+    ensures { IfOk result (IsPlanIn form command.now (rows_of (found_of matches.now))) }
+{
+    match (command, form) {
+        ("verify", form) => verify_of(alloc, matches, form),
+        ("locate", form) => locate_of(alloc, matches, form),
+        ("replay", form) => replay_of(alloc, matches, form),
+        (command, Form::Text) => text_plan_of(alloc, command, matches),
+        (command, Form::Json) => Ok(Plan::Json(json_plan_of(alloc, command, matches)?)),
     }
-    text_plan_of(alloc, command, matches)
+}
+
+// The plan of `verify`.
+fn verify_of(alloc: Global, matches: &ArgMatches, form: Form) -> Result<Plan, WordsFault>
+    ensures { IfOk result (IsPlanIn form (codes "verify") (rows_of (found_of matches.now))) }
+{
+    let evidence = evidence_of(alloc, matches)?;
+    let growth = growth_of(alloc, matches)?;
+    Ok(verdict_on(evidence, growth, form))
+}
+
+// The plan of a verdict: `Verify`, if nothing more is asked for than that requests.
+fn verdict_on(evidence: Evidence, growth: Growth, form: Form) -> Plan
+    ensures { (rows : List Row) → HasEvidence rows (string_bytes evidence.log) (string_bytes evidence.list) (string_bytes evidence.expected)
+        → IsGivenAs (codes "require") rows evidence.required → HasGrowth rows growth.extent growth.resume growth.save
+        → IsPlanIn form (codes "verify") rows result }
+{
+    let Evidence {
+        log,
+        list,
+        expected,
+        required,
+    } = evidence;
+    match (growth.extent, growth.resume, growth.save, required, form) {
+        (Extent::Whole, None, None, None, Form::Text) => Plan::Verify {
+            log,
+            list,
+            expected,
+        },
+        (extent, resume, save, required, form) => Plan::Judge(Judge {
+            judged: Judged::Verdict {
+                log,
+                extent,
+                resume,
+                save,
+            },
+            list,
+            expected,
+            required,
+            form,
+        }),
+    }
+}
+
+// The plan of `locate`.
+fn locate_of(alloc: Global, matches: &ArgMatches, form: Form) -> Result<Plan, WordsFault>
+    ensures { IfOk result (IsPlanIn form (codes "locate") (rows_of (found_of matches.now))) }
+{
+    let Evidence {
+        log,
+        list,
+        expected,
+        required,
+    } = evidence_of(alloc, matches)?;
+    Ok(Plan::Judge(Judge {
+        judged: Judged::Places { log },
+        list,
+        expected,
+        required,
+        form,
+    }))
+}
+
+// The plan of `replay`. Refuses `--require` without EXPECTED.
+fn replay_of(alloc: Global, matches: &ArgMatches, form: Form) -> Result<Plan, WordsFault>
+    ensures { IfOk result (IsPlanIn form (codes "replay") (rows_of (found_of matches.now))) }
+{
+    let list = name_of(alloc, matches, "LIST")?;
+    let expected = text_if_given(alloc, matches, "EXPECTED")?;
+    let required = text_if_given(alloc, matches, "require")?;
+    match (expected, required, form) {
+        (Some(expected), required, form) => Ok(Plan::Judge(Judge {
+            judged: Judged::ListVerdict,
+            list,
+            expected,
+            required,
+            form,
+        })),
+        (None, None, Form::Text) => Ok(Plan::Replay { list }),
+        (None, None, Form::Json) => Ok(Plan::Json(JsonPlan::Replay { list })),
+        (None, Some(_), _) => Err(WordsFault::Usage),
+    }
 }
 
 // The plan of the command of this name, without `--json`.
 fn text_plan_of(alloc: Global, command: &str, matches: &ArgMatches) -> Result<Plan, WordsFault>
-    ensures { IfOk result (IsTextPlan command.now (rows_of (found_of matches.now))) }
+    ensures { IfOk result (IsPlanIn Text command.now (rows_of (found_of matches.now))) }
 {
     match command {
         "measure" => measure_of(alloc, matches),
-        "verify" => verify_of(alloc, matches),
-        "locate" => locate_of(alloc, matches),
         "expected" => expected_of(alloc, matches),
         "registers" => registers_of(alloc, matches),
         "events" => events_of(alloc, matches),
         "show" => show_of(alloc, matches),
-        "replay" => replay_of(alloc, matches),
         _ => Err(WordsFault::Usage),
     }
 }
 
 // The plan of `measure`.
 fn measure_of(alloc: Global, matches: &ArgMatches) -> Result<Plan, WordsFault>
-    ensures { IfOk result (IsTextPlan (codes "measure") (rows_of (found_of matches.now))) }
+    ensures { IfOk result (IsPlanIn Text (codes "measure") (rows_of (found_of matches.now))) }
 {
     let asked = measurement_of(alloc, matches)?;
     match further_names_of(alloc, matches)? {
@@ -196,71 +291,9 @@ fn measure_of(alloc: Global, matches: &ArgMatches) -> Result<Plan, WordsFault>
     }
 }
 
-// The plan of `verify`; of a list that grows, if one of `--prefix`, `--resume` and `--save` is present.
-fn verify_of(alloc: Global, matches: &ArgMatches) -> Result<Plan, WordsFault>
-    ensures { IfOk result (IsTextPlan (codes "verify") (rows_of (found_of matches.now))) }
-{
-    let evidence = evidence_of(alloc, matches)?;
-    match growth_of(alloc, matches)? {
-        None => Ok(verify_whole(evidence)),
-        Some(growth) => Ok(Plan::VerifyGrowing(growing_of(evidence, growth))),
-    }
-}
-
-// The plan of `verify` of a whole list.
-fn verify_whole(evidence: Evidence) -> Plan
-    ensures { (rows : List Row) → HasEvidence rows (string_bytes evidence.log) (string_bytes evidence.list) (string_bytes evidence.expected)
-        → IsGivenAs (codes "require") rows evidence.required → HasGrowth rows Whole None None → IsTextPlan (codes "verify") rows result }
-{
-    let Evidence {
-        log,
-        list,
-        expected,
-        required,
-    } = evidence;
-    match required {
-        None => Plan::Verify {
-            log,
-            list,
-            expected,
-        },
-        Some(required) => Plan::VerifyRequired {
-            log,
-            list,
-            expected,
-            required,
-        },
-    }
-}
-
-// The plan of `locate`.
-fn locate_of(alloc: Global, matches: &ArgMatches) -> Result<Plan, WordsFault>
-    ensures { IfOk result (IsTextPlan (codes "locate") (rows_of (found_of matches.now))) }
-{
-    let Evidence {
-        log,
-        list,
-        expected,
-        required,
-    } = evidence_of(alloc, matches)?;
-    match required {
-        None => Ok(Plan::Locate {
-            log,
-            list,
-            expected,
-        }),
-        Some(required) => Ok(Plan::LocateRequired {
-            log,
-            list,
-            expected,
-            required,
-        }),
-    }
-}
-
 // The plan of `expected`.
 fn expected_of(alloc: Global, matches: &ArgMatches) -> Result<Plan, WordsFault>
-    ensures { IfOk result (IsTextPlan (codes "expected") (rows_of (found_of matches.now))) }
+    ensures { IfOk result (IsPlanIn Text (codes "expected") (rows_of (found_of matches.now))) }
 {
     Ok(Plan::Expected {
         printed: name_of(alloc, matches, "PCRREAD")?,
@@ -270,7 +303,7 @@ fn expected_of(alloc: Global, matches: &ArgMatches) -> Result<Plan, WordsFault>
 
 // The plan of `registers`.
 fn registers_of(alloc: Global, matches: &ArgMatches) -> Result<Plan, WordsFault>
-    ensures { IfOk result (IsTextPlan (codes "registers") (rows_of (found_of matches.now))) }
+    ensures { IfOk result (IsPlanIn Text (codes "registers") (rows_of (found_of matches.now))) }
 {
     Ok(Plan::RegistersAfter {
         log: name_of(alloc, matches, "LOG")?,
@@ -279,7 +312,7 @@ fn registers_of(alloc: Global, matches: &ArgMatches) -> Result<Plan, WordsFault>
 
 // The plan of `events`.
 fn events_of(alloc: Global, matches: &ArgMatches) -> Result<Plan, WordsFault>
-    ensures { IfOk result (IsTextPlan (codes "events") (rows_of (found_of matches.now))) }
+    ensures { IfOk result (IsPlanIn Text (codes "events") (rows_of (found_of matches.now))) }
 {
     Ok(Plan::Events {
         log: name_of(alloc, matches, "LOG")?,
@@ -289,29 +322,11 @@ fn events_of(alloc: Global, matches: &ArgMatches) -> Result<Plan, WordsFault>
 
 // The plan of `show`.
 fn show_of(alloc: Global, matches: &ArgMatches) -> Result<Plan, WordsFault>
-    ensures { IfOk result (IsTextPlan (codes "show") (rows_of (found_of matches.now))) }
+    ensures { IfOk result (IsPlanIn Text (codes "show") (rows_of (found_of matches.now))) }
 {
     Ok(Plan::Show {
         list: name_of(alloc, matches, "LIST")?,
     })
-}
-
-// The plan of `replay`. Refuses `--require` without EXPECTED.
-fn replay_of(alloc: Global, matches: &ArgMatches) -> Result<Plan, WordsFault>
-    ensures { IfOk result (IsTextPlan (codes "replay") (rows_of (found_of matches.now))) }
-{
-    let list = name_of(alloc, matches, "LIST")?;
-    let expected = text_if_given(alloc, matches, "EXPECTED")?;
-    let required = text_if_given(alloc, matches, "require")?;
-    match (expected, required) {
-        (Some(expected), required) => Ok(Plan::ReplayExpected {
-            list,
-            expected,
-            required,
-        }),
-        (None, None) => Ok(Plan::Replay { list }),
-        (None, Some(_)) => Err(WordsFault::Usage),
-    }
 }
 
 // Whether some argument requests help.

@@ -18,11 +18,12 @@ use Rattle.boot_verdict.specs.Verdicts.{IsForged}
 use Rattle.agent_inputs.specs.declared.fault.RunFault.{RunFault}
 use Rattle.agent_inputs.specs.Faults.{IsFaultOfVerdict, fault_of_list}
 use Rattle.agent_inputs.specs.Loading.{HasFailed, Inputs, OfInput, input_limit}
-use Rattle.ima_agent.specs.declared.output.Form.{Form}
+use Rattle.command_line.specs.declared.plan.Form.{Form}
 use Rattle.ima_agent.specs.Replaying.{IsNoReplayOn, IsReplayFaultOf, ShowsReplay, registers_in}
-use Rattle.ima_agent.specs.Verifying.{fault_of_verdict}
+use Rattle.judging.specs.Inputs.{fault_of_verdict}
 use Rattle.ima_agent.specs.parts.Replaying.{AreListRegisters, IsNoReplayFrom, ShowsReplayFrom}
-use Rattle.ima_agent.proofs.VerifyingLaws.{HasAll, held_more, held_whole, longer}
+use Rattle.judging.proofs.InputLaws.{HasAll, held_whole}
+use Rattle.ima_agent.proofs.InputLaws.{held_more, longer}
 
 -- ---- the registers before a list
 

@@ -32,7 +32,8 @@ use Rattle.ima_agent.specs.Program.{Answers, IsOutcome}
 use Rattle.ima_agent.specs.Streaming.{Streams}
 use Rattle.ima_agent.specs.parts.Streaming.{IsStreamResultOf, SendsEntriesOf}
 use Rattle.ima_agent.proofs.EntryLineLaws.{fault_count}
-use Rattle.ima_agent.proofs.VerifyingLaws.{HasAll, held_more, held_whole, longer}
+use Rattle.judging.proofs.InputLaws.{HasAll, held_whole}
+use Rattle.ima_agent.proofs.InputLaws.{held_more, longer}
 
 -- ---- sinks
 

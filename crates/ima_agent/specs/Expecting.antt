@@ -14,8 +14,8 @@ use Rattle.json_texts.specs.JsonValues.{line_of}
 use Rattle.json_texts.specs.RegisterJson.{expected_json}
 use Rattle.agent_inputs.specs.Faults.{fault_of_expected}
 use Rattle.agent_inputs.specs.Loading.{Inputs, IsInputFault, OfInput}
-use Rattle.ima_agent.specs.declared.output.Form.{Form}
-use Rattle.ima_agent.specs.declared.output.Form.TheVariants as forms
+use Rattle.command_line.specs.declared.plan.Form.{Form}
+use Rattle.command_line.specs.declared.plan.Form.TheVariants as forms
 
 -- The range of registers that is requested: the one that the text spells; all registers without a text.
 abbrev pub IsRequested : Option (List ℕ) → RegisterRange → Type 0

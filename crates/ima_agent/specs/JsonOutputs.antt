@@ -1,16 +1,14 @@
 -- What the program shows with `--json`. All of this is this project's choice.
 use Rattle.std.specs.Prelude.{◌≡◌, ℕ, List, Some, option_map, map, string_bytes}
 use Rattle.command_line.specs.declared.json_plan.JsonPlan.{JsonPlan}
-use Rattle.command_line.specs.declared.json_plan.JsonPlan.TheVariants.{Measure, MeasureListed, Verify, VerifyGrowing, Locate, Expected, RegistersAfter, Events, Show, Replay, ReplayExpected}
+use Rattle.command_line.specs.declared.json_plan.JsonPlan.TheVariants.{Measure, MeasureListed, Expected, RegistersAfter, Events, Show, Replay}
 use Rattle.ima_agent.specs.Expecting.{ShowsExpectedIn}
-use Rattle.ima_agent.specs.Growing.{ShowsGrowth, growth}
-use Rattle.ima_agent.specs.JsonJudging.{ShowsJsonListReport, ShowsJsonPlaces, ShowsJsonReport}
 use Rattle.ima_agent.specs.JsonShowing.{ShowsEntries, ShowsJsonEvents, ShowsJsonRegisters}
 use Rattle.agent_inputs.specs.Loading.{Inputs, OfInput}
 use Rattle.ima_agent.specs.Measuring.{ShowsMeasured, all_names, files_in}
 use Rattle.ima_agent.specs.Replaying.{ShowsReplay}
 use Rattle.ima_agent.specs.declared.measuring.Printing.TheVariants as printings
-use Rattle.ima_agent.specs.declared.output.Form.TheVariants as forms
+use Rattle.command_line.specs.declared.plan.Form.TheVariants as forms
 
 -- This text and this exit status are the output of the plan, with these inputs.
 abbrev pub IsJsonOutputFor : Inputs → JsonPlan → List ℕ → ℕ → Type 0
@@ -24,11 +22,6 @@ IsJsonOutputFor inputs (MeasureListed alg template workers limit print log files
     ShowsMeasured (files_in inputs) bytes (record { alg = alg; template = template; workers = workers; limit = limit })
     (printings.Json print) (all_names (map string_bytes files.items) ends text) shown))
     × (status ≡ 0)
-IsJsonOutputFor inputs (Verify log list expected required) shown status =
-    ShowsJsonReport inputs (string_bytes log) (string_bytes list) (string_bytes expected) (option_map string_bytes required) shown status
-IsJsonOutputFor inputs (VerifyGrowing asked) shown status = ShowsGrowth inputs (growth asked) forms.Json shown status
-IsJsonOutputFor inputs (Locate log list expected required) shown status =
-    ShowsJsonPlaces inputs (string_bytes log) (string_bytes list) (string_bytes expected) (option_map string_bytes required) shown status
 IsJsonOutputFor inputs (Expected printed registers) shown status =
     OfInput inputs (Some (string_bytes printed)) (λ text. ShowsExpectedIn forms.Json (option_map string_bytes registers) text shown)
     × (status ≡ 0)
@@ -40,5 +33,3 @@ IsJsonOutputFor inputs (Show list) shown status =
     OfInput inputs (Some (string_bytes list)) (λ bytes. ShowsEntries bytes shown status)
 IsJsonOutputFor inputs (Replay list) shown status =
     OfInput inputs (Some (string_bytes list)) (λ bytes. ShowsReplay forms.Json bytes shown) × (status ≡ 0)
-IsJsonOutputFor inputs (ReplayExpected list expected required) shown status =
-    ShowsJsonListReport inputs (string_bytes list) (string_bytes expected) (option_map string_bytes required) shown status

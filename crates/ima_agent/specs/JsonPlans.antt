@@ -1,5 +1,4 @@
 -- Plans with `--json`, and those that request the same without it. All of this is this project's choice.
-use Rattle.std.specs.Prelude.{Some, None}
 use Rattle.command_line.specs.declared.json_plan.JsonPlan.{JsonPlan}
 use Rattle.command_line.specs.declared.json_plan.JsonPlan.TheVariants as jsons
 use Rattle.command_line.specs.declared.json_plan.JsonPrint.{JsonPrint}
@@ -20,14 +19,8 @@ plain_of (jsons.Measure alg template workers limit print log files) =
     plans.Measure alg template workers limit (plain_print print) log files
 plain_of (jsons.MeasureListed alg template workers limit print log files names ends) =
     plans.MeasureListed alg template workers limit (plain_print print) log files names ends
-plain_of (jsons.Verify log list expected None) = plans.Verify log list expected
-plain_of (jsons.Verify log list expected (Some required)) = plans.VerifyRequired log list expected required
-plain_of (jsons.VerifyGrowing asked) = plans.VerifyGrowing asked
-plain_of (jsons.Locate log list expected None) = plans.Locate log list expected
-plain_of (jsons.Locate log list expected (Some required)) = plans.LocateRequired log list expected required
 plain_of (jsons.Expected printed registers) = plans.Expected printed registers
 plain_of (jsons.RegistersAfter log) = plans.RegistersAfter log
 plain_of (jsons.Events log) = plans.Events log Bytes
 plain_of (jsons.Show list) = plans.Show list
 plain_of (jsons.Replay list) = plans.Replay list
-plain_of (jsons.ReplayExpected list expected required) = plans.ReplayExpected list expected required

@@ -5,10 +5,8 @@ use Rattle.pcr_banks.specs.declared.alg.Alg.{Alg}
 use Rattle.pcr_banks.specs.declared.banks.Banks.{Banks}
 use Rattle.pcr_banks.specs.Hashing.{hash_of}
 use Rattle.pcr_banks.specs.Registers.{IsReset}
-use Rattle.boot_log.specs.declared.fault.LogFault.{LogFault}
 use Rattle.boot_log.specs.declared.header.Row.{Row}
 use Rattle.boot_log.specs.Spelling.{LogEvent, IsLog, algs_in}
-use Rattle.boot_log.specs.Reading.{log_fault}
 use Rattle.boot_log.specs.Replaying.{IsFirmware, startup_locality}
 use Rattle.ima_list.specs.declared.template.Template.{Template}
 use Rattle.ima_list.specs.Lines.{line_of}
@@ -27,12 +25,13 @@ use Rattle.agent_inputs.specs.declared.fault.RunFault.{RunFault}
 use Rattle.agent_inputs.specs.declared.fault.RunFault.TheVariants as runs
 use Rattle.ima_agent.specs.declared.measuring.Printing.{Printing}
 use Rattle.ima_agent.specs.declared.measuring.Printing.TheVariants as printings
-use Rattle.ima_agent.specs.declared.output.Form.TheVariants as forms
+use Rattle.command_line.specs.declared.plan.Form.TheVariants as forms
 use Rattle.command_line.specs.declared.json_plan.JsonPrint.TheVariants as json_prints
 use Rattle.ima_agent.specs.JsonShowing.{entry_lines}
 use Rattle.ima_agent.specs.Replaying.{registers_in}
 use Rattle.command_line.specs.declared.plan.Print.TheVariants.{Ascii, Binary, Registers}
-use Rattle.agent_inputs.specs.Faults.{fault_of_log, fault_of_agent, fault_of_job}
+use Rattle.agent_inputs.specs.Faults.{fault_of_agent, fault_of_job}
+use Rattle.judging.specs.Answering.{HasLogFault}
 use Rattle.command_line.specs.declared.plan.NameEnd.{NameEnd}
 use Rattle.agent_inputs.specs.Loading.{Inputs, IsNotRead, IsNotUtf8, IsTooLong, input_limit}
 use Rattle.ima_agent.specs.Names.{names_of}
@@ -116,12 +115,6 @@ pub record ShowsMeasured (held : Contents) (log : List ℕ) (manner : Manner) (p
   pub text_is : shown ≡ printed print reset book
 
 -- ---- why nothing is shown
-
--- The bytes are no log, and the fault is their first.
-pub record HasLogFault (bytes : List ℕ) (fault : RunFault) : Type 0 where
-  pub first : LogFault
-  pub first_is : log_fault bytes ≡ Some first
-  pub says : fault ≡ fault_of_log first
 
 -- Why the file of this name has no hash: it is too long, it failed, as such a file may, or memory ran out.
 abbrev pub IsUnhashed : Contents → (List ℕ → Type 0) → List ℕ → RunFault → Type 0

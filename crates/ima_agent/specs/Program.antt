@@ -1,82 +1,73 @@
 -- What the program writes and returns. All of this is this project's choice.
-use Rattle.std.specs.Prelude.{◌≡◌, ℕ, ◌⊎◌, List, map, string_bytes, option_map, None, Some, Result, Ok, Err, String}
+use Rattle.std.specs.Prelude.{◌≡◌, ℕ, ◌⊎◌, Bool, false, true, List, map, string_bytes, option_map, None, Some, Result, Ok, Err, String}
 use Rattle.std.specs.Global.{Global, Vec}
 use Rattle.byte_streams.specs.declared.streams.Failed.{Failed}
 use Rattle.byte_streams.specs.Streams.{SinkState, Sends}
 use Rattle.agent_inputs.specs.declared.fault.RunFault.{RunFault}
 use Rattle.agent_inputs.specs.declared.fault.RunFault.TheVariants as runs
 use Rattle.ima_agent.specs.declared.measuring.Printing.TheVariants as printings
-use Rattle.ima_agent.specs.declared.output.Form.TheVariants as forms
+use Rattle.command_line.specs.declared.plan.Form.{Form}
+use Rattle.command_line.specs.declared.plan.Form.TheVariants as forms
 use Rattle.command_line.specs.declared.json_plan.JsonPlan.{JsonPlan}
 use Rattle.command_line.specs.declared.json_plan.JsonPlan.TheVariants as jsons
 use Rattle.command_line.specs.declared.plan.Plan.{Plan}
 use Rattle.command_line.specs.declared.plan.NameEnd.{NameEnd}
-use Rattle.command_line.specs.declared.plan.Plan.TheVariants.{Registers, Measure, MeasureListed, Verify, VerifyRequired, VerifyGrowing, Locate, LocateRequired, Expected, RegistersAfter, Events, Show, Replay, ReplayExpected, Json, Help, Version}
+use Rattle.command_line.specs.declared.plan.Plan.TheVariants.{Registers, Measure, MeasureListed, Verify, Judge, Expected, RegistersAfter, Events, Show, Replay, Json, Help, Version}
 use Rattle.ima_agent.specs.JsonFaults.{IsFailure}
 use Rattle.ima_agent.specs.JsonOutputs.{IsJsonOutputFor}
 use Rattle.ima_agent.specs.JsonPlans.{plain_of}
 use Rattle.ima_agent.specs.JsonShowing.{FailsAfterEntries, RunsOutAfterEvents}
 use Rattle.agent_inputs.specs.Loading.{Inputs, IsInputFault, OfInput, Saved}
 use Rattle.ima_agent.specs.Expecting.{IsExpectingFault, ShowsExpected}
-use Rattle.ima_agent.specs.Growing.{IsGrownFault, ShowsAndSaves, ShowsGrowth, growth}
-use Rattle.ima_agent.specs.ListVerifying.{IsListReportFaultWith, ShowsListReport}
-use Rattle.ima_agent.specs.Locating.{ShowsPlaces}
 use Rattle.ima_agent.specs.Replaying.{IsReplayFaultOf, ShowsReplay}
-use Rattle.ima_agent.specs.Requiring.{IsFaultWith, ShowsRequiredPlaces, ShowsRequiredReport}
 use Rattle.ima_agent.specs.Showing.{IsNoListFor, IsNoLogFor, IsRefusedFor, ShowsEvents, ShowsList, ShowsRegisters, ShowsRegistersAfter}
-use Rattle.ima_agent.specs.Measuring.{IsMeasuringFault, IsNamesFault, HasLogFault, Manner, ShowsMeasured, all_names, failing_in, files_in}
-use Rattle.ima_agent.specs.Verifying.{IsReportFault, ShowsReport}
+use Rattle.ima_agent.specs.Measuring.{IsMeasuringFault, IsNamesFault, Manner, ShowsMeasured, all_names, failing_in, files_in}
+use Rattle.judging.specs.Answering.{HasLogFault}
+use Rattle.ima_agent.specs.Requests.{asked_by, asked_to_verify, save_by}
 use Rattle.ima_agent.specs.Version.{version_text}
-use Rattle.command_line.specs.Commands.{is_json}
+use Rattle.rendering.specs.Outputs.{IsOutputFault, ShowsAnswer}
+use Rattle.command_line.specs.Commands.{form_of}
 use Rattle.command_line.specs.Plans.{IsAskedBy, IsWithinRanges}
 use Rattle.agent_inputs.specs.Faults.{IsWordsFault}
 use Rattle.ima_agent.specs.FaultTexts.{fault_line, fault_status}
 
 -- ---- a plan
 
--- This text and this exit status are the output of the plan, with these inputs.
-abbrev pub IsOutputFor : Inputs → Plan → List ℕ → ℕ → Type 0
-IsOutputFor inputs Registers shown status = OfInput inputs None (λ text. ShowsRegisters text shown) × (status ≡ 0)
-IsOutputFor inputs (Measure alg template workers limit print log files) shown status =
+-- This text and this exit status are the output of the plan, which judges nothing, with these inputs.
+abbrev pub Shows : Inputs → Plan → List ℕ → ℕ → Type 0
+Shows inputs Registers shown status = OfInput inputs None (λ text. ShowsRegisters text shown) × (status ≡ 0)
+Shows inputs (Measure alg template workers limit print log files) shown status =
     OfInput inputs (Some (string_bytes log)) (λ bytes.
     ShowsMeasured (files_in inputs) bytes (record { alg = alg; template = template; workers = workers; limit = limit }) (printings.Text print)
     (map string_bytes files.items) shown)
     × (status ≡ 0)
-IsOutputFor inputs (MeasureListed alg template workers limit print log files names ends) shown status =
+Shows inputs (MeasureListed alg template workers limit print log files names ends) shown status =
     OfInput inputs (Some (string_bytes log)) (λ bytes. OfInput inputs (Some (string_bytes names)) (λ text.
     ShowsMeasured (files_in inputs) bytes (record { alg = alg; template = template; workers = workers; limit = limit }) (printings.Text print)
     (all_names (map string_bytes files.items) ends text) shown))
     × (status ≡ 0)
-IsOutputFor inputs (Verify log list expected) shown status =
-    ShowsReport inputs (string_bytes log) (string_bytes list) (string_bytes expected) shown status
-IsOutputFor inputs (VerifyRequired log list expected required) shown status =
-    ShowsRequiredReport inputs (string_bytes log) (string_bytes list) (string_bytes expected) (string_bytes required) shown status
-IsOutputFor inputs (VerifyGrowing asked) shown status = ShowsGrowth inputs (growth asked) forms.Text shown status
-IsOutputFor inputs (Locate log list expected) shown status =
-    ShowsPlaces inputs (string_bytes log) (string_bytes list) (string_bytes expected) shown status
-IsOutputFor inputs (LocateRequired log list expected required) shown status =
-    ShowsRequiredPlaces inputs (string_bytes log) (string_bytes list) (string_bytes expected) (string_bytes required) shown status
-IsOutputFor inputs (Expected printed registers) shown status =
+Shows inputs (Verify log list expected) shown status = ⊥
+Shows inputs (Judge judge) shown status = ⊥
+Shows inputs (Expected printed registers) shown status =
     OfInput inputs (Some (string_bytes printed)) (λ text. ShowsExpected (option_map string_bytes registers) text shown) × (status ≡ 0)
-IsOutputFor inputs (RegistersAfter log) shown status =
+Shows inputs (RegistersAfter log) shown status =
     OfInput inputs (Some (string_bytes log)) (λ bytes. ShowsRegistersAfter bytes shown) × (status ≡ 0)
-IsOutputFor inputs (Events log requested) shown status =
+Shows inputs (Events log requested) shown status =
     OfInput inputs (Some (string_bytes log)) (λ bytes. ShowsEvents bytes requested shown) × (status ≡ 0)
-IsOutputFor inputs (Replay list) shown status = OfInput inputs (Some (string_bytes list)) (λ bytes. ShowsReplay forms.Text bytes shown) × (status ≡ 0)
-IsOutputFor inputs (ReplayExpected list expected required) shown status =
-    ShowsListReport inputs (string_bytes list) (string_bytes expected) (option_map string_bytes required) shown status
-IsOutputFor inputs (Show list) shown status = OfInput inputs (Some (string_bytes list)) (λ bytes. ShowsList bytes shown) × (status ≡ 0)
-IsOutputFor inputs (Json plan) shown status = IsJsonOutputFor inputs plan shown status
-IsOutputFor inputs (Help text) shown status = (shown ≡ string_bytes text) × (status ≡ 0)
-IsOutputFor inputs Version shown status = (shown ≡ version_text) × (status ≡ 0)
+Shows inputs (Replay list) shown status = OfInput inputs (Some (string_bytes list)) (λ bytes. ShowsReplay forms.Text bytes shown) × (status ≡ 0)
+Shows inputs (Show list) shown status = OfInput inputs (Some (string_bytes list)) (λ bytes. ShowsList bytes shown) × (status ≡ 0)
+Shows inputs (Json plan) shown status = IsJsonOutputFor inputs plan shown status
+Shows inputs (Help text) shown status = (shown ≡ string_bytes text) × (status ≡ 0)
+Shows inputs Version shown status = (shown ≡ version_text) × (status ≡ 0)
 
--- What was saved before and after this output of the plan. With a report on a list that grows the checkpoint of what it is on is saved, if
--- that is asked for, and nothing else; with any other output nothing is.
-abbrev pub SavesFor : Inputs → Plan → Saved → Saved → List ℕ → ℕ → Type 0
-SavesFor inputs (VerifyGrowing asked) old new shown status = ShowsAndSaves inputs (growth asked) forms.Text old new shown status
-SavesFor inputs (Json (jsons.VerifyGrowing asked)) old new shown status =
-    ShowsAndSaves inputs (growth asked) forms.Json old new shown status
-SavesFor inputs plan old new shown status = new ≡ old
+-- This text and this exit status are the output of the plan, with these inputs, and this was saved before and after. What judges shows
+-- its answer; with any other output nothing is saved.
+abbrev pub IsOutputFor : Inputs → Plan → Saved → Saved → List ℕ → ℕ → Type 0
+IsOutputFor inputs (Verify log list expected) old new shown status =
+    ShowsAnswer inputs (asked_to_verify log list expected) None forms.Text old new shown status
+IsOutputFor inputs (Judge judge) old new shown status =
+    ShowsAnswer inputs (asked_by judge) (save_by judge.judged) judge.form old new shown status
+IsOutputFor inputs plan old new shown status = Shows inputs plan shown status × (new ≡ old)
 
 -- Why nothing is shown of a measurement over this log of the files of these names and of those in the text of this input: the log
 -- is invalid; the text was not loaded, or gives no names; or the measurement failed.
@@ -87,7 +78,7 @@ IsListedFault inputs log manner names input ends fault =
     ⊎ IsMeasuringFault (files_in inputs) (failing_in inputs) log manner (all_names names ends text) fault)
     ⊎ (fault ≡ runs.Memory)
 
--- The fault may come of the plan, which is without `--json`, with these inputs.
+-- The fault may come of the plan, with these inputs; one of a plan with `--json` is said below.
 abbrev pub IsPlainFaultOf : Inputs → Plan → RunFault → Type 0
 IsPlainFaultOf inputs Registers fault = IsInputFault inputs None fault ⊎ OfInput inputs None (λ text. IsRefusedFor text fault)
 IsPlainFaultOf inputs (Measure alg template workers limit print log files) fault =
@@ -100,15 +91,8 @@ IsPlainFaultOf inputs (MeasureListed alg template workers limit print log files 
     ⊎ OfInput inputs (Some (string_bytes log)) (λ bytes.
     IsListedFault inputs bytes (record { alg = alg; template = template; workers = workers; limit = limit })
     (map string_bytes files.items) (string_bytes names) ends fault)
-IsPlainFaultOf inputs (Verify log list expected) fault =
-    IsReportFault inputs (string_bytes log) (string_bytes list) (string_bytes expected) fault
-IsPlainFaultOf inputs (VerifyRequired log list expected required) fault =
-    IsFaultWith (string_bytes required) (IsReportFault inputs (string_bytes log) (string_bytes list) (string_bytes expected)) fault
-IsPlainFaultOf inputs (VerifyGrowing asked) fault = IsGrownFault inputs (growth asked) fault
-IsPlainFaultOf inputs (Locate log list expected) fault =
-    IsReportFault inputs (string_bytes log) (string_bytes list) (string_bytes expected) fault
-IsPlainFaultOf inputs (LocateRequired log list expected required) fault =
-    IsFaultWith (string_bytes required) (IsReportFault inputs (string_bytes log) (string_bytes list) (string_bytes expected)) fault
+IsPlainFaultOf inputs (Verify log list expected) fault = IsOutputFault inputs (asked_to_verify log list expected) None fault
+IsPlainFaultOf inputs (Judge judge) fault = IsOutputFault inputs (asked_by judge) (save_by judge.judged) fault
 IsPlainFaultOf inputs (Expected printed registers) fault =
     IsExpectingFault inputs (string_bytes printed) (option_map string_bytes registers) fault
 IsPlainFaultOf inputs (RegistersAfter log) fault =
@@ -118,8 +102,6 @@ IsPlainFaultOf inputs (Events log requested) fault =
     IsInputFault inputs (Some (string_bytes log)) fault
     ⊎ OfInput inputs (Some (string_bytes log)) (λ bytes. IsNoLogFor bytes fault)
 IsPlainFaultOf inputs (Replay list) fault = IsReplayFaultOf inputs (string_bytes list) fault
-IsPlainFaultOf inputs (ReplayExpected list expected required) fault =
-    IsListReportFaultWith inputs (string_bytes list) (string_bytes expected) (option_map string_bytes required) fault
 IsPlainFaultOf inputs (Show list) fault =
     IsInputFault inputs (Some (string_bytes list)) fault
     ⊎ OfInput inputs (Some (string_bytes list)) (λ bytes. IsNoListFor bytes fault)
@@ -154,12 +136,21 @@ IsBrokenOff inputs (Json (jsons.Events log)) text status =
 IsBrokenOff inputs (Json (jsons.Show list)) text status = FailsAfterEntries inputs (string_bytes list) text status
 IsBrokenOff inputs plan text status = ⊥
 
+-- A result in this form is JSON.
+abbrev pub shows_json : Form → Bool
+shows_json forms.Text = false
+shows_json forms.Json = true
+
+-- The plan has its result shown as JSON.
+abbrev pub is_json : Plan → Bool
+is_json plan = shows_json (form_of plan)
+
 -- The text to be written for the plan, the status if the sink takes it all, and what was saved before and after: the plan's output, with
 -- what is saved with it. Or else nothing is saved, and the text and the status are those of a fault that may come of the plan; or the
 -- text is the output as far as it came, and the fault.
 abbrev pub IsOutcome : Inputs → Plan → Saved → Saved → List ℕ → ℕ → Type 0
 IsOutcome inputs plan old new text status =
-    (IsOutputFor inputs plan text status × SavesFor inputs plan old new text status)
+    IsOutputFor inputs plan old new text status
     ⊎ ((fault : RunFault) × IsFaultOf inputs plan fault × IsFailure (is_json plan) fault text status × (new ≡ old))
     ⊎ (IsBrokenOff inputs plan text status × (new ≡ old))
 

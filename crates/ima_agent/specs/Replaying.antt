@@ -1,5 +1,5 @@
 -- The registers that a list alone makes, as the program shows them. All of this is this project's choice.
-use Rattle.std.specs.Prelude.{◌≡◌, ℕ, ◌⊎◌, List, Some, Ok}
+use Rattle.std.specs.Prelude.{◌≡◌, ℕ, ◌<◌, ◌⊎◌, List, ◌++◌, length, Some, Ok, IfSome}
 use Rattle.pcr_banks.specs.declared.banks.Banks.{Banks}
 use Rattle.ima_list.specs.declared.replaying.ReplayFault.{ReplayFault}
 use Rattle.ima_list.specs.ListEntry.{ListEntry}
@@ -8,15 +8,15 @@ use Rattle.ima_list.specs.Replaying.{AreGenuine, IsReplayed}
 use Rattle.boot_verdict.specs.RegisterTexts.{registers_text}
 use Rattle.json_texts.specs.JsonValues.{line_of}
 use Rattle.json_texts.specs.RegisterJson.{registers_json}
-use Rattle.ima_agent.specs.declared.output.Form.{Form}
-use Rattle.ima_agent.specs.declared.output.Form.TheVariants as forms
+use Rattle.command_line.specs.declared.plan.Form.{Form}
+use Rattle.command_line.specs.declared.plan.Form.TheVariants as forms
 use Rattle.boot_verdict.specs.Replays.{IsListStart}
+use Rattle.boot_verdict.specs.ListSources.{IsSound}
 use Rattle.boot_verdict.specs.Verdicts.{IsForged}
 use Rattle.agent_inputs.specs.declared.fault.RunFault.{RunFault}
 use Rattle.agent_inputs.specs.declared.fault.RunFault.TheVariants as runs
-use Rattle.agent_inputs.specs.Loading.{Inputs, Holds, IsReadFailure, IsTooLong}
+use Rattle.agent_inputs.specs.Loading.{Inputs, Holds, IsReadFailure, IsTooLong, input_limit}
 use Rattle.ima_agent.specs.Showing.{IsNoList}
-use Rattle.ima_agent.specs.Verifying.{HoldsSoundBytesAndMore}
 
 -- The registers that differ between these banks, in this form.
 abbrev pub registers_in : Form → Banks → Banks → List ℕ
@@ -49,6 +49,14 @@ pub record IsListRefused (inputs : Inputs) (name : List ℕ) (fault : RunFault) 
   pub list : List ℕ
   pub held : Holds inputs (Some name) list
   pub cause : IsRefusedList list fault
+
+-- The input of this name is longer than an input may be, and its first bytes, as many as allowed, read as a list or as a
+-- truncated one.
+pub record HoldsSoundBytesAndMore (inputs : Inputs) (name : List ℕ) : Type 0 where
+  pub list : List ℕ
+  pub sound : IsSound list
+  pub size : length list ≡ input_limit
+  pub more : IfSome (inputs.held (Some name)) (λ all. (over : List ℕ) × (0 < length over) × (all ≡ list ++ over))
 
 -- Why no registers of the list of this name are shown: it is too long, and no entry within the limit is refused; it could not be
 -- opened or read; it is refused; or memory ran out.

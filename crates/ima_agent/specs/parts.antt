@@ -1,11 +1,7 @@
 pub mod FaultTexts
 pub mod JsonFaults
-pub mod JsonOutputs
 pub mod Measuring
 pub mod NamedFiles
-pub mod Growing
-pub mod GrowingOn
-pub mod Verifying
 pub mod Replaying
 pub mod Showing
 pub mod Program

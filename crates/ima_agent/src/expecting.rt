@@ -7,10 +7,10 @@ ghost use Rattle.boot_verdict.specs.WrittenTexts.{expected_text};
 ghost use Rattle.ima_agent.specs.Expecting.{IsExpectingFault, IsNotExpectedOn, IsNotPrintedFor, IsRangeFault, IsRequested, ShowsExpected, ShowsExpectedIn, expected_in, range_text};
 ghost use Rattle.agent_inputs.specs.Loading.{OfInput};
 
-use crate::output::Form;
 use agent_inputs::{AgentFiles, RunFault, loaded};
 use boot_verdict::{ExpectFault, Expected, RegisterRange, read_printed, write_expected};
 use byte_streams::{Failed, VecSink};
+use command_line::Form;
 use json_texts::append_expected;
 use std::alloc::{AllocError, Global};
 

@@ -8,7 +8,7 @@ use crate::escaping::{escaped_each, shown_line, shown_lines};
 use crate::json_plans::plain_of;
 use crate::words::read_words;
 use agent_inputs::RunFault;
-use command_line::{Growing, Plan, refusal_of};
+use command_line::{Judge, Judged, Plan, refusal_of};
 use measure_book::BookFault;
 use std::alloc::{AllocError, Global};
 use std::fs::File;
@@ -110,18 +110,12 @@ fn of_plan(alloc: Global, plan: &Plan) -> Result<String, AllocError>
     ensures { IfOk result (λ text. list_all is_shown (string_bytes text) ≡ true) }
 {
     match plan {
-        Plan::VerifyRequired { required, .. }
-        | Plan::LocateRequired { required, .. }
-        | Plan::VerifyGrowing(
-            Growing {
+        Plan::Judge(
+            Judge {
                 required: Some(required),
                 ..
             },
-        )
-        | Plan::ReplayExpected {
-            required: Some(required),
-            ..
-        } => of_value(alloc, required, "--require <BANK:A-B[,BANK:C-D..]>"),
+        ) => of_value(alloc, required, "--require <BANK:A-B[,BANK:C-D..]>"),
         Plan::Expected {
             registers: Some(registers),
             ..
@@ -245,10 +239,12 @@ fn log_of(plan: &Plan) -> Option<&str> {
         Plan::Measure { log, .. }
         | Plan::MeasureListed { log, .. }
         | Plan::Verify { log, .. }
-        | Plan::VerifyRequired { log, .. }
-        | Plan::VerifyGrowing(Growing { log, .. })
-        | Plan::Locate { log, .. }
-        | Plan::LocateRequired { log, .. }
+        | Plan::Judge(
+            Judge {
+                judged: Judged::Verdict { log, .. } | Judged::Places { log },
+                ..
+            },
+        )
         | Plan::RegistersAfter { log }
         | Plan::Events { log, .. } => Some(log.as_str()),
         _ => None,
@@ -259,13 +255,9 @@ fn log_of(plan: &Plan) -> Option<&str> {
 fn list_of(plan: &Plan) -> Option<&str> {
     match plan {
         Plan::Verify { list, .. }
-        | Plan::VerifyRequired { list, .. }
-        | Plan::VerifyGrowing(Growing { list, .. })
-        | Plan::Locate { list, .. }
-        | Plan::LocateRequired { list, .. }
+        | Plan::Judge(Judge { list, .. })
         | Plan::Show { list }
-        | Plan::Replay { list }
-        | Plan::ReplayExpected { list, .. } => Some(list.as_str()),
+        | Plan::Replay { list } => Some(list.as_str()),
         _ => None,
     }
 }
@@ -273,12 +265,9 @@ fn list_of(plan: &Plan) -> Option<&str> {
 // The text of expected registers of a plan, or that from which it makes them.
 fn expected_of(plan: &Plan) -> Option<&str> {
     match plan {
-        Plan::Verify { expected, .. }
-        | Plan::VerifyRequired { expected, .. }
-        | Plan::VerifyGrowing(Growing { expected, .. })
-        | Plan::Locate { expected, .. }
-        | Plan::LocateRequired { expected, .. }
-        | Plan::ReplayExpected { expected, .. } => Some(expected.as_str()),
+        Plan::Verify { expected, .. } | Plan::Judge(Judge { expected, .. }) => {
+            Some(expected.as_str())
+        }
         Plan::Expected { printed, .. } => Some(printed.as_str()),
         _ => None,
     }
@@ -287,7 +276,12 @@ fn expected_of(plan: &Plan) -> Option<&str> {
 // The checkpoint that a plan goes on from.
 fn checkpoint_of(plan: &Plan) -> Option<&str> {
     match plan {
-        Plan::VerifyGrowing(asked) => asked.resume.as_deref(),
+        Plan::Judge(
+            Judge {
+                judged: Judged::Verdict { resume, .. },
+                ..
+            },
+        ) => resume.as_deref(),
         _ => None,
     }
 }

@@ -48,43 +48,6 @@ pub(crate) fn plain_of(plan: JsonPlan) -> Plan
             names,
             ends,
         },
-        JsonPlan::Verify {
-            log,
-            list,
-            expected,
-            required,
-        } => match required {
-            None => Plan::Verify {
-                log,
-                list,
-                expected,
-            },
-            Some(required) => Plan::VerifyRequired {
-                log,
-                list,
-                expected,
-                required,
-            },
-        },
-        JsonPlan::VerifyGrowing(asked) => Plan::VerifyGrowing(asked),
-        JsonPlan::Locate {
-            log,
-            list,
-            expected,
-            required,
-        } => match required {
-            None => Plan::Locate {
-                log,
-                list,
-                expected,
-            },
-            Some(required) => Plan::LocateRequired {
-                log,
-                list,
-                expected,
-                required,
-            },
-        },
         JsonPlan::Expected { printed, registers } => Plan::Expected { printed, registers },
         JsonPlan::RegistersAfter { log } => Plan::RegistersAfter { log },
         JsonPlan::Events { log } => Plan::Events {
@@ -93,15 +56,6 @@ pub(crate) fn plain_of(plan: JsonPlan) -> Plan
         },
         JsonPlan::Show { list } => Plan::Show { list },
         JsonPlan::Replay { list } => Plan::Replay { list },
-        JsonPlan::ReplayExpected {
-            list,
-            expected,
-            required,
-        } => Plan::ReplayExpected {
-            list,
-            expected,
-            required,
-        },
     }
 }
 

@@ -3,30 +3,22 @@
 #![tactic(auto)]
 
 mod escaping;
-mod evidence;
 mod expecting;
 mod explaining;
-mod growing;
-mod growing_on;
-mod grown_reports;
 mod hexadecimal;
 mod json_outputs;
 mod json_plans;
-mod list_verifying;
 mod listing;
-mod locating;
 mod measuring;
 mod named_files;
 mod names;
-mod output;
 mod program;
 mod progress;
 mod replaying;
-mod requiring;
+mod requests;
 mod showing;
 mod streaming;
 mod texts;
-mod verifying;
 mod version;
 mod words;
 
@@ -42,23 +34,17 @@ pub use boot_verdict::{
     write_required_places, write_required_report,
 };
 pub use command_line::{
-    DataShown, Extent, Growing, JsonPlan, JsonPrint, NameEnd, Plan, Print, words_after_name,
+    DataShown, Extent, Form, JsonPlan, JsonPrint, Judge, Judged, NameEnd, Plan, Print,
+    words_after_name,
 };
 pub use escaping::escaped;
 pub use expecting::expected_on;
 pub use explaining::{Failure, explanation};
-pub use growing_on::{GrowingOn, Grown, grown_on};
-pub use json_outputs::{
-    FittedOutput, json_entries_within, json_events_on, json_list_report_on, json_places_on,
-    json_registers_on, json_report_on,
-};
-pub use list_verifying::{list_report_on, required_list_report_on};
-pub use locating::{places_on, required_places_on};
-pub use output::{Form, Output};
+pub use json_outputs::{FittedOutput, json_entries_within, json_events_on, json_registers_on};
 pub use program::{exit_code, run, run_with_progress};
 pub use progress::{NoProgress, Progress, SystemProgress};
+pub use rendering::Output;
 pub use replaying::json_replay_on;
 pub use showing::{Fitted, entries_within, registers_on};
 pub use texts::{json_fault_line, json_memory_line, status_of, write_fault};
-pub use verifying::{report_on, required_report_on};
 pub use words::read_words;

@@ -6,7 +6,7 @@ ghost use Rattle.measure_book.specs.Operations.{book_outcome_of};
 ghost use Rattle.agent_inputs.specs.Loading.{IsInputFault, OfInput};
 ghost use Rattle.ima_agent.specs.Measuring.{AreAllDone, HasMeasured, IsFileFault, IsFileMeasure, IsFirstRefusal, IsFirstRefused, IsMeasuringFault, IsRecordingFault, ShowsMeasured, all_names, failing_in, files_in, printed};
 ghost use Rattle.ima_agent.specs.parts.Measuring.{IsAskedAsJson, IsAskedOf, MeasuresAsJson, MeasuresFiles, IsReadLog, manner_of, names_lent};
-ghost use Rattle.ima_agent.specs.Program.{IsFaultOf, IsListedFault, IsOutputFor, IsPlainFaultOf};
+ghost use Rattle.ima_agent.specs.Program.{IsFaultOf, IsListedFault, IsPlainFaultOf, Shows};
 ghost use Rattle.ima_agent.specs.declared.measuring.Printing.TheVariants.{Text};
 ghost use Rattle.ima_agent.specs.JsonOutputs.{IsJsonOutputFor};
 ghost use Rattle.ima_agent.specs.JsonPlans.{plain_of};
@@ -15,7 +15,6 @@ ghost use Rattle.command_line.specs.Plans.{IsWithinJsonRanges, IsWithinRanges};
 use crate::json_outputs::entry_lines;
 use crate::listing::{lent, with_names_in};
 use crate::named_files::{NamedFiles, ProgressGate};
-use crate::output::Form;
 use crate::progress::Progress;
 use crate::replaying::registers_in;
 use crate::showing::lines;
@@ -23,7 +22,7 @@ use agent_inputs::{AgentFiles, RunFault, SharedFiles, loaded};
 use boot_log::LogView;
 use boot_verdict::write_registers;
 use byte_streams::VecSink;
-use command_line::{JsonPlan, JsonPrint, NameEnd, Plan, Print};
+use command_line::{Form, JsonPlan, JsonPrint, NameEnd, Plan, Print};
 use hash_workers::{AgentFault, Batch, JobsFault, record_jobs};
 use ima_list::Template;
 use measure_book::{Book, BookFault, Origin, Outcome};
@@ -146,7 +145,7 @@ pub(crate) fn measured_for<R: Threads + Wait + Sync, F: AgentFiles, P: Progress>
 ) -> Result<Vec<u8>, RunFault>
     requires measures { MeasuresFiles plan.now }
     requires within { IsWithinRanges plan.now }
-    ensures shown { IfOk result (λ shown. IsOutputFor (F.told files.old) plan.now shown.items 0) }
+    ensures shown { IfOk result (λ shown. Shows (F.told files.old) plan.now shown.items 0) }
     ensures fault { IfErr result (IsFaultOf (F.told files.old) plan.now) }
     ensures saved { F.saved files.new ≡ F.saved files.old }
 {

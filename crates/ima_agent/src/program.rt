@@ -4,36 +4,38 @@ ghost use Rattle.std.specs.Prelude.{◌≡◌, true, IfOk, IfErr, MatchResult, O
 ghost use Rattle.std.specs.Process.{exit_status};
 ghost use Rattle.ima_agent.specs.FaultTexts.{fault_line, fault_status};
 ghost use Rattle.ima_agent.specs.JsonFaults.{IsFailure, IsFaultAsJson, ToldAsJson};
-ghost use Rattle.command_line.specs.Commands.{is_json};
 ghost use Rattle.command_line.specs.declared.plan.Plan.TheVariants.{Help};
 ghost use Rattle.command_line.specs.Plans.{IsWithinRanges};
-ghost use Rattle.ima_agent.specs.Program.{Answers, IsFaultOf, IsOutcome, IsOutput, IsOutputFor, IsOutputOf, SavesFor, status_after};
+ghost use Rattle.ima_agent.specs.Program.{Answers, IsFaultOf, IsOutcome, IsOutput, IsOutputFor, IsOutputOf, Shows, is_json, status_after};
 ghost use Rattle.ima_agent.specs.parts.Program.{IsStreamed, IsWhole, IsNoHelp, ShowsText};
 
 use crate::expecting::expected_from;
 use crate::explaining::Failure;
-use crate::growing::grown;
 use crate::json_outputs::json_for;
-use crate::list_verifying::list_verified;
-use crate::locating::{located, located_with};
 use crate::measuring::measured_for;
-use crate::output::{DONE, FAILED, Form, Output};
 use crate::progress::{NoProgress, Progress};
 use crate::replaying::replayed;
+use crate::requests::{request_of, request_to_verify, save_of};
 use crate::showing::{registers_after, shown_list, shown_registers};
 use crate::streaming::{StreamFault, is_streamed, streamed_for};
 use crate::texts::{json_fault_line, json_memory_line, status_of, write_fault};
-use crate::verifying::{verified, verified_with};
 use crate::version::version_text;
 use crate::words::read_words;
 use agent_inputs::{AgentFiles, RunFault};
 use byte_streams::{Failed, Sink, send};
-use command_line::Plan;
+use command_line::{Form, Plan};
+use rendering::{Output, output_for};
 use std::alloc::{AllocError, Global};
 use std::io;
 use std::process::ExitCode;
 use std::sync::Wait;
 use std::thread::Threads;
+
+// The exit status of success.
+const DONE: u8 = 0;
+
+// The exit status if the sink failed.
+const FAILED: u8 = 3;
 
 /// Runs the program as [`run_with_progress`] does, and returns the process's exit code. If `words` is an error, the program fails
 /// as it does out of memory: with the line `failed: memory` and status 3.
@@ -180,7 +182,7 @@ fn run_whole<R: Threads + Wait + Sync, F: AgentFiles, S: Sink, P: Progress>(
     ensures { Answers (IsOutcome (F.told files.old) plan (F.saved files.old) (F.saved files.new)) result (S.state sink.old) (S.state sink.new) }
 {
     let json = is_json(&plan);
-    match output_for(rt, alloc, plan, files, progress) {
+    match whole_for(rt, alloc, plan, files, progress) {
         Ok(output) => {
             let sent = send(&output.text, sink);
             explain_unsent(alloc, &sent, progress);
@@ -198,7 +200,11 @@ fn run_whole<R: Threads + Wait + Sync, F: AgentFiles, S: Sink, P: Progress>(
 fn is_json(plan: &Plan) -> bool
     ensures { result ≡ is_json plan.now }
 {
-    matches!(plan, Plan::Json(_))
+    match plan {
+        Plan::Judge(judge) => judge.form == Form::Json,
+        Plan::Json(_) => true,
+        _ => false,
+    }
 }
 
 // Tells why the run with these arguments failed.
@@ -261,7 +267,7 @@ fn status_after(sent: Result<(), Failed>, status: u8) -> u8
 }
 
 // The whole output for this plan.
-fn output_for<R: Threads + Wait + Sync, F: AgentFiles, P: Progress>(
+fn whole_for<R: Threads + Wait + Sync, F: AgentFiles, P: Progress>(
     rt: &R,
     alloc: Global,
     plan: Plan,
@@ -270,8 +276,8 @@ fn output_for<R: Threads + Wait + Sync, F: AgentFiles, P: Progress>(
 ) -> Result<Output, RunFault>
     requires whole { IsWhole plan }
     requires within { IsWithinRanges plan }
-    ensures shown { IfOk result (λ output. IsOutputFor (F.told files.old) plan output.text.items output.status) }
-    ensures saved { IfOk result (λ output. SavesFor (F.told files.old) plan (F.saved files.old) (F.saved files.new) output.text.items output.status) }
+    ensures shown { IfOk result (λ output. IsOutputFor (F.told files.old) plan (F.saved files.old) (F.saved files.new)
+        output.text.items output.status) }
     ensures kept { OnErr result (F.saved files.new ≡ F.saved files.old) }
     ensures fault { IfErr result (IsFaultOf (F.told files.old) plan) }
 {
@@ -306,8 +312,8 @@ fn shown_for<R: Threads + Wait + Sync, F: AgentFiles, P: Progress>(
     requires inputs { IsNoHelp plan.now }
     requires whole { IsWhole plan.now }
     requires within { IsWithinRanges plan.now }
-    ensures shown { IfOk result (λ output. IsOutputFor (F.told files.old) plan.now output.text.items output.status) }
-    ensures saved { IfOk result (λ output. SavesFor (F.told files.old) plan.now (F.saved files.old) (F.saved files.new) output.text.items output.status) }
+    ensures shown { IfOk result (λ output. IsOutputFor (F.told files.old) plan.now (F.saved files.old) (F.saved files.new)
+        output.text.items output.status) }
     ensures kept { OnErr result (F.saved files.new ≡ F.saved files.old) }
     ensures fault { IfErr result (IsFaultOf (F.told files.old) plan.now) }
 {
@@ -316,31 +322,14 @@ fn shown_for<R: Threads + Wait + Sync, F: AgentFiles, P: Progress>(
             log,
             list,
             expected,
-        } => verified(alloc, files, log, list, expected),
-        Plan::VerifyRequired {
-            log,
-            list,
-            expected,
-            required,
-        } => verified_with(alloc, files, log, list, expected, required),
-        Plan::VerifyGrowing(asked) => grown(alloc, files, asked, Form::Text),
-        Plan::Locate {
-            log,
-            list,
-            expected,
-        } => located(alloc, files, log, list, expected),
-        Plan::LocateRequired {
-            log,
-            list,
-            expected,
-            required,
-        } => located_with(alloc, files, log, list, expected, required),
-        Plan::ReplayExpected {
-            list,
-            expected,
-            required,
-        } => list_verified(alloc, files, list, expected, required.as_deref()),
-        Plan::Json(plan) => json_for(rt, alloc, plan, files, progress),
+        } => {
+            let request = request_to_verify(log, list, expected);
+            output_for(alloc, files, request, None, Form::Text)
+        }
+        Plan::Judge(judge) => {
+            output_for(alloc, files, request_of(judge), save_of(judge), judge.form)
+        }
+        Plan::Json(plan) => Ok(Output::done(json_for(rt, alloc, plan, files, progress)?)),
         _ => Ok(Output::done(text_for(rt, alloc, plan, files, progress)?)),
     }
 }
@@ -355,7 +344,7 @@ fn text_for<R: Threads + Wait + Sync, F: AgentFiles, P: Progress>(
 ) -> Result<Vec<u8>, RunFault>
     requires text { ShowsText plan.now }
     requires within { IsWithinRanges plan.now }
-    ensures shown { IfOk result (λ shown. IsOutputFor (F.told files.old) plan.now shown.items 0) }
+    ensures shown { IfOk result (λ shown. Shows (F.told files.old) plan.now shown.items 0) }
     ensures fault { IfErr result (IsFaultOf (F.told files.old) plan.now) }
     ensures saved { F.saved files.new ≡ F.saved files.old }
 {

@@ -4,16 +4,17 @@ ghost use Rattle.std.specs.Prelude.{◌≡◌, Some, IfOk, IfErr};
 ghost use Rattle.boot_verdict.specs.RegisterTexts.{registers_text};
 ghost use Rattle.agent_inputs.specs.Loading.{OfInput};
 ghost use Rattle.ima_agent.specs.Replaying.{IsNoReplayOn, IsReplayFaultOf, ShowsReplay, registers_in};
-ghost use Rattle.ima_agent.specs.declared.output.Form.TheVariants.{Json};
+ghost use Rattle.command_line.specs.declared.plan.Form.TheVariants.{Json};
 ghost use Rattle.ima_agent.specs.parts.Replaying.{AreListRegisters, IsNoReplayFrom, ShowsReplayFrom};
 
-use crate::output::{Form, Output};
-use crate::verifying::{first_cause, verdict_fault};
 use agent_inputs::{AgentFiles, INPUT_LIMIT, RunFault, not_read};
 use boot_verdict::{list_start, replay_from, write_registers};
 use byte_streams::{Failed, SliceSource, Source, VecSink};
+use command_line::Form;
 use json_texts::append_registers;
+use judging::{Input, refused};
 use pcr_banks::Banks;
+use rendering::Output;
 use std::alloc::{AllocError, Global};
 
 /// The registers, in this form, that differ from their reset values after the list in the file of this name, which is replayed as it
@@ -46,7 +47,7 @@ fn registers_from<R: Source>(
 {
     match replay_from(alloc, list, INPUT_LIMIT) {
         Ok(now) => Ok(registers_in(alloc, form, &now, &list_start())?),
-        Err(fault) => Err(verdict_fault(alloc, name, fault)),
+        Err(fault) => Err(refused(alloc, Input::File(name), fault)),
     }
 }
 
@@ -72,7 +73,7 @@ fn banks_after(alloc: Global, list: &[u8]) -> Result<Banks, RunFault>
     let mut source = SliceSource::new(list);
     match replay_from(alloc, &mut source, u64::MAX) {
         Ok(now) => Ok(now),
-        Err(fault) => Err(first_cause(fault)),
+        Err(fault) => Err(refused(alloc, Input::Bytes(list), fault)),
     }
 }
 

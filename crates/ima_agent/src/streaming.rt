@@ -1,9 +1,8 @@
 //! Outputs that are written while their input is read.
 
 ghost use Rattle.std.specs.Prelude.{◌≡◌, true, false};
-ghost use Rattle.command_line.specs.Commands.{is_json};
 ghost use Rattle.command_line.specs.declared.plan.Plan.TheVariants.{Json};
-ghost use Rattle.ima_agent.specs.Program.{IsOutcome};
+ghost use Rattle.ima_agent.specs.Program.{IsOutcome, is_json};
 ghost use Rattle.ima_agent.specs.Streaming.{Streams};
 ghost use Rattle.ima_agent.specs.parts.Program.{IsStreamed, IsStreamedJson, IsWhole};
 

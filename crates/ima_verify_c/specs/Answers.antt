@@ -1,20 +1,21 @@
 -- What a caller in C finds after a call. All of this is this project's choice.
-use Rattle.std.specs.Prelude.{◌≡◌, ℕ, ℤ, pos, ◌<◌, ◌≤◌, ◌⊎◌, if◌then◌else◌, Bool, List, [], ◌++◌, bytes_eq, codes, length, drop, Option, None, Some}
+use Rattle.std.specs.Prelude.{◌≡◌, ℕ, ℤ, pos, ◌<◌, ◌≤◌, ◌⊎◌, if◌then◌else◌, Bool, List, [], ◌∷◌, ◌++◌, bytes_eq, codes, length, drop, Option, None, Some}
 use Rattle.agent_inputs.specs.declared.fault.RunFault.{RunFault}
 use Rattle.agent_inputs.specs.declared.fault.RunFault.TheVariants.{Memory}
-use Rattle.ima_agent.specs.declared.output.Form.TheVariants.{Json, Text}
+use Rattle.agent_inputs.specs.Loading.{untold}
+use Rattle.command_line.specs.declared.plan.Extent.{Extent}
+use Rattle.command_line.specs.declared.plan.Extent.TheVariants.{Front, Whole}
+use Rattle.command_line.specs.declared.plan.Form.{Form}
+use Rattle.command_line.specs.declared.plan.Form.TheVariants.{Json, Text}
+use Rattle.judging.specs.Asking.{Any, Asked, ListVerdictOf, PlacesOf, Requires, These, VerdictOf}
+use Rattle.judging.specs.Inputs.{BytesOf, Where}
+use Rattle.rendering.specs.Outputs.{GivesAnswer, IsRefusalOn}
 use Rattle.ima_agent.specs.Expecting.{IsNotExpectedOn, ShowsExpected, range_text}
 use Rattle.ima_agent.specs.FaultTexts.{fault_line, fault_status}
-use Rattle.ima_agent.specs.GrowingOn.{GrowthOn, IsNotGrownOn, ShowsGrownOn, extent_for}
 use Rattle.ima_agent.specs.JsonFaults.{ToldAsJson}
-use Rattle.ima_agent.specs.JsonJudging.{IsFaultWhere, ShowsJsonListReportOn, ShowsJsonPlacesOn, ShowsJsonReportOn}
 use Rattle.ima_agent.specs.JsonShowing.{ShowsEntries, ShowsJsonEvents, ShowsJsonRegisters}
-use Rattle.ima_agent.specs.ListVerifying.{IsNoListReportOn, ShowsListReportOn}
 use Rattle.ima_agent.specs.Replaying.{IsNoReplayOn, ShowsReplay}
 use Rattle.ima_agent.specs.Showing.{IsNoListFor, IsNoLogFor, ShowsList, ShowsRegistersAfter}
-use Rattle.ima_agent.specs.Locating.{ShowsPlacesOn}
-use Rattle.ima_agent.specs.Requiring.{IsFaultWith, ShowsRequiredPlacesOn, ShowsRequiredReportOn}
-use Rattle.ima_agent.specs.Verifying.{IsNoReportOn, ShowsReportOn}
 
 abbrev pub interface_version : ℕ
 interface_version = 2
@@ -73,36 +74,6 @@ pub record IsRefusal (HasCause : RunFault → Type 0) (text : List ℕ) (status 
   pub text_is : text ≡ fault_line fault
   pub status_is : status ≡ fault_status fault
 
--- The report on this log, this list and the registers that the text `expected` states, with the status of its verdict; or why there
--- is none.
-abbrev pub IsReportAnswer : List ℕ → List ℕ → List ℕ → List ℕ → ℕ → Type 0
-IsReportAnswer log list expected text status =
-    ShowsReportOn log list expected text status ⊎ IsRefusal (IsNoReportOn log list expected) text status
-
--- The same where the text `required` requires registers.
-abbrev pub IsRequiredReportAnswer : List ℕ → List ℕ → List ℕ → List ℕ → List ℕ → ℕ → Type 0
-IsRequiredReportAnswer log list expected required text status =
-    ShowsRequiredReportOn log list expected required text status
-    ⊎ IsRefusal (IsFaultWith required (IsNoReportOn log list expected)) text status
-
--- The places in this log and this list of the registers that the text `expected` states, with their status; or why there are none.
-abbrev pub IsPlacesAnswer : List ℕ → List ℕ → List ℕ → List ℕ → ℕ → Type 0
-IsPlacesAnswer log list expected text status =
-    ShowsPlacesOn log list expected text status ⊎ IsRefusal (IsNoReportOn log list expected) text status
-
--- The same where the text `required` requires registers.
-abbrev pub IsRequiredPlacesAnswer : List ℕ → List ℕ → List ℕ → List ℕ → List ℕ → ℕ → Type 0
-IsRequiredPlacesAnswer log list expected required text status =
-    ShowsRequiredPlacesOn log list expected required text status
-    ⊎ IsRefusal (IsFaultWith required (IsNoReportOn log list expected)) text status
-
--- The report on this list alone and the registers that the text `expected` states, where the text `required` requires registers, with the
--- status of its verdict; or why there is none.
-abbrev pub IsRequiredListReportAnswer : List ℕ → List ℕ → List ℕ → List ℕ → ℕ → Type 0
-IsRequiredListReportAnswer list expected required text status =
-    ShowsListReportOn list expected (Some required) text status
-    ⊎ IsRefusal (IsFaultWith required (IsNoListReportOn list expected)) text status
-
 -- The expected registers that this text, which tpm2-tools printed, states within the range that the text `registers` spells, or all
 -- if that is empty; or why there are none.
 abbrev pub IsExpectedAnswer : List ℕ → List ℕ → List ℕ → ℕ → Type 0
@@ -125,25 +96,6 @@ pub record IsJsonRefusal (HasCause : RunFault → Type 0) (text : List ℕ) (sta
   pub cause : HasCause fault
   pub told : ToldAsJson fault text status
 
--- The report on this log, this list and the registers that the text `expected` states, with the status of its verdict; or why there is
--- none. Where the text `required` is given, it requires registers.
-abbrev pub IsJsonReportAnswer : List ℕ → List ℕ → List ℕ → Option (List ℕ) → List ℕ → ℕ → Type 0
-IsJsonReportAnswer log list expected required text status =
-    ShowsJsonReportOn log list expected required text status
-    ⊎ IsJsonRefusal (IsFaultWhere required (IsNoReportOn log list expected)) text status
-
--- The same of the places in this log and this list of these registers.
-abbrev pub IsJsonPlacesAnswer : List ℕ → List ℕ → List ℕ → Option (List ℕ) → List ℕ → ℕ → Type 0
-IsJsonPlacesAnswer log list expected required text status =
-    ShowsJsonPlacesOn log list expected required text status
-    ⊎ IsJsonRefusal (IsFaultWhere required (IsNoReportOn log list expected)) text status
-
--- The same of the report on this list alone.
-abbrev pub IsJsonListReportAnswer : List ℕ → List ℕ → Option (List ℕ) → List ℕ → ℕ → Type 0
-IsJsonListReportAnswer list expected required text status =
-    ShowsJsonListReportOn list expected required text status
-    ⊎ IsJsonRefusal (IsFaultWhere required (IsNoListReportOn list expected)) text status
-
 -- The registers after this log; or why there are none.
 abbrev pub IsJsonRegistersAnswer : List ℕ → List ℕ → ℕ → Type 0
 IsJsonRegistersAnswer log text status = (ShowsJsonRegisters log text × (status ≡ 0)) ⊎ IsJsonRefusal (IsNoLogFor log) text status
@@ -160,30 +112,59 @@ IsJsonEventsAnswer log text status = ShowsJsonEvents log text status ⊎ ToldAsJ
 abbrev pub IsJsonEntriesAnswer : List ℕ → List ℕ → ℕ → Type 0
 IsJsonEntriesAnswer list text status = ShowsEntries list text status ⊎ ToldAsJson Memory text status
 
--- ---- of a list that grows
+-- ---- answers to what is asked of a log and a list
 
--- Which registers are required: none, if the text is this word; else those that it spells. Without bytes it spells none, and is refused.
-abbrev pub required_by : List ℕ → Option (List ℕ)
-required_by text = if bytes_eq text (codes "none") then None else Some text
+-- The line of a fault that has this cause, in this form.
+abbrev pub IsRefusalIn : Form → (RunFault → Type 0) → List ℕ → ℕ → Type 0
+IsRefusalIn Text HasCause text status = IsRefusal HasCause text status
+IsRefusalIn Json HasCause text status = IsJsonRefusal HasCause text status
 
--- What is asked of a list that grows.
-abbrev pub growth_by : List ℕ → List ℕ → List ℕ → List ℕ → List ℕ → Bool → GrowthOn
-growth_by log state more expected require prefix = record {
-  log = log;
-  state = state;
-  more = more;
-  expected = expected;
-  required = required_by require;
-  extent = extent_for prefix;
+-- The answer to what is asked, in this form, with its status, and the text of the checkpoint of what it is on, which has no bytes unless all
+-- is well; or why there is no answer, and no text of a checkpoint.
+abbrev pub IsAnswerAndNext : Asked → Form → List ℕ → ℕ → List ℕ → Type 0
+IsAnswerAndNext asked form text status state =
+    GivesAnswer untold asked form text status state ⊎ (IsRefusalIn form (IsRefusalOn untold asked) text status × (state ≡ []))
+
+-- The same without the checkpoint.
+abbrev pub IsAnswerTo : Asked → Form → List ℕ → ℕ → Type 0
+IsAnswerTo asked form text status = (state : List ℕ) × IsAnswerAndNext asked form text status state
+
+-- What is asked of these bytes: the verdict on a log and a list; where the registers have their values; and the verdict on a list alone.
+abbrev pub asked_of_verdict : List ℕ → List ℕ → List ℕ → Requires → Asked
+asked_of_verdict log list expected required = record {
+  judgement = VerdictOf (BytesOf log) Whole None;
+  list = BytesOf list;
+  expected = BytesOf expected;
+  required = required;
 }
 
--- The report that is asked for, with its status, and the text of the checkpoint of what it is on, which has no bytes unless the status is
--- 0; or why there is no report, and no text of a checkpoint.
-abbrev pub IsMoreAnswer : GrowthOn → List ℕ → ℕ → List ℕ → Type 0
-IsMoreAnswer asked text status state =
-    ShowsGrownOn asked Text text status state ⊎ (IsRefusal (IsNotGrownOn asked) text status × (state ≡ []))
+abbrev pub asked_of_places : List ℕ → List ℕ → List ℕ → Requires → Asked
+asked_of_places log list expected required =
+    record { judgement = PlacesOf (BytesOf log); list = BytesOf list; expected = BytesOf expected; required = required }
 
--- The same as a line of JSON.
-abbrev pub IsJsonMoreAnswer : GrowthOn → List ℕ → ℕ → List ℕ → Type 0
-IsJsonMoreAnswer asked text status state =
-    ShowsGrownOn asked Json text status state ⊎ (IsJsonRefusal (IsNotGrownOn asked) text status × (state ≡ []))
+abbrev pub asked_of_list : List ℕ → List ℕ → Requires → Asked
+asked_of_list list expected required =
+    record { judgement = ListVerdictOf; list = BytesOf list; expected = BytesOf expected; required = required }
+
+-- What has to be among the expected registers of a list that grows: some register, if the text is this word; else those that it spells.
+-- Without bytes it spells none, and is refused.
+abbrev pub required_by : List ℕ → Requires
+required_by text = if bytes_eq text (codes "none") then Any else These text
+
+-- Where the checkpoint is to go on from: these bytes, if there are any.
+abbrev pub state_place : List ℕ → Option Where
+state_place [] = None
+state_place (first ∷ rest) = Some (BytesOf (first ∷ rest))
+
+-- The part of a list that is asked for: the confirmed front, or all of it.
+abbrev pub extent_for : Bool → Extent
+extent_for prefix = if prefix then Front else Whole
+
+-- What is asked of a list that grows.
+abbrev pub asked_of_more : List ℕ → List ℕ → List ℕ → List ℕ → List ℕ → Bool → Asked
+asked_of_more log state more expected require prefix = record {
+  judgement = VerdictOf (BytesOf log) (extent_for prefix) (state_place state);
+  list = BytesOf more;
+  expected = BytesOf expected;
+  required = required_by require;
+}

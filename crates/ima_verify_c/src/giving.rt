@@ -4,14 +4,17 @@ ghost use Rattle.std.specs.Prelude.{◌≡◌, ℕ, List, length, true, IfOk, If
 ghost use Rattle.ima_agent.specs.FaultTexts.{fault_line};
 ghost use Rattle.ima_agent.specs.JsonFaults.{IsFailure};
 ghost use Rattle.ima_agent.specs.Showing.{IsFitted};
-ghost use Rattle.ima_verify_c.specs.Answers.{Answers, AnswersMore, AreGiven, IsGiven};
-ghost use Rattle.ima_verify_c.specs.parts.Givings.{IsFaultText, IsGrownOf, IsJsonGrownOf, IsJsonOf, IsOf, IsTextOf};
+ghost use Rattle.ima_verify_c.specs.Answers.{Answers, AnswersMore, AreGiven, IsAnswerAndNext, IsAnswerTo, IsGiven};
+ghost use Rattle.judging.specs.Asking.{asked_of};
+ghost use Rattle.ima_verify_c.specs.parts.Givings.{IsFaultIn, IsFaultText, IsJsonOf, IsTextOf};
 
 use byte_streams::{Failed, VecSink};
 use ima_agent::{
-    Fitted, FittedOutput, Grown, Output, RunFault, json_fault_line, json_memory_line, status_of,
+    Fitted, FittedOutput, Form, Output, RunFault, json_fault_line, json_memory_line, status_of,
     write_fault,
 };
+use judging::Request;
+use rendering::{Given, output_on};
 use std::alloc::{AllocError, Global};
 
 /// What a call returns if memory ran out.
@@ -23,18 +26,56 @@ const TOO_SHORT: i32 = 4;
 /// The line of a fault, if even that cannot be kept in memory.
 const MEMORY_LINE: &[u8] = b"failed: memory\n";
 
-/// Gives an output, or the line of a fault.
-pub(crate) fn give(
+/// Gives the answer to what is asked of bytes in memory, or the line of a fault, in this form.
+pub(crate) fn give_answer(
     alloc: Global,
-    asked: Result<Output, RunFault>,
+    asked: Request<'_>,
+    form: Form,
     out: &mut [u8],
     needed: &mut usize,
 ) -> i32
-    ensures { Answers (IsOf asked) result needed.new out.old out.new }
+    ensures { Answers (IsAnswerTo (asked_of asked.entry) form) result needed.new out.old out.new }
 {
-    match asked {
-        Ok(output) => put(&output.text, output.status, out, needed),
-        Err(fault) => give_fault(alloc, &fault, out, needed),
+    match output_on(alloc, asked, form) {
+        Ok(given) => put(&given.output.text, given.output.status, out, needed),
+        Err(fault) => give_fault_in(alloc, form, &fault, out, needed),
+    }
+}
+
+/// Gives the answer and the text of the checkpoint of what it is on; or the line of a fault, and no checkpoint.
+pub(crate) fn give_both(
+    alloc: Global,
+    asked: Request<'_>,
+    form: Form,
+    next: &mut [u8],
+    next_needed: &mut usize,
+    out: &mut [u8],
+    needed: &mut usize,
+) -> i32
+    ensures { AnswersMore (IsAnswerAndNext (asked_of asked.entry) form) result needed.new out.old out.new next_needed.new next.old next.new }
+{
+    match output_on(alloc, asked, form) {
+        Ok(given) => put_both(&given, next, next_needed, out, needed),
+        Err(fault) => {
+            *next_needed = 0;
+            give_fault_in(alloc, form, &fault, out, needed)
+        }
+    }
+}
+
+// Gives the line of a fault in this form; that of `Memory`, if there is no memory for it.
+fn give_fault_in(
+    alloc: Global,
+    form: Form,
+    fault: &RunFault,
+    out: &mut [u8],
+    needed: &mut usize,
+) -> i32
+    ensures { Answers (IsFaultIn form fault.now) result needed.new out.old out.new }
+{
+    match form {
+        Form::Text => give_fault(alloc, fault, out, needed),
+        Form::Json => give_json_fault(alloc, fault, out, needed),
     }
 }
 
@@ -102,46 +143,6 @@ pub(crate) fn give_json_fitted(
     }
 }
 
-/// Gives a report and the text of a checkpoint; or the line of a fault, and no checkpoint.
-pub(crate) fn give_grown(
-    alloc: Global,
-    asked: Result<Grown, RunFault>,
-    next: &mut [u8],
-    next_needed: &mut usize,
-    out: &mut [u8],
-    needed: &mut usize,
-) -> i32
-    ensures { AnswersMore (IsGrownOf asked) result needed.new out.old out.new next_needed.new next.old next.new }
-{
-    match asked {
-        Ok(grown) => put_grown(&grown, next, next_needed, out, needed),
-        Err(fault) => {
-            *next_needed = 0;
-            give_fault(alloc, &fault, out, needed)
-        }
-    }
-}
-
-/// The same, with the line of a fault as JSON.
-pub(crate) fn give_json_grown(
-    alloc: Global,
-    asked: Result<Grown, RunFault>,
-    next: &mut [u8],
-    next_needed: &mut usize,
-    out: &mut [u8],
-    needed: &mut usize,
-) -> i32
-    ensures { AnswersMore (IsJsonGrownOf asked) result needed.new out.old out.new next_needed.new next.old next.new }
-{
-    match asked {
-        Ok(grown) => put_grown(&grown, next, next_needed, out, needed),
-        Err(fault) => {
-            *next_needed = 0;
-            give_json_fault(alloc, &fault, out, needed)
-        }
-    }
-}
-
 // Gives the line of a fault; that of `Memory`, if there is no memory for it.
 fn give_fault(alloc: Global, fault: &RunFault, out: &mut [u8], needed: &mut usize) -> i32
     ensures { Answers (IsFaultText fault.now) result needed.new out.old out.new }
@@ -185,25 +186,25 @@ fn put(text: &[u8], status: u8, out: &mut [u8], needed: &mut usize) -> i32
     i32::from(status)
 }
 
-// Puts a report and the text of a checkpoint each at the front of its buffer, if both fit.
-fn put_grown(
-    grown: &Grown,
+// Puts an answer and the text of a checkpoint each at the front of its buffer, if both fit.
+fn put_both(
+    given: &Given,
     next: &mut [u8],
     next_needed: &mut usize,
     out: &mut [u8],
     needed: &mut usize,
 ) -> i32
-    ensures { AreGiven grown.now.output.text.items grown.now.output.status grown.now.checkpoint.items result needed.new out.old out.new
+    ensures { AreGiven given.now.output.text.items given.now.output.status given.now.checkpoint.items result needed.new out.old out.new
         next_needed.new next.old next.new }
 {
-    let text = &grown.output.text;
-    let state = &grown.checkpoint;
+    let text = &given.output.text;
+    let state = &given.checkpoint;
     *next_needed = state.len();
     if state.len() <= next.len() && text.len() <= out.len() {
         next[..state.len()].copy_from_slice(state);
-        return put(text, grown.output.status, out, needed);
+        return put(text, given.output.status, out, needed);
     }
-    *needed = grown.output.text.len();
+    *needed = given.output.text.len();
     TOO_SHORT
 }
 

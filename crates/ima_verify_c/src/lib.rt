@@ -9,19 +9,18 @@
 
 mod giving;
 
-ghost use Rattle.std.specs.Prelude.{◌≡◌, None, Some, option_map};
-ghost use Rattle.ima_verify_c.specs.Answers.{Answers, AnswersMore, IsPlacesAnswer, IsEntriesAnswer, IsExpectedAnswer, IsJsonEntriesAnswer, IsJsonEventsAnswer, IsJsonListReportAnswer, IsJsonMoreAnswer, IsJsonPlacesAnswer, IsJsonRegistersAnswer, IsJsonReplayAnswer, IsJsonReportAnswer, IsMoreAnswer, IsRegistersAnswer, IsReportAnswer, IsRequiredListReportAnswer, IsRequiredPlacesAnswer, IsRequiredReportAnswer, growth_by, interface_version, required_by};
-ghost use Rattle.ima_agent.specs.GrowingOn.{extent_for, growth_on};
+ghost use Rattle.std.specs.Prelude.{◌≡◌, option_map};
+ghost use Rattle.command_line.specs.declared.plan.Form.TheVariants.{Json, Text};
+ghost use Rattle.judging.specs.Asking.{Nothing, These, asked_of, judgement_of, place_of, requires_of};
+ghost use Rattle.judging.specs.Inputs.{BytesOf};
+ghost use Rattle.ima_verify_c.specs.Answers.{Answers, AnswersMore, IsAnswerAndNext, IsAnswerTo, IsEntriesAnswer, IsExpectedAnswer, IsJsonEntriesAnswer, IsJsonEventsAnswer, IsJsonRegistersAnswer, IsJsonReplayAnswer, IsRegistersAnswer, asked_of_list, asked_of_more, asked_of_places, asked_of_verdict, extent_for, interface_version, required_by, state_place};
 
-use crate::giving::{
-    give, give_fitted, give_grown, give_json, give_json_fitted, give_json_grown, give_text,
-};
+use crate::giving::{give_answer, give_both, give_fitted, give_json, give_json_fitted, give_text};
 use ima_agent::{
-    Extent, Form, GrowingOn, entries_within, expected_on, grown_on, json_entries_within,
-    json_events_on, json_list_report_on, json_places_on, json_registers_on, json_replay_on,
-    json_report_on, places_on, registers_on, report_on, required_list_report_on,
-    required_places_on, required_report_on,
+    Extent, Form, entries_within, expected_on, json_entries_within, json_events_on,
+    json_registers_on, json_replay_on, registers_on,
 };
+use judging::{Input, Request, Required, Wanted};
 use std::alloc::Global;
 
 /// The version of this interface: 2. A later version may have more functions; what these do stays as it is.
@@ -35,17 +34,18 @@ pub extern "C" fn ima_verify_version() -> u32
 /// The verdict on a firmware event log, a measurement list and expected registers, as `verify` writes it: 0 if it is `match`, 1 if it
 /// is `differ`.
 #[unsafe(no_mangle)]
-pub extern "C" fn ima_verify_verdict(
+pub extern "C" fn ima_verify_verdict<'a>(
     alloc: Global,
-    log: &[u8],
-    list: &[u8],
-    expected: &[u8],
+    log: &'a [u8],
+    list: &'a [u8],
+    expected: &'a [u8],
     out: &mut [u8],
     needed: &mut usize,
 ) -> i32
-    ensures { Answers (IsReportAnswer log.now list.now expected.now) result needed.new out.old out.new }
+    ensures { Answers (IsAnswerTo (asked_of_verdict log.now list.now expected.now Nothing) Text) result needed.new out.old out.new }
 {
-    give(alloc, report_on(alloc, log, list, expected), out, needed)
+    let asked = verdict_on(log, list, expected, Required::Nothing);
+    give_answer(alloc, asked, Form::Text, out, needed)
 }
 
 /// The same, where `require` names registers that must be among the expected ones, as `sha256:0-10`; else each is a row `missing`, and the
@@ -60,26 +60,27 @@ pub extern "C" fn ima_verify_required(
     out: &mut [u8],
     needed: &mut usize,
 ) -> i32
-    ensures { Answers (IsRequiredReportAnswer log.now list.now expected.now require.now) result needed.new out.old out.new }
+    ensures { Answers (IsAnswerTo (asked_of_verdict log.now list.now expected.now (These require.now)) Text) result needed.new out.old out.new }
 {
-    let asked = required_report_on(alloc, log, list, expected, require);
-    give(alloc, asked, out, needed)
+    let asked = verdict_on(log, list, expected, Required::These(require));
+    give_answer(alloc, asked, Form::Text, out, needed)
 }
 
 /// Where expected registers first have their values in a firmware event log and a measurement list, as `locate` writes it: 0 if some
 /// register is expected and each value was reached, else 1.
 #[unsafe(no_mangle)]
-pub extern "C" fn ima_verify_locate(
+pub extern "C" fn ima_verify_locate<'a>(
     alloc: Global,
-    log: &[u8],
-    list: &[u8],
-    expected: &[u8],
+    log: &'a [u8],
+    list: &'a [u8],
+    expected: &'a [u8],
     out: &mut [u8],
     needed: &mut usize,
 ) -> i32
-    ensures { Answers (IsPlacesAnswer log.now list.now expected.now) result needed.new out.old out.new }
+    ensures { Answers (IsAnswerTo (asked_of_places log.now list.now expected.now Nothing) Text) result needed.new out.old out.new }
 {
-    give(alloc, places_on(alloc, log, list, expected), out, needed)
+    let asked = places_on(log, list, expected, Required::Nothing);
+    give_answer(alloc, asked, Form::Text, out, needed)
 }
 
 /// The same, where `require` names registers that must be among the expected ones: 0 also needs that none is missing.
@@ -93,10 +94,10 @@ pub extern "C" fn ima_verify_locate_required(
     out: &mut [u8],
     needed: &mut usize,
 ) -> i32
-    ensures { Answers (IsRequiredPlacesAnswer log.now list.now expected.now require.now) result needed.new out.old out.new }
+    ensures { Answers (IsAnswerTo (asked_of_places log.now list.now expected.now (These require.now)) Text) result needed.new out.old out.new }
 {
-    let asked = required_places_on(alloc, log, list, expected, require);
-    give(alloc, asked, out, needed)
+    let asked = places_on(log, list, expected, Required::These(require));
+    give_answer(alloc, asked, Form::Text, out, needed)
 }
 
 /// The verdict on a measurement list without a log and expected registers, as `replay` writes it, where `require` is as in
@@ -110,10 +111,10 @@ pub extern "C" fn ima_verify_replay_required(
     out: &mut [u8],
     needed: &mut usize,
 ) -> i32
-    ensures { Answers (IsRequiredListReportAnswer list.now expected.now require.now) result needed.new out.old out.new }
+    ensures { Answers (IsAnswerTo (asked_of_list list.now expected.now (These require.now)) Text) result needed.new out.old out.new }
 {
-    let asked = required_list_report_on(alloc, list, expected, require);
-    give(alloc, asked, out, needed)
+    let asked = list_verdict_on(list, expected, Required::These(require));
+    give_answer(alloc, asked, Form::Text, out, needed)
 }
 
 /// The expected registers that a text which tpm2_pcrread or tpm2_checkquote printed states within a range, as `0-10`, or all if that is
@@ -160,18 +161,18 @@ pub extern "C" fn ima_verify_show(
 
 /// The verdict of [`ima_verify_verdict`] as `verify --json` writes it.
 #[unsafe(no_mangle)]
-pub extern "C" fn ima_verify_verdict_json(
+pub extern "C" fn ima_verify_verdict_json<'a>(
     alloc: Global,
-    log: &[u8],
-    list: &[u8],
-    expected: &[u8],
+    log: &'a [u8],
+    list: &'a [u8],
+    expected: &'a [u8],
     out: &mut [u8],
     needed: &mut usize,
 ) -> i32
-    ensures { Answers (IsJsonReportAnswer log.now list.now expected.now None) result needed.new out.old out.new }
+    ensures { Answers (IsAnswerTo (asked_of_verdict log.now list.now expected.now Nothing) Json) result needed.new out.old out.new }
 {
-    let asked = json_report_on(alloc, log, list, expected, None);
-    give_json(alloc, asked, out, needed)
+    let request = verdict_on(log, list, expected, Required::Nothing);
+    give_answer(alloc, request, Form::Json, out, needed)
 }
 
 /// The verdict of [`ima_verify_required`] as `verify --json` writes it.
@@ -185,26 +186,26 @@ pub extern "C" fn ima_verify_required_json(
     out: &mut [u8],
     needed: &mut usize,
 ) -> i32
-    ensures { Answers (IsJsonReportAnswer log.now list.now expected.now (Some require.now)) result needed.new out.old out.new }
+    ensures { Answers (IsAnswerTo (asked_of_verdict log.now list.now expected.now (These require.now)) Json) result needed.new out.old out.new }
 {
-    let asked = json_report_on(alloc, log, list, expected, Some(require));
-    give_json(alloc, asked, out, needed)
+    let request = verdict_on(log, list, expected, Required::These(require));
+    give_answer(alloc, request, Form::Json, out, needed)
 }
 
 /// The places of [`ima_verify_locate`] as `locate --json` writes them.
 #[unsafe(no_mangle)]
-pub extern "C" fn ima_verify_locate_json(
+pub extern "C" fn ima_verify_locate_json<'a>(
     alloc: Global,
-    log: &[u8],
-    list: &[u8],
-    expected: &[u8],
+    log: &'a [u8],
+    list: &'a [u8],
+    expected: &'a [u8],
     out: &mut [u8],
     needed: &mut usize,
 ) -> i32
-    ensures { Answers (IsJsonPlacesAnswer log.now list.now expected.now None) result needed.new out.old out.new }
+    ensures { Answers (IsAnswerTo (asked_of_places log.now list.now expected.now Nothing) Json) result needed.new out.old out.new }
 {
-    let asked = json_places_on(alloc, log, list, expected, None);
-    give_json(alloc, asked, out, needed)
+    let request = places_on(log, list, expected, Required::Nothing);
+    give_answer(alloc, request, Form::Json, out, needed)
 }
 
 /// The places of [`ima_verify_locate_required`] as `locate --json` writes them.
@@ -218,10 +219,10 @@ pub extern "C" fn ima_verify_locate_required_json(
     out: &mut [u8],
     needed: &mut usize,
 ) -> i32
-    ensures { Answers (IsJsonPlacesAnswer log.now list.now expected.now (Some require.now)) result needed.new out.old out.new }
+    ensures { Answers (IsAnswerTo (asked_of_places log.now list.now expected.now (These require.now)) Json) result needed.new out.old out.new }
 {
-    let asked = json_places_on(alloc, log, list, expected, Some(require));
-    give_json(alloc, asked, out, needed)
+    let request = places_on(log, list, expected, Required::These(require));
+    give_answer(alloc, request, Form::Json, out, needed)
 }
 
 /// The verdict of [`ima_verify_replay_required`] as `replay --json` writes it.
@@ -234,10 +235,10 @@ pub extern "C" fn ima_verify_replay_required_json(
     out: &mut [u8],
     needed: &mut usize,
 ) -> i32
-    ensures { Answers (IsJsonListReportAnswer list.now expected.now (Some require.now)) result needed.new out.old out.new }
+    ensures { Answers (IsAnswerTo (asked_of_list list.now expected.now (These require.now)) Json) result needed.new out.old out.new }
 {
-    let asked = json_list_report_on(alloc, list, expected, Some(require));
-    give_json(alloc, asked, out, needed)
+    let request = list_verdict_on(list, expected, Required::These(require));
+    give_answer(alloc, request, Form::Json, out, needed)
 }
 
 /// The registers that differ from their reset values after a measurement list without a log, as `replay --json` writes them.
@@ -271,12 +272,11 @@ pub extern "C" fn ima_verify_more(
     out: &mut [u8],
     needed: &mut usize,
 ) -> i32
-    ensures { AnswersMore (IsMoreAnswer (growth_by log.now state.now more.now expected.now require.now prefix)) result needed.new out.old out.new
-        next_needed.new next.old next.new }
+    ensures { AnswersMore (IsAnswerAndNext (asked_of_more log.now state.now more.now expected.now require.now prefix) Text) result needed.new
+        out.old out.new next_needed.new next.old next.new }
 {
-    let asked = asked_by(log, state, more, expected, require, prefix);
-    let grown = grown_on(alloc, asked, Form::Text);
-    give_grown(alloc, grown, next, next_needed, out, needed)
+    let asked = more_on(log, state, more, expected, require, prefix);
+    give_both(alloc, asked, Form::Text, next, next_needed, out, needed)
 }
 
 /// The verdict of [`ima_verify_more`] as `verify --json` writes it.
@@ -294,43 +294,51 @@ pub extern "C" fn ima_verify_more_json(
     out: &mut [u8],
     needed: &mut usize,
 ) -> i32
-    ensures { AnswersMore (IsJsonMoreAnswer (growth_by log.now state.now more.now expected.now require.now prefix)) result needed.new out.old
-        out.new next_needed.new next.old next.new }
+    ensures { AnswersMore (IsAnswerAndNext (asked_of_more log.now state.now more.now expected.now require.now prefix) Json) result needed.new
+        out.old out.new next_needed.new next.old next.new }
 {
-    let asked = asked_by(log, state, more, expected, require, prefix);
-    let grown = grown_on(alloc, asked, Form::Json);
-    give_json_grown(alloc, grown, next, next_needed, out, needed)
+    let request = more_on(log, state, more, expected, require, prefix);
+    give_both(alloc, request, Form::Json, next, next_needed, out, needed)
 }
 
 // What these bytes ask of a list that grows.
-fn asked_by<'a>(
+fn more_on<'a>(
     log: &'a [u8],
     state: &'a [u8],
     more: &'a [u8],
     expected: &'a [u8],
     require: &'a [u8],
     prefix: bool,
-) -> GrowingOn<'a>
-    ensures { growth_on result ≡ growth_by log.now state.now more.now expected.now require.now prefix }
+) -> Request<'a>
+    ensures { asked_of result ≡ asked_of_more log.now state.now more.now expected.now require.now prefix }
 {
-    GrowingOn {
-        log,
-        state,
-        more,
-        expected,
-        required: required_by(require),
+    let wanted = Wanted::Verdict {
+        log: Input::Bytes(log),
         extent: extent_by(prefix),
+        resume: resume_by(state),
+    };
+    request_on(wanted, more, expected, required_by(require))
+}
+
+// Where the checkpoint is, if there is one.
+fn resume_by(state: &[u8]) -> Option<Input<'_>>
+    ensures { option_map place_of result ≡ state_place state.now }
+{
+    if state.is_empty() {
+        None
+    } else {
+        Some(Input::Bytes(state))
     }
 }
 
-// The text of what is required, unless it says that nothing is.
-fn required_by(require: &[u8]) -> Option<&[u8]>
-    ensures { option_map (λ text. text.now) result ≡ required_by require.now }
+// What has to be among the expected registers: those that the text spells, unless it says that some register is enough.
+fn required_by(require: &[u8]) -> Required<'_>
+    ensures { requires_of result ≡ required_by require.now }
 {
     if require == b"none".as_slice() {
-        None
+        Required::Any
     } else {
-        Some(require)
+        Required::These(require)
     }
 }
 
@@ -339,6 +347,67 @@ fn extent_by(prefix: bool) -> Extent
     ensures { result ≡ extent_for prefix }
 {
     if prefix { Extent::Front } else { Extent::Whole }
+}
+
+// What these bytes ask: the verdict on a log and a list.
+fn verdict_on<'a>(
+    log: &'a [u8],
+    list: &'a [u8],
+    expected: &'a [u8],
+    required: Required<'a>,
+) -> Request<'a>
+    ensures { asked_of result ≡ asked_of_verdict log.now list.now expected.now (requires_of required.entry) }
+{
+    let wanted = Wanted::Verdict {
+        log: Input::Bytes(log),
+        extent: Extent::Whole,
+        resume: None,
+    };
+    request_on(wanted, list, expected, required)
+}
+
+// What these bytes ask: where the registers have their values in a log and a list.
+fn places_on<'a>(
+    log: &'a [u8],
+    list: &'a [u8],
+    expected: &'a [u8],
+    required: Required<'a>,
+) -> Request<'a>
+    ensures { asked_of result ≡ asked_of_places log.now list.now expected.now (requires_of required.entry) }
+{
+    let wanted = Wanted::Places {
+        log: Input::Bytes(log),
+    };
+    request_on(wanted, list, expected, required)
+}
+
+// What these bytes ask: the verdict on a list alone.
+fn list_verdict_on<'a>(list: &'a [u8], expected: &'a [u8], required: Required<'a>) -> Request<'a>
+    ensures { asked_of result ≡ asked_of_list list.now expected.now (requires_of required.entry) }
+{
+    request_on(Wanted::ListVerdict, list, expected, required)
+}
+
+// What is asked of these bytes.
+fn request_on<'a>(
+    wanted: Wanted<'a>,
+    list: &'a [u8],
+    expected: &'a [u8],
+    required: Required<'a>,
+) -> Request<'a>
+    ensures { asked_of result ≡ record {
+      judgement = judgement_of wanted.entry;
+      list = BytesOf list.now;
+      expected = BytesOf expected.now;
+      required = requires_of required.entry;
+    } }
+{
+    Request {
+        wanted,
+        list: Input::Bytes(list),
+        expected: Input::Bytes(expected),
+        required,
+    }
 }
 
 /// The registers that differ from their reset values after a firmware event log, as `registers --json` writes them.

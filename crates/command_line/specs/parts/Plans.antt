@@ -1,19 +1,18 @@
 -- Plans of a command, with the options and names of its matches.
-use Rattle.std.specs.Prelude.{◌≡◌, false, true, List, codes, Option, None, Some, String, string_bytes}
+use Rattle.std.specs.Prelude.{◌≡◌, List, codes, Option, None, Some, String, string_bytes}
 use Rattle.std.specs.Global.{Global}
 use Rattle.clap.specs.Words.{Row, Text, all_of, first_of}
-use Rattle.command_line.specs.Commands.{HasGrowth, HasJsonValues, HasValues, has_growth, is_json, null_value}
+use Rattle.command_line.specs.Commands.{HasJsonValues, HasValues, form_of, null_value}
 use Rattle.command_line.specs.Plans.{IsOfCommand, IsWithinJsonRanges, IsWithinRanges, json_command}
 use Rattle.command_line.specs.declared.json_plan.JsonPlan.{JsonPlan}
-use Rattle.command_line.specs.declared.plan.Extent.TheVariants.{Whole}
+use Rattle.command_line.specs.declared.plan.Form.{Form}
 use Rattle.command_line.specs.declared.plan.NameEnd.{NameEnd}
 use Rattle.command_line.specs.declared.plan.NameEnd.TheVariants.{LineFeed}
 use Rattle.command_line.specs.declared.plan.Plan.{Plan}
-use Rattle.command_line.specs.declared.values.Growth.{Growth}
 
--- The plan is of this command, without `--json`.
-abbrev pub IsTextPlan : Text → List Row → Plan → Type 0
-IsTextPlan command rows plan = IsOfCommand command plan × IsWithinRanges plan × HasValues rows plan × (is_json plan ≡ false)
+-- The plan is of this command, and its result is shown in this form.
+abbrev pub IsPlanIn : Form → Text → List Row → Plan → Type 0
+IsPlanIn form command rows plan = IsOfCommand command plan × IsWithinRanges plan × HasValues rows plan × (form_of plan ≡ form)
 
 -- The plan is of this command, with `--json`.
 abbrev pub IsJsonPlan : Text → List Row → JsonPlan → Type 0
@@ -25,10 +24,3 @@ AreFurtherNames rows None = (all_of (codes "files-from") rows ≡ None) × (firs
 AreFurtherNames rows (Some names) =
     (first_of (codes "files-from") rows ≡ Some (string_bytes names.0))
     × (first_of (codes "null") rows ≡ Some (null_value names.1))
-
--- These are the options of a list that grows, at least one of which is present; or none of `--prefix`, `--resume` and `--save` is.
-abbrev pub IsGrowth : List Row → Option Growth → Type 0
-IsGrowth rows None = HasGrowth rows Whole None None
-IsGrowth rows (Some growth) =
-    HasGrowth rows growth.extent growth.resume growth.save
-    × (has_growth growth.extent growth.resume growth.save ≡ true)

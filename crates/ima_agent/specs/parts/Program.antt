@@ -2,7 +2,7 @@
 use Rattle.command_line.specs.declared.json_plan.JsonPlan.{JsonPlan}
 use Rattle.command_line.specs.declared.json_plan.JsonPlan.TheVariants as jsons
 use Rattle.command_line.specs.declared.plan.Plan.{Plan}
-use Rattle.command_line.specs.declared.plan.Plan.TheVariants.{Verify, VerifyRequired, VerifyGrowing, Locate, LocateRequired, Events, ReplayExpected, Json, Help}
+use Rattle.command_line.specs.declared.plan.Plan.TheVariants.{Verify, Judge, Events, Json, Help}
 
 -- The plan is not to show the help, whose text it has.
 abbrev pub IsNoHelp : Plan → Type 0
@@ -13,12 +13,8 @@ IsNoHelp plan = Unit {0}
 abbrev pub ShowsText : Plan → Type 0
 ShowsText (Help text) = ⊥
 ShowsText (Verify log list expected) = ⊥
-ShowsText (VerifyRequired log list expected required) = ⊥
-ShowsText (VerifyGrowing asked) = ⊥
-ShowsText (Locate log list expected) = ⊥
-ShowsText (LocateRequired log list expected required) = ⊥
+ShowsText (Judge judge) = ⊥
 ShowsText (Events log requested) = ⊥
-ShowsText (ReplayExpected list expected required) = ⊥
 ShowsText (Json plan) = ⊥
 ShowsText plan = Unit {0}
 

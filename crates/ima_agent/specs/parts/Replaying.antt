@@ -10,7 +10,7 @@ use Rattle.boot_verdict.specs.declared.verifier.VerifyFault.TheVariants as verdi
 use Rattle.boot_verdict.specs.ListSources.{CameWhole}
 use Rattle.boot_verdict.specs.Replays.{IsListReplay, IsListReplayFault}
 use Rattle.agent_inputs.specs.declared.fault.RunFault.{RunFault}
-use Rattle.ima_agent.specs.declared.output.Form.{Form}
+use Rattle.command_line.specs.declared.plan.Form.{Form}
 use Rattle.agent_inputs.specs.declared.fault.RunFault.TheVariants as runs
 use Rattle.agent_inputs.specs.Faults.{IsFaultOfVerdict}
 use Rattle.agent_inputs.specs.Loading.{HasFailed, input_limit}

@@ -9,7 +9,6 @@ ghost use Rattle.ima_agent.specs.Showing.{IsFitted};
 ghost use Rattle.agent_inputs.specs.declared.fault.RunFault.TheVariants.{Memory};
 ghost use Rattle.ima_agent.specs.parts.Showing.{IsKept};
 
-use crate::output::DONE;
 use crate::showing::{Fitted, as_kept, count_longer};
 use crate::texts::{append_json_fault, status_of};
 use agent_inputs::RunFault;
@@ -63,7 +62,7 @@ fn entries_within(alloc: Global, list: &[u8], room: usize) -> Result<FittedOutpu
     }
     Ok(FittedOutput {
         text: as_kept(text, size),
-        status: DONE,
+        status: 0,
     })
 }
 

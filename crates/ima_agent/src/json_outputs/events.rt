@@ -7,12 +7,12 @@ ghost use Rattle.ima_agent.specs.Streaming.{Streams};
 ghost use Rattle.agent_inputs.specs.declared.fault.RunFault.TheVariants.{Memory};
 ghost use Rattle.ima_agent.specs.parts.Streaming.{ShowsEventsIn};
 
-use crate::output::Output;
 use crate::streaming::StreamFault;
 use crate::texts::{append_json_fault, status_of};
 use agent_inputs::{AgentFiles, RunFault, loaded};
 use byte_streams::{Failed, Sink, VecSink};
 use json_texts::{EventsFault, send_events};
+use rendering::Output;
 use std::alloc::{AllocError, Global};
 
 /// Sends the line of the algorithms that the log in the file of this name declares, and the lines of its events while they are read; of a

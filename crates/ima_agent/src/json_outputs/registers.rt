@@ -5,10 +5,11 @@ ghost use Rattle.ima_agent.specs.JsonShowing.{ShowsJsonRegisters};
 ghost use Rattle.agent_inputs.specs.Loading.{IsInputFault, OfInput};
 ghost use Rattle.ima_agent.specs.Showing.{IsNoLogFor};
 
-use crate::output::{Form, Output};
 use crate::replaying::registers_in;
 use crate::showing::registers_of;
 use agent_inputs::{AgentFiles, RunFault, loaded};
+use command_line::Form;
+use rendering::Output;
 use std::alloc::Global;
 
 /// The line of the registers that differ from their reset values after the log in the file of this name.

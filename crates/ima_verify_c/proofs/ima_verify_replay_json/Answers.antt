@@ -2,7 +2,7 @@ use Rattle.std.proofs.Common.{refl, inr, rules, w32}
 use Rattle.std.specs.Prelude.{◌≡◌, ℕ, List}
 use mir.Val.{SFits}
 use Rattle.std.proofs.Math.Facts.{to_z-of_z}
-use Rattle.ima_agent.specs.declared.output.Form.TheVariants.{Json}
+use Rattle.command_line.specs.declared.plan.Form.TheVariants.{Json}
 use Rattle.ima_agent.specs.Replaying.{IsNoReplayOn, ShowsReplay}
 use Rattle.ima_verify_c.proofs.GivingLaws.{gives_json}
 use Rattle.ima_verify_c.proofs.ima_verify_replay_json.Goals as goal

@@ -6,7 +6,7 @@ returns-in-Ok g c = record {
   text = c.in-Ok.output.text.items;
   status = c.in-Ok.output.status;
   sent = c.send-sent.result;
-  output = inl (c.in-Ok.ensures.shown, c.in-Ok.ensures.saved);
+  output = inl c.in-Ok.ensures.shown;
   sends = rw (← c.deref.ensures.value) c.send-sent.ensures;
   answer_is = c.status_after.ensures;
 }

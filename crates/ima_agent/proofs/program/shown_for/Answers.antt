@@ -1,12 +1,8 @@
 use Rattle.ima_agent.proofs.program.shown_for.Goals as goal
 
-pub returns-in-Locate-clause-fault : goal.returns-in-Locate-clause-fault
-returns-in-Locate-clause-fault g c =
-    rw c.in-Locate.is (rw (c.deref-in-Locate.ensures, c.deref-in-Locate-2.ensures, c.deref-in-Locate-3.ensures) at c.located.ensures.fault)
-
 pub returns-in-Verify-clause-fault : goal.returns-in-Verify-clause-fault
-returns-in-Verify-clause-fault g c =
-    rw c.in-Verify.is (rw (c.deref.ensures, c.deref-in-Verify.ensures, c.deref-in-Verify-2.ensures) at c.verified.ensures.fault)
+returns-in-Verify-clause-fault g c = rw c.in-Verify.is (rw c.request_to_verify-request.ensures at c.output_for.ensures.fault)
 
-pub returns-in-VerifyGrowing-clause-fault : goal.returns-in-VerifyGrowing-clause-fault
-returns-in-VerifyGrowing-clause-fault g c = rw c.in-VerifyGrowing.is c.grown.ensures.fault
+pub returns-in-Judge-clause-fault : goal.returns-in-Judge-clause-fault
+returns-in-Judge-clause-fault g c =
+    rw c.in-Judge.is (rw (c.request_of.ensures, c.save_of.ensures) at c.output_for-in-Judge.ensures.fault)

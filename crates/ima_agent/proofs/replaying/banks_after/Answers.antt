@@ -7,4 +7,4 @@ returns-in-Ok-clause-now c =
 
 pub returns-in-Err-clause-fault : goal.returns-in-Err-clause-fault
 returns-in-Err-clause-fault c =
-    rw c.first_cause.ensures (no_registers c.args.list.now _ _ c.in-Err.fault (rw c.new-source.ensures at c.in-Err.ensures.fault))
+    rw c.refused.ensures (no_registers c.args.list.now _ _ c.in-Err.fault (rw c.new-source.ensures at c.in-Err.ensures.fault))

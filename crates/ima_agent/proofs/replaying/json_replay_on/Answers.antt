@@ -1,4 +1,4 @@
-use Rattle.ima_agent.specs.declared.output.Form.TheVariants.{Json}
+use Rattle.command_line.specs.declared.plan.Form.TheVariants.{Json}
 use Rattle.ima_agent.proofs.ReplayingLaws.{shows_registers}
 use Rattle.ima_agent.proofs.replaying.json_replay_on.Goals as goal
 

@@ -1,0 +1,80 @@
+-- What is asked for: what is judged, and what the answer says of it.
+use Rattle.std.specs.Prelude.{ℕ, List, Option, None, Some, option_map}
+use Rattle.command_line.specs.declared.plan.Extent.{Extent}
+use Rattle.judging.specs.Inputs.{Where, FileOf, BytesOf}
+use Rattle.judging.specs.declared.inputs.Input.{Input}
+use Rattle.judging.specs.declared.inputs.Input.TheVariants as inputs
+use Rattle.judging.specs.declared.inputs.Held.{Held}
+use Rattle.judging.specs.declared.inputs.Held.TheVariants as helds
+use Rattle.judging.specs.declared.request.Request.{Request}
+use Rattle.judging.specs.declared.request.Required.{Required}
+use Rattle.judging.specs.declared.request.Required.TheVariants as required
+use Rattle.judging.specs.declared.request.Wanted.{Wanted}
+use Rattle.judging.specs.declared.request.Wanted.TheVariants as wanted
+
+-- What the answer is: the verdict on a log and a list, or on a front of it, which may go on from a checkpoint; where the registers have
+-- their values in a log and a list; or the verdict on a list alone.
+pub data Judgement : Type 0 where
+  VerdictOf : Where → Extent → Option Where → Judgement
+  PlacesOf : Where → Judgement
+  ListVerdictOf : Judgement
+
+-- What has to be among the expected registers: nothing; some register; or those that a text spells.
+pub data Requires : Type 0 where
+  Nothing : Requires
+  Any : Requires
+  These : List ℕ → Requires
+
+-- The text that spells registers, if there is one.
+abbrev pub text_of : Requires → Option (List ℕ)
+text_of Nothing = None
+text_of Any = None
+text_of (These text) = Some text
+
+-- What is asked for: the result, with what only it is of; where the list is, or what follows the checkpoint, and the text of expected
+-- registers; and what has to be among these.
+pub record Asked : Type 0 where
+  pub judgement : Judgement
+  pub list : Where
+  pub expected : Where
+  pub required : Requires
+
+-- Where the log is, if there is one.
+abbrev pub log_of : Judgement → Option Where
+log_of (VerdictOf log extent resume) = Some log
+log_of (PlacesOf log) = Some log
+log_of ListVerdictOf = None
+
+-- Where the checkpoint is that is gone on from, if there is one.
+abbrev pub resume_of : Judgement → Option Where
+resume_of (VerdictOf log extent resume) = resume
+resume_of (PlacesOf log) = None
+resume_of ListVerdictOf = None
+
+-- ---- what contracts see of a request
+
+abbrev pub place_of : Input → Where
+place_of (inputs.File name) = FileOf name.now
+place_of (inputs.Bytes content) = BytesOf content.now
+
+abbrev pub held_bytes : Held → List ℕ
+held_bytes (helds.File content) = content.items
+held_bytes (helds.Bytes content) = content.now
+
+abbrev pub judgement_of : Wanted → Judgement
+judgement_of (wanted.Verdict log extent resume) = VerdictOf (place_of log) extent (option_map place_of resume)
+judgement_of (wanted.Places log) = PlacesOf (place_of log)
+judgement_of wanted.ListVerdict = ListVerdictOf
+
+abbrev pub requires_of : Required → Requires
+requires_of required.Nothing = Nothing
+requires_of required.Any = Any
+requires_of (required.These text) = These text.now
+
+abbrev pub asked_of : Request → Asked
+asked_of request = record {
+  judgement = judgement_of request.wanted;
+  list = place_of request.list;
+  expected = place_of request.expected;
+  required = requires_of request.required;
+}

@@ -1,0 +1,59 @@
+-- Where inputs are, what they hold, and why one is not loaded. All of this is this project's choice.
+use Rattle.std.specs.Prelude.{◌≡◌, ℕ, ◌^◌, ◌-◌, List, Option, Some, IfSome, IsTrue}
+use Rattle.boot_verdict.specs.declared.verifier.VerifyFault.{VerifyFault}
+use Rattle.boot_verdict.specs.declared.verifier.VerifyFault.TheVariants as verdicts
+use Rattle.agent_inputs.specs.declared.fault.RunFault.{RunFault}
+use Rattle.agent_inputs.specs.declared.fault.RunFault.TheVariants as runs
+use Rattle.agent_inputs.specs.Faults.{IsFaultOfVerdict, fault_of_list, fault_of_log}
+use Rattle.agent_inputs.specs.Loading.{Inputs, input_limit}
+use Rattle.agent_inputs.specs.Loading.{IsInputFault as IsFileFault, IsReadFailure as IsFileFailure}
+
+-- Where an input is: in the file of this name, or in memory, where these bytes are all of it.
+pub data Where : Type 0 where
+  FileOf : List ℕ → Where
+  BytesOf : List ℕ → Where
+
+-- All bytes of the input, if they are told.
+abbrev pub held_in : Inputs → Where → Option (List ℕ)
+held_in inputs (FileOf name) = inputs.held (Some name)
+held_in inputs (BytesOf all) = Some all
+
+-- The most bytes that the input may have: of a file 64 MiB; in memory no more than there can be.
+abbrev pub limit_of : Where → ℕ
+limit_of (FileOf name) = input_limit
+limit_of (BytesOf all) = 2 ^ 63 - 1
+
+-- These are all bytes of the input, if they are told.
+abbrev pub Holds : Inputs → Where → List ℕ → Type 0
+Holds inputs place content = IfSome (held_in inputs place) (λ all. content ≡ all)
+
+-- This holds of the bytes of the input; of some bytes, if its own are not told.
+abbrev pub OfInput : Inputs → Where → (List ℕ → Type 0) → Type 0
+OfInput inputs place P = (content : List ℕ) × Holds inputs place content × P content
+
+-- The input may fail, to be opened or while it is read: bytes in memory do not.
+abbrev pub MayFail : Inputs → Where → Type 0
+MayFail inputs (FileOf name) = IsTrue (inputs.may_fail (Some name))
+MayFail inputs (BytesOf all) = ⊥
+
+-- The fault says that the input could not be opened, or failed while it was read; and it may fail.
+abbrev pub IsReadFailure : Inputs → Where → RunFault → Type 0
+IsReadFailure inputs (FileOf name) fault = IsFileFailure inputs (Some name) fault
+IsReadFailure inputs (BytesOf all) fault = ⊥
+
+-- Why the input was not loaded: as a file is not; bytes in memory always are.
+abbrev pub IsInputFault : Inputs → Where → RunFault → Type 0
+IsInputFault inputs (FileOf name) fault = IsFileFault inputs (Some name) fault
+IsInputFault inputs (BytesOf all) fault = ⊥
+
+-- The program's fault for a verifier's fault of bytes in memory, of which no source fails and no list is too long.
+abbrev pub fault_of_verdict : VerifyFault → RunFault
+fault_of_verdict (verdicts.Log first) = fault_of_log first
+fault_of_verdict (verdicts.List first) = fault_of_list first
+fault_of_verdict (verdicts.Replay first) = runs.Replay first
+fault_of_verdict first = runs.Memory
+
+-- The program's fault for a verifier's fault, where the list is this input.
+abbrev pub IsFaultAt : Where → VerifyFault → RunFault → Type 0
+IsFaultAt (FileOf name) first fault = IsFaultOfVerdict name first fault
+IsFaultAt (BytesOf all) first fault = fault ≡ fault_of_verdict first

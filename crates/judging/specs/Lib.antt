@@ -1,0 +1,6 @@
+pub mod Inputs
+pub mod Asking
+pub mod Growing
+pub mod Judging
+pub mod Answering
+pub mod parts

@@ -1,0 +1,75 @@
+//! Answers, before they are written.
+
+ghost use Rattle.std.specs.Prelude.{◌≡◌, option_map};
+ghost use Rattle.boot_verdict.specs.Verdicts.{verdict_of};
+ghost use Rattle.judging.specs.Asking.{requires_of};
+ghost use Rattle.judging.specs.Judging.{is_match, is_well, next_if};
+
+use crate::request::Required;
+use boot_verdict::{
+    Checkpoint, ListReport, Located, Report, Requirement, all_found, required_found,
+};
+use growing_lists::FrontReport;
+
+/// What is answered.
+#[derive(Drop)]
+pub enum Answer {
+    /// A report on all of a list.
+    Report(Report),
+    /// A report on its confirmed front.
+    Front(FrontReport),
+    /// Where registers have their values.
+    Places(Vec<Located>),
+    /// A report on a list alone.
+    ListReport(ListReport),
+}
+
+/// An answer, and what it is worth.
+#[derive(Drop)]
+pub struct Answered {
+    /// The answer.
+    pub answer: Answer,
+    /// The registers that are required, if a text spells some.
+    pub requirement: Option<Requirement>,
+    /// Whether all is well: the verdict is `match`, or each register was located; and what has to be among them is.
+    pub is_well: bool,
+    /// Where to go on, if all is well: the checkpoint of what a verdict is on.
+    pub next: Option<Checkpoint>,
+}
+
+/// Whether all is well where this has to be among the expected registers, of which the text spells these.
+pub(crate) fn is_well(
+    required: Required<'_>,
+    requirement: Option<&Requirement>,
+    answer: &Answer,
+) -> bool
+    ensures { result ≡ is_well (requires_of required.entry) (option_map (λ ranges. ranges.now) requirement.entry) answer.now }
+{
+    match (answer, requirement) {
+        (Answer::Report(report), None) => is_match(required, report),
+        (Answer::Report(report), Some(requirement)) => report.meets(requirement),
+        (Answer::Front(front), None) => front.report.matches(),
+        (Answer::Front(front), Some(requirement)) => front.report.meets(requirement),
+        (Answer::Places(places), None) => all_found(places),
+        (Answer::Places(places), Some(requirement)) => required_found(places, requirement),
+        (Answer::ListReport(report), None) => report.matches(),
+        (Answer::ListReport(report), Some(requirement)) => report.meets(requirement),
+    }
+}
+
+// Whether the verdict is `match` where no text spells what is required.
+fn is_match(required: Required<'_>, report: &Report) -> bool
+    ensures { result ≡ is_match (requires_of required.entry) (verdict_of report.now) }
+{
+    match required {
+        Required::Nothing => report.matches(),
+        Required::Any | Required::These(_) => report.matches() && !report.rows.is_empty(),
+    }
+}
+
+/// Where to go on: nowhere, unless all is well.
+pub(crate) fn next_if(is_well: bool, next: Option<Checkpoint>) -> Option<Checkpoint>
+    ensures { result ≡ next_if is_well next }
+{
+    if is_well { next } else { None }
+}

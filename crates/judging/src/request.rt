@@ -1,0 +1,64 @@
+//! What is asked of a log and a list.
+
+ghost use Rattle.std.specs.Prelude.{◌≡◌, option_map};
+ghost use Rattle.judging.specs.Asking.{requires_of, text_of};
+
+use crate::inputs::Input;
+use command_line::Extent;
+
+/// What the answer is, with what only it is of.
+#[derive(Clone, Copy)]
+pub enum Wanted<'a> {
+    /// The verdict on a log, a list and expected registers.
+    Verdict {
+        /// The firmware event log.
+        log: Input<'a>,
+        /// Which part of the list the verdict is on.
+        extent: Extent,
+        /// The checkpoint to go on from, if there is one.
+        resume: Option<Input<'a>>,
+    },
+    /// Where the expected registers first have their values.
+    Places {
+        /// The firmware event log.
+        log: Input<'a>,
+    },
+    /// The verdict on a list alone.
+    ListVerdict,
+}
+
+/// What has to be among the expected registers.
+#[derive(Clone, Copy)]
+pub enum Required<'a> {
+    /// Nothing: a verdict may be `match` though no register is expected.
+    Nothing,
+    /// Some register.
+    Any,
+    /// The registers that this text spells, as `sha256:0-10`.
+    These(&'a [u8]),
+}
+
+impl<'a> Required<'a> {
+    /// The text that spells registers, if there is one.
+    pub(crate) fn text(self) -> Option<&'a [u8]>
+        ensures { option_map (λ text. text.now) result ≡ text_of (requires_of self.entry) }
+    {
+        match self {
+            Required::These(text) => Some(text),
+            Required::Nothing | Required::Any => None,
+        }
+    }
+}
+
+/// What is asked for, and of which inputs.
+#[derive(Clone, Copy)]
+pub struct Request<'a> {
+    /// What the answer is.
+    pub wanted: Wanted<'a>,
+    /// The measurement list; with a checkpoint, what follows it.
+    pub list: Input<'a>,
+    /// The text of expected registers.
+    pub expected: Input<'a>,
+    /// What has to be among them.
+    pub required: Required<'a>,
+}

@@ -1,0 +1,54 @@
+-- What is shown of what is asked for, what is saved with it, and why nothing is. All of this is this project's choice.
+use Rattle.std.specs.Prelude.{◌≡◌, ℕ, ◌⊎◌, List, [], Option, Some, None}
+use Rattle.boot_verdict.specs.declared.checkpoint.Checkpoint.{Checkpoint}
+use Rattle.growing_lists.specs.CheckpointTexts.{checkpoint_text}
+use Rattle.agent_inputs.specs.declared.fault.RunFault.{RunFault}
+use Rattle.agent_inputs.specs.declared.fault.RunFault.TheVariants as runs
+use Rattle.agent_inputs.specs.Loading.{HasReplaced, Inputs, IsNotWritten, Saved}
+use Rattle.judging.specs.declared.answer.Answered.{Answered}
+use Rattle.judging.specs.Answering.{IsAnswer, IsRefusal}
+use Rattle.judging.specs.Asking.{Asked}
+use Rattle.command_line.specs.declared.plan.Form.{Form}
+use Rattle.rendering.specs.Rendering.{rendered, status_of}
+
+-- What is shown is the answer to what is asked for, in this form, with its status; and this is where to go on.
+pub record IsShown (inputs : Inputs) (asked : Asked) (form : Form) (shown : List ℕ) (status : ℕ) (next : Option Checkpoint) : Type 0 where
+  pub given : Answered
+  pub answer : IsAnswer inputs asked given
+  pub text_is : shown ≡ rendered form given
+  pub status_is : status ≡ status_of given
+  pub next_is : next ≡ given.next
+
+-- The file of this name, if one is given, was replaced by the text of this checkpoint, if there is one, and no other was.
+abbrev pub HasSaved : Saved → Saved → Option (List ℕ) → Option Checkpoint → Type 0
+HasSaved old new (Some name) (Some next) = HasReplaced old new (record { name = name; bytes = checkpoint_text next })
+HasSaved old new name next = new ≡ old
+
+-- The answer is shown. If all is well, the checkpoint of what it is on is saved, if a name is given for it; nothing else is.
+abbrev pub ShowsAnswer : Inputs → Asked → Option (List ℕ) → Form → Saved → Saved → List ℕ → ℕ → Type 0
+ShowsAnswer inputs asked save form old new shown status =
+    (next : Option Checkpoint) × IsShown inputs asked form shown status next × HasSaved old new save next
+
+-- The text of a checkpoint, if there is one.
+abbrev pub state_of : Option Checkpoint → List ℕ
+state_of None = []
+state_of (Some next) = checkpoint_text next
+
+-- The answer is given; and, if all is well, the text of the checkpoint of what it is on.
+abbrev pub GivesAnswer : Inputs → Asked → Form → List ℕ → ℕ → List ℕ → Type 0
+GivesAnswer inputs asked form shown status state =
+    (next : Option Checkpoint) × IsShown inputs asked form shown status next × (state ≡ state_of next)
+
+-- There is a checkpoint to be written under a name that is given, and it could not be; or memory ran out.
+abbrev pub IsNotSaved : Option (List ℕ) → Option Checkpoint → RunFault → Type 0
+IsNotSaved (Some name) (Some next) fault = IsNotWritten name fault ⊎ (fault ≡ runs.Memory)
+IsNotSaved name next fault = ⊥
+
+-- Why nothing is given: there is no answer, or memory ran out.
+abbrev pub IsRefusalOn : Inputs → Asked → RunFault → Type 0
+IsRefusalOn inputs asked fault = IsRefusal inputs asked fault ⊎ (fault ≡ runs.Memory)
+
+-- Why nothing is shown: there is no answer, or memory ran out; or there is one, and the checkpoint could not be saved.
+abbrev pub IsOutputFault : Inputs → Asked → Option (List ℕ) → RunFault → Type 0
+IsOutputFault inputs asked save fault =
+    IsRefusalOn inputs asked fault ⊎ ((given : Answered) × IsAnswer inputs asked given × IsNotSaved save given.next fault)

@@ -1,0 +1,68 @@
+//! Outputs of what is asked for.
+
+ghost use Rattle.std.specs.Prelude.{◌≡◌, option_map, IfOk, IfErr, OnErr};
+ghost use Rattle.agent_inputs.specs.Loading.{untold};
+ghost use Rattle.judging.specs.Asking.{asked_of};
+ghost use Rattle.rendering.specs.Outputs.{GivesAnswer, IsOutputFault, IsRefusalOn, ShowsAnswer, state_of};
+
+use crate::no_files::NoFiles;
+use crate::output::Output;
+use crate::rendering::rendered;
+use crate::saving::save;
+use agent_inputs::{AgentFiles, RunFault};
+use boot_verdict::Checkpoint;
+use command_line::Form;
+use growing_lists::write_checkpoint;
+use judging::{Request, answered};
+use std::alloc::{AllocError, Global};
+
+/// The output of what is asked for, in this form. If all is well, the checkpoint of what a verdict is on is saved last, if a name is given
+/// for it.
+pub fn output_for<F: AgentFiles>(
+    alloc: Global,
+    files: &mut F,
+    asked: Request<'_>,
+    name: Option<&str>,
+    form: Form,
+) -> Result<Output, RunFault>
+    ensures shown { IfOk result (λ output. ShowsAnswer (F.told files.old) (asked_of asked.entry) (option_map (λ name. name.now) name.entry) form
+        (F.saved files.old) (F.saved files.new) output.text.items output.status) }
+    ensures kept { OnErr result (F.saved files.new ≡ F.saved files.old) }
+    ensures fault { IfErr result (IsOutputFault (F.told files.old) (asked_of asked.entry) (option_map (λ name. name.now) name.entry)) }
+{
+    let given = answered(alloc, files, asked)?;
+    let output = rendered(alloc, &given, form)?;
+    save(alloc, files, name, given.next)?;
+    Ok(output)
+}
+
+/// An output, and where to go on.
+#[derive(Drop)]
+pub struct Given {
+    /// The output.
+    pub output: Output,
+    /// The text of the checkpoint of what a verdict is on, if all is well; else no bytes.
+    pub checkpoint: Vec<u8>,
+}
+
+/// The output of what is asked for of bytes in memory, in this form.
+pub fn output_on(alloc: Global, asked: Request<'_>, form: Form) -> Result<Given, RunFault>
+    ensures shown { IfOk result (λ given. GivesAnswer untold (asked_of asked.entry) form given.output.text.items given.output.status
+        given.checkpoint.items) }
+    ensures fault { IfErr result (IsRefusalOn untold (asked_of asked.entry)) }
+{
+    let given = answered(alloc, &mut NoFiles, asked)?;
+    let output = rendered(alloc, &given, form)?;
+    let checkpoint = text_of(alloc, given.next)?;
+    Ok(Given { output, checkpoint })
+}
+
+// The text of a checkpoint, if there is one.
+fn text_of(alloc: Global, next: Option<Checkpoint>) -> Result<Vec<u8>, AllocError>
+    ensures { IfOk result (λ text. text.items ≡ state_of next) }
+{
+    match next {
+        None => Ok(Vec::new(alloc)),
+        Some(next) => write_checkpoint(alloc, &next),
+    }
+}

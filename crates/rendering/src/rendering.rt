@@ -1,0 +1,93 @@
+//! Answers as text or JSON.
+
+ghost use Rattle.std.specs.Prelude.{◌≡◌, ◌++◌, None, IfOk, OnOk};
+ghost use Rattle.byte_streams.specs.Streams.{Sends};
+ghost use Rattle.json_texts.specs.JsonValues.{line_of};
+ghost use Rattle.judging.specs.declared.answer.Answer.TheVariants as answers;
+ghost use Rattle.rendering.specs.Rendering.{json_of, lines_of, rendered, status_of};
+
+use crate::output::Output;
+use boot_verdict::{
+    Report, write_counts, write_list_report, write_outcome, write_places,
+    write_required_list_report, write_required_places, write_required_report,
+};
+use byte_streams::{Failed, Sink, VecSink};
+use command_line::Form;
+use growing_lists::{write_front_report, write_required_front_report};
+use json_texts::{append_front_report, append_list_report, append_places, append_report};
+use judging::{Answer, Answered};
+use std::alloc::{AllocError, Global};
+
+/// The output of an answer in this form: its status says whether all is well.
+pub fn rendered(alloc: Global, given: &Answered, form: Form) -> Result<Output, AllocError>
+    ensures text { IfOk result (λ output. output.text.items ≡ rendered form given.now) }
+    ensures status { IfOk result (λ output. output.status ≡ status_of given.now) }
+{
+    let text = match form {
+        Form::Text => lines(alloc, given)?,
+        Form::Json => line(alloc, given)?,
+    };
+    Ok(Output::told(text, given.is_well))
+}
+
+// The lines of an answer.
+fn lines(alloc: Global, given: &Answered) -> Result<Vec<u8>, AllocError>
+    ensures { IfOk result (λ text. text.items ≡ lines_of given.now.is_well given.now.requirement given.now.answer) }
+{
+    let mut text = VecSink::new(Vec::new(alloc));
+    match write_lines(given, &mut text) {
+        Ok(()) => Ok(text.into_bytes()),
+        Err(Failed) => Err(AllocError),
+    }
+}
+
+// Writes the lines of an answer.
+fn write_lines<S: Sink>(given: &Answered, sink: &mut S) -> Result<(), Failed>
+    ensures { Sends (S.state sink.old) (S.state sink.new) result (lines_of given.now.is_well given.now.requirement given.now.answer) }
+{
+    match (&given.answer, given.requirement.as_ref()) {
+        (Answer::Report(report), None) => write_report(report, given.is_well, sink),
+        (Answer::Report(report), Some(required)) => write_required_report(report, required, sink),
+        (Answer::Front(front), None) => write_front_report(front, sink),
+        (Answer::Front(front), Some(required)) => write_required_front_report(
+            front, required, sink,
+        ),
+        (Answer::Places(places), None) => write_places(places, sink),
+        (Answer::Places(places), Some(required)) => write_required_places(places, required, sink),
+        (Answer::ListReport(report), None) => write_list_report(report, sink),
+        (Answer::ListReport(report), Some(required)) => {
+            write_required_list_report(report, required, sink)
+        }
+    }
+}
+
+// Writes a report where no registers are required.
+fn write_report<S: Sink>(report: &Report, is_match: bool, sink: &mut S) -> Result<(), Failed>
+    ensures { Sends (S.state sink.old) (S.state sink.new) result (lines_of is_match None (answers.Report report.now)) }
+{
+    write_counts(report.events, report.locality, report.entries, sink)?;
+    write_outcome(report, is_match, sink)
+}
+
+// The line of JSON of an answer.
+fn line(alloc: Global, given: &Answered) -> Result<Vec<u8>, AllocError>
+    ensures { IfOk result (λ line. line.items ≡ line_of (json_of given.now.is_well given.now.requirement given.now.answer)) }
+{
+    let mut line = Vec::new(alloc);
+    append_line(alloc, given, &mut line)?;
+    Ok(line)
+}
+
+// Appends it.
+fn append_line(alloc: Global, given: &Answered, line: &mut Vec<u8>) -> Result<(), AllocError>
+    ensures { OnOk result (line.new.items ≡ line.old.items
+        ++ line_of (json_of given.now.is_well given.now.requirement given.now.answer)) }
+{
+    let requirement = given.requirement.as_ref();
+    match &given.answer {
+        Answer::Report(report) => append_report(alloc, report, requirement, given.is_well, line),
+        Answer::Front(front) => append_front_report(alloc, front, requirement, line),
+        Answer::Places(places) => append_places(alloc, places, requirement, line),
+        Answer::ListReport(report) => append_list_report(alloc, report, requirement, line),
+    }
+}
