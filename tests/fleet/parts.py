@@ -156,8 +156,7 @@ FOLDERS_WANTED = [
 ]
 
 
-def test_parts(tools, check):
-    """Whatever a tool is lacking for is named."""
+def test_parts(tools):
     modules = {"PYTHONPATH": f"{ROOT / 'bindings/python'}:{ROOT / 'fleet'}"}
     for title, script, words, wanted in (
         ("a batch ends at its time, after one machine at least", BATCHES, (ROOT / "samples/real-boot", REQUIRE), BATCHES_WANTED),
@@ -167,27 +166,19 @@ def test_parts(tools, check):
         ("the files of folders", FOLDERS, (), FOLDERS_WANTED),
     ):
         said = tools.start(["-c", script, *words], **modules).communicate(timeout=SECONDS)[0]
-        check(title, said.splitlines(), wanted)
-    test_version(tools, check)
-    test_units(tools, check)
-    test_types(check)
-    test_wheel(tools, check)
+        tools.check(title, said.splitlines(), wanted)
+    test_version(tools)
 
 
-def test_version(tools, check):
+def test_version(tools):
     """The version is that of the project."""
     said = tools.start([ROOT / "fleet/verify.py", "--version"]).communicate(timeout=SECONDS)[0]
-    check("--version", said, f"fleet-verify {(ROOT / 'VERSION').read_text().strip()}\n")
+    tools.check("--version", said, f"fleet-verify {(ROOT / 'VERSION').read_text().strip()}\n")
 
 
-def lacking(tool, what):
-    print(f"not tried, for want of {tool}: {what}")
-
-
-def test_units(tools, check):
+def test_units(tools):
     """The units of systemd, with a program that is there; it says of what it does not know."""
-    if not shutil.which("systemd-analyze"):
-        return lacking("systemd-analyze", "the units of fleet/systemd")
+    tools.needs("systemd-analyze")
     folder = tools.folder / "units"
     shutil.copytree(ROOT / "fleet/systemd", folder)
     service, timer = folder / "fleet-poll.service", folder / "fleet-poll.timer"
@@ -195,28 +186,26 @@ def test_units(tools, check):
     for title, is_right in (("its units", True), ("an unknown setting", False)):
         words = ["systemd-analyze", "verify", "--man=no", service, timer]
         done = subprocess.run(words, capture_output=True, text=True, timeout=SECONDS)
-        check(f"systemd-analyze verify: {title}", (done.returncode, "fleet-poll" in done.stdout + done.stderr), (0, not is_right))
+        tools.check(f"systemd-analyze verify: {title}", (done.returncode, "fleet-poll" in done.stdout + done.stderr), (0, not is_right))
         service.write_text(service.read_text().replace("PrivateNetwork=", "PrivateNetwork2="))
 
 
-def test_types(check):
+def test_types(tools):
     """The package is typed."""
     python = next((each for each in (sys.executable, "/usr/bin/python3") if has(each, "mypy")), None)
-    if python is None:
-        return lacking("mypy", "the types of fleet_verify")
+    tools.lacks(*([] if python else ["mypy"]))
     words = [python, "-m", "mypy", "--cache-dir", "/dev/null"]
     done = subprocess.run(words, cwd=ROOT / "fleet", capture_output=True, text=True, timeout=SECONDS)
-    check("mypy --strict", (done.returncode, done.stdout if done.returncode else ""), (0, ""))
+    tools.check("mypy --strict", (done.returncode, done.stdout if done.returncode else ""), (0, ""))
 
 
 def has(python, module):
     return subprocess.run([python, "-c", f"import {module}"], capture_output=True, timeout=SECONDS).returncode == 0
 
 
-def test_wheel(tools, check):
+def test_wheel(tools):
     """The wheel has the package and its command, which runs."""
-    if not has(tools.python, "hatchling"):
-        return lacking("hatchling", "the wheel of fleet_verify")
+    tools.lacks(*([] if has(tools.python, "hatchling") else ["hatchling"]))
     source = shutil.copytree(ROOT / "fleet", tools.folder / "source", ignore=shutil.ignore_patterns("__pycache__"))
     words = [tools.python, "-m", "hatchling", "build", "-t", "wheel", "-d", tools.folder / "wheel"]
     subprocess.run(words, cwd=source, check=True, capture_output=True, timeout=SECONDS)
@@ -225,7 +214,7 @@ def test_wheel(tools, check):
         names = set(packed.namelist())
         (entry,) = (packed.read(name).decode() for name in names if name.endswith("entry_points.txt"))
     modules = {f"fleet_verify/{file.name}" for file in (ROOT / "fleet/fleet_verify").iterdir() if file.is_file()}
-    check("the wheel has the package, and nothing of the tests", {name for name in names if ".dist-info/" not in name}, modules)
-    check("the wheel has the command", "fleet-verify = fleet_verify.main:main" in entry, True)
+    tools.check("the wheel has the package, and nothing of the tests", {name for name in names if ".dist-info/" not in name}, modules)
+    tools.check("the wheel has the command", "fleet-verify = fleet_verify.main:main" in entry, True)
     done = subprocess.run([tools.python, "-m", "fleet_verify", "--help"], env={"PYTHONPATH": str(wheel)}, capture_output=True, text=True)
-    check("the command's help", (done.returncode, "--require REGISTERS" in done.stdout), (0, True))
+    tools.check("the command's help", (done.returncode, "--require REGISTERS" in done.stdout), (0, True))

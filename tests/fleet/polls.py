@@ -11,7 +11,7 @@ from collections import Counter
 from dataclasses import dataclass
 from functools import lru_cache
 from pathlib import Path
-from typing import Callable, Optional
+from typing import Optional
 
 from cluster import ROOT, SECONDS, until
 from tables import change, query, rows_of
@@ -221,9 +221,12 @@ class Polls:
     """The tests of polls of these machines, by a scheduler at this address."""
 
     tools: object
-    check: Callable
     address: str
     machines: list
+
+    @property
+    def check(self):
+        return self.tools.check
 
     @property
     def table(self):
@@ -270,13 +273,13 @@ def damage(verdicts):
         change(verdicts, f"{text} WHERE machine = ?", *values, f"machine {number}")
 
 
-def test_polls(tools, check, noted):
+def test_polls(tools, noted):
     """Three polls of lists that grow, and what comes after them."""
     folder = tools.folder / "growing"
     folder.mkdir()
     machines = [Growing(number, folder / str(number)) for number in range(MACHINES)]
     with tools.cluster("polls", 4, *noted, NOTED_CALLS=str(tools.folder / "polls.calls")) as (address, _):
-        polls = Polls(tools, check, address, machines)
+        polls = Polls(tools, address, machines)
         polls.table.write_text("".join(machine.line() for machine in machines))
         verdicts = tools.folder / "polls.db"
         test_ranges(polls)

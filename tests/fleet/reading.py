@@ -71,7 +71,7 @@ STUCK = ("unreadable", "TimeoutError: no answer in time", ["store://pieces", "st
 LATE_WANTED = ["list: TimeoutError: no answer in time", *[f"{[NONE, STUCK]} True"] * 2, "[False, True, True]"]
 
 
-def test_reading(tools, check):
+def test_reading(tools):
     """Files and objects that are read whole, refused, or left."""
     modules = {"PYTHONPATH": f"{ROOT / 'bindings/python'}:{ROOT / 'fleet'}"}
     fifo = tools.folder / "fifo"
@@ -81,4 +81,4 @@ def test_reading(tools, check):
         ("a machine of which nothing comes in time", LATE, (), LATE_WANTED),
     ):
         said = tools.start(["-c", script, *words], **modules).communicate(timeout=SECONDS)[0]
-        check(title, said.splitlines(), wanted)
+        tools.check(title, said.splitlines(), wanted)

@@ -90,37 +90,37 @@ REFUSING = {
 }
 
 
-def test_records(tools, check, fleet):
+def test_records(tools, fleet):
     """By a cluster of its own, with machines that all match."""
     modules = {"PYTHONPATH": f"{ROOT / 'bindings/python'}:{ROOT / 'fleet'}"}
     for title, script, wanted in (
         ("a reader holds up no writer", READER, READER_WANTED), ("an error of a batch is no verdict", ERRORS, ERRORS_WANTED),
     ):
         said = tools.start(["-c", script, tools.folder / title], **modules).communicate(timeout=SECONDS)[0]
-        check(title, said.splitlines(), wanted)
+        tools.check(title, said.splitlines(), wanted)
     with tools.cluster("records", 1, "--preload", ROOT / "tests/fleet/noted_calls.py") as (address, _):
         words = ("--scheduler", address, fleet.table)
-        test_unwritable(tools, check, fleet, words)
-        test_unended(tools, check, fleet, words)
-        test_other_paths(tools, check, fleet)
-    test_nothing_left(tools, check, fleet)
+        test_unwritable(tools, fleet, words)
+        test_unended(tools, fleet, words)
+        test_other_paths(tools, fleet)
+    test_nothing_left(tools, fleet)
 
 
-def test_unwritable(tools, check, fleet, words):
+def test_unwritable(tools, fleet, words):
     """A table that refuses what is to be recorded stops the run, and no earlier match passes for a new one."""
     table = tools.folder / "all match.db"
-    check("a table to be refused: status", tools.verify(*words, table)[0], 0)
+    tools.check("a table to be refused: status", tools.verify(*words, table)[0], 0)
     for title, script in REFUSING.items():
         refusing = shutil.copyfile(table, tools.folder / f"{title}.db")
         change(refusing, script)
         ends = query(refusing, "SELECT * FROM ends")
         status, output, _ = tools.verify("--again", "match", *words, refusing)
-        check(f"a table that {title}: status and output", (status, output), (3, ""))
+        tools.check(f"a table that {title}: status and output", (status, output), (3, ""))
         found = (query(refusing, "SELECT * FROM ends"), rows_of(refusing))
-        check(f"a table that {title}: the run has no end, and all stands", found, (ends, fleet.rows))
+        tools.check(f"a table that {title}: the run has no end, and all stands", found, (ends, fleet.rows))
 
 
-def test_unended(tools, check, fleet, words):
+def test_unended(tools, fleet, words):
     """A run whose counts are wrong, or cannot be told, has no end in the table."""
     table = tools.folder / "stranger.db"
     with tools.gate(1):
@@ -128,18 +128,18 @@ def test_unended(tools, check, fleet, words):
         until("a verdict", lambda: counted(table), client)
         record_beside(table, "a stranger", "match")
     output = client.communicate(timeout=SECONDS)[0]
-    check("a stranger's verdict: status and output", (client.returncode, output), (3, ""))
+    tools.check("a stranger's verdict: status and output", (client.returncode, output), (3, ""))
     found = (counted(table), query(table, "SELECT * FROM ends"))
-    check("a stranger's verdict: the run has no end", found, (len(fleet.rows) + 1, []))
+    tools.check("a stranger's verdict: the run has no end", found, (len(fleet.rows) + 1, []))
     table = tools.folder / "untold.db"
     with open("/dev/full", "w") as full:
         client = tools.client(*words, table, output=full)
         client.wait(SECONDS)
-    check("counts that cannot be told: no success", client.returncode in (0, 1), False)
-    check("counts that cannot be told: the run has no end", (rows_of(table), query(table, "SELECT * FROM ends")), (fleet.rows, []))
+    tools.check("counts that cannot be told: no success", client.returncode in (0, 1), False)
+    tools.check("counts that cannot be told: the run has no end", (rows_of(table), query(table, "SELECT * FROM ends")), (fleet.rows, []))
 
 
-def test_other_paths(tools, check, fleet):
+def test_other_paths(tools, fleet):
     """Verdicts of which a path is another are refused, whichever of the three."""
     table, machines = tools.folder / "all match.db", tools.folder / "moved.tsv"
     *lines, last = fleet.table.read_text().splitlines()
@@ -148,10 +148,10 @@ def test_other_paths(tools, check, fleet):
         moved = [f"{path}.other" if number == part else path for number, path in enumerate(paths)]
         machines.write_text("".join(f"{line}\n" for line in (*lines, "\t".join([name, *moved]))))
         status, output, errors = tools.verify("--scheduler", "tcp://127.0.0.1:1", "--again", "none", machines, table)
-        check(f"refused: verdicts of another {Path(paths[part]).name}", (status, output, "of other files" in errors), (2, "", True))
+        tools.check(f"refused: verdicts of another {Path(paths[part]).name}", (status, output, "of other files" in errors), (2, "", True))
 
 
-def test_nothing_left(tools, check, fleet):
+def test_nothing_left(tools, fleet):
     """After a run by workers of its own its folder for temporary files is empty, and the table is one file."""
     folder = tools.folder / "temporary"
     (folder / "files").mkdir(parents=True)
@@ -160,4 +160,4 @@ def test_nothing_left(tools, check, fleet):
         library = {} if status == 0 else {"IMA_VERIFY_LIBRARY": str(folder / "none.so")}
         found, *_ = tools.verify("--workers", 1, *words, fleet.table, folder / "verdicts.db", **given, **library)
         left = sorted(path.name for path in (*folder.iterdir(), *(folder / "files").iterdir()))
-        check(f"{title}: status, and what is left", (found, left), (status, ["files", "verdicts.db"]))
+        tools.check(f"{title}: status, and what is left", (found, left), (status, ["files", "verdicts.db"]))
