@@ -1,5 +1,5 @@
 -- What an answer is worth. All of this is this project's choice.
-use Rattle.std.specs.Prelude.{◌&&◌, ◌==◌, not, if◌then◌else◌, Bool, List, length, Option, Some, None}
+use Rattle.std.specs.Prelude.{◌&&◌, ◌==◌, not, if◌then◌else◌, Bool, true, List, length, Option, Some, None}
 use Rattle.boot_verdict.specs.declared.checkpoint.Checkpoint.{Checkpoint}
 use Rattle.boot_verdict.specs.declared.requirement.BankRange.{BankRange}
 use Rattle.boot_verdict.specs.ListVerdicts.{list_matches, list_verdict_of, required_list_matches}
@@ -8,6 +8,7 @@ use Rattle.boot_verdict.specs.Requirements.{required_found, required_matches}
 use Rattle.boot_verdict.specs.Verdicts.{Verdict, matches, verdict_of}
 use Rattle.judging.specs.declared.answer.Answer.{Answer}
 use Rattle.judging.specs.declared.answer.Answer.TheVariants.{Report, Front, Places, ListReport}
+use Rattle.judging.specs.declared.answer.Answered.{Answered}
 use Rattle.judging.specs.Asking.{Requires, Nothing}
 
 -- Whether a verdict is 'match' where no text spells what is required: all that is compared matches, and something is compared, unless
@@ -27,6 +28,11 @@ is_well requires None (Places places) = all_found places.items
 is_well requires (Some ranges) (Places places) = required_found ranges places.items
 is_well requires None (ListReport report) = list_matches (list_verdict_of report)
 is_well requires (Some ranges) (ListReport report) = required_list_matches ranges (list_verdict_of report)
+is_well requires ranges answer = true
+
+-- All is well with an answer that compares nothing, and nobody goes on from it.
+abbrev pub alone : Answer → Answered
+alone answer = record { answer = answer; requirement = None; is_well = true; next = None }
 
 -- Where to go on: nowhere, unless all is well.
 abbrev pub next_if : Bool → Option Checkpoint → Option Checkpoint
