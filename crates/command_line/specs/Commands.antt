@@ -26,6 +26,8 @@ use Rattle.command_line.specs.declared.plan.Names.{Names}
 use Rattle.command_line.specs.declared.plan.Plan.{Plan}
 use Rattle.command_line.specs.declared.plan.Print.{Print}
 use Rattle.command_line.specs.declared.plan.Print.TheVariants as prints
+use Rattle.command_line.specs.declared.plan.Question.{Question}
+use Rattle.command_line.specs.declared.plan.Question.TheVariants as questions
 use Rattle.command_line.specs.declared.plan.Task.{Task}
 use Rattle.command_line.specs.declared.plan.Task.TheVariants as tasks
 use Rattle.command_line.specs.Tasks.{IsOneOf, task_of}
@@ -216,25 +218,29 @@ HasJudged rows (judged.Places log) list expected = HasEvidence rows (string_byte
 HasJudged rows judged.ListVerdict list expected =
     (first_of (codes "LIST") rows ≡ Some list) × (first_of (codes "EXPECTED") rows ≡ Some expected)
 
--- The matches have the options and names of this task. `Replay` requires that neither EXPECTED nor `--require` is present.
-abbrev pub HasValues : List Row → Task → Type 0
-HasValues rows (tasks.Registers None) = ⊥
-HasValues rows (tasks.Registers (Some log)) = first_of (codes "LOG") rows ≡ Some (string_bytes log)
-HasValues rows (tasks.Measure asked) = HasMeasure rows asked
-HasValues rows (tasks.Judge judge) =
+-- The matches have the options and names of this question. `ListRegisters` requires that neither EXPECTED nor `--require` is present.
+abbrev pub HasQuestion : List Row → Question → Type 0
+HasQuestion rows (questions.LogRegisters log) = first_of (codes "LOG") rows ≡ Some (string_bytes log)
+HasQuestion rows (questions.ListRegisters list) =
+    (first_of (codes "LIST") rows ≡ Some (string_bytes list))
+    × (all_of (codes "EXPECTED") rows ≡ None)
+    × (all_of (codes "require") rows ≡ None)
+HasQuestion rows (questions.Judge judge) =
     HasJudged rows judge.judged (string_bytes judge.list) (string_bytes judge.expected)
     × IsGivenAs (codes "require") rows judge.required
-HasValues rows (tasks.Expected printed registers) =
+HasQuestion rows (questions.Expected printed registers) =
     (first_of (codes "PCRREAD") rows ≡ Some (string_bytes printed))
     × IsGivenAs (codes "registers") rows registers
+
+-- The matches have the options and names of this task, which is that of some command.
+abbrev pub HasValues : List Row → Task → Type 0
+HasValues rows tasks.Registers = ⊥
+HasValues rows (tasks.Answer question) = HasQuestion rows question
+HasValues rows (tasks.Measure asked) = HasMeasure rows asked
 HasValues rows (tasks.Events log shown) =
     (first_of (codes "LOG") rows ≡ Some (string_bytes log))
     × (first_of (codes "data") rows ≡ Some (data_value shown))
 HasValues rows (tasks.Entries list) = first_of (codes "LIST") rows ≡ Some (string_bytes list)
-HasValues rows (tasks.Replay list) =
-    (first_of (codes "LIST") rows ≡ Some (string_bytes list))
-    × (all_of (codes "EXPECTED") rows ≡ None)
-    × (all_of (codes "require") rows ≡ None)
 HasValues rows (tasks.Help text) = ⊥
 HasValues rows tasks.Version = ⊥
 

@@ -11,19 +11,21 @@ use Rattle.command_line.specs.declared.plan.Plan.{Plan}
 use Rattle.command_line.specs.declared.plan.Plan.TheVariants as plans
 use Rattle.command_line.specs.declared.plan.Print.{Print}
 use Rattle.command_line.specs.declared.plan.Print.TheVariants.{Binary}
+use Rattle.command_line.specs.declared.plan.Question.{Question}
+use Rattle.command_line.specs.declared.plan.Question.TheVariants as questions
 use Rattle.command_line.specs.declared.plan.Task.{Task}
 use Rattle.command_line.specs.declared.plan.Task.TheVariants as tasks
 
 -- The task that a plan requests, and the form in which its result is shown.
 abbrev pub task_of : Plan → Task × Form
-task_of plans.Registers = (tasks.Registers None, Text)
+task_of plans.Registers = (tasks.Registers, Text)
 task_of (plans.Measure alg template workers limit print log files) = (
   tasks.Measure
   (record { alg = alg; template = template; workers = workers; limit = limit; print = print; log = log; files = files; names = None }),
   Text,
 )
 task_of (plans.Verify log list expected) =
-    (tasks.Judge (record { judged = judged.Verdict log Whole None None; list = list; expected = expected; required = None }), Text)
+    (tasks.Answer (questions.Judge (record { judged = judged.Verdict log Whole None None; list = list; expected = expected; required = None })), Text)
 task_of (plans.Show list) = (tasks.Entries list, Text)
 task_of (plans.Help text) = (tasks.Help text, Text)
 task_of (plans.Task task form) = (task, form)
@@ -41,9 +43,9 @@ is_plain_verdict judged required = false
 
 -- Some other plan than `Task` requests this.
 abbrev pub has_plan : Task → Form → Bool
-has_plan (tasks.Registers None) form = is_text form
+has_plan tasks.Registers form = is_text form
+has_plan (tasks.Answer (questions.Judge judge)) form = is_plain_verdict judge.judged judge.required && is_text form
 has_plan (tasks.Measure asked) form = not (is_some asked.names) && is_text form
-has_plan (tasks.Judge judge) form = is_plain_verdict judge.judged judge.required && is_text form
 has_plan (tasks.Entries list) form = is_text form
 has_plan (tasks.Help text) form = is_text form
 has_plan task form = false
@@ -77,15 +79,19 @@ judge_command (judged.Verdict log extent resume save) = codes "verify"
 judge_command (judged.Places log) = codes "locate"
 judge_command judged.ListVerdict = codes "replay"
 
+-- The name of the command that asks this.
+abbrev pub question_command : Question → List ℕ
+question_command (questions.LogRegisters log) = codes "registers"
+question_command (questions.ListRegisters list) = codes "replay"
+question_command (questions.Judge judge) = judge_command judge.judged
+question_command (questions.Expected printed registers) = codes "expected"
+
 -- The name of the command that does this, if one does.
 abbrev pub command_of : Task → Option (List ℕ)
-command_of (tasks.Registers None) = None
-command_of (tasks.Registers (Some log)) = Some (codes "registers")
+command_of tasks.Registers = None
+command_of (tasks.Answer question) = Some (question_command question)
 command_of (tasks.Measure asked) = Some (codes "measure")
-command_of (tasks.Judge judge) = Some (judge_command judge.judged)
-command_of (tasks.Expected printed registers) = Some (codes "expected")
 command_of (tasks.Events log shown) = Some (codes "events")
 command_of (tasks.Entries list) = Some (codes "show")
-command_of (tasks.Replay list) = Some (codes "replay")
 command_of (tasks.Help text) = None
 command_of tasks.Version = None

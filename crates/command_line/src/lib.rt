@@ -11,6 +11,7 @@ mod words;
 
 pub use fault::WordsFault;
 pub use plan::{
-    DataShown, Extent, Form, Judge, Judged, Measurement, NameEnd, Names, Plan, Print, Task,
+    DataShown, Extent, Form, Judge, Judged, Measurement, NameEnd, Names, Plan, Print, Question,
+    Task,
 };
 pub use words::{read_words, refusal_of, words_after_name};

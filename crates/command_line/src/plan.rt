@@ -119,25 +119,39 @@ pub struct Measurement {
     pub names: Option<Names>,
 }
 
-/// What is to be done.
+/// What is asked of a log, of a list or of a text of registers.
 #[derive(Drop)]
-pub enum Task {
-    /// Show the registers after a firmware event log.
-    Registers {
-        /// The name of the log, binary; without one it is read in hexadecimal from standard input.
-        log: Option<String>,
+pub enum Question {
+    /// The registers after a firmware event log.
+    LogRegisters {
+        /// The name of the log, binary.
+        log: String,
     },
-    /// Measure files into the registers of a log.
-    Measure(Measurement),
-    /// Judge a list.
+    /// The registers that a list alone makes.
+    ListRegisters {
+        /// The name of the measurement list, binary.
+        list: String,
+    },
+    /// What a list is worth.
     Judge(Judge),
-    /// Show the expected registers that `tpm2_pcrread` or `tpm2_checkquote` printed.
+    /// The expected registers that `tpm2_pcrread` or `tpm2_checkquote` printed.
     Expected {
         /// The name of the text that one of them printed.
         printed: String,
         /// The text of the range of registers to show, as `0-10`; none for all of them. It is any text here.
         registers: Option<String>,
     },
+}
+
+/// What is to be done.
+#[derive(Drop)]
+pub enum Task {
+    /// Show the registers after a firmware event log, which is read in hexadecimal from standard input.
+    Registers,
+    /// Answer a question.
+    Answer(Question),
+    /// Measure files into the registers of a log.
+    Measure(Measurement),
     /// Show the events of a firmware event log.
     Events {
         /// The name of the firmware event log, binary.
@@ -147,11 +161,6 @@ pub enum Task {
     },
     /// Show the entries of a list.
     Entries {
-        /// The name of the measurement list, binary.
-        list: String,
-    },
-    /// Replay a list alone, and show the registers it gives.
-    Replay {
         /// The name of the measurement list, binary.
         list: String,
     },
@@ -209,7 +218,7 @@ impl Plan {
         ensures { result ≡ task_of self }
     {
         match self {
-            Plan::Registers => (Task::Registers { log: None }, Form::Text),
+            Plan::Registers => (Task::Registers, Form::Text),
             Plan::Measure {
                 alg,
                 template,
@@ -235,20 +244,21 @@ impl Plan {
                 log,
                 list,
                 expected,
-            } => (
-                Task::Judge(Judge {
-                    judged: Judged::Verdict {
-                        log,
-                        extent: Extent::Whole,
-                        resume: None,
-                        save: None,
-                    },
+            } => {
+                let judged = Judged::Verdict {
+                    log,
+                    extent: Extent::Whole,
+                    resume: None,
+                    save: None,
+                };
+                let judge = Judge {
+                    judged,
                     list,
                     expected,
                     required: None,
-                }),
-                Form::Text,
-            ),
+                };
+                (Task::Answer(Question::Judge(judge)), Form::Text)
+            }
             Plan::Show { list } => (Task::Entries { list }, Form::Text),
             Plan::Help(text) => (Task::Help(text), Form::Text),
             Plan::Task(task, form) => (task, form),

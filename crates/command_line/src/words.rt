@@ -12,11 +12,12 @@ ghost use Rattle.command_line.specs.Tasks.{IsWithinLimits};
 ghost use Rattle.std.specs.List.{list_any};
 ghost use Rattle.command_line.specs.declared.plan.Form.TheVariants.{Text};
 ghost use Rattle.command_line.specs.declared.plan.Plan.TheVariants as plans;
+ghost use Rattle.command_line.specs.declared.plan.Task.TheVariants as tasks;
 ghost use Rattle.command_line.specs.declared.plan.Task.TheVariants.{Version};
 
 use crate::commands::{KnownNames, VERSION, all_commands};
 use crate::fault::WordsFault;
-use crate::plan::{Extent, Form, Judge, Judged, Measurement, Plan, Task};
+use crate::plan::{Extent, Form, Judge, Judged, Measurement, Plan, Question, Task};
 use crate::values::{
     Evidence, Growth, data_of, evidence_of, form_of, growth_of, measurement_of, name_of,
     text_if_given,
@@ -161,19 +162,22 @@ fn plan_in_form(
         "verify" => verify_of(alloc, matches, form),
         "measure" => measure_of(alloc, matches, form),
         "show" => show_of(alloc, matches, form),
-        _ => Ok(Plan::Task(task_of(alloc, command, matches)?, form)),
+        "events" => Ok(Plan::Task(events_of(alloc, matches)?, form)),
+        _ => {
+            let question = question_of(alloc, command, matches)?;
+            Ok(Plan::Task(Task::Answer(question), form))
+        }
     }
 }
 
-// What a command of this name does for which no plan has a name.
-fn task_of(alloc: Global, command: &str, matches: &ArgMatches) -> Result<Task, WordsFault>
-    ensures { IfOk result (IsTaskOf command.now (rows_of (found_of matches.now))) }
+// What a command of this name asks, other than `verify`.
+fn question_of(alloc: Global, command: &str, matches: &ArgMatches) -> Result<Question, WordsFault>
+    ensures { IfOk result (λ question. IsTaskOf command.now (rows_of (found_of matches.now)) (tasks.Answer question)) }
 {
     match command {
         "locate" => locate_of(alloc, matches),
         "expected" => expected_of(alloc, matches),
         "registers" => registers_of(alloc, matches),
-        "events" => events_of(alloc, matches),
         "replay" => replay_of(alloc, matches),
         _ => Err(WordsFault::Usage),
     }
@@ -219,14 +223,14 @@ fn verdict_on(evidence: Evidence, growth: Growth, form: Form) -> Plan
                 expected,
                 required,
             };
-            Plan::Task(Task::Judge(judge), form)
+            Plan::Task(Task::Answer(Question::Judge(judge)), form)
         }
     }
 }
 
-// What `locate` does.
-fn locate_of(alloc: Global, matches: &ArgMatches) -> Result<Task, WordsFault>
-    ensures { IfOk result (IsTaskOf (codes "locate") (rows_of (found_of matches.now))) }
+// What `locate` asks.
+fn locate_of(alloc: Global, matches: &ArgMatches) -> Result<Question, WordsFault>
+    ensures { IfOk result (λ question. IsTaskOf (codes "locate") (rows_of (found_of matches.now)) (tasks.Answer question)) }
 {
     let Evidence {
         log,
@@ -234,7 +238,7 @@ fn locate_of(alloc: Global, matches: &ArgMatches) -> Result<Task, WordsFault>
         expected,
         required,
     } = evidence_of(alloc, matches)?;
-    Ok(Task::Judge(Judge {
+    Ok(Question::Judge(Judge {
         judged: Judged::Places { log },
         list,
         expected,
@@ -242,21 +246,21 @@ fn locate_of(alloc: Global, matches: &ArgMatches) -> Result<Task, WordsFault>
     }))
 }
 
-// What `replay` does. Refuses `--require` without EXPECTED.
-fn replay_of(alloc: Global, matches: &ArgMatches) -> Result<Task, WordsFault>
-    ensures { IfOk result (IsTaskOf (codes "replay") (rows_of (found_of matches.now))) }
+// What `replay` asks. Refuses `--require` without EXPECTED.
+fn replay_of(alloc: Global, matches: &ArgMatches) -> Result<Question, WordsFault>
+    ensures { IfOk result (λ question. IsTaskOf (codes "replay") (rows_of (found_of matches.now)) (tasks.Answer question)) }
 {
     let list = name_of(alloc, matches, "LIST")?;
     let expected = text_if_given(alloc, matches, "EXPECTED")?;
     let required = text_if_given(alloc, matches, "require")?;
     match (expected, required) {
-        (Some(expected), required) => Ok(Task::Judge(Judge {
+        (Some(expected), required) => Ok(Question::Judge(Judge {
             judged: Judged::ListVerdict,
             list,
             expected,
             required,
         })),
-        (None, None) => Ok(Task::Replay { list }),
+        (None, None) => Ok(Question::ListRegisters { list }),
         (None, Some(_)) => Err(WordsFault::Usage),
     }
 }
@@ -308,22 +312,22 @@ fn measured(asked: Measurement, form: Form) -> Plan
     }
 }
 
-// What `expected` does.
-fn expected_of(alloc: Global, matches: &ArgMatches) -> Result<Task, WordsFault>
-    ensures { IfOk result (IsTaskOf (codes "expected") (rows_of (found_of matches.now))) }
+// What `expected` asks.
+fn expected_of(alloc: Global, matches: &ArgMatches) -> Result<Question, WordsFault>
+    ensures { IfOk result (λ question. IsTaskOf (codes "expected") (rows_of (found_of matches.now)) (tasks.Answer question)) }
 {
-    Ok(Task::Expected {
+    Ok(Question::Expected {
         printed: name_of(alloc, matches, "PCRREAD")?,
         registers: text_if_given(alloc, matches, "registers")?,
     })
 }
 
-// What `registers` does.
-fn registers_of(alloc: Global, matches: &ArgMatches) -> Result<Task, WordsFault>
-    ensures { IfOk result (IsTaskOf (codes "registers") (rows_of (found_of matches.now))) }
+// What `registers` asks.
+fn registers_of(alloc: Global, matches: &ArgMatches) -> Result<Question, WordsFault>
+    ensures { IfOk result (λ question. IsTaskOf (codes "registers") (rows_of (found_of matches.now)) (tasks.Answer question)) }
 {
     let log = name_of(alloc, matches, "LOG")?;
-    Ok(Task::Registers { log: Some(log) })
+    Ok(Question::LogRegisters { log })
 }
 
 // What `events` does.

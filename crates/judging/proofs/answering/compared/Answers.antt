@@ -1,8 +1,8 @@
 use Rattle.std.proofs.Common.{inl, inr}
 use Rattle.std.proofs.lemmas.Result.{err_from_is_err_and}
-use Rattle.judging.specs.Asking.{asked_of, held_bytes}
+use Rattle.judging.specs.Asking.{compared_of, held_bytes}
 use Rattle.judging.proofs.JudgingLaws.{no_answer}
-use Rattle.judging.proofs.answering.answered.Goals as goal
+use Rattle.judging.proofs.answering.compared.Goals as goal
 
 pub returns-in_err-grounds-clause-fault : goal.returns-in_err-grounds-clause-fault
 returns-in_err-grounds-clause-fault g c =
@@ -13,7 +13,7 @@ pub returns-in_err-found-clause-fault : goal.returns-in_err-found-clause-fault
 returns-in_err-found-clause-fault g c =
     let p = err_from_is_err_and c.from_residual-in_err-found.result c.from_residual-in_err-found.ensures.1 in
     rw (p.1, p.2)
-    (no_answer (g.F.Files.told c.args.files.now) (asked_of c.args.asked) _ (held_bytes c.in_ok-grounds.grounds.log)
+    (no_answer (g.F.Files.told c.args.files.now) (compared_of c.args.asked) _ (held_bytes c.in_ok-grounds.grounds.log)
     c.in_ok-grounds.grounds.expected.items c.in_ok-grounds.grounds.known _ (rw c.text.ensures at c.in_ok-requirement.ensures.required)
     c.in_ok-grounds.ensures.grounds
     (rw (c.in_ok-grounds.ensures.told, c.as_ref.ensures.value) at c.in_err-found.ensures.fault))
