@@ -1,7 +1,6 @@
 -- The lines of a list whose entries are read in place, with `--json`.
-use Rattle.std.proofs.Common.{◌≡◌, ℕ, ◌+◌, ◌<◌, ◌≤◌, List, [], ◌∷◌, ◌++◌, length, get_or, take, map, Some, Ok, Err, refl, sym, ap, subst, ◌∙◌, append_assoc, arith, inl, inr}
-use Rattle.std.proofs.lemmas.List.{length-append, append-nil, length-take-le, take_more}
-use Rattle.std.proofs.Math.Seq.{take-length}
+use Rattle.std.proofs.Common.{◌≡◌, ℕ, ◌+◌, ◌<◌, ◌≤◌, List, [], ◌∷◌, ◌++◌, length, Some, Ok, Err, refl, sym, ap, subst, ◌∙◌, arith, inl, inr}
+use Rattle.std.proofs.lemmas.List.{length-append}
 use Rattle.std.proofs.lemmas.Option.{same_Some}
 use Rattle.ima_list.specs.declared.fault.ListFault.{ListFault}
 use Rattle.ima_list.specs.declared.fault.ListFault.TheVariants as lists
@@ -12,49 +11,9 @@ use Rattle.json_texts.specs.EntryJson.{entry_json}
 use Rattle.json_texts.specs.JsonValues.{line_of}
 use Rattle.agent_inputs.specs.declared.fault.RunFault.TheVariants as runs
 use Rattle.ima_agent.specs.JsonFaults.{ToldAsJson}
-use Rattle.ima_agent.specs.JsonShowing.{ShowsEntries, entry_lines, numbered_lines}
+use Rattle.rendering.proofs.EntryLineLaws.{numbered_last}
+use Rattle.ima_agent.specs.JsonShowing.{ShowsEntries, entry_lines}
 use Rattle.ima_agent.specs.parts.Showing.{IsKept}
-
--- ---- items one after another
-
-pub numbered_last : {A : Type 0} (line : ℕ → A → List ℕ) (number : ℕ) (items : List A) (item : A)
-    → numbered_lines line number (items ++ item ∷ []) ≡ numbered_lines line number items ++ line (number + length items) item
-numbered_last {A} line number [] item =
-    let same : number ≡ number + length {A = A} [] = omega arith in
-    append-nil (line number item) ∙ ap (λ (n : ℕ). line n item) same
-numbered_last {A} line number (first ∷ items) item =
-    let same : (number + 1) + length items ≡ number + length (first ∷ items) = omega arith in
-    ap (λ (t : List ℕ). line number first ++ t)
-    (numbered_last line (number + 1) items item ∙ ap (λ (n : ℕ). numbered_lines line (number + 1) items ++ line n item) same)
-    ∙ sym (append_assoc (line number first) (numbered_lines line (number + 1) items) (line (number + length (first ∷ items)) item))
-
--- One line more, whose number is `at`.
-pub numbered_more : {A : Type 0} (line : ℕ → A → List ℕ) (start now next : List ℕ) (number at : ℕ) (items : List A) (i : ℕ) (d : A)
-    → at ≡ number + i → i < length items → now ≡ start ++ numbered_lines line number (take i items)
-    → next ≡ now ++ line at (get_or items i d) → next ≡ start ++ numbered_lines line number (take (i + 1) items)
-numbered_more {A} line start now next number at items i d is lt before more =
-    let size : number + length (take i items) ≡ at = omega (arith, is, length-take-le i items (omega (arith, lt))) in
-    more ∙ ap (λ (t : List ℕ). t ++ line at (get_or items i d)) before
-    ∙ append_assoc start (numbered_lines line number (take i items)) (line at (get_or items i d))
-    ∙ ap (λ (t : List ℕ). start ++ t)
-    (ap (λ (n : ℕ). numbered_lines line number (take i items) ++ line n (get_or items i d)) (sym size)
-    ∙ sym (numbered_last line number (take i items) (get_or items i d))
-    ∙ ap (numbered_lines line number) (sym (take_more items i d lt)))
-
--- All lines.
-pub numbered_all : {A : Type 0} (line : ℕ → A → List ℕ) (start now : List ℕ) (number : ℕ) (items : List A) (i : ℕ) → i ≡ length items
-    → now ≡ start ++ numbered_lines line number (take i items) → now ≡ start ++ numbered_lines line number items
-numbered_all {A} line start now number items i all before =
-    before ∙ ap (λ (n : ℕ). start ++ numbered_lines line number (take n items)) all
-    ∙ ap (λ (xs : List A). start ++ numbered_lines line number xs) (take-length items)
-
--- The lines of what items are.
-pub numbered_of : {A B : Type 0} (line : ℕ → B → List ℕ) (of : A → B) (number : ℕ) (items : List A)
-    → numbered_lines (λ n item. line n (of item)) number items ≡ numbered_lines line number (map of items)
-numbered_of line of number [] = refl
-numbered_of line of number (first ∷ items) = ap (λ (t : List ℕ). line number (of first) ++ t) (numbered_of line of (number + 1) items)
-
--- ---- a list that is read in place
 
 -- The text has the lines of the entries so far, and `rest` is left of the list.
 pub record HasLines (list text rest : List ℕ) (number : ℕ) : Type 0 where

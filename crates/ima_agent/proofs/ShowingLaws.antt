@@ -1,6 +1,6 @@
 -- The lines of a list whose entries are read in place.
 use Rattle.std.proofs.Common.{◌≡◌, ℕ, Bool, true, false, eqb, ◌+◌, ◌<◌, ◌≤◌, List, [], ◌∷◌, ◌++◌, length, Ok, Err, refl, sym, ap, subst, ◌∙◌, arith, inl, inr, Result}
-use Rattle.std.specs.Prelude.{IfErr, flat_map}
+use Rattle.std.specs.Prelude.{flat_map}
 use Rattle.hex.specs.Hex.{decode_of}
 use Rattle.std.proofs.lemmas.Bool.{eqb-true}
 use Rattle.std.proofs.lemmas.List.{length-append, append-nil}
@@ -11,9 +11,13 @@ use Rattle.ima_list.specs.Lines.{line_of}
 use Rattle.ima_list.specs.Spelling.{BeginsWith, IsReading}
 use Rattle.agent_inputs.specs.Faults.{fault_of_list}
 use Rattle.agent_inputs.specs.declared.fault.RunFault.{RunFault}
+use Rattle.agent_inputs.specs.Loading.{untold}
+use Rattle.judging.specs.Asking.{LogRegistersOf}
+use Rattle.judging.specs.Inputs.{BytesOf}
+use Rattle.rendering.specs.Outputs.{IsRefusalOn}
 use Rattle.ima_agent.specs.Hexadecimal.{without_white_space}
 use Rattle.ima_agent.specs.parts.Showing.{HasAdded, IsKept}
-use Rattle.ima_agent.specs.Showing.{IsNoListFor, IsNoLogFor, IsRefusedFor, ShowsList}
+use Rattle.ima_agent.specs.Showing.{IsNoListFor, IsRefusedFor, ShowsList}
 
 -- The text has the lines of the entries so far, and `rest` is left of the list.
 pub record HasShown (list text rest : List ℕ) (number : ℕ) : Type 0 where
@@ -96,9 +100,7 @@ some_left is_empty (byte ∷ rest) tells empty = omega arith
 
 -- ---- a log in hexadecimal
 
--- Bytes that are no log are not shown, nor is the text that spells them.
-pub refused_text : {A : Type 0} (text bytes : List ℕ) (result : Result A RunFault) → decode_of (without_white_space text) ≡ Ok bytes
-    → IfErr result (IsNoLogFor bytes) → IfErr result (IsRefusedFor text)
-refused_text text bytes (Ok value) decoded none = tt
-refused_text text bytes (Err fault) decoded (inl no-log) = inr (inl (record { bytes = bytes; decoded = decoded; no_log = no-log }))
-refused_text text bytes (Err fault) decoded (inr memory) = inr (inr memory)
+-- If there is no answer to what is asked of bytes, there is none of the text that spells them.
+pub refused_text : (text bytes : List ℕ) (fault : RunFault) → decode_of (without_white_space text) ≡ Ok bytes
+    → IsRefusalOn untold (LogRegistersOf (BytesOf bytes)) fault → IsRefusedFor text fault
+refused_text text bytes fault decoded refusal = inr (inl (record { bytes = bytes; decoded = decoded; refusal = refusal }))

@@ -72,6 +72,8 @@ module _ (inputs : Inputs) (list : Where) (log : List ℕ) (expected : List Expe
   )
   verdict_found after room (answers.Places places) is = absurd is
   verdict_found after room (answers.ListReport report) is = absurd is
+  verdict_found after room (answers.Registers registers) is = absurd is
+  verdict_found after room (answers.Expected expected range) is = absurd is
 
   valid_log : (k : Option Checkpoint) → ((taken : List ℕ) → IsTaken k taken → HasTaken log taken before) → IfSome k (IsOfBoot log) → IsSomeLog log
   valid_log None start is =

@@ -4,7 +4,7 @@ ghost use Rattle.std.specs.Prelude.{◌≡◌, ◌⊎◌, IfOk, IfErr};
 ghost use Rattle.agent_inputs.specs.Faults.{HasLogFault};
 ghost use Rattle.agent_inputs.specs.Loading.{Inputs as InputsOf};
 ghost use Rattle.agent_inputs.specs.declared.fault.RunFault.TheVariants as runs;
-ghost use Rattle.judging.specs.Answering.{IsAnswer, IsRefusal, IsRefusedList};
+ghost use Rattle.judging.specs.Answering.{IsAnswer, IsRefusal};
 ghost use Rattle.judging.specs.Asking.{ListRegistersOf, LogRegistersOf, place_of};
 ghost use Rattle.judging.specs.Registers.{AreRegistersAfter};
 ghost use Rattle.judging.specs.parts.Growing.{GivesInput};
@@ -72,7 +72,7 @@ fn after_list_from<R: Source>(
     ensures answer { (inputs : InputsOf) → GivesInput inputs (place_of list.entry) (R.state source.old) (R.state source.new)
         → IfOk result (IsAnswer inputs (ListRegistersOf (place_of list.entry))) }
     ensures fault { (inputs : InputsOf) → GivesInput inputs (place_of list.entry) (R.state source.old) (R.state source.new)
-        → IfErr result (IsRefusedList inputs (place_of list.entry)) }
+        → IfErr result (IsRefusal inputs (ListRegistersOf (place_of list.entry))) }
 {
     match replay_from(alloc, source, limit_of(list)) {
         Ok(now) => Ok(Answered::alone(Answer::Registers(Registers {

@@ -1,3 +1,4 @@
+use Rattle.std.proofs.Common.{inl, inr}
 use Rattle.judging.specs.Asking.{place_of}
 use Rattle.judging.specs.declared.answer.Answer.TheVariants as answers
 use Rattle.agent_inputs.proofs.LoadingLemmas.{source_failed}
@@ -16,6 +17,8 @@ returns-in-Ok-clause-answer g c =
 pub returns-in-Err-clause-fault : goal.returns-in-Err-clause-fault
 returns-in-Err-clause-fault g c =
     λ inputs gives.
-    list_refused inputs (place_of c.args.list) _ _ gives c.in-Err.fault _
-    (source_failed c.replay_from.result c.in-Err.fault _ _ c.in-Err.is c.replay_from.ensures.counts c.replay_from.ensures.telling)
-    (rw c.limit_of.ensures at c.in-Err.ensures.fault) c.refused.ensures
+    inr (inl (
+      list_refused inputs (place_of c.args.list) _ _ gives c.in-Err.fault _
+      (source_failed c.replay_from.result c.in-Err.fault _ _ c.in-Err.is c.replay_from.ensures.counts c.replay_from.ensures.telling)
+      (rw c.limit_of.ensures at c.in-Err.ensures.fault) c.refused.ensures
+    ))

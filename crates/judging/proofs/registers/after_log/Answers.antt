@@ -13,7 +13,7 @@ pub returns-in_err-registers-clause-fault : goal.returns-in_err-registers-clause
 returns-in_err-registers-clause-fault g c =
     let p = err_from_is_err_and c.from_residual-in_err-registers.result c.from_residual-in_err-registers.ensures.1 in
     rw (p.1, p.2)
-    (log_refused _ _ _ _ c.in_ok-log.ensures.all (rw c.bytes.ensures at c.in_err-registers.ensures.fault))
+    (log_refused (g.F.Files.told c.args.files.now) _ _ _ c.in_ok-log.ensures.all (rw c.bytes.ensures at c.in_err-registers.ensures.fault))
 
 pub returns-clause-answer : goal.returns-clause-answer
 returns-clause-answer g c = (

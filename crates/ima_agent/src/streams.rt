@@ -1,0 +1,8 @@
+//! Outputs that are sent while their input is read.
+
+mod entries;
+mod events;
+
+pub(crate) use entries::entries_sent;
+pub use events::json_events_on;
+pub(crate) use events::events_sent;
