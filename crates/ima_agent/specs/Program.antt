@@ -15,7 +15,7 @@ use Rattle.command_line.specs.declared.plan.Task.{Task}
 use Rattle.command_line.specs.declared.plan.Task.TheVariants as tasks
 use Rattle.command_line.specs.Plans.{IsAskedBy, IsWithinRanges}
 use Rattle.command_line.specs.Tasks.{task_of}
-use Rattle.measuring.specs.declared.measuring.Measured.{Measured}
+use Rattle.measuring.specs.declared.recording.Measured.{Measured}
 use Rattle.measuring.specs.Measuring.{IsMeasured, IsMeasuringFault}
 use Rattle.rendering.specs.Outputs.{IsOutputFault, ShowsAnswer}
 use Rattle.rendering.specs.Rendering.{printed}

@@ -1,7 +1,6 @@
 -- What was made, once it is given, is an answer.
-use Rattle.std.proofs.Common.{◌≡◌, ℕ, ◌<◌, arith, List, [], length, true, Ok, Err, refl, sym, subst, inl, inr, Result}
+use Rattle.std.proofs.Common.{◌≡◌, ℕ, ◌<◌, arith, List, [], length, Ok, Err, refl, sym, subst, inl, inr, Result}
 use Rattle.std.specs.Prelude.{ℤ, ◌⊎◌, IfOk, IfErr}
-use Rattle.std.specs.Global.{Vec}
 use Rattle.agent_inputs.specs.declared.fault.RunFault.{RunFault}
 use Rattle.agent_inputs.specs.declared.fault.RunFault.TheVariants.{Memory}
 use Rattle.agent_inputs.specs.Loading.{untold}
@@ -10,13 +9,13 @@ use Rattle.command_line.specs.declared.plan.Form.TheVariants.{Json, Text}
 use Rattle.judging.specs.Asking.{Asked}
 use Rattle.rendering.specs.declared.output.Output.{Output}
 use Rattle.rendering.specs.Outputs.{GivesAnswer, IsRefusalOn}
-use Rattle.ima_agent.specs.declared.json_outputs.entries_within.FittedOutput.{FittedOutput}
+use Rattle.ima_agent.specs.declared.entries_within.FittedOutput.{FittedOutput}
 use Rattle.ima_agent.specs.declared.showing.Fitted.{Fitted}
 use Rattle.ima_agent.specs.JsonFaults.{IsFailure, ToldAsJson}
 use Rattle.ima_agent.specs.JsonShowing.{ShowsEntries}
 use Rattle.ima_agent.specs.Showing.{IsFitted, IsNoListFor, ShowsList}
 use Rattle.ima_verify_c.specs.Answers.{Answers, AnswersMore, AreGiven, IsAnswerAndNext, IsAnswerTo, IsEntriesAnswer, IsGiven, IsJsonEntriesAnswer, IsJsonRefusal, IsRefusal, IsRefusalIn}
-use Rattle.ima_verify_c.specs.parts.Givings.{IsFaultIn, IsFaultText, IsJsonOf, IsTextOf}
+use Rattle.ima_verify_c.specs.parts.Givings.{IsFaultIn, IsFaultText, IsJsonOf}
 
 -- What holds of a text and a status holds of equal ones.
 same_answer : (P : List ℕ → ℕ → Type 0) (text shown : List ℕ) (status exit : ℕ) → text ≡ shown → status ≡ exit → P shown exit
@@ -29,24 +28,6 @@ refusal : (Cause : RunFault → Type 0) (fault : RunFault) (text : List ℕ) (st
     → IsFaultText fault text status → IsRefusal Cause text status
 refusal Cause fault text status memory cause (inl is) = record { fault = fault; cause = cause; text_is = is.0; status_is = is.1 }
 refusal Cause fault text status memory cause (inr is) = record { fault = Memory; cause = memory; text_is = is.0; status_is = is.1 }
-
--- A text whose status is 0, or the line of a fault, was given.
-pub gives_text : (Shows : List ℕ → Type 0) (Cause : RunFault → Type 0) (made : Result (Vec ℕ) RunFault) (answer : ℤ) (needed : ℕ)
-    (old new : List ℕ) → Cause Memory → IfOk made (λ shown. Shows shown.items) → IfErr made Cause
-    → Answers (IsTextOf made) answer needed old new
-    → Answers (λ text status. (Shows text × (status ≡ 0)) ⊎ IsRefusal Cause text status) answer needed old new
-gives_text Shows Cause (Ok shown) answer needed old new memory shows none given = record {
-  text = given.text;
-  status = given.status;
-  is_answer = inl (subst Shows (sym given.is_answer.0) shows, given.is_answer.1);
-  given = given.given;
-}
-gives_text Shows Cause (Err fault) answer needed old new memory shows cause given = record {
-  text = given.text;
-  status = given.status;
-  is_answer = inr (refusal Cause fault given.text given.status memory cause given.is_answer);
-  given = given.given;
-}
 
 -- The lines of a list, as far as there is room, or the line of a fault, were given.
 pub gives_fitted : (list : List ℕ) (made : Result Fitted RunFault) (answer : ℤ) (needed : ℕ) (old new : List ℕ)
@@ -66,31 +47,12 @@ gives_fitted list (Err fault) answer needed old new shows cause given refused = 
 
 -- The line of a fault as JSON is a refusal, and so is that of `Memory`.
 json_refusal : (Cause : RunFault → Type 0) (fault : RunFault) (text : List ℕ) (status : ℕ) → Cause Memory → Cause fault
-    → IsFailure true fault text status → IsJsonRefusal Cause text status
+    → IsFailure Json fault text status → IsJsonRefusal Cause text status
 json_refusal Cause fault text status memory cause (inl told) = record { fault = fault; cause = cause; told = told }
 json_refusal Cause fault text status memory cause (inr told) = record { fault = Memory; cause = memory; told = told }
 
--- An output, or the line of a fault as JSON, was given.
-pub gives_json : (Shows : List ℕ → ℕ → Type 0) (Cause : RunFault → Type 0) (made : Result Output RunFault) (answer : ℤ) (needed : ℕ)
-    (old new : List ℕ) → Cause Memory → IfOk made (λ output. Shows output.text.items output.status) → IfErr made Cause
-    → Answers (IsJsonOf made) answer needed old new
-    → Answers (λ text status. Shows text status ⊎ IsJsonRefusal Cause text status) answer needed old new
-gives_json Shows Cause (Ok output) answer needed old new memory shows none given = record {
-  text = given.text;
-  status = given.status;
-  is_answer =
-      inl (same_answer Shows given.text output.text.items given.status output.status given.is_answer.0 given.is_answer.1 shows);
-  given = given.given;
-}
-gives_json Shows Cause (Err fault) answer needed old new memory shows cause given = record {
-  text = given.text;
-  status = given.status;
-  is_answer = inr (json_refusal Cause fault given.text given.status memory cause given.is_answer);
-  given = given.given;
-}
-
 -- What a line of JSON tells of memory alone.
-memory_told : (fault : RunFault) (text : List ℕ) (status : ℕ) → fault ≡ Memory → IsFailure true fault text status
+memory_told : (fault : RunFault) (text : List ℕ) (status : ℕ) → fault ≡ Memory → IsFailure Json fault text status
     → ToldAsJson Memory text status
 memory_told fault text status memory (inl told) = subst (λ (f : RunFault). ToldAsJson f text status) memory told
 memory_told fault text status memory (inr told) = told
@@ -119,7 +81,7 @@ pub gives_json_fitted : (list : List ℕ) (made : Result FittedOutput RunFault) 
     → IfOk made (λ output. (shown : List ℕ) × ShowsEntries list shown output.status × IsFitted (length old) shown output.text)
     → IfErr made (λ fault. fault ≡ Memory)
     → IfOk made (λ output. (text : List ℕ) → IsFitted (length old) text output.text → IsGiven text output.status answer needed old new)
-    → IfErr made (λ fault. Answers (IsFailure true fault) answer needed old new)
+    → IfErr made (λ fault. Answers (IsFailure Json fault) answer needed old new)
     → Answers (IsJsonEntriesAnswer list) answer needed old new
 gives_json_fitted list (Ok output) answer needed old new shows memory given refused =
     record { text = shows.0; status = output.status; is_answer = inl shows.1; given = given shows.0 shows.2 }

@@ -1,5 +1,5 @@
 -- What a caller in C finds after a call. All of this is this project's choice.
-use Rattle.std.specs.Prelude.{◌≡◌, ℕ, ℤ, pos, ◌<◌, ◌≤◌, ◌⊎◌, if◌then◌else◌, Bool, List, [], ◌∷◌, ◌++◌, bytes_eq, codes, length, drop, Option, None, Some}
+use Rattle.std.specs.Prelude.{◌≡◌, ℕ, ℤ, pos, ◌<◌, ◌≤◌, ◌⊎◌, ◌==◌, if◌then◌else◌, Bool, List, [], ◌∷◌, ◌++◌, bytes_eq, codes, length, drop, Option, None, Some}
 use Rattle.agent_inputs.specs.declared.fault.RunFault.{RunFault}
 use Rattle.agent_inputs.specs.declared.fault.RunFault.TheVariants.{Memory}
 use Rattle.agent_inputs.specs.Loading.{untold}
@@ -7,15 +7,13 @@ use Rattle.command_line.specs.declared.plan.Extent.{Extent}
 use Rattle.command_line.specs.declared.plan.Extent.TheVariants.{Front, Whole}
 use Rattle.command_line.specs.declared.plan.Form.{Form}
 use Rattle.command_line.specs.declared.plan.Form.TheVariants.{Json, Text}
-use Rattle.judging.specs.Asking.{Any, Asked, ListVerdictOf, PlacesOf, Requires, These, VerdictOf}
+use Rattle.judging.specs.Asking.{Any, Asked, Compares, ListVerdictOf, PlacesOf, Requires, These, VerdictOf}
 use Rattle.judging.specs.Inputs.{BytesOf, Where}
 use Rattle.rendering.specs.Outputs.{GivesAnswer, IsRefusalOn}
-use Rattle.ima_agent.specs.Expecting.{IsNotExpectedOn, ShowsExpected, range_text}
 use Rattle.ima_agent.specs.FaultTexts.{fault_line, fault_status}
 use Rattle.ima_agent.specs.JsonFaults.{ToldAsJson}
-use Rattle.ima_agent.specs.JsonShowing.{ShowsEntries, ShowsJsonEvents, ShowsJsonRegisters}
-use Rattle.ima_agent.specs.Replaying.{IsNoReplayOn, ShowsReplay}
-use Rattle.ima_agent.specs.Showing.{IsNoListFor, IsNoLogFor, ShowsList, ShowsRegistersAfter}
+use Rattle.ima_agent.specs.JsonShowing.{ShowsEntries, ShowsJsonEvents}
+use Rattle.ima_agent.specs.Showing.{IsNoListFor, ShowsList}
 
 abbrev pub interface_version : ℕ
 interface_version = 2
@@ -74,16 +72,6 @@ pub record IsRefusal (HasCause : RunFault → Type 0) (text : List ℕ) (status 
   pub text_is : text ≡ fault_line fault
   pub status_is : status ≡ fault_status fault
 
--- The expected registers that this text, which tpm2-tools printed, states within the range that the text `registers` spells, or all
--- if that is empty; or why there are none.
-abbrev pub IsExpectedAnswer : List ℕ → List ℕ → List ℕ → ℕ → Type 0
-IsExpectedAnswer printed registers text status =
-    (ShowsExpected (range_text registers) printed text × (status ≡ 0)) ⊎ IsRefusal (IsNotExpectedOn printed registers) text status
-
--- The registers after this log; or why there are none.
-abbrev pub IsRegistersAnswer : List ℕ → List ℕ → ℕ → Type 0
-IsRegistersAnswer log text status = (ShowsRegistersAfter log text × (status ≡ 0)) ⊎ IsRefusal (IsNoLogFor log) text status
-
 -- The lines of this list's entries; or why there are none.
 abbrev pub IsEntriesAnswer : List ℕ → List ℕ → ℕ → Type 0
 IsEntriesAnswer list text status = (ShowsList list text × (status ≡ 0)) ⊎ IsRefusal (IsNoListFor list) text status
@@ -95,14 +83,6 @@ pub record IsJsonRefusal (HasCause : RunFault → Type 0) (text : List ℕ) (sta
   pub fault : RunFault
   pub cause : HasCause fault
   pub told : ToldAsJson fault text status
-
--- The registers after this log; or why there are none.
-abbrev pub IsJsonRegistersAnswer : List ℕ → List ℕ → ℕ → Type 0
-IsJsonRegistersAnswer log text status = (ShowsJsonRegisters log text × (status ≡ 0)) ⊎ IsJsonRefusal (IsNoLogFor log) text status
-
--- The registers after this list alone; or why there are none.
-abbrev pub IsJsonReplayAnswer : List ℕ → List ℕ → ℕ → Type 0
-IsJsonReplayAnswer list text status = (ShowsReplay Json list text × (status ≡ 0)) ⊎ IsJsonRefusal (IsNoReplayOn list) text status
 
 -- What can be read of these bytes as a log, with its status; or that memory ran out.
 abbrev pub IsJsonEventsAnswer : List ℕ → List ℕ → ℕ → Type 0
@@ -125,26 +105,26 @@ abbrev pub IsAnswerAndNext : Asked → Form → List ℕ → ℕ → List ℕ �
 IsAnswerAndNext asked form text status state =
     GivesAnswer untold asked form text status state ⊎ (IsRefusalIn form (IsRefusalOn untold asked) text status × (state ≡ []))
 
--- The same without the checkpoint.
+-- The answer, whatever checkpoint there is.
 abbrev pub IsAnswerTo : Asked → Form → List ℕ → ℕ → Type 0
 IsAnswerTo asked form text status = (state : List ℕ) × IsAnswerAndNext asked form text status state
 
 -- What is asked of these bytes: the verdict on a log and a list; where the registers have their values; and the verdict on a list alone.
 abbrev pub asked_of_verdict : List ℕ → List ℕ → List ℕ → Requires → Asked
-asked_of_verdict log list expected required = record {
+asked_of_verdict log list expected required = Compares (record {
   judgement = VerdictOf (BytesOf log) Whole None;
   list = BytesOf list;
   expected = BytesOf expected;
   required = required;
-}
+})
 
 abbrev pub asked_of_places : List ℕ → List ℕ → List ℕ → Requires → Asked
 asked_of_places log list expected required =
-    record { judgement = PlacesOf (BytesOf log); list = BytesOf list; expected = BytesOf expected; required = required }
+    Compares (record { judgement = PlacesOf (BytesOf log); list = BytesOf list; expected = BytesOf expected; required = required })
 
 abbrev pub asked_of_list : List ℕ → List ℕ → Requires → Asked
 asked_of_list list expected required =
-    record { judgement = ListVerdictOf; list = BytesOf list; expected = BytesOf expected; required = required }
+    Compares (record { judgement = ListVerdictOf; list = BytesOf list; expected = BytesOf expected; required = required })
 
 -- What has to be among the expected registers of a list that grows: some register, if the text is this word; else those that it spells.
 -- Without bytes it spells none, and is refused.
@@ -162,9 +142,13 @@ extent_for prefix = if prefix then Front else Whole
 
 -- What is asked of a list that grows.
 abbrev pub asked_of_more : List ℕ → List ℕ → List ℕ → List ℕ → List ℕ → Bool → Asked
-asked_of_more log state more expected require prefix = record {
+asked_of_more log state more expected require prefix = Compares (record {
   judgement = VerdictOf (BytesOf log) (extent_for prefix) (state_place state);
   list = BytesOf more;
   expected = BytesOf expected;
   required = required_by require;
-}
+})
+
+-- The text of the range of registers that is requested: none, if it is empty.
+abbrev pub range_text : List ℕ → Option (List ℕ)
+range_text text = if length text == 0 then None else Some text

@@ -1,12 +1,13 @@
 //! Gives an answer to the caller: a text in the caller's buffer, its size, and a number.
 
-ghost use Rattle.std.specs.Prelude.{◌≡◌, ℕ, List, length, true, IfOk, IfErr};
+ghost use Rattle.std.specs.Prelude.{◌≡◌, ℕ, List, length, IfOk, IfErr};
+ghost use Rattle.command_line.specs.declared.plan.Form.TheVariants.{Json};
 ghost use Rattle.ima_agent.specs.FaultTexts.{fault_line};
 ghost use Rattle.ima_agent.specs.JsonFaults.{IsFailure};
 ghost use Rattle.ima_agent.specs.Showing.{IsFitted};
 ghost use Rattle.ima_verify_c.specs.Answers.{Answers, AnswersMore, AreGiven, IsAnswerAndNext, IsAnswerTo, IsGiven};
 ghost use Rattle.judging.specs.Asking.{asked_of};
-ghost use Rattle.ima_verify_c.specs.parts.Givings.{IsFaultIn, IsFaultText, IsJsonOf, IsTextOf};
+ghost use Rattle.ima_verify_c.specs.parts.Givings.{IsFaultIn, IsFaultText, IsJsonOf};
 
 use byte_streams::{Failed, VecSink};
 use ima_agent::{
@@ -79,21 +80,6 @@ fn give_fault_in(
     }
 }
 
-/// Gives a text, or the line of a fault.
-pub(crate) fn give_text(
-    alloc: Global,
-    asked: Result<Vec<u8>, RunFault>,
-    out: &mut [u8],
-    needed: &mut usize,
-) -> i32
-    ensures { Answers (IsTextOf asked) result needed.new out.old out.new }
-{
-    match asked {
-        Ok(text) => put(&text, 0, out, needed),
-        Err(fault) => give_fault(alloc, &fault, out, needed),
-    }
-}
-
 /// Gives a text for which the caller's buffer is the room, or its size, or the line of a fault.
 pub(crate) fn give_fitted(
     alloc: Global,
@@ -135,7 +121,7 @@ pub(crate) fn give_json_fitted(
 ) -> i32
     ensures given { IfOk asked (λ output. (text : List ℕ) → IsFitted (length out.old) text output.text
         → IsGiven text output.status result needed.new out.old out.new) }
-    ensures fault { IfErr asked (λ fault. Answers (IsFailure true fault) result needed.new out.old out.new) }
+    ensures fault { IfErr asked (λ fault. Answers (IsFailure Json fault) result needed.new out.old out.new) }
 {
     match asked {
         Ok(output) => put_fitted(&output.text, output.status, out, needed),
@@ -155,7 +141,7 @@ fn give_fault(alloc: Global, fault: &RunFault, out: &mut [u8], needed: &mut usiz
 
 // Gives the line of a fault as JSON; that of `Memory`, if there is no memory for it.
 fn give_json_fault(alloc: Global, fault: &RunFault, out: &mut [u8], needed: &mut usize) -> i32
-    ensures { Answers (IsFailure true fault.now) result needed.new out.old out.new }
+    ensures { Answers (IsFailure Json fault.now) result needed.new out.old out.new }
 {
     match json_fault_line(alloc, fault) {
         Ok(json) => put(&json, status_of(fault), out, needed),

@@ -11,16 +11,13 @@ mod giving;
 
 ghost use Rattle.std.specs.Prelude.{◌≡◌, option_map};
 ghost use Rattle.command_line.specs.declared.plan.Form.TheVariants.{Json, Text};
-ghost use Rattle.judging.specs.Asking.{Nothing, These, asked_of, judgement_of, place_of, requires_of};
+ghost use Rattle.judging.specs.Asking.{Compares, ExpectedOf, ListRegistersOf, LogRegistersOf, Nothing, These, asked_of, judgement_of, place_of, requires_of};
 ghost use Rattle.judging.specs.Inputs.{BytesOf};
-ghost use Rattle.ima_verify_c.specs.Answers.{Answers, AnswersMore, IsAnswerAndNext, IsAnswerTo, IsEntriesAnswer, IsExpectedAnswer, IsJsonEntriesAnswer, IsJsonEventsAnswer, IsJsonRegistersAnswer, IsJsonReplayAnswer, IsRegistersAnswer, asked_of_list, asked_of_more, asked_of_places, asked_of_verdict, extent_for, interface_version, required_by, state_place};
+ghost use Rattle.ima_verify_c.specs.Answers.{Answers, AnswersMore, IsAnswerAndNext, IsAnswerTo, IsEntriesAnswer, IsJsonEntriesAnswer, IsJsonEventsAnswer, asked_of_list, asked_of_more, asked_of_places, asked_of_verdict, extent_for, interface_version, range_text, required_by, state_place};
 
-use crate::giving::{give_answer, give_both, give_fitted, give_json, give_json_fitted, give_text};
-use ima_agent::{
-    Extent, Form, entries_within, expected_on, json_entries_within, json_events_on,
-    json_registers_on, json_replay_on, registers_on,
-};
-use judging::{Input, Request, Required, Wanted};
+use crate::giving::{give_answer, give_both, give_fitted, give_json, give_json_fitted};
+use ima_agent::{Extent, Form, entries_within, json_entries_within, json_events_on};
+use judging::{Comparison, Input, Request, Required, Wanted};
 use std::alloc::Global;
 
 /// The version of this interface: 2. A later version may have more functions; what these do stays as it is.
@@ -127,9 +124,20 @@ pub extern "C" fn ima_verify_expected(
     out: &mut [u8],
     needed: &mut usize,
 ) -> i32
-    ensures { Answers (IsExpectedAnswer printed.now registers.now) result needed.new out.old out.new }
+    ensures { Answers (IsAnswerTo (ExpectedOf (BytesOf printed.now) (range_text registers.now)) Text) result needed.new out.old out.new }
 {
-    give_text(alloc, expected_on(alloc, printed, registers), out, needed)
+    let asked = Request::Expected {
+        printed: Input::Bytes(printed),
+        range: range_by(registers),
+    };
+    give_answer(alloc, asked, Form::Text, out, needed)
+}
+
+// The text of a range, if it has bytes.
+fn range_by(text: &[u8]) -> Option<&[u8]>
+    ensures { option_map (λ range. range.now) result ≡ range_text text.now }
+{
+    if text.is_empty() { None } else { Some(text) }
 }
 
 /// The registers that differ from their reset values after a firmware event log, as `registers` writes them.
@@ -140,9 +148,18 @@ pub extern "C" fn ima_verify_registers(
     out: &mut [u8],
     needed: &mut usize,
 ) -> i32
-    ensures { Answers (IsRegistersAnswer log.now) result needed.new out.old out.new }
+    ensures { Answers (IsAnswerTo (LogRegistersOf (BytesOf log.now)) Text) result needed.new out.old out.new }
 {
-    give_text(alloc, registers_on(alloc, log), out, needed)
+    give_answer(alloc, after_log(log), Form::Text, out, needed)
+}
+
+// What these bytes ask: the registers after a log.
+fn after_log(log: &[u8]) -> Request<'_>
+    ensures { asked_of result ≡ LogRegistersOf (BytesOf log.now) }
+{
+    Request::LogRegisters {
+        log: Input::Bytes(log),
+    }
 }
 
 /// The entries of a measurement list, as `show` writes them. A text that is longer than the buffer is counted, and never whole in memory.
@@ -249,9 +266,12 @@ pub extern "C" fn ima_verify_replay_json(
     out: &mut [u8],
     needed: &mut usize,
 ) -> i32
-    ensures { Answers (IsJsonReplayAnswer list.now) result needed.new out.old out.new }
+    ensures { Answers (IsAnswerTo (ListRegistersOf (BytesOf list.now)) Json) result needed.new out.old out.new }
 {
-    give_json(alloc, json_replay_on(alloc, list), out, needed)
+    let asked = Request::ListRegisters {
+        list: Input::Bytes(list),
+    };
+    give_answer(alloc, asked, Form::Json, out, needed)
 }
 
 /// The verdict on a list that grows, as `verify` writes it with `--prefix` and `--resume`, and in `next` the checkpoint that it saves with
@@ -395,19 +415,19 @@ fn request_on<'a>(
     expected: &'a [u8],
     required: Required<'a>,
 ) -> Request<'a>
-    ensures { asked_of result ≡ record {
+    ensures { asked_of result ≡ Compares (record {
       judgement = judgement_of wanted.entry;
       list = BytesOf list.now;
       expected = BytesOf expected.now;
       required = requires_of required.entry;
-    } }
+    }) }
 {
-    Request {
+    Request::Comparison(Comparison {
         wanted,
         list: Input::Bytes(list),
         expected: Input::Bytes(expected),
         required,
-    }
+    })
 }
 
 /// The registers that differ from their reset values after a firmware event log, as `registers --json` writes them.
@@ -418,9 +438,9 @@ pub extern "C" fn ima_verify_registers_json(
     out: &mut [u8],
     needed: &mut usize,
 ) -> i32
-    ensures { Answers (IsJsonRegistersAnswer log.now) result needed.new out.old out.new }
+    ensures { Answers (IsAnswerTo (LogRegistersOf (BytesOf log.now)) Json) result needed.new out.old out.new }
 {
-    give_json(alloc, json_registers_on(alloc, log), out, needed)
+    give_answer(alloc, after_log(log), Form::Json, out, needed)
 }
 
 /// The algorithms and the events of a firmware event log, as `events --json` writes them: of a damaged one those before its fault, and

@@ -24,7 +24,7 @@ use Rattle.command_line.specs.declared.plan.Print.TheVariants as prints
 use Rattle.ima_list.specs.Lines.{line_of as entry_text}
 use Rattle.json_texts.specs.ItemLines.{entry_lines}
 use Rattle.measure_book.specs.Books.{exported}
-use Rattle.measuring.specs.declared.measuring.Measured.{Measured}
+use Rattle.measuring.specs.declared.recording.Measured.{Measured}
 
 -- A report where no registers are required, and its verdict.
 abbrev pub report_lines : Verdict → Bool → List ℕ

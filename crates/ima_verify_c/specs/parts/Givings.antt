@@ -1,6 +1,5 @@
 -- The text and the status of what was computed.
-use Rattle.std.specs.Prelude.{◌≡◌, ℕ, ◌⊎◌, true, List, Result, Ok, Err}
-use Rattle.std.specs.Global.{Vec}
+use Rattle.std.specs.Prelude.{◌≡◌, ℕ, ◌⊎◌, List, Result, Ok, Err}
 use Rattle.agent_inputs.specs.declared.fault.RunFault.{RunFault}
 use Rattle.agent_inputs.specs.declared.fault.RunFault.TheVariants.{Memory}
 use Rattle.command_line.specs.declared.plan.Form.{Form}
@@ -14,17 +13,12 @@ abbrev pub IsFaultText : RunFault → List ℕ → ℕ → Type 0
 IsFaultText fault text status =
     ((text ≡ fault_line fault) × (status ≡ fault_status fault)) ⊎ ((text ≡ fault_line Memory) × (status ≡ fault_status Memory))
 
--- The same in this form.
+-- The line of this fault in this form, or that of `Memory`.
 abbrev pub IsFaultIn : Form → RunFault → List ℕ → ℕ → Type 0
 IsFaultIn Text fault text status = IsFaultText fault text status
-IsFaultIn Json fault text status = IsFailure true fault text status
-
--- The text of what was computed, whose status is 0, or that of this fault.
-abbrev pub IsTextOf : Result (Vec ℕ) RunFault → List ℕ → ℕ → Type 0
-IsTextOf (Ok shown) text status = (text ≡ shown.items) × (status ≡ 0)
-IsTextOf (Err fault) text status = IsFaultText fault text status
+IsFaultIn Json fault text status = IsFailure Json fault text status
 
 -- The text and the status of this output, or of this fault as JSON.
 abbrev pub IsJsonOf : Result Output RunFault → List ℕ → ℕ → Type 0
 IsJsonOf (Ok output) text status = (text ≡ output.text.items) × (status ≡ output.status)
-IsJsonOf (Err fault) text status = IsFailure true fault text status
+IsJsonOf (Err fault) text status = IsFailure Json fault text status

@@ -1,0 +1,70 @@
+//! Measures files into the registers of a log.
+
+ghost use Rattle.std.specs.Prelude.{◌≡◌, ◌<◌, ◌^◌, vec_len, IfOk, IfErr, IfSome};
+ghost use Rattle.std.specs.Prelude.{MatchOption, Some, string_bytes};
+ghost use Rattle.agent_inputs.specs.Loading.{Holds, IsInputFault};
+ghost use Rattle.measuring.specs.Measuring.{IsMeasured, IsMeasuringFault};
+
+use crate::listing::names_for;
+use crate::progress::FileProgress;
+use crate::recording::{Measured, measured_over};
+use agent_inputs::{AgentFiles, RunFault, loaded};
+use boot_log::LogView;
+use command_line::{Measurement, Names};
+use std::alloc::Global;
+use std::sync::Wait;
+use std::thread::Threads;
+
+/// Measures the named files into the registers of the log, into a new book.
+///
+/// The log is loaded and read first, then the text of further names, if there is one. Then each worker hashes one file after
+/// another, as it reads it, and records it. `progress` receives how many files are done, and that the measurement has ended.
+///
+/// Fails with the fault of the log: `TooLong` or `Read` if it is not loaded, else `Log`. Then with the fault of the text of names:
+/// `TooLong` or `Read` if it is not loaded, `NotUtf8`, or `Usage` from 2^32 names on. Then with `Usage` if the workers are not
+/// 1 to 8, `TooLong` or `Read` of the first file, in the order of the names, that cannot be read, `Book` if the book cannot be
+/// opened, `Outcome` of the first file that the book refuses, or `Gather`; and with `Memory` anywhere.
+pub fn measured<R: Threads + Wait + Sync, F: AgentFiles, P: FileProgress>(
+    rt: &R,
+    alloc: Global,
+    files: &mut F,
+    asked: &Measurement,
+    progress: &P,
+) -> Result<Measured, RunFault>
+    requires { vec_len asked.now.files < 2 ^ 32 }
+    ensures measured { IfOk result (IsMeasured (F.told files.old) asked.now) }
+    ensures fault { IfErr result (IsMeasuringFault (F.told files.old) asked.now) }
+    ensures saved { F.saved files.new ≡ F.saved files.old }
+{
+    let bytes = loaded(alloc, files, Some(&asked.log))?;
+    let log = LogView::new(&bytes)?;
+    let text = text_of(alloc, files, &asked.names)?;
+    let names = names_for(alloc, asked, &text)?;
+    measured_over(
+        rt,
+        alloc,
+        files.shared(),
+        &bytes,
+        &log,
+        asked,
+        &names,
+        progress,
+    )
+}
+
+// All bytes of the text of further names; none if there is no such text.
+fn text_of<F: AgentFiles>(
+    alloc: Global,
+    files: &mut F,
+    names: &Option<Names>,
+) -> Result<Vec<u8>, RunFault>
+    ensures text { IfOk result (λ text. IfSome names.now (λ more. Holds (F.told files.old) (Some (string_bytes more.text)) text.items)) }
+    ensures fault { IfErr result (λ fault. MatchOption names.now ⊥ (λ more. IsInputFault (F.told files.old) (Some (string_bytes more.text)) fault)) }
+    ensures told { F.told files.new ≡ F.told files.old }
+    ensures saved { F.saved files.new ≡ F.saved files.old }
+{
+    match names {
+        None => Ok(Vec::new(alloc)),
+        Some(more) => loaded(alloc, files, Some(&more.text)),
+    }
+}
