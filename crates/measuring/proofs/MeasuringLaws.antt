@@ -248,7 +248,7 @@ are_names inputs asked text names held are = with_held inputs (map string_bytes 
 lost : (inputs : Inputs) (first : List (List ℕ)) (further : Option Names) (fault : RunFault)
     → MatchOption further ⊥ (λ more. IsInputFault inputs (Some (string_bytes more.text)) fault)
     → MatchOption further ⊥ (λ more. IsInputFault inputs (Some (string_bytes more.text)) fault
-    ⊎ OfInput inputs (Some (string_bytes more.text)) (λ text. IsTextRefused (string_bytes more.text) first more.ends text fault))
+    ⊎ OfInput inputs (Some (string_bytes more.text)) (λ text. IsTextRefused first more text fault))
 lost inputs first None fault never = never
 lost inputs first (Some more) fault known = inl known
 
@@ -259,9 +259,9 @@ names_lost inputs asked fault known = lost inputs (map string_bytes asked.files.
 -- A text that is refused.
 refused_text : (inputs : Inputs) (first : List (List ℕ)) (further : Option Names) (text : List ℕ) (fault : RunFault)
     → IfSome further (λ more. Holds inputs (Some (string_bytes more.text)) text)
-    → MatchOption further ⊥ (λ more. IsTextRefused (string_bytes more.text) first more.ends text fault)
+    → MatchOption further ⊥ (λ more. IsTextRefused first more text fault)
     → MatchOption further ⊥ (λ more. IsInputFault inputs (Some (string_bytes more.text)) fault
-    ⊎ OfInput inputs (Some (string_bytes more.text)) (λ all. IsTextRefused (string_bytes more.text) first more.ends all fault))
+    ⊎ OfInput inputs (Some (string_bytes more.text)) (λ all. IsTextRefused first more all fault))
 refused_text inputs first None text fault held never = never
 refused_text inputs first (Some more) text fault held known = inr (text, held, known)
 

@@ -18,7 +18,7 @@ use Rattle.hash_workers.specs.Batches.{IsBatchOf}
 use Rattle.hash_workers.specs.Faults.{IsAgentFaultOf}
 use Rattle.hash_workers.specs.Causes.{IsCauseOf}
 use Rattle.command_line.specs.declared.plan.Measurement.{Measurement}
-use Rattle.command_line.specs.declared.plan.NameEnd.{NameEnd}
+use Rattle.command_line.specs.declared.plan.Names.{Names}
 use Rattle.agent_inputs.specs.declared.fault.RunFault.{RunFault}
 use Rattle.agent_inputs.specs.declared.fault.RunFault.TheVariants as runs
 use Rattle.agent_inputs.specs.Faults.{HasLogFault, fault_of_agent, fault_of_job}
@@ -151,18 +151,18 @@ pub record IsNotRecorded (held : Contents) (log : List ℕ) (asked : Measurement
   pub set_out : IsSetOut log asked table events origin
   pub cause : IsRecordingFault origin (length names) (IsFileMeasure held names asked.alg) asked.workers fault
 
--- Why a text of further names, which is this input and holds these bytes, gives none after the first: it is not UTF-8, or there are 2^32
--- names or more in all.
-abbrev pub IsTextRefused : List ℕ → List (List ℕ) → NameEnd → List ℕ → RunFault → Type 0
-IsTextRefused input first ends text fault =
-    (IsNotUtf8 input fault × (IsUtf8 text → ⊥)) ⊎ ((fault ≡ runs.Usage) × (2 ^ 32 ≤ length (first ++ names_of ends text)))
+-- Why the text of further names is refused, if it holds these bytes: they are not UTF-8, or, with the names before, there are 2^32 names or
+-- more.
+abbrev pub IsTextRefused : List (List ℕ) → Names → List ℕ → RunFault → Type 0
+IsTextRefused before more text fault =
+    (IsNotUtf8 (string_bytes more.text) fault × (IsUtf8 text → ⊥))
+    ⊎ ((fault ≡ runs.Usage) × (2 ^ 32 ≤ length (before ++ names_of more.ends text)))
 
 -- Why there are no names: there is a text of further names, and it was not loaded, or is refused.
 abbrev pub IsNamesFault : Inputs → Measurement → RunFault → Type 0
 IsNamesFault inputs asked fault = MatchOption asked.names ⊥ (λ more.
     IsInputFault inputs (Some (string_bytes more.text)) fault
-    ⊎ OfInput inputs (Some (string_bytes more.text)) (λ text.
-    IsTextRefused (string_bytes more.text) (map string_bytes asked.files.items) more.ends text fault))
+    ⊎ OfInput inputs (Some (string_bytes more.text)) (λ text. IsTextRefused (map string_bytes asked.files.items) more text fault))
 
 -- Why the files of all names are not measured over this log: one could not be read, or they were not all recorded.
 abbrev pub IsFilesFault : Inputs → List ℕ → Measurement → RunFault → Type 0

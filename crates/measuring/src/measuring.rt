@@ -1,7 +1,6 @@
 //! Measures files into the registers of a log.
 
-ghost use Rattle.std.specs.Prelude.{◌≡◌, ◌<◌, ◌^◌, vec_len, IfOk, IfErr, IfSome};
-ghost use Rattle.std.specs.Prelude.{MatchOption, Some, string_bytes};
+ghost use Rattle.std.specs.Prelude.{◌≡◌, ◌<◌, ◌^◌, string_bytes, vec_len, Some, IfOk, IfErr, IfSome, MatchOption};
 ghost use Rattle.agent_inputs.specs.Loading.{Holds, IsInputFault};
 ghost use Rattle.measuring.specs.Measuring.{IsMeasured, IsMeasuringFault};
 
@@ -18,12 +17,18 @@ use std::thread::Threads;
 /// Measures the named files into the registers of the log, into a new book.
 ///
 /// The log is loaded and read first, then the text of further names, if there is one. Then each worker hashes one file after
-/// another, as it reads it, and records it. `progress` receives how many files are done, and that the measurement has ended.
+/// another, as it reads it, and records it; `progress` receives how many files are done, and when the workers have ended.
 ///
-/// Fails with the fault of the log: `TooLong` or `Read` if it is not loaded, else `Log`. Then with the fault of the text of names:
-/// `TooLong` or `Read` if it is not loaded, `NotUtf8`, or `Usage` from 2^32 names on. Then with `Usage` if the workers are not
-/// 1 to 8, `TooLong` or `Read` of the first file, in the order of the names, that cannot be read, `Book` if the book cannot be
-/// opened, `Outcome` of the first file that the book refuses, or `Gather`; and with `Memory` anywhere.
+/// Fails, in this order:
+/// - with `TooLong` or `Read` if the log cannot be loaded, and with `Log` if it is no log;
+/// - with `TooLong` or `Read` if the text of further names cannot be loaded, with `NotUtf8` if it is not UTF-8, and with `Usage` if
+///   there are 2^32 names or more;
+/// - with `Usage` if the workers are not 1 to 8;
+/// - with `TooLong` or `Read` of the first file, in the order of the names, that cannot be read;
+/// - with `Book` if the book cannot be opened, with `Outcome` of the first file that the book refuses, and with `Gather` if the
+///   workers' outcomes do not account for the book's records.
+///
+/// At any point it may fail with `Memory`.
 pub fn measured<R: Threads + Wait + Sync, F: AgentFiles, P: FileProgress>(
     rt: &R,
     alloc: Global,

@@ -20,6 +20,4 @@ AreNamesWith asked text names =
 -- Why there are no names, if the text of further names, where there is one, holds these bytes: it is refused, or memory ran out.
 abbrev pub IsNoNames : Measurement → List ℕ → RunFault → Type 0
 IsNoNames asked text fault =
-    MatchOption asked.names ⊥ (λ more.
-    IsTextRefused (string_bytes more.text) (map string_bytes asked.files.items) more.ends text fault)
-    ⊎ (fault ≡ runs.Memory)
+    MatchOption asked.names ⊥ (λ more. IsTextRefused (map string_bytes asked.files.items) more text fault) ⊎ (fault ≡ runs.Memory)

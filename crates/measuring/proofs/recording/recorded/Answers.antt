@@ -8,6 +8,9 @@ use Rattle.measuring.specs.parts.Names.{names_lent}
 use Rattle.measuring.proofs.MeasuringLaws.{file_fault, measured_all, refused_one, same_book}
 use Rattle.measuring.proofs.recording.recorded.Goals as goal
 
+pub fault_of-requires : goal.fault_of-requires
+fault_of-requires g c = (c.record_jobs-recorded.ensures.job c.in-Err-Job.job c.in-Err-Job.fault (search rules)).0.within
+
 pub returns-in-Err-Job-clause-fault : goal.returns-in-Err-Job-clause-fault
 returns-in-Err-Job-clause-fault g c =
     let told = c.record_jobs-recorded.ensures.job c.in-Err-Job.job c.in-Err-Job.fault (search rules) in
