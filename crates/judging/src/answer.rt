@@ -59,7 +59,7 @@ pub struct Answered {
 
 impl Answered {
     /// An answer that compares nothing: all is well with it.
-    pub(crate) fn alone(answer: Answer) -> Self
+    pub fn alone(answer: Answer) -> Self
         ensures { result ≡ alone answer }
     {
         Answered {
