@@ -2,7 +2,7 @@
 //! `agent_inputs`, what `command_line` reads from arguments, and the verdict and its texts from `boot_verdict`.
 #![tactic(auto)]
 
-mod entries_within;
+mod json_within;
 mod escaping;
 mod explaining;
 mod hexadecimal;
@@ -31,7 +31,7 @@ pub use command_line::{
     DataShown, Extent, Form, Judge, Judged, Measurement, NameEnd, Names, Plan, Print, Question,
     Task, words_after_name,
 };
-pub use entries_within::{FittedOutput, json_entries_within};
+pub use json_within::{FittedOutput, json_entries_within};
 pub use escaping::escaped;
 pub use explaining::{Failure, explanation};
 pub use measuring::FileProgress;

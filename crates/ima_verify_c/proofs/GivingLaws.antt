@@ -9,7 +9,7 @@ use Rattle.command_line.specs.declared.plan.Form.TheVariants.{Json, Text}
 use Rattle.judging.specs.Asking.{Asked}
 use Rattle.rendering.specs.declared.output.Output.{Output}
 use Rattle.rendering.specs.Outputs.{GivesAnswer, IsRefusalOn}
-use Rattle.ima_agent.specs.declared.entries_within.FittedOutput.{FittedOutput}
+use Rattle.ima_agent.specs.declared.json_within.FittedOutput.{FittedOutput}
 use Rattle.ima_agent.specs.declared.showing.Fitted.{Fitted}
 use Rattle.ima_agent.specs.JsonFaults.{IsFailure, ToldAsJson}
 use Rattle.ima_agent.specs.JsonShowing.{ShowsEntries}
