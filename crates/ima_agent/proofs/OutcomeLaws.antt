@@ -32,6 +32,11 @@ sent_less old new fault other text more sends = record {
 
 -- ---- outputs that were prepared whole
 
+-- What holds whatever came, holds of a fault.
+pub kept_so : {A E P : Type 0} (result : Result A E) → P → OnErr result P
+kept_so (Ok value) holds = tt
+kept_so (Err fault) holds = holds
+
 pub text_sent : {form : Form} (IsAsked : List ℕ → ℕ → Type 0) (text : List ℕ) (status : ℕ) (old new : SinkState) (result : Result ℕ StreamFault)
     → IsAsked text status → SendsText text status old new result → Streams form IsAsked old new result
 text_sent IsAsked text status old new (Ok answer) asked sent = record { text = text; sends = sent.0; goes_on = rw sent.1 asked }
