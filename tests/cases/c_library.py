@@ -9,7 +9,7 @@ import os
 import re
 import sys
 from dataclasses import dataclass
-from typing import Optional
+from typing import NamedTuple, Optional
 
 from form import ROOT
 
@@ -141,11 +141,10 @@ class Library:
         answer, *others = [self.pieces(call, data, room) for room in rooms]
         if any(other != answer for other in others):
             raise Unlike("other lines with another room")
-        status, lines, fault = answer
-        return status, fault if fault and not call.is_json else lines + fault
+        return answer.status, answer.fault if answer.fault and not call.is_json else answer.lines + answer.fault
 
     def pieces(self, call, data, room):
-        """What the last call for lines returns, the lines, and the line of a fault if there is one."""
+        """What the calls for all lines come to."""
         offset, number, lines = ctypes.c_size_t(), ctypes.c_size_t(), []
         form = [call.is_json] if call.function == "entries" else []
         asked = room
@@ -168,7 +167,7 @@ class Library:
         if status == REFUSED and call.function == "entries" and told.place != number.value:
             raise Unlike(f"a fault at {told.place} after {number.value} entries")
         is_fault = status in (REFUSED, OUT_OF_MEMORY)
-        return status, b"".join([*lines, b"" if is_fault else text]), text if is_fault else b""
+        return Pieces(status, b"".join([*lines, b"" if is_fault else text]), text if is_fault else b"", offset.value)
 
     def answer_more(self, more, folder):
         log, listed, expected = ((folder / file).read_bytes() for file in more.files)
@@ -220,6 +219,15 @@ def fault_in(text):
     if found is None or found[1] not in KINDS:
         raise Unlike(f"no line of a fault: {line[:200]!r}")
     return CONSTANTS[KINDS[found[1]]], int(found[2] or 0), NO_PLACE if found[3] is None else int(found[3])
+
+
+class Pieces(NamedTuple):
+    """What the last call for lines returns, all lines, the line of a fault if there is one, and how many bytes come before it, or in all."""
+
+    status: int
+    lines: bytes
+    fault: bytes
+    offset: int
 
 
 @dataclass(frozen=True)
