@@ -13,6 +13,8 @@ from harness import ROOT
 from header import constants_of, functions_of
 
 MACROS = re.compile(r"^\.(?:It|Li|Ql|Pa|Cm|Ar|Fl|Dv|Fn|Fa|Dq|Xr|Pq|Sx)\b")
+# The functions of the header that make inputs.
+HELPERS = {"ima_verify_text", "ima_verify_none"}
 WORDS = re.compile(r"(?<!\S)(?:No|Ar|Cm|Li|Ql)(?!\S) ?")
 
 
@@ -145,7 +147,7 @@ def check_library():
         r'^\.Ft "?([\w ]+)"?\n\.Fo (\w+)\n((?:\.Fa .*\n)*)\.Fc', synopsis, re.MULTILINE)}
     wanted = functions_of(ROOT)
     yield from differences(page.name, list(wanted.items()), list(found.items()))
-    told = set(re.findall(r"^\.Fn (\w+)", "\n".join(lines), re.MULTILINE)) - {"ima_verify_text", "ima_verify_none"}
+    told = set(re.findall(r"\bFn (\w+)", "\n".join(lines))) - HELPERS
     yield from (f"{page.name}: says nothing of {name}" for name in wanted if name not in told)
     yield from (f"{page.name}: tells of {name}, which the header lacks" for name in sorted(told - set(wanted)))
     constants = dict(re.findall(r"^\.It Dv (\w+) No \((\d+)\)", "\n".join(lines), re.MULTILINE))
