@@ -7,9 +7,8 @@ ghost use Rattle.command_line.specs.parts.Commands.{IsArgument, IsCommand, app_o
 ghost use Rattle.command_line.specs.declared.commands.KnownNames.{KnownNames};
 ghost use Rattle.command_line.specs.Commands.{Parsers, commands, flag, flag_beside, omittable, optional, program_app, bare_program, repeated, required, version_flag, without_default, without_default_beside};
 
-use crate::command_table::{
-    ArgumentRow, COMMANDS, CommandRow, Form, PROGRAM_ABOUT, PROGRAM_END, Values, help_end_of,
-};
+use crate::command_table::{ArgumentRow, COMMANDS, CommandRow, Form, Values};
+use crate::help_texts::{PROGRAM_ABOUT, PROGRAM_END, help_end_of};
 use clap::builder::ValueParser;
 use clap::{Arg, ArgAction, Command};
 use std::alloc::{AllocError, Global};

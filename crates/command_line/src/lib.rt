@@ -5,6 +5,7 @@ mod command_table;
 mod commands;
 mod fault;
 mod fault_tables;
+mod help_texts;
 mod plan;
 mod values;
 mod words;
