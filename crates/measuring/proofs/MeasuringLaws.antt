@@ -7,7 +7,7 @@ use Rattle.std.proofs.lemmas.List.{length-map}
 use Rattle.std.proofs.lemmas.Bool.{cases_lt}
 use Rattle.std.proofs.lemmas.Option.{same_Some, slice_get_read, slice_get_within}
 use Rattle.boot_log.specs.declared.header.Row.{Row}
-use Rattle.boot_log.specs.Spelling.{LogEvent}
+use Rattle.boot_log.specs.Spelling.{IsLog, LogEvent}
 use Rattle.command_line.specs.declared.plan.Measurement.{Measurement}
 use Rattle.command_line.specs.declared.plan.Names.{Names}
 use Rattle.measure_book.specs.declared.op.Outcome.{Outcome}
@@ -16,6 +16,7 @@ use Rattle.measure_book.specs.Books.{BookState, IsBook}
 use Rattle.measure_book.specs.declared.op.Outcome.TheVariants as outcomes
 use Rattle.measure_book.specs.declared.op.Receipt.{Receipt}
 use Rattle.measure_book.specs.declared.fault.BookFault.{BookFault}
+use Rattle.measure_book.specs.declared.fault.BookFault.TheVariants as books
 use Rattle.measure_book.specs.Operations.{BookOp, BookOutcome, done, measure, refused, book_outcome_of, book_receipt_of}
 use Rattle.pcr_banks.specs.declared.alg.Alg.{Alg}
 use Rattle.pcr_banks.specs.declared.digest.Digest.{Digest}
@@ -30,10 +31,11 @@ use Rattle.agent_inputs.specs.declared.fault.RunFault.{RunFault}
 use Rattle.agent_inputs.specs.declared.fault.RunFault.TheVariants as runs
 use Rattle.agent_inputs.specs.declared.loading.LoadFault.{LoadFault}
 use Rattle.agent_inputs.specs.declared.loading.LoadFault.TheVariants as loads
+use Rattle.agent_inputs.specs.Faults.{fault_of_job}
 use Rattle.agent_inputs.specs.Hashing.{IsHashOfAll}
 use Rattle.agent_inputs.specs.Loading.{Holds, Inputs, IsInputFault, IsNotRead, IsTooLong, OfInput, input_limit}
 use Rattle.measuring.specs.declared.recording.Measured.{Measured}
-use Rattle.measuring.specs.Measuring.{AreAllDone, AreNames, Contents, HasFile, HasMeasured, IsFileFault, IsFileMeasure, IsFilesFault, IsFirstRefusal, IsMeasured, IsMeasuringFault, IsNamesFault, IsNotRecorded, IsRecordingFault, IsSetOut, IsTextRefused, IsUnhashed, failing_in, files_in}
+use Rattle.measuring.specs.Measuring.{AreAllDone, AreNames, Contents, HasFile, HasFiles, HasMeasured, IsAfterFiles, IsFileFault, IsFileMeasure, IsFilesFault, IsFirstRefusal, IsInputLog, IsMeasured, IsMeasuringFault, IsNamesFault, IsNotRecorded, IsRecordingFault, IsSetOut, IsTextRefused, IsUnhashed, failing_in, files_in}
 use Rattle.measuring.specs.Names.{names_of}
 use Rattle.measuring.specs.parts.Measuring.{IsMeasuredOver}
 use Rattle.measuring.specs.parts.NamedFiles.{IsFileFaultOf, IsFileFailure, job_fault_of}
@@ -110,9 +112,8 @@ file_had held names alg number name digest has hashed = record {
 }
 
 -- One more file was read.
-pub had_more : (held : Contents) (names : List (List ℕ)) (number : ℕ)
-    → ((earlier : ℕ) → earlier < number → HasFile held names earlier) → HasFile held names number → (earlier : ℕ) → earlier < number + 1
-    → HasFile held names earlier
+pub had_more : (held : Contents) (names : List (List ℕ)) (number : ℕ) → HasFiles held names number → HasFile held names number
+    → HasFiles held names (number + 1)
 had_more held names number before here earlier below = elim (cases_lt earlier number) [
   | inl less ↦ before earlier less
   | inr more ↦
@@ -140,7 +141,7 @@ file_lacks held Fails names number name loads.Memory has too_long source = tt
 -- The fault of the first file without an operation.
 pub file_fault : (held : Contents) (Fails : List ℕ → Type 0) (names : List (List ℕ)) (number : ℕ) (cause : JobFault) (fault : RunFault)
     → number < length names → IsFileFailure held Fails names number cause → IsFileFaultOf names number cause fault
-    → ((earlier : ℕ) → earlier < number → HasFile held names earlier) → IsFileFault held Fails names fault
+    → HasFiles held names number → IsFileFault held Fails names fault
 file_fault held Fails names number lacks.TooLong fault within lack (inl says) before =
     let same : says.0 ≡ lack.0 = same_Some says.0 lack.0 (sym says.1 ∙ lack.1) in
     let At : List ℕ → Type 0 = λ name. IsTooLong name fault in
@@ -191,6 +192,17 @@ recording_as_named : (origin : Origin) (files : List (Bor (List ℕ))) (Makes : 
 recording_as_named origin files Makes workers fault known =
     let At : ℕ → Type 0 = λ n. IsRecordingFault origin n Makes workers fault in subst At (sym (length-map files (λ (name : Bor (List ℕ)). name.now))) known
 
+-- The fault of a refused job is not that no book could be opened.
+job_fault_is_no_book : (job : ℕ) (cause why : BookFault) → fault_of_job job cause ≡ runs.Book why → ⊥
+job_fault_is_no_book job books.WrongHash why is = cc
+job_fault_is_no_book job books.NoBank why is = cc
+job_fault_is_no_book job books.BadRegister why is = cc
+job_fault_is_no_book job books.NulInPath why is = cc
+job_fault_is_no_book job books.PathTooLong why is = cc
+job_fault_is_no_book job books.ZeroDigest why is = cc
+job_fault_is_no_book job books.Full why is = cc
+job_fault_is_no_book job books.Memory why is = cc
+
 -- A batch whose jobs are all done, or the first of them that was refused.
 module _ (origin : Origin) (count : ℕ) (Makes : ℕ → BookOp → Type 0) (workers : ℕ) (book : BookState) (outcomes : List BookOutcome)
     (by : List ℕ) (batch : IsBatchOf origin count Makes workers book outcomes by) where
@@ -201,11 +213,14 @@ module _ (origin : Origin) (count : ℕ) (Makes : ℕ → BookOp → Type 0) (wo
       record { outcomes = outcomes; by = by; batch = subst At (sym each.0) batch; done = each.1 }
   measured_all (Err fault) each = tt
 
-  pub refused_one : IsBook book → (P : RunFault → Type 0) (result : Result BookState RunFault) → IfErr result (IsFirstRefusal outcomes)
-      → IfErr result (λ fault. P fault ⊎ IsRecordingFault origin count Makes workers fault)
-  refused_one is_book P (Ok found) first = tt
-  refused_one is_book P (Err fault) first =
-      inr (inr (record { book = book; outcomes = outcomes; by = by; book_is = is_book; batch = batch; first = first }))
+  pub refused_one : IsBook book → (held : Contents) (names : List (List ℕ)) (P : RunFault → Type 0) (result : Result BookState RunFault)
+      → IfErr result (IsFirstRefusal outcomes)
+      → IfErr result (λ fault. P fault ⊎ (IsRecordingFault origin count Makes workers fault × IsAfterFiles held names fault))
+  refused_one is_book held names P (Ok found) first = tt
+  refused_one is_book held names P (Err fault) first = inr (
+    inr (record { book = book; outcomes = outcomes; by = by; book_is = is_book; batch = batch; first = first }),
+    λ why is. absurd (job_fault_is_no_book first.job first.cause why (sym first.says ∙ is)),
+  )
 
 -- What equals a book is one.
 pub same_book : (book : BookState) (P : Type 0) (result : Result BookState RunFault) → IsBook book → IfOk result (λ found. (found ≡ book) × P)
@@ -217,7 +232,8 @@ same_book book P (Err fault) is_book each = tt
 pub not_recorded : (held : Contents) (Fails : List ℕ → Type 0) (log : List ℕ) (asked : Measurement) (files : List (Bor (List ℕ))) (table : List Row)
     (events : List LogEvent) (origin : Origin) (fault : RunFault) → IsSetOut log asked table events origin
     → (IsFileFault held Fails (names_lent files) fault
-    ⊎ IsRecordingFault origin (length files) (IsFileMeasure held (names_lent files) asked.alg) asked.workers fault)
+    ⊎ (IsRecordingFault origin (length files) (IsFileMeasure held (names_lent files) asked.alg) asked.workers fault
+    × IsAfterFiles held (names_lent files) fault))
     → IsFileFault held Fails (names_lent files) fault ⊎ IsNotRecorded held log asked (names_lent files) fault
 not_recorded held Fails log asked files table events origin fault out (inl file) = inl file
 not_recorded held Fails log asked files table events origin fault out (inr recording) = inr (record {
@@ -225,7 +241,8 @@ not_recorded held Fails log asked files table events origin fault out (inr recor
   events = events;
   origin = origin;
   set_out = out;
-  cause = recording_as_named origin files (IsFileMeasure held (names_lent files) asked.alg) asked.workers fault recording;
+  cause = recording_as_named origin files (IsFileMeasure held (names_lent files) asked.alg) asked.workers fault recording.0;
+  after_files = recording.1;
 })
 
 -- ---- names
@@ -266,13 +283,18 @@ refused_text inputs first None text fault held never = never
 refused_text inputs first (Some more) text fault held known = inr (text, held, known)
 
 pub names_refused : (inputs : Inputs) (asked : Measurement) (log text : List ℕ) (fault : RunFault)
-    → IfSome asked.names (λ more. Holds inputs (Some (string_bytes more.text)) text) → IsNoNames asked text fault
-    → IsNamesFault inputs asked fault ⊎ IsFilesFault inputs log asked fault ⊎ (fault ≡ runs.Memory)
-names_refused inputs asked log text fault held (inl known) =
-    inl (refused_text inputs (map string_bytes asked.files.items) asked.names text fault held known)
-names_refused inputs asked log text fault held (inr memory) = inr (inr memory)
+    → IsInputLog log → IfSome asked.names (λ more. Holds inputs (Some (string_bytes more.text)) text) → IsNoNames asked text fault
+    → (IsInputLog log × (IsNamesFault inputs asked fault ⊎ IsFilesFault inputs log asked fault)) ⊎ (fault ≡ runs.Memory)
+names_refused inputs asked log text fault log_is held (inl known) =
+    inl (log_is, inl (refused_text inputs (map string_bytes asked.files.items) asked.names text fault held known))
+names_refused inputs asked log text fault log_is held (inr memory) = inr memory
 
 -- ---- what was loaded
+
+-- Bytes that were loaded, and are a log.
+pub input_log : (bytes : List ℕ) → length bytes ≤ input_limit → (table : List Row) × (events : List LogEvent) × IsLog bytes table events
+    → IsInputLog bytes
+input_log bytes within sound = record { within = within; table = sound.0; events = sound.1; log_is = sound.2 }
 
 -- Files that several threads read are those of the inputs, which hold this log and give these names.
 module _ (inputs : Inputs) (asked : Measurement) (log : List ℕ) (names : List (List ℕ))
@@ -304,12 +326,12 @@ module _ (inputs : Inputs) (asked : Measurement) (log : List ℕ) (names : List 
   files_fault Fails more fault (inl file) = inl (fault_among held Fails (failing_in inputs) more names fault file)
   files_fault Fails more fault (inr recording) = inr recording
 
-  pub fault_of : (Fails : List ℕ → Type 0) → ((name : List ℕ) → Fails name → failing_in inputs name) → (result : Result Measured RunFault)
-      → IfErr result (λ fault. IsFileFault held Fails names fault ⊎ IsNotRecorded held log asked names fault)
+  pub fault_of : IsInputLog log → (Fails : List ℕ → Type 0) → ((name : List ℕ) → Fails name → failing_in inputs name)
+      → (result : Result Measured RunFault) → IfErr result (λ fault. IsFileFault held Fails names fault ⊎ IsNotRecorded held log asked names fault)
       → IfErr result (IsMeasuringFault inputs asked)
-  fault_of Fails more (Ok given) known = tt
-  fault_of Fails more (Err fault) known =
+  fault_of log_is Fails more (Ok given) known = tt
+  fault_of log_is Fails more (Err fault) known =
       let At : Contents → Type 0 = λ h.
       IsFileFault h (failing_in inputs) names fault ⊎ IsNotRecorded h log asked names fault in
       let of_inputs = subst At (same_contents held (files_in inputs) same) (files_fault Fails more fault known) in
-      inr (log, has, inr (inr (inl (names, are, of_inputs))))
+      inr (log, has, inr (inl (log_is, inr (names, are, of_inputs))))

@@ -48,6 +48,10 @@ pub record HasFile (held : Contents) (names : List (List ℕ)) (number : ℕ) : 
   pub held_is : IfSome (held name) (λ all. content ≡ all)
   pub within : length content ≤ input_limit
 
+-- Each of the first `count` of these files could be read.
+abbrev pub HasFiles : Contents → List (List ℕ) → ℕ → Type 0
+HasFiles held names count = (number : ℕ) → number < count → HasFile held names number
+
 -- The operation is the measurement of this file: its name, the hash of what it holds by this algorithm, and no signature.
 pub record IsFileMeasure (held : Contents) (names : List (List ℕ)) (alg : Alg) (number : ℕ) (op : BookOp) : Type 0 where
   pub file : HasFile held names number
@@ -108,7 +112,7 @@ pub record IsFileFault (held : Contents) (Fails : List ℕ → Type 0) (names : 
   pub name : List ℕ
   pub has : slice_get names index ≡ Some name
   pub cause : IsUnhashed held Fails name fault
-  pub before : (earlier : ℕ) → earlier < index → HasFile held names earlier
+  pub before : HasFiles held names index
 
 -- The first refused job has this number and this cause.
 pub record IsFirstRefused (outcomes : List BookOutcome) (job : ℕ) (fault : BookFault) : Type 0 where
@@ -143,13 +147,19 @@ abbrev pub IsRecordingFault : Origin → ℕ → (ℕ → BookOp → Type 0) →
 IsRecordingFault origin count Makes workers fault =
     IsNoBatch origin count Makes workers fault ⊎ IsRefusedJob origin count Makes workers fault
 
--- The files of these names were to be measured as asked over this log, and were not all recorded.
+-- If the fault is that no book could be opened, each of these files could be read.
+abbrev pub IsAfterFiles : Contents → List (List ℕ) → RunFault → Type 0
+IsAfterFiles held names fault = (cause : BookFault) → fault ≡ runs.Book cause → HasFiles held names (length names)
+
+-- The files of these names were to be measured as asked over this log, and were not all recorded. That no book could be opened comes after the
+-- faults of files.
 pub record IsNotRecorded (held : Contents) (log : List ℕ) (asked : Measurement) (names : List (List ℕ)) (fault : RunFault) : Type 0 where
   pub table : List Row
   pub events : List LogEvent
   pub origin : Origin
   pub set_out : IsSetOut log asked table events origin
   pub cause : IsRecordingFault origin (length names) (IsFileMeasure held names asked.alg) asked.workers fault
+  pub after_files : IsAfterFiles held names fault
 
 -- Why the text of further names is refused, if it holds these bytes: they are not UTF-8, or, with the names before, there are 2^32 names or
 -- more.
@@ -157,6 +167,13 @@ abbrev pub IsTextRefused : List (List ℕ) → Names → List ℕ → RunFault �
 IsTextRefused before more text fault =
     (IsNotUtf8 (string_bytes more.text) fault × (IsUtf8 text → ⊥))
     ⊎ ((fault ≡ runs.Usage) × (2 ^ 32 ≤ length (before ++ names_of more.ends text)))
+
+-- The bytes are a log, and no more than an input may have.
+pub record IsInputLog (bytes : List ℕ) : Type 0 where
+  pub within : length bytes ≤ input_limit
+  pub table : List Row
+  pub events : List LogEvent
+  pub log_is : IsLog bytes table events
 
 -- Why there are no names: there is a text of further names, and it was not loaded, or is refused.
 abbrev pub IsNamesFault : Inputs → Measurement → RunFault → Type 0
@@ -170,10 +187,11 @@ IsFilesFault inputs log asked fault =
     (names : List (List ℕ)) × AreNames inputs asked names
     × (IsFileFault (files_in inputs) (failing_in inputs) names fault ⊎ IsNotRecorded (files_in inputs) log asked names fault)
 
--- Why nothing is measured of these inputs: the log was not loaded, or is no log; there are no names; the files are not measured; or memory
--- ran out.
+-- Why nothing is measured of these inputs: the log was not loaded, or is no log; it is one, and there are no names, or the files are not
+-- measured; or memory ran out.
 abbrev pub IsMeasuringFault : Inputs → Measurement → RunFault → Type 0
 IsMeasuringFault inputs asked fault =
     IsInputFault inputs (Some (string_bytes asked.log)) fault
     ⊎ OfInput inputs (Some (string_bytes asked.log)) (λ log.
-    HasLogFault log fault ⊎ IsNamesFault inputs asked fault ⊎ IsFilesFault inputs log asked fault ⊎ (fault ≡ runs.Memory))
+    HasLogFault log fault ⊎ (IsInputLog log × (IsNamesFault inputs asked fault ⊎ IsFilesFault inputs log asked fault))
+    ⊎ (fault ≡ runs.Memory))

@@ -25,7 +25,7 @@ use std::thread::Threads;
 ///   there are 2^32 names or more;
 /// - with `Usage` if the workers are not 1 to 8;
 /// - with `TooLong` or `Read` of the first file, in the order of the names, that cannot be read;
-/// - with `Book` if the book cannot be opened, and with `Outcome` of the first file that the book refuses.
+/// - with `Book` if the book cannot be opened: each file is read first; and with `Outcome` of the first file that the book refuses.
 ///
 /// It may also fail with `Gather`, if the workers' outcomes do not account for the book's records, and at any point with `Memory`.
 pub fn measured<R: Threads + Wait + Sync, F: AgentFiles, P: FileProgress>(

@@ -1,7 +1,7 @@
 //! Named files as the workers' jobs.
 
-ghost use Rattle.std.specs.Prelude.{◌≡◌, ◌<◌, ◌^◌, length, IfErr};
-ghost use Rattle.measuring.specs.Measuring.{IsFileFault, IsFileMeasure};
+ghost use Rattle.std.specs.Prelude.{◌≡◌, ◌<◌, ◌^◌, length, IfErr, OnOk};
+ghost use Rattle.measuring.specs.Measuring.{HasFiles, IsFileFault, IsFileMeasure};
 ghost use Rattle.measuring.specs.parts.Names.{names_lent};
 ghost use Rattle.measuring.specs.parts.NamedFiles.{IsFileFaultOf, IsFileFailure, job_fault_of};
 
@@ -61,11 +61,12 @@ impl<S: SharedFiles> NamedFiles<'_, S> {
         }
     }
 
-    /// Fails with the fault of the first file, in their order, that cannot be read. For the case that no book was opened, and so
-    /// no worker read them.
+    /// Reads each file. Fails with the fault of the first, in their order, that cannot be read. For the case that no book was opened,
+    /// and so no worker read them.
     pub fn check(&self, alloc: Global, alg: Alg) -> Result<(), RunFault>
         requires { length self.now.names.now < 2 ^ 32 }
-        ensures { IfErr result (IsFileFault (S.held self.now.files.now) (S.fails self.now.files.now) (names_lent self.now.names.now)) }
+        ensures read { OnOk result (HasFiles (S.held self.now.files.now) (names_lent self.now.names.now) (length self.now.names.now)) }
+        ensures fault { IfErr result (IsFileFault (S.held self.now.files.now) (S.fails self.now.files.now) (names_lent self.now.names.now)) }
     {
         for index in 0..self.names.len() {
             if let Err(fault) = self.files.hash(alloc, self.names[index], alg, INPUT_LIMIT) {

@@ -3,7 +3,7 @@
 ghost use Rattle.std.specs.Prelude.{◌≡◌, ◌<◌, ◌⊎◌, ◌^◌, length, map, IfOk, IfErr, IfSome, IfNone};
 ghost use Rattle.measure_book.specs.Books.{IsBook};
 ghost use Rattle.measure_book.specs.Operations.{book_outcome_of};
-ghost use Rattle.measuring.specs.Measuring.{AreAllDone, HasMeasured, IsFileFault, IsFileMeasure, IsFirstRefusal, IsFirstRefused, IsNotRecorded, IsRecordingFault};
+ghost use Rattle.measuring.specs.Measuring.{AreAllDone, HasMeasured, IsAfterFiles, IsFileFault, IsFileMeasure, IsFirstRefusal, IsFirstRefused, IsNotRecorded, IsRecordingFault};
 ghost use Rattle.measuring.specs.parts.Measuring.{IsMeasuredOver, IsReadLog};
 ghost use Rattle.measuring.specs.parts.Names.{names_lent};
 
@@ -73,8 +73,9 @@ fn recorded<R: Threads + Wait + Sync, S: SharedFiles + Sync, P: FileProgress>(
     ensures measured { IfOk result (HasMeasured origin (length jobs.now.names.now)
         (IsFileMeasure (S.held jobs.now.files.now) (names_lent jobs.now.names.now) origin.alg) workers) }
     ensures fault { IfErr result (λ fault. IsFileFault (S.held jobs.now.files.now) (S.fails jobs.now.files.now) (names_lent jobs.now.names.now) fault
-        ⊎ IsRecordingFault origin (length jobs.now.names.now)
-        (IsFileMeasure (S.held jobs.now.files.now) (names_lent jobs.now.names.now) origin.alg) workers fault) }
+        ⊎ (IsRecordingFault origin (length jobs.now.names.now)
+        (IsFileMeasure (S.held jobs.now.files.now) (names_lent jobs.now.names.now) origin.alg) workers fault
+        × IsAfterFiles (S.held jobs.now.files.now) (names_lent jobs.now.names.now) fault)) }
 {
     let gate = ProgressGate::new(progress, jobs.names.len() as u32);
     let recorded = record_jobs(rt, alloc, origin, jobs, workers, &gate);

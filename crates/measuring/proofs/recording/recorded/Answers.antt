@@ -33,7 +33,7 @@ returns-in-Ok-clause-fault g c =
     let names = c.args.jobs.now.names.now in
     refused_one c.args.origin (length names) (IsFileMeasure held (names_lent names) c.args.origin.alg) c.args.workers
     c.in-Ok.batch.book (map book_outcome_of c.in-Ok.batch.outcomes.items) c.in-Ok.batch.by.items c.in-Ok.ensures.batch c.in-Ok.ensures.is_book
-    (IsFileFault held (g.S.SharedFiles.fails c.args.jobs.now.files.now) (names_lent names)) c.all_done.result c.all_done.ensures.refused
+    held (names_lent names) (IsFileFault held (g.S.SharedFiles.fails c.args.jobs.now.files.now) (names_lent names)) c.all_done.result c.all_done.ensures.refused
 
 pub returns-in-Ok-clause-book : goal.returns-in-Ok-clause-book
 returns-in-Ok-clause-book g c =

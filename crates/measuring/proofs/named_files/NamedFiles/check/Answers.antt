@@ -14,8 +14,8 @@ loop-index-preserved g c =
     (file_had held names c.args.alg c.loop-index.index _ c.in_default.field-0
     (slice_get-get_or names c.loop-index.index _ c.loop-index-test.true) c.in_default.ensures.hashed)
 
-pub returns-in-Err : goal.returns-in-Err
-returns-in-Err g c =
+pub returns-in-Err-clause-fault : goal.returns-in-Err-clause-fault
+returns-in-Err-clause-fault g c =
     let held = g.S.SharedFiles.held c.args.self.now.files.now in
     let fails = g.S.SharedFiles.fails c.args.self.now.files.now in
     let names = c.args.self.now.names.now in
