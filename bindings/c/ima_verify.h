@@ -155,8 +155,8 @@ static inline struct ima_verify_bytes ima_verify_text(const char *text) {
     return bytes;
 }
 
-/* For `require`: no register has to be among the expected ones. A verdict may then be `match` though none is
- * expected, but not one of ima_verify_more. */
+/* For `require`: no register has to be among the expected ones. A verdict of ima_verify_verdict, and of no other
+ * function, may then be `match` though none is expected. */
 static inline struct ima_verify_bytes ima_verify_none(void) {
     return ima_verify_text("none");
 }
@@ -273,9 +273,9 @@ ima_verify_locate(const struct ima_verify_evidence *evidence, enum ima_verify_fo
 
 /* The verdict on a list alone: it is replayed into banks of all algorithms from their registers' reset values, so a
  * register that the firmware extends too differs. The log is not looked at. IMA_VERIFY_DONE if the list has an
- * entry, each expected register has its value and none of `require` is missing, else IMA_VERIFY_DIFFERS; the text
- * is the report. The first fault is reported, in this order: `require`, the expected registers, the list, whether
- * each entry is genuine. */
+ * entry, some register is expected, each has its value and none of `require` is missing, else IMA_VERIFY_DIFFERS;
+ * the text is the report. The first fault is reported, in this order: `require`, the expected registers, the list,
+ * whether each entry is genuine. */
 IMA_VERIFY_USE_RESULT static inline enum ima_verify_result
 ima_verify_replay(const struct ima_verify_evidence *evidence, enum ima_verify_form form,
                   struct ima_verify_output *output) {

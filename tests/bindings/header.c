@@ -299,7 +299,7 @@ static void check_requirements(const struct given *sample) {
               "%s: a register that is missing", function->name);
         given.evidence.require = ima_verify_none();
         given.evidence.expected = ima_verify_text("");
-        wanted = function->call == call_verdict || is_list ? IMA_VERIFY_DONE : IMA_VERIFY_DIFFERS;
+        wanted = function->call == call_verdict ? IMA_VERIFY_DONE : IMA_VERIFY_DIFFERS;
         check(ask(function, &given, IMA_VERIFY_TEXT, ROOM) == wanted, "%s: no register is expected", function->name);
     }
 }
