@@ -20,6 +20,7 @@ class Call:
         self.inputs = [ctypes.string_at(pointer, size) for pointer, size in zip(words[:count:2], words[1:count:2])]
         self.options = words[count:-3]
         self._out, self.room, self._told = words[-3:]
+        self.position = (self.options[0][0], self.options[1][0]) if name in ("entries", "events") else None
 
     def give(self, result, text=b"", fault=NO_FAULT, size=None):
         """Answers so, where the size of the text may be another, or None for its own."""
@@ -38,10 +39,6 @@ class Call:
     def move_to(self, offset, number):
         """Sets the position of entries or events."""
         self.options[0][0], self.options[1][0] = offset, number
-
-    @property
-    def position(self):
-        return self.options[0][0], self.options[1][0]
 
 
 @contextlib.contextmanager

@@ -291,6 +291,50 @@ class Answers(unittest.TestCase):
             read(status, text.replace(b"{", b'{"faults":null,', 1))
 
 
+class Inputs(unittest.TestCase):
+    """What crosses to the library, and in which order."""
+
+    def test_inputs_and_what_is_required_cross_as_they_are(self):
+        for called, name, inputs, text in (
+            (ima_verify.verify, "verdict", (b"a", b"b"), REPORT), (ima_verify.report, "verdict", (b"a", b"b"), REPORT),
+            (ima_verify.locate, "locate", (b"a", b"b"), PLACES), (ima_verify.replay, "replay", (b"b",), LIST_REPORT),
+        ):
+            for require, crosses in ((NOTHING, b"none"), ("sha256:0-10", b"sha256:0-10"), ("x", b"x"), ("\u00e4", b"\xc3\xa4"), (" ", b" ")):
+                with fake.answering(name, DONE, text) as calls:
+                    self.assertTrue(called(*inputs, "\u00e9", require=require))
+                (call,) = calls
+                self.assertEqual((call.inputs, call.options, call.room), ([*inputs, b"\xc3\xa9", crosses], (True,), _library.ROOM))
+
+    def test_nothing_else_that_is_required_crosses(self):
+        with fake.library() as calls:
+            for called, inputs in ((ima_verify.verify, (b"a", b"b")), (ima_verify.report, (b"a", b"b")), (ima_verify.locate, (b"a", b"b")),
+                                   (ima_verify.replay, (b"b",))):
+                for wrong in ("", "none"):
+                    self.assertRaises(ima_verify.Misuse, called, *inputs, b"", require=wrong)
+                for wrong in (None, b"", b"none", b"sha256:0", 0, ()):
+                    self.assertRaises(TypeError, called, *inputs, b"", require=wrong)
+        self.assertEqual(calls, [])
+
+    def test_other_functions_are_asked_for_their_forms(self):
+        for called, name, inputs, options, text in (
+            (lambda: ima_verify.registers(b"a"), "registers", [b"a"], (False, True), REGISTERS),
+            (lambda: ima_verify.list_registers(b"a"), "registers", [b"a"], (True, True), REGISTERS),
+            (lambda: ima_verify.log_extends(b"a", 4), "registers", [b"a"], (False, True), REGISTERS),
+            (lambda: ima_verify.expected("a", "0-10"), "expected", [b"a", b"0-10"], (False,), LINES),
+            (lambda: ima_verify.expected(b"a"), "expected", [b"a", b""], (False,), LINES),
+        ):
+            with fake.answering(name, DONE, text) as calls:
+                self.assertTrue(called())
+            (call,) = calls
+            self.assertEqual((call.inputs, call.options), (inputs, options))
+        for called, name, form in ((ima_verify.show, "entries", (False,)), (ima_verify.entries, "entries", (True,)),
+                                   (ima_verify.events, "events", ())):
+            with fake.answering(name, REFUSED, b"", fake.fault_of(Kind.LIST, 1, 0)) as calls:
+                self.assertRaises(ima_verify.Refused, lambda: list(called(b"a")))
+            (call,) = calls
+            self.assertEqual((call.inputs, call.options[2:], call.position), ([b"a"], form, (0, 0)))
+
+
 class Listings(unittest.TestCase):
     """What a library may answer of entries and events, and what not. An input has a byte for each of its lines, and some pieces of these."""
 
