@@ -289,6 +289,8 @@ func TestListAloneMayRequireNothing(t *testing.T) {
 	verdict := replay(t, bootList, tenth, NothingRequired)
 	equal(t, []interface{}{verdict.Matches, verdict.Rows}, []interface{}{true, []Row{{AlgorithmSHA256, 10, StateMatch, nil}}})
 	equal(t, replay(t, longer, tenth, NothingRequired).Matches, false)
+	verdict = replay(t, bootList, nil, NothingRequired)
+	equal(t, []interface{}{verdict.Matches, verdict.Entries, verdict.Rows}, []interface{}{false, uint64(99), []Row(nil)})
 }
 
 func TestListAloneIsRefused(t *testing.T) {
@@ -427,8 +429,6 @@ func TestInputsWithoutBytes(t *testing.T) {
 		equal(t, verify(t, bootLog, bootList, empty, NothingRequired), Verdict{Events: 24, Entries: 99, BootAggregate: BootAggregateGood,
 			JSON: `{"events":24,"locality":0,"entries":99,"boot_aggregate":"good","registers":[],"verdict":"match"}`})
 		equal(t, locate(t, bootLog, bootList, empty, NothingRequired), Places{nil, false, `{"registers":[],"located":false}`})
-		alone := replay(t, bootList, empty, NothingRequired)
-		equal(t, []interface{}{alone.Matches, alone.Entries, alone.Rows}, []interface{}{false, uint64(99), []Row(nil)})
 	}
 }
 
