@@ -5,11 +5,11 @@ tests/faults/library.py [PROGRAM ARCHIVE]: the program and the static library th
 which `dist/library` builds first if they are not there or are older than a source.
 
 The answers that are wanted, and the checkpoints, are those of the program to the same files. Each function of the header is called with each
-input, in both forms, and with buffers that have room to spare, just enough, and too little; entries and events come by pieces. In the Nth turn the Nth allocation is refused (tests/faults/library.c, which
-gives the library its memory), until a turn ends with none refused. A call must have the answer, or say that memory ran out. It must tell the
-fault of its text, and write nothing but that, and nothing to a checkpoint's buffer if memory ran out. It must give back, once, all memory that it took, and have the
-answer when it is made again. A function that takes no memory at all fails, and so does one that takes it elsewhere, a crash, and a run of more
-than a minute. Needs cc and nm."""
+input, in both forms, and with buffers that have room to spare, just enough, and too little; entries and events come by pieces. In the Nth
+turn the Nth allocation is refused (tests/faults/library.c, which gives the library its memory), until a turn ends with none refused. A call
+must have the answer, or say that memory ran out. It must tell the fault of its text, and write nothing but that, and nothing to a
+checkpoint's buffer if memory ran out. It must give back, once, all memory that it took, and have the answer when it is made again. A function
+that takes no memory at all fails, and so does one that takes it elsewhere, a crash, and a run of more than a minute. Needs cc and nm."""
 
 import re
 import subprocess
@@ -28,7 +28,7 @@ SECONDS = 60
 MEMORY = b"failed: memory\n"
 JSON_MEMORY = b'{"fault":{"kind":"memory","message":"failed: memory"}}\n'
 # The command of each function that has another name, and the option that the last of its inputs is the value of.
-COMMANDS = {"entries": "show", "verdict": "verify", "more": "verify", "registers:list": "replay"}
+COMMANDS = {"entries": "show", "verdict": "verify", "registers:list": "replay"}
 OPTIONS = {"verdict": "--require", "locate": "--require", "replay": "--require", "expected": "--registers"}
 # The first 97 entries of the sample's list, and the first three.
 FRONT_BYTES, THREE_ENTRIES_BYTES = 11731, 292
