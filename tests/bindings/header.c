@@ -3,20 +3,28 @@
  *     header LOG LIST EXPECTED PRINTED [STACK]
  *
  * The files are those of the sample boot; PRINTED is what tpm2_pcrread printed. Each function is called in a thread with so many bytes of
- * stack, by default the 320 KiB of the header. Prints a line for each check that fails, how much stack was used at most, and last 'N passed,
- * M failed'. The status is 1 if one failed. */
+ * stack, by default the 320 KiB of the header. Prints a line for each check that fails, how much stack was used at most, and last 'N
+ * passed, M failed'. The status is 1 if one failed. */
 #define _GNU_SOURCE
 #include <ima_verify.h>
 
 #include <pthread.h>
 #include <signal.h>
-#include <stdarg.h>
 #include <stdio.h>
 #include <stdlib.h>
 #include <sys/mman.h>
 #include <unistd.h>
 
-enum { ROOM = 1 << 16, LONGEST_CHECKPOINT = 20000, FILL = 0xa7, STACK = 320 * 1024, GUARD = 1 << 24, SIGNAL_STACK = 1 << 16, UNSET = 77, SHOWN = 60 };
+enum {
+    ROOM = 1 << 16,
+    LONGEST_CHECKPOINT = 20000,
+    FILL = 0xa7,
+    STACK = 320 * 1024,
+    GUARD = 1 << 24,
+    SIGNAL_STACK = 1 << 16,
+    UNSET = 77,
+    SHOWN = 60
+};
 
 /* All that a function may be given. */
 struct given {
@@ -33,20 +41,18 @@ struct given {
 static uint8_t text[ROOM], checkpoint[ROOM];
 static struct ima_verify_output out, next, *to = &out, *to_next = &next;
 static struct ima_verify_position position, *at = &position;
+static enum ima_verify_result result;
 static long passed, failed;
 
-static void check(bool holds, const char *form, ...) {
-    va_list parts;
+/* Counts a check of the last call. */
+static void check(bool holds, const char *name, const char *what) {
     passed += holds;
     failed += !holds;
     if (holds)
         return;
-    printf("WRONG: ");
-    va_start(parts, form);
-    vprintf(form, parts);
-    va_end(parts);
     int shown = out.size < SHOWN ? (int)out.size : SHOWN;
-    printf(" (%zu bytes '%.*s', fault %u %u %lld)\n", out.size, shown, (char *)text, out.fault.kind, out.fault.number, (long long)out.fault.place);
+    printf("WRONG: %s, %s: result %d, %zu bytes '%.*s', fault %u %u %lld\n", name, what, (int)result, out.size, shown, (char *)text,
+           out.fault.kind, out.fault.number, (long long)out.fault.place);
 }
 
 typedef enum ima_verify_result called(const struct given *given, enum ima_verify_form form);
@@ -85,7 +91,17 @@ static enum ima_verify_result call_events(const struct given *given, enum ima_ve
     return ima_verify_events(given->evidence.log, at, to);
 }
 
-enum inputs { OF_LOG = 1, OF_LIST = 2, OF_EXPECTED = 4, OF_REQUIRE = 8, OF_STATE = 16, OF_PRINTED = 32, OF_REGISTERS = 64, ALL = 15, INPUTS = 7 };
+enum inputs {
+    OF_LOG = 1,
+    OF_LIST = 2,
+    OF_EXPECTED = 4,
+    OF_REQUIRE = 8,
+    OF_STATE = 16,
+    OF_PRINTED = 32,
+    OF_REGISTERS = 64,
+    ALL = 15,
+    INPUTS = 7
+};
 
 /* Each function, and which inputs it looks at. */
 static const struct function {
@@ -126,7 +142,7 @@ static void prepare(const struct given *given, size_t room) {
 
 static enum ima_verify_result ask(const struct function *function, const struct given *given, enum ima_verify_form form, size_t room) {
     prepare(given, room);
-    return function->call(given, form);
+    return result = function->call(given, form);
 }
 
 static bool is_filled(const uint8_t *bytes, size_t from) {
@@ -144,14 +160,23 @@ static bool is_fault(uint32_t kind, uint32_t number, uint64_t place) {
     return out.fault.kind == kind && out.fault.number == number && out.fault.place == place;
 }
 
+static bool has_no_fault(void) {
+    return is_fault(IMA_VERIFY_NO_FAULT, 0, IMA_VERIFY_NO_PLACE);
+}
+
+/* Whether both outputs are as they were. */
+static bool is_left(void) {
+    return is_filled(text, 0) && is_filled(checkpoint, 0);
+}
+
 static bool is_text(const char *words) {
     return out.size == strlen(words) && memcmp(text, words, out.size) == 0;
 }
 
 /* Nothing was read or written. */
-static void check_misused(enum ima_verify_result result, const char *name, const char *what) {
-    bool is_left = is_unset(&out) && is_unset(&next) && is_filled(text, 0) && is_filled(checkpoint, 0);
-    check(result == IMA_VERIFY_MISUSED && is_left, "%s, %s: result %d", name, what, (int)result);
+static void check_misused(enum ima_verify_result given, const char *name, const char *what) {
+    result = given;
+    check(result == IMA_VERIFY_MISUSED && is_unset(&out) && is_unset(&next) && is_left(), name, what);
 }
 
 static void check_wrong_calls(const struct given *sample) {
@@ -165,11 +190,11 @@ static void check_wrong_calls(const struct given *sample) {
             *input(&given, number) = (struct ima_verify_bytes){NULL, 1};
             check_misused(ask(function, &given, IMA_VERIFY_TEXT, ROOM), function->name, "NULL as an input with a size");
             *input(&given, number) = (struct ima_verify_bytes){NULL, 0};
-            enum ima_verify_result result = ask(function, &given, IMA_VERIFY_TEXT, ROOM);
+            enum ima_verify_result of_null = ask(function, &given, IMA_VERIFY_TEXT, ROOM);
             size_t size = out.size;
-            check(result <= IMA_VERIFY_REFUSED || result == IMA_VERIFY_MORE, "%s, NULL as an empty input: result %d", function->name, (int)result);
+            check(result <= IMA_VERIFY_REFUSED, function->name, "NULL as an empty input");
             *input(&given, number) = ima_verify_text("");
-            check(ask(function, &given, IMA_VERIFY_TEXT, ROOM) == result && out.size == size, "%s, NULL is no empty input", function->name);
+            check(ask(function, &given, IMA_VERIFY_TEXT, ROOM) == of_null && out.size == size, function->name, "an empty input");
         }
         if (function->call != call_events)
             check_misused(ask(function, sample, (enum ima_verify_form)no_form, ROOM), function->name, "a form that is none");
@@ -193,7 +218,8 @@ static void check_wrong_outputs(const struct given *sample) {
         out.data = NULL;
         check_misused(function->call(sample, IMA_VERIFY_TEXT), function->name, "an output with room at NULL");
         out.room = 0;
-        check(function->call(sample, IMA_VERIFY_TEXT) == IMA_VERIFY_TOO_SHORT && out.size > 0, "%s: no room at NULL", function->name);
+        result = function->call(sample, IMA_VERIFY_TEXT);
+        check(result == IMA_VERIFY_TOO_SHORT && out.size > 0, function->name, "no room at NULL");
     }
     to_next = NULL;
     check_misused(ask(more, sample, IMA_VERIFY_TEXT, ROOM), "more", "no output for a checkpoint");
@@ -217,23 +243,20 @@ static void check_rooms(const struct given *sample) {
     for (int i = 0; i < FUNCTIONS * 2; i++) {
         const struct function *function = &functions[i / 2];
         enum ima_verify_form form = i % 2 ? IMA_VERIFY_JSON : IMA_VERIFY_TEXT;
-        enum ima_verify_result first = ask(function, sample, form, 0);
-        bool is_left = is_filled(text, 0) && is_filled(checkpoint, 0) && is_fault(IMA_VERIFY_NO_FAULT, 0, IMA_VERIFY_NO_PLACE);
+        ask(function, sample, form, 0);
         size_t size = out.size, next_size = next.size;
-        check(first == IMA_VERIFY_TOO_SHORT && is_left && size > 0, "%s, no room: result %d", function->name, (int)first);
-        bool is_still = position.offset == 0 && position.number == 0;
-        check(is_still, "%s, no room: the position %zu %zu", function->name, position.offset, position.number);
-        enum ima_verify_result then = ask(function, sample, form, size - 1);
-        bool is_short = then == IMA_VERIFY_TOO_SHORT && out.size == size && is_filled(text, 0) && is_filled(checkpoint, 0);
-        check(is_short, "%s, a byte too few: result %d", function->name, (int)then);
+        check(result == IMA_VERIFY_TOO_SHORT && is_left() && has_no_fault() && size > 0, function->name, "no room");
+        check(position.offset == 0 && position.number == 0, function->name, "the position after no room");
+        ask(function, sample, form, size - 1);
+        check(result == IMA_VERIFY_TOO_SHORT && is_left() && has_no_fault() && out.size == size, function->name, "a byte too few");
         if (function == more) {
-            check(next_size > 0 && next_size < LONGEST_CHECKPOINT, "more: a checkpoint of %zu bytes", next_size);
-            ask(function, sample, form, size > next_size ? size : next_size);
-        } else {
-            then = ask(function, sample, form, size);
-            check((then <= IMA_VERIFY_DIFFERS || then == IMA_VERIFY_MORE) && out.size == size, "%s, enough room: result %d", function->name, (int)then);
+            check(next_size > 0 && next_size < LONGEST_CHECKPOINT, "more", "the size of a checkpoint");
+            size = size > next_size ? size : next_size;
         }
-        check(is_filled(text, out.size) && is_fault(IMA_VERIFY_NO_FAULT, 0, IMA_VERIFY_NO_PLACE), "%s: bytes after the text", function->name);
+        ask(function, sample, form, size);
+        check(result <= IMA_VERIFY_DIFFERS || result == IMA_VERIFY_MORE, function->name, "enough room");
+        check(is_filled(text, out.size) && is_filled(checkpoint, function == more ? next.size : 0), function->name, "after the text");
+        check(has_no_fault(), function->name, "no fault");
     }
     /* (one output of two) */
     ask(more, sample, IMA_VERIFY_TEXT, ROOM);
@@ -243,20 +266,20 @@ static void check_rooms(const struct given *sample) {
         memset(checkpoint, FILL, sizeof checkpoint);
         out.room = which ? ROOM : size - 1;
         next.room = which ? next_size - 1 : ROOM;
-        enum ima_verify_result result = call_more(sample, IMA_VERIFY_TEXT);
-        bool is_left = is_filled(text, 0) && is_filled(checkpoint, 0) && out.size == size && next.size == next_size;
-        check(result == IMA_VERIFY_TOO_SHORT && is_left, "more, one output too short: result %d", (int)result);
+        result = call_more(sample, IMA_VERIFY_TEXT);
+        bool is_told = out.size == size && next.size == next_size;
+        check(result == IMA_VERIFY_TOO_SHORT && is_left() && is_told, "more", "one output that is too short");
     }
 }
 
 static void check_refusal(const struct function *function, const struct given *given, const char *line, uint32_t kind, uint32_t number,
                           uint64_t place) {
-    enum ima_verify_result result = ask(function, given, IMA_VERIFY_TEXT, ROOM);
-    check(result == IMA_VERIFY_REFUSED && is_text(line) && is_fault(kind, number, place), "%s, %s: result %d", function->name, line, (int)result);
-    check(function != more || (next.size == 0 && is_filled(checkpoint, 0)), "%s, %s: a checkpoint", function->name, line);
-    result = ask(function, given, IMA_VERIFY_JSON, ROOM);
+    ask(function, given, IMA_VERIFY_TEXT, ROOM);
+    check(result == IMA_VERIFY_REFUSED && is_text(line) && is_fault(kind, number, place), function->name, line);
+    check(is_filled(checkpoint, 0) && (function != more || next.size == 0), function->name, "no checkpoint");
+    ask(function, given, IMA_VERIFY_JSON, ROOM);
     bool is_json = out.size > 10 && memcmp(text, "{\"fault\":{", 10) == 0 && text[out.size - 1] == '\n';
-    check(result == IMA_VERIFY_REFUSED && is_json && is_fault(kind, number, place), "%s, %s as JSON: %d", function->name, line, (int)result);
+    check(result == IMA_VERIFY_REFUSED && is_json && is_fault(kind, number, place), function->name, "a fault as JSON");
 }
 
 static void check_faults(const struct given *sample) {
@@ -266,7 +289,8 @@ static void check_faults(const struct given *sample) {
 
     for (int i = 0; i < 4; i++) {
         check_refusal(&functions[i], WITH(evidence.require, ima_verify_text("")), argument, IMA_VERIFY_ARGUMENT, 0, IMA_VERIFY_NO_PLACE);
-        check_refusal(&functions[i], WITH(evidence.require, ima_verify_text("sha256:0-24")), argument, IMA_VERIFY_ARGUMENT, 0, IMA_VERIFY_NO_PLACE);
+        check_refusal(&functions[i], WITH(evidence.require, ima_verify_text("sha256:0-24")), argument, IMA_VERIFY_ARGUMENT, 0,
+                      IMA_VERIFY_NO_PLACE);
         check_refusal(&functions[i], WITH(evidence.expected, ima_verify_text("sha256 24 00\n")), "refused: expected fault 1 at line 1\n",
                       IMA_VERIFY_EXPECTED, 1, 1);
         struct ima_verify_bytes list = sample->evidence.list;
@@ -277,10 +301,12 @@ static void check_faults(const struct given *sample) {
         list = (struct ima_verify_bytes){changed, sample->evidence.list.size};
         check_refusal(&functions[i], WITH(evidence.list, list), "refused: replay fault 1 at entry 0\n", IMA_VERIFY_REPLAY, 1, 0);
         if (functions[i].call != call_replay)
-            check_refusal(&functions[i], WITH(evidence.log, ima_verify_none()), "refused: log fault 1 at event 0\n", IMA_VERIFY_LOG, 1, 0);
+            check_refusal(&functions[i], WITH(evidence.log, ima_verify_none()), "refused: log fault 1 at event 0\n", IMA_VERIFY_LOG, 1,
+                          0);
     }
     check_refusal(expecting, WITH(registers, ima_verify_text("x")), argument, IMA_VERIFY_ARGUMENT, 0, IMA_VERIFY_NO_PLACE);
-    check_refusal(more, WITH(state, ima_verify_text("x")), "refused: checkpoint fault 1\n", IMA_VERIFY_CHECKPOINT, 1, IMA_VERIFY_NO_PLACE);
+    check_refusal(more, WITH(state, ima_verify_text("x")), "refused: checkpoint fault 1\n", IMA_VERIFY_CHECKPOINT, 1,
+                  IMA_VERIFY_NO_PLACE);
     memcpy(changed, sample->evidence.log.data, sample->evidence.log.size);
     changed[32] ^= 1; /* (the signature of the header) */
     struct ima_verify_bytes log = {changed, sample->evidence.log.size};
@@ -293,14 +319,17 @@ static void check_requirements(const struct given *sample) {
         const struct function *function = &functions[i];
         bool is_list = function->call == call_replay;
         enum ima_verify_result wanted = is_list ? IMA_VERIFY_DIFFERS : IMA_VERIFY_DONE;
-        check(ask(function, sample, IMA_VERIFY_TEXT, ROOM) == wanted, "%s: the sample", function->name);
-        check(ask(function, WITH(evidence.require, ima_verify_none()), IMA_VERIFY_TEXT, ROOM) == wanted, "%s: nothing is required", function->name);
-        check(ask(function, WITH(evidence.require, ima_verify_text("sha512:7")), IMA_VERIFY_TEXT, ROOM) == IMA_VERIFY_DIFFERS,
-              "%s: a register that is missing", function->name);
+        ask(function, sample, IMA_VERIFY_TEXT, ROOM);
+        check(result == wanted, function->name, "the sample");
+        ask(function, WITH(evidence.require, ima_verify_none()), IMA_VERIFY_TEXT, ROOM);
+        check(result == wanted, function->name, "nothing is required");
+        ask(function, WITH(evidence.require, ima_verify_text("sha512:7")), IMA_VERIFY_TEXT, ROOM);
+        check(result == IMA_VERIFY_DIFFERS, function->name, "a register that is missing");
         given.evidence.require = ima_verify_none();
         given.evidence.expected = ima_verify_text("");
         wanted = function->call == call_verdict ? IMA_VERIFY_DONE : IMA_VERIFY_DIFFERS;
-        check(ask(function, &given, IMA_VERIFY_TEXT, ROOM) == wanted, "%s: no register is expected", function->name);
+        ask(function, &given, IMA_VERIFY_TEXT, ROOM);
+        check(result == wanted, function->name, "no register is expected");
     }
 }
 
@@ -311,27 +340,25 @@ static void check_pieces(const struct given *sample) {
         const struct function *function = &functions[i / 2];
         enum ima_verify_form form = i % 2 ? IMA_VERIFY_JSON : IMA_VERIFY_TEXT;
         struct given given = *sample;
-        size_t size = 0, count = 0, end = (function->inputs == OF_LOG ? given.evidence.log : given.evidence.list).size;
-        enum ima_verify_result all = ask(function, sample, form, ROOM), result = IMA_VERIFY_MORE;
+        size_t size = 0, end = (function->inputs == OF_LOG ? given.evidence.log : given.evidence.list).size;
+        ask(function, sample, form, ROOM);
         size_t whole_size = out.size;
         memcpy(whole, text, whole_size);
-        check(all == IMA_VERIFY_DONE && position.offset == end, "%s, all at once: result %d", function->name, (int)all);
-        while (result == IMA_VERIFY_MORE && count < ROOM) {
+        check(result == IMA_VERIFY_DONE && position.offset == end, function->name, "all at once");
+        bool is_next = true;
+        do {
             ask(function, &given, form, 0);
             size_t line = out.size;
-            result = ask(function, &given, form, line);
-            if (result > IMA_VERIFY_DONE && result != IMA_VERIFY_MORE)
-                break;
-            bool is_next = out.size == line && size + line <= whole_size && memcmp(whole + size, text, line) == 0;
-            check(is_next && position.offset > given.position.offset, "%s, line %zu", function->name, count);
+            ask(function, &given, form, line);
+            is_next = (result == IMA_VERIFY_DONE || result == IMA_VERIFY_MORE) && position.offset > given.position.offset
+                      && out.size == line && size + line <= whole_size && memcmp(whole + size, text, line) == 0;
+            check(is_next, function->name, "the next line");
             given.position = position;
             size += line;
-            count++;
-        }
-        check(result == IMA_VERIFY_DONE && size == whole_size && position.offset == end, "%s, line by line: result %d after %zu lines",
-              function->name, (int)result, count);
-        result = ask(function, &given, form, ROOM);
-        check(result == IMA_VERIFY_DONE && out.size == 0 && position.offset == end, "%s, after the last: result %d", function->name, (int)result);
+        } while (is_next && result == IMA_VERIFY_MORE);
+        check(result == IMA_VERIFY_DONE && size == whole_size && position.offset == end, function->name, "line by line");
+        ask(function, &given, form, ROOM);
+        check(result == IMA_VERIFY_DONE && out.size == 0 && position.offset == end, function->name, "nothing after the last line");
     }
 }
 
@@ -383,12 +410,14 @@ static size_t stack_of(size_t size) {
 static size_t deepest;
 static char its_name[100];
 
-static void check_deep(const struct function *function, const struct given *given, enum ima_verify_form form, size_t stack, const char *what) {
+static void check_deep(const struct function *function, const struct given *given, enum ima_verify_form form, size_t stack,
+                       const char *what) {
     enum ima_verify_result wanted = ask(function, given, form, ROOM);
     deep = (struct deep){function, given, form, IMA_VERIFY_MISUSED};
     position = given->position;
     size_t used = stack_of(stack);
-    check(deep.result == wanted, "%s, %s, in a thread: result %d", function->name, what, (int)deep.result);
+    result = deep.result;
+    check(result == wanted, function->name, "in a thread");
     if (used > deepest) {
         deepest = used;
         snprintf(its_name, sizeof its_name, "%s%s, %s", function->name, form == IMA_VERIFY_JSON ? " as JSON" : "", what);
@@ -410,7 +439,8 @@ static void check_stack(const struct given *sample, size_t stack) {
         const struct function *function = &functions[i / 2];
         enum ima_verify_form form = i % 2 ? IMA_VERIFY_JSON : IMA_VERIFY_TEXT;
         check_deep(function, sample, form, stack, "the sample");
-        check_deep(function, WITH(evidence.require, ima_verify_text("sha1:0-23,sha256:0-23,sha384:0-23,sha512:0-23")), form, stack, "all registers");
+        check_deep(function, WITH(evidence.require, ima_verify_text("sha1:0-23,sha256:0-23,sha384:0-23,sha512:0-23")), form, stack,
+                   "all registers");
         check_deep(function, WITH(prefix, true), form, stack, "the confirmed front");
         check_deep(function, WITH(origin, IMA_VERIFY_OF_LIST), form, stack, "of the list");
         check_deep(function, WITH(evidence.list, ((struct ima_verify_bytes){front, list.size})), form, stack, "a changed list");
@@ -424,7 +454,7 @@ static void check_stack(const struct given *sample, size_t stack) {
         check_deep(more, &given, IMA_VERIFY_TEXT, stack, "with a checkpoint");
         check_deep(more, &given, IMA_VERIFY_JSON, stack, "with a checkpoint");
     }
-    check(deepest > 0 && deepest < stack, "%zu bytes of stack", deepest);
+    check(deepest > 0 && deepest < stack, its_name, "the stack");
     printf("%zu bytes of stack at most: %s\n", deepest, its_name);
 }
 
@@ -449,7 +479,7 @@ int main(int count, char **words) {
         .printed = load(words[4]),
         .registers = ima_verify_text("0-10"),
     };
-    check(ima_verify_version() >= IMA_VERIFY_VERSION, "the version is %u", ima_verify_version());
+    check(ima_verify_version() >= IMA_VERIFY_VERSION, "version", "older than the header");
     check_wrong_calls(&sample);
     check_wrong_outputs(&sample);
     check_rooms(&sample);

@@ -31,9 +31,10 @@ FUNCTIONS = {
     ("show", 1): "entries",
     ("events", 1): "events",
 }
-# Those that take a text of their command's option each time, and which if there is none.
-TEXTS = {"verdict": "none", "locate": "none", "replay": "none", "expected": ""}
+# What requires nothing: the command has no such word.
 NONE_REQUIRED = "none"
+# Those that take a text of their command's option each time, and which if there is none.
+TEXTS = {"verdict": NONE_REQUIRED, "locate": NONE_REQUIRED, "replay": NONE_REQUIRED, "expected": ""}
 # What `verify` of a list that grows has, of which `ima_verify_more` answers.
 MORE_OPTIONS = ("--require", "--resume", "--save")
 ROOM = 16 * 1024

@@ -4,8 +4,9 @@ of the two with the lowest bit of one byte turned.
 
 tests/faults/damaged.py [LIBRARY]: a libima_verify.so; without it `dist/library` makes one, which builds what is not up to date.
 
-The text of each input is compared, and its verdict; of a damaged list also the lines of the entries before the fault. Most of a log is data that no register depends on, so a log is judged with the first
-entry of the list alone. For each kind of input the script prints how many have which answer. It counts inputs."""
+The text of each input is compared, and its verdict; of a damaged list also the lines of the entries before the fault. Most of a log is data
+that no register depends on, so a log is judged with the first entry of the list alone. For each kind of input the script prints how many have
+which answer. It counts inputs."""
 
 import os
 import subprocess

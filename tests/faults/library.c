@@ -314,10 +314,17 @@ static void turn_whole(const char *function, const struct ima_verify_bytes *in, 
     free(next.buffer);
 }
 
-/* The line at the front of a text, or nothing. */
+static bool begins_with(const uint8_t *at, const uint8_t *end, const char *word) {
+    return (size_t)(end - at) >= strlen(word) && memcmp(at, word, strlen(word)) == 0;
+}
+
+/* The line at the front of a text, or nothing. (A path may have line feeds; all entries of the sample are of register 10.) */
 static struct ima_verify_bytes line_of(struct ima_verify_bytes text) {
-    const uint8_t *end = text.size ? memchr(text.data, '\n', text.size) : NULL;
-    return (struct ima_verify_bytes){text.data, end ? (size_t)(end - text.data) + 1 : text.size};
+    const uint8_t *at = text.data, *end = text.data + text.size;
+    while (at < end)
+        if (*at++ == '\n' && (begins_with(at, end, "10 ") || begins_with(at, end, "{") || begins_with(at, end, "refused: ")))
+            break;
+    return (struct ima_verify_bytes){text.data, (size_t)(at - text.data)};
 }
 
 /* How many bytes of a text a call has to give: as many whole lines as there is room for, and the line of a fault by itself. */
@@ -346,6 +353,13 @@ static size_t take_piece(const char *function, const struct ima_verify_bytes *in
     if (piece == 0 && rest.text.size > 0)
         right = (struct answer){IMA_VERIFY_TOO_SHORT, line_of(rest.text), {&nothing, 0}};
     bool is_right = is_given(function, right, result, &none, &out);
+    if (is_refused && result == IMA_VERIFY_MORE && !is_right) {
+        /* (the lines that came before that) */
+        piece = out.output.size < rest.text.size ? out.output.size : 0;
+        is_end = false;
+        right = (struct answer){IMA_VERIFY_MORE, {rest.text.data, piece}, {&nothing, 0}};
+        is_right = piece > 0 && rest.text.data[piece - 1] == '\n' && is_given(function, right, result, &none, &out);
+    }
     if (!is_right && !(is_refused && is_given(function, memory_answer(function), result, &none, &out)))
         fail_of(&none, &out, result);
     if (result == IMA_VERIFY_TOO_SHORT)

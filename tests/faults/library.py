@@ -5,12 +5,13 @@ tests/faults/library.py [PROGRAM ARCHIVE]: the program and the static library th
 which `dist/library` builds first if they are not there or are older than a source.
 
 The answers that are wanted, and the checkpoints, are those of the program to the same files. Each function of the header is called with each
-input, in both forms, and with buffers that have room to spare, just enough, and too little; entries and events come by pieces. In the Nth turn the Nth allocation is refused (tests/faults/library.c, which
-gives the library its memory), until a turn ends with none refused. A call must have the answer, or say that memory ran out. It must tell the
-fault of its text, and write nothing but that, and nothing to a checkpoint's buffer if memory ran out. It must give back, once, all memory that it took, and have the
-answer when it is made again. A function that takes no memory at all fails, and so does one that takes it elsewhere, a crash, and a run of more
-than a minute. Needs cc and nm."""
+input, in both forms, and with buffers that have room to spare, just enough, and too little; entries and events come by pieces. In the Nth
+turn the Nth allocation is refused (tests/faults/library.c, which gives the library its memory), until a turn ends with none refused. A call
+must have the answer, or say that memory ran out. It must tell the fault of its text, and write nothing but that, and nothing to a
+checkpoint's buffer if memory ran out. It must give back, once, all memory that it took, and have the answer when it is made again. A function
+that takes no memory at all fails, and so does one that takes it elsewhere, a crash, and a run of more than a minute. Needs cc and nm."""
 
+import re
 import subprocess
 import sys
 from dataclasses import dataclass
@@ -27,10 +28,11 @@ SECONDS = 60
 MEMORY = b"failed: memory\n"
 JSON_MEMORY = b'{"fault":{"kind":"memory","message":"failed: memory"}}\n'
 # The command of each function that has another name, and the option that the last of its inputs is the value of.
-COMMANDS = {"entries": "show", "verdict": "verify", "more": "verify", "registers:list": "replay"}
+COMMANDS = {"entries": "show", "verdict": "verify", "registers:list": "replay"}
 OPTIONS = {"verdict": "--require", "locate": "--require", "replay": "--require", "expected": "--registers"}
-# The first 97 entries of the sample's list.
-FRONT_BYTES = 11731
+# The first 97 entries of the sample's list, and the first three.
+FRONT_BYTES, THREE_ENTRIES_BYTES = 11731, 292
+FEW_LINES = 8
 # What the library takes where the program has no `--require`.
 NONE_REQUIRED = b"none"
 REPLACED = {"rattle_alloc", "rattle_realloc", "rattle_dealloc"}
@@ -73,10 +75,14 @@ class Case:
         *files, value = self.inputs
         return [*command, *option_of(OPTIONS[self.name], value), *files]
 
-    def rooms(self, size):
-        """Sizes of the buffer for a text of that size: too little, just enough and more, and so for the line that says that memory ran out."""
-        memory = len(JSON_MEMORY if self.is_json() else MEMORY)
-        return sorted({size + 64, size, max(size - 1, 0), memory, memory - 1, 0}, reverse=True)
+    def rooms(self, text):
+        """Sizes of the buffer for a text: too little, just enough and more, and so for the line that says that memory ran out. Pieces of one
+        line are asked for where there are few, since each turn has as many calls as lines, and each call its turns."""
+        memory, size = len(JSON_MEMORY if self.is_json() else MEMORY), len(text)
+        rooms = {size + 64, size, max(size - 1, 0)}
+        if self.name in ("entries", "events") and text.count(b"\n") > FEW_LINES:
+            return sorted({*rooms, size // 2, size // 4}, reverse=True)
+        return sorted({*rooms, memory, memory - 1, 0}, reverse=True)
 
 
 def option_of(name, value):
@@ -115,7 +121,9 @@ def made_files(folder, program):
         "longer list": listed + listed[-95:],
         "changed list": listed.replace(b"/bin/helper", b"/bin/helpex"),
         "cut list": listed[:-1],
-        "all but one": listed[:-95],
+        "early log": log[:300],
+        "first entries": listed[:THREE_ENTRIES_BYTES],
+        "early list": listed[: THREE_ENTRIES_BYTES - 1],
         "front": listed[:FRONT_BYTES],
         "rest": listed[FRONT_BYTES:],
         "rest and more": listed[FRONT_BYTES:] + listed[-95:],
@@ -206,10 +214,12 @@ CASES = (
         ("the real boot", "log"), ("one event", "one event"), ("a log that is cut short", "cut log"), ("an empty log", "empty"),
     )),
     (("events",), ("",), (
-        ("the real boot", "log"), ("one event", "one event"), ("a log that is cut short", "cut log"), ("an empty log", "empty"),
+        ("the real boot", "log"), ("one event", "one event"), ("a log that is cut short", "cut log"),
+        ("a log that is cut early", "early log"), ("an empty log", "empty"),
     )),
     (("registers:list", "entries"), BOTH, (
         ("the real boot", "list"), ("a changed list", "changed list"), ("a list that is cut short", "cut list"),
+        ("three entries", "first entries"), ("a list that is cut early", "early list"),
     )),
 )  # fmt: skip
 
@@ -222,13 +232,14 @@ def cases(files):
 
 
 def answer_to(case, program, following, files):
-    """The program's answer. It prints no entries of a damaged list without --json, so those before the fault are asked for by themselves."""
+    """The program's answer. It prints no entries of a damaged list without --json: those before the fault are the sample's."""
     answer = subprocess.run([program, *case.words(following)], capture_output=True, timeout=SECONDS)
     if answer.returncode not in (0, 1, 2):
         raise RuntimeError(f"{program} {case.function} of {case.title}: status {answer.returncode}, {answer.stderr[-500:]!r}")
     if case.function == "entries" and answer.returncode == 2:
-        before = subprocess.run([program, "show", files["all but one"]], capture_output=True, timeout=SECONDS, check=True)
-        return answer.returncode, before.stdout + answer.stdout
+        whole = subprocess.run([program, "show", files["list"]], capture_output=True, timeout=SECONDS, check=True)
+        before = re.split(rb"^(?=10 )", whole.stdout, flags=re.MULTILINE)[1 : 1 + int(answer.stdout.split()[-1])]  # (a path has a line feed)
+        return answer.returncode, b"".join(before) + answer.stdout
     return answer.returncode, answer.stdout
 
 
@@ -241,7 +252,7 @@ def runs_of(case, program, file, files):
     size = len(text)
     following.touch()
     next_size = following.stat().st_size
-    for room in case.rooms(size):
+    for room in case.rooms(text):
         yield Run(case, room, result, file, following, next_size + (64 if room > size else 0))
     if next_size:
         for next_room in (next_size - 1, 0):
