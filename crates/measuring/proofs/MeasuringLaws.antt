@@ -1,8 +1,9 @@
 -- Measured files, and the first refused one.
-use Rattle.std.proofs.Common.{rules, ◌≡◌, ℕ, ◌+◌, ◌<◌, ◌≤◌, List, [], ◌++◌, length, map, get_or, Option, None, Some, refl, sym, ap, ◌∙◌, subst, inl, inr, arith, string_bytes}
+use Rattle.std.proofs.Common.{rules, ◌≡◌, ℕ, ◌+◌, ◌<◌, ◌≤◌, ◌^◌, List, [], ◌++◌, length, map, get_or, Option, None, Some, refl, sym, ap, ◌∙◌, subst, inl, inr, arith, string_bytes}
 use Rattle.std.specs.Prelude.{◌⊎◌, slice_get, IfErr, IfOk, IfSome, MatchOption, Result, Ok, Err}
 use Rattle.std.proofs.Math.Path.{fun_ext}
 use Rattle.std.specs.Borrow.{Bor}
+use Rattle.std.specs.Str.{IsUtf8}
 use Rattle.std.proofs.lemmas.List.{length-map}
 use Rattle.std.proofs.lemmas.Bool.{cases_lt}
 use Rattle.std.proofs.lemmas.Option.{same_Some, slice_get_read, slice_get_within}
@@ -35,7 +36,7 @@ use Rattle.agent_inputs.specs.Faults.{fault_of_job}
 use Rattle.agent_inputs.specs.Hashing.{IsHashOfAll}
 use Rattle.agent_inputs.specs.Loading.{Holds, Inputs, IsInputFault, IsNotRead, IsTooLong, OfInput, input_limit}
 use Rattle.measuring.specs.declared.recording.Measured.{Measured}
-use Rattle.measuring.specs.Measuring.{AreAllDone, AreNames, Contents, HasFile, HasFiles, HasMeasured, IsAfterFiles, IsFileFault, IsFileMeasure, IsFilesFault, IsFirstRefusal, IsInputLog, IsMeasured, IsMeasuringFault, IsNamesFault, IsNotRecorded, IsRecordingFault, IsSetOut, IsTextRefused, IsUnhashed, failing_in, files_in}
+use Rattle.measuring.specs.Measuring.{AreAllDone, AreNames, Contents, HasFile, HasFiles, HasMeasured, IsAfterFiles, IsFileFault, IsFileMeasure, IsFilesFault, IsFirstRefusal, IsInputLog, IsMeasured, IsMeasuringFault, IsNamesFault, IsNotRecorded, IsRecordingFault, IsSetOut, IsTextOfNames, IsTextRefused, IsUnhashed, failing_in, files_in}
 use Rattle.measuring.specs.Names.{names_of}
 use Rattle.measuring.specs.parts.Measuring.{IsMeasuredOver}
 use Rattle.measuring.specs.parts.NamedFiles.{IsFileFaultOf, IsFileFailure, job_fault_of}
@@ -249,17 +250,20 @@ not_recorded held Fails log asked files table events origin fault out (inr recor
 
 -- The names with the bytes that the text holds are all names.
 with_held : (inputs : Inputs) (first : List (List ℕ)) (further : Option Names) (text : List ℕ) (names : List (List ℕ))
-    → IfSome further (λ more. Holds inputs (Some (string_bytes more.text)) text)
-    → MatchOption further (names ≡ first) (λ more. names ≡ first ++ names_of more.ends text)
-    → MatchOption further (names ≡ first) (λ more.
-    OfInput inputs (Some (string_bytes more.text)) (λ all. names ≡ first ++ names_of more.ends all))
-with_held inputs first None text names held are = are
-with_held inputs first (Some more) text names held are = (text, held, are)
+    → IfSome further (λ more. Holds inputs (Some (string_bytes more.text)) text) → length text ≤ input_limit
+    → MatchOption further (names ≡ first) (λ more. IsUtf8 text × (names ≡ first ++ names_of more.ends text))
+    → MatchOption further (names ≡ first) (λ more. OfInput inputs (Some (string_bytes more.text)) (λ all.
+    IsTextOfNames all × (names ≡ first ++ names_of more.ends all)))
+with_held inputs first None text names held within are = are
+with_held inputs first (Some more) text names held within are = (text, held, ((are.0, within), are.1))
 
-pub are_names : (inputs : Inputs) (asked : Measurement) (text : List ℕ) (names : List (List ℕ))
-    → IfSome asked.names (λ more. Holds inputs (Some (string_bytes more.text)) text) → AreNamesWith asked text names
-    → AreNames inputs asked names
-are_names inputs asked text names held are = with_held inputs (map string_bytes asked.files.items) asked.names text names held are
+pub are_names : (inputs : Inputs) (asked : Measurement) (text : List ℕ) (names : List (Bor (List ℕ)))
+    → IfSome asked.names (λ more. Holds inputs (Some (string_bytes more.text)) text) → length text ≤ input_limit
+    → AreNamesWith asked text (names_lent names) → length names < 2 ^ 32 → AreNames inputs asked (names_lent names)
+are_names inputs asked text names held within are few = (
+  omega (arith, few, length-map names (λ (name : Bor (List ℕ)). name.now)),
+  with_held inputs (map string_bytes asked.files.items) asked.names text (names_lent names) held within are,
+)
 
 -- A text that was not loaded.
 lost : (inputs : Inputs) (first : List (List ℕ)) (further : Option Names) (fault : RunFault)

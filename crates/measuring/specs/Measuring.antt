@@ -76,11 +76,17 @@ pub record IsSetOut (log : List ℕ) (asked : Measurement) (table : List Row) (e
   pub template_is : origin.template ≡ asked.template
   pub limit_is : origin.limit ≡ asked.limit
 
--- These are the names of the files to be measured: those in the arguments, and then, if there is a text of further names, those in it.
+-- A text of further names: UTF-8, and no more bytes than an input may have.
+abbrev pub IsTextOfNames : List ℕ → Type 0
+IsTextOfNames text = IsUtf8 text × (length text ≤ input_limit)
+
+-- These are the names of the files to be measured, fewer than 2^32: those in the arguments, and then, if there is a text of further names, those
+-- in it.
 abbrev pub AreNames : Inputs → Measurement → List (List ℕ) → Type 0
 AreNames inputs asked names =
-    MatchOption asked.names (names ≡ map string_bytes asked.files.items) (λ more.
-    OfInput inputs (Some (string_bytes more.text)) (λ text. names ≡ map string_bytes asked.files.items ++ names_of more.ends text))
+    (length names < 2 ^ 32)
+    × MatchOption asked.names (names ≡ map string_bytes asked.files.items) (λ more. OfInput inputs (Some (string_bytes more.text)) (λ text.
+    IsTextOfNames text × (names ≡ map string_bytes asked.files.items ++ names_of more.ends text)))
 
 -- This is what a measurement of these inputs gives: a book that starts with the registers after the log, and in which the files of all
 -- names are measured, each under its name with all that it holds; its list is what the records add, and its registers are the list's

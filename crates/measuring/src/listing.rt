@@ -1,6 +1,7 @@
 //! The names of files in arguments and in a text.
 
 ghost use Rattle.std.specs.Prelude.{◌≡◌, ◌<◌, ◌⊎◌, ◌++◌, ◌^◌, length, map, string_bytes, vec_len, IfOk, IfErr};
+ghost use Rattle.std.specs.Str.{IsUtf8};
 ghost use Rattle.agent_inputs.specs.declared.fault.RunFault.TheVariants.{Memory};
 ghost use Rattle.measuring.specs.Measuring.{IsTextRefused};
 ghost use Rattle.measuring.specs.Names.{names_of};
@@ -38,6 +39,7 @@ fn with_names_in<'a>(
     text: &'a [u8],
 ) -> Result<Vec<&'a str>, RunFault>
     ensures names { IfOk result (λ names. names_lent names.items ≡ map string_bytes first.now ++ names_of more.now.ends text.now) }
+    ensures utf8 { IfOk result (λ _. IsUtf8 text.now) }
     ensures small { IfOk result (λ names. vec_len names < 2 ^ 32) }
     ensures fault { IfErr result (λ fault. IsTextRefused (map string_bytes first.now) more.now text.now fault ⊎ (fault ≡ Memory)) }
 {

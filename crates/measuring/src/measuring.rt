@@ -1,7 +1,7 @@
 //! Measures files into the registers of a log.
 
-ghost use Rattle.std.specs.Prelude.{◌≡◌, ◌<◌, ◌^◌, string_bytes, vec_len, Some, IfOk, IfErr, IfSome, MatchOption};
-ghost use Rattle.agent_inputs.specs.Loading.{Holds, IsInputFault};
+ghost use Rattle.std.specs.Prelude.{◌≡◌, ◌<◌, ◌≤◌, ◌^◌, string_bytes, vec_len, Some, IfOk, IfErr, IfSome, MatchOption};
+ghost use Rattle.agent_inputs.specs.Loading.{Holds, IsInputFault, input_limit};
 ghost use Rattle.measuring.specs.Measuring.{IsMeasured, IsMeasuringFault};
 
 use crate::listing::names_for;
@@ -63,6 +63,7 @@ fn text_of<F: AgentFiles>(
     names: &Option<Names>,
 ) -> Result<Vec<u8>, RunFault>
     ensures text { IfOk result (λ text. IfSome names.now (λ more. Holds (F.told files.old) (Some (string_bytes more.text)) text.items)) }
+    ensures within { IfOk result (λ text. vec_len text ≤ input_limit) }
     ensures fault { IfErr result (λ fault. MatchOption names.now ⊥ (λ more. IsInputFault (F.told files.old) (Some (string_bytes more.text)) fault)) }
     ensures told { F.told files.new ≡ F.told files.old }
     ensures saved { F.saved files.new ≡ F.saved files.old }

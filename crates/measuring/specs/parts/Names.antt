@@ -1,6 +1,7 @@
 -- What is known of names before all of them are.
 use Rattle.std.specs.Prelude.{◌≡◌, ℕ, ◌⊎◌, List, ◌++◌, map, MatchOption, string_bytes}
 use Rattle.std.specs.Borrow.{Bor}
+use Rattle.std.specs.Str.{IsUtf8}
 use Rattle.command_line.specs.declared.plan.Measurement.{Measurement}
 use Rattle.agent_inputs.specs.declared.fault.RunFault.{RunFault}
 use Rattle.agent_inputs.specs.declared.fault.RunFault.TheVariants as runs
@@ -15,7 +16,7 @@ names_lent names = map (λ name. name.now) names
 abbrev pub AreNamesWith : Measurement → List ℕ → List (List ℕ) → Type 0
 AreNamesWith asked text names =
     MatchOption asked.names (names ≡ map string_bytes asked.files.items) (λ more.
-    names ≡ map string_bytes asked.files.items ++ names_of more.ends text)
+    IsUtf8 text × (names ≡ map string_bytes asked.files.items ++ names_of more.ends text))
 
 -- Why there are no names, if the text of further names, where there is one, holds these bytes: it is refused, or memory ran out.
 abbrev pub IsNoNames : Measurement → List ℕ → RunFault → Type 0

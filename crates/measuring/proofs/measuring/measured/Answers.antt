@@ -42,8 +42,9 @@ returns-clause-measured g c =
     let told = g.F.Files.told c.args.files.now in
     let asked = c.args.asked.now in
     let names = names_lent c.in_ok-names.names.items in
-    let are = are_names told asked c.in_ok-text.text.items names (rw c.in_ok-bytes.ensures.told at c.in_ok-text.ensures.text)
-    (rw c.deref-3.ensures.value at c.in_ok-names.ensures.names) in
+    let are = are_names told asked c.in_ok-text.text.items c.in_ok-names.names.items (rw c.in_ok-bytes.ensures.told at c.in_ok-text.ensures.text)
+    (omega (arith, c.in_ok-text.ensures.within)) (rw c.deref-3.ensures.value at c.in_ok-names.ensures.names)
+    (omega (arith, c.in_ok-names.ensures.small)) in
     measured_of told asked c.in_ok-bytes.bytes.items names (rw c.deref.ensures at c.in_ok-bytes.ensures.all) are _
     (λ name. c.shared.ensures.held name ∙ ap (λ inputs. inputs.held (Some name)) (c.in_ok-text.ensures.told ∙ c.in_ok-bytes.ensures.told))
     c.measured_over.result (rw (c.deref-4.ensures.value, c.deref-5.ensures.value) at c.measured_over.ensures.measured)
@@ -55,8 +56,9 @@ returns-clause-fault g c =
     let told = g.F.Files.told c.args.files.now in
     let asked = c.args.asked.now in
     let names = names_lent c.in_ok-names.names.items in
-    let are = are_names told asked c.in_ok-text.text.items names (rw c.in_ok-bytes.ensures.told at c.in_ok-text.ensures.text)
-    (rw c.deref-3.ensures.value at c.in_ok-names.ensures.names) in
+    let are = are_names told asked c.in_ok-text.text.items c.in_ok-names.names.items (rw c.in_ok-bytes.ensures.told at c.in_ok-text.ensures.text)
+    (omega (arith, c.in_ok-text.ensures.within)) (rw c.deref-3.ensures.value at c.in_ok-names.ensures.names)
+    (omega (arith, c.in_ok-names.ensures.small)) in
     fault_of told asked c.in_ok-bytes.bytes.items names (rw c.deref.ensures at c.in_ok-bytes.ensures.all) are _
     (λ name. c.shared.ensures.held name ∙ ap (λ inputs. inputs.held (Some name)) (c.in_ok-text.ensures.told ∙ c.in_ok-bytes.ensures.told))
     log_is _ (λ name fails. rw (c.in_ok-text.ensures.told ∙ c.in_ok-bytes.ensures.told) at c.shared.ensures.fails name fails)
