@@ -64,6 +64,22 @@ content_plain template None payload = (tt, tt)
 
 pub entry_line : (number : ℕ) (entry : ListEntry) → number < 2 ^ 64 → IsEntry entry → IsOneLine (entry_json number entry)
 entry_line number entry fits is =
-    one_line (entry_json number entry)
-    ((number, fits, refl), ((entry.register, omega (arith, is.register_exists), refl), (tt, (tt, (tt, (tt,
-    content_plain (template_named entry.name) (fields_of entry) entry.payload))))))
+    one_line (entry_json number entry) (
+      (number, fits, refl),
+      (
+        (entry.register, omega (arith, is.register_exists), refl),
+        (
+          tt,
+          (
+            tt,
+            (
+              tt,
+              (
+                tt,
+                content_plain (template_named entry.name) (fields_of entry) entry.payload,
+              ),
+            ),
+          ),
+        ),
+      ),
+    )

@@ -1,8 +1,9 @@
 -- Each value is one line.
 use Rattle.std.proofs.Common.{ℕ, zero, suc, refl, ◌+◌, ◌<◌, ◌≤◌, Bool, true, false, cond, List, [], ◌∷◌, ◌++◌, map, Option, Some, None, codes, arith}
-use Rattle.std.specs.Prelude.{⊤, flat_map, option_map, IfSome}
+use Rattle.std.specs.Prelude.{flat_map, option_map, IfSome}
 use Rattle.std.specs.List.{AllByRecursion, range_with_len}
-use Rattle.json.specs.Json.{Json}
+use Rattle.std.proofs.lemmas.List.Concat.{flat_map-append}
+use Rattle.json.specs.Json.{Json, string}
 use Rattle.pcr_banks.specs.declared.alg.Alg.{Alg}
 use Rattle.pcr_banks.specs.declared.banks.Banks.{Banks}
 use Rattle.pcr_banks.specs.declared.sets.PerBank.{PerBank}
@@ -30,19 +31,18 @@ use Rattle.growing_lists.specs.FrontTexts.{unconfirmed_entry, unconfirmed_kind, 
 use Rattle.boot_verdict.specs.ListVerdicts.{ListVerdict}
 use Rattle.boot_verdict.specs.declared.register_range.RegisterRange.{RegisterRange}
 use Rattle.boot_verdict.specs.RegisterRanges.{is_within}
-use Rattle.boot_verdict.specs.RegisterTexts.{all_registers, differs}
-use Rattle.boot_verdict.specs.Requirements.{expected_of_located, expected_of_rows, is_missing}
+use Rattle.boot_verdict.specs.RegisterTexts.{all_registers, differs, every_register}
+use Rattle.boot_verdict.specs.Requirements.{is_missing}
 use Rattle.boot_verdict.specs.Verdicts.{Verdict}
 use Rattle.json_texts.specs.declared.faults.FaultPlace.{FaultPlace}
 use Rattle.json_texts.specs.declared.faults.FaultPlace.TheVariants.{Event, Entry}
-use Rattle.json_texts.specs.JsonValues.{IsCount, IsOneLine, items_of}
+use Rattle.json_texts.specs.JsonValues.{IsCount, IsOneLine, Member, items_of}
 use Rattle.json_texts.specs.EventJson.{algorithm_json, algorithms_json, digest_members, event_json, name_members, type_members}
 use Rattle.json_texts.specs.FaultJson.{fault_json, fault_members, number_at, number_members, place_members}
-use Rattle.json_texts.specs.MissingJson.{missing_among, missing_json, value_if_missing}
 use Rattle.json_texts.specs.PlaceJson as place
-use Rattle.json_texts.specs.PlaceJson.{IsCountedPlace, located_json, places_json}
-use Rattle.json_texts.specs.RegisterJson.{change_values, changed_register, expected_json, register_json, registers_json, value_within}
-use Rattle.json_texts.specs.ReportJson.{front_report_json, list_report_json, report_json, row_json, rows_values, state_members, unconfirmed_members}
+use Rattle.json_texts.specs.PlaceJson.{IsCountedPlace, places_json}
+use Rattle.json_texts.specs.RegisterJson.{change_values, changed_register, expected_json, missing_among, register_json, registers_json, row_json, rows_values, value_if_missing, value_within}
+use Rattle.json_texts.specs.ReportJson.{front_report_json, list_report_json, report_json, report_rows, state_members, unconfirmed_members}
 use Rattle.json_texts.proofs.LineLaws.{ArePlain, IsPlain, ItemsArePlain, members_joined, one_line}
 
 -- ---- lists of values
@@ -65,19 +65,26 @@ mapped_plain : {A : Type 0} (Q : A → Type 0) (f : A → Json) → ((x : A) →
 mapped_plain Q f plain [] are = tt
 mapped_plain Q f plain (x ∷ xs) are = (plain x are.0, mapped_plain Q f plain xs are.1)
 
-range_fits : (start count : ℕ) → start + count ≤ 24 → AllByRecursion IsCount (range_with_len start count)
-range_fits start zero fits = tt
-range_fits start (suc count) fits = (omega (arith, fits), range_fits (start + 1) count (omega (arith, fits)))
+module _ (f : Alg → ℕ → List Json) (plain : (alg : Alg) (r : ℕ) → IsCount r → AreRows (f alg r)) where
+  value : Alg × ℕ → List Json
+  value register = f register.0 register.1
 
-registers_fit : AllByRecursion IsCount all_registers
-unfolding all_registers
-registers_fit = range_fits 0 24 (omega arith)
+  bank_plain : (alg : Alg) (start count : ℕ) → start + count ≤ 24 → AreRows (flat_map value (map (λ r. (alg, r)) (range_with_len start count)))
+  unfolding value
+  bank_plain alg start zero fits = tt
+  bank_plain alg start (suc count) fits =
+      rows_joined (f alg start) _ (plain alg start (omega (arith, fits))) (bank_plain alg (start + 1) count (omega (arith, fits)))
 
-of_each_register : (f : Alg → ℕ → List Json) → ((alg : Alg) (r : ℕ) → IsCount r → AreRows (f alg r))
-    → AreRows (flat_map (λ alg. flat_map (f alg) all_registers) all_algs)
-of_each_register f plain =
-    each_plain (λ alg. ⊤) (λ alg. flat_map (f alg) all_registers) (λ alg is. each_plain IsCount (f alg) (plain alg) all_registers registers_fit)
-    all_algs (tt, (tt, (tt, (tt, tt))))
+  banks_plain : (algs : List Alg) → AreRows (flat_map value (flat_map (λ alg. map (λ r. (alg, r)) (range_with_len 0 24)) algs))
+  banks_plain [] = tt
+  banks_plain (alg ∷ algs) =
+      let bank : List (Alg × ℕ) = map (λ (r : ℕ). (alg, r)) (range_with_len 0 24) in
+      rw (flat_map-append value bank (flat_map (λ alg. map (λ r. (alg, r)) (range_with_len 0 24)) algs))
+      (rows_joined (flat_map value bank) _ (bank_plain alg 0 24 (omega arith)) (banks_plain algs))
+
+  of_each_register : AreRows (flat_map (λ register. f register.0 register.1) every_register)
+  unfolding every_register all_registers value
+  of_each_register = banks_plain all_algs
 
 if_plain : (b : Bool) (j : Json) → IsPlain j 1 → AreRows (cond b (j ∷ []) [])
 if_plain true j plain = (plain, tt)
@@ -97,9 +104,11 @@ place_of_fault (Some (Entry number)) fits = ((number, fits, refl), tt)
 -- What is told of a fault.
 told_plain : (kind : List ℕ) (number : Option ℕ) (place : Option FaultPlace) (message : List ℕ)
     → IfSome number IsCount → IfSome place (λ at. IsCount (number_at at)) → ArePlain (fault_members kind number place message) 1
-told_plain kind number place message fits placed =
-    (tt, members_joined 1 (number_members number) _ (number_of_fault number fits)
-    (members_joined 1 (place_members place) _ (place_of_fault place placed) (tt, tt)))
+told_plain kind number place message fits placed = (
+  tt,
+  members_joined 1 (number_members number) _ (number_of_fault number fits)
+      (members_joined 1 (place_members place) _ (place_of_fault place placed) (tt, tt)),
+)
 
 pub fault_line : (kind : List ℕ) (number : Option ℕ) (place : Option FaultPlace) (message : List ℕ)
     → IfSome number IsCount → IfSome place (λ at. IsCount (number_at at)) → IsOneLine (fault_json kind number place message)
@@ -137,7 +146,17 @@ missing_plain : (name : List ℕ) (required : Option (List BankRange)) (expected
 missing_plain name None expected = tt
 missing_plain name (Some ranges) expected =
     of_each_register (value_if_missing name ranges expected)
-    (λ alg r fits. if_plain (is_missing ranges expected alg r) (missing_json name alg r) (tt, ((r, fits, refl), (tt, tt))))
+    (λ alg r fits. if_plain (is_missing ranges expected alg r) (row_json alg r ((name, string (codes "missing")) ∷ [])) (tt, ((r, fits, refl), (tt, tt))))
+
+-- Rows, of which some are of each kind.
+rows_plain : {A : Type 0} (Q : A → Type 0) (name : List ℕ) (expected_of : A → Expected) (members_of : A → List Member)
+    → ((row : A) → Q row → IsCount (expected_of row).register × ArePlain (members_of row) 0) → (required : Option (List BankRange)) (rows : List A)
+    → AllByRecursion Q rows → AreRows (rows_values name expected_of members_of required rows)
+rows_plain {A} Q name expected_of members_of plain required rows fit =
+    let row = λ (row : A). row_json (expected_of row).alg (expected_of row).register (members_of row) in
+    rows_joined (map row rows) _
+    (mapped_plain Q row (λ x is. (tt, (((expected_of x).register, (plain x is).0, refl), (plain x is).1))) rows fit)
+    (missing_plain name required (map expected_of rows))
 
 -- ---- reports
 
@@ -146,22 +165,26 @@ state_plain Match = (tt, tt)
 state_plain (Differ value) = (tt, (tt, tt))
 state_plain Absent = (tt, tt)
 
-row_plain : (row : Row) → IsCount row.expected.register → IsPlain (row_json row) 1
-row_plain row fits = (tt, ((row.expected.register, fits, refl), state_plain row.state))
-
-rows_plain : (required : Option (List BankRange)) (rows : List Row) → AllByRecursion (λ row. IsCount row.expected.register) rows
-    → AreRows (rows_values required rows)
-rows_plain required rows fit =
-    rows_joined (map row_json rows) _ (mapped_plain (λ row. IsCount row.expected.register) row_json row_plain rows fit)
-    (missing_plain (codes "state") required (expected_of_rows rows))
+report_plain : (required : Option (List BankRange)) (rows : List Row) → AllByRecursion (λ row. IsCount row.expected.register) rows
+    → IsPlain (report_rows required rows) 2
+report_plain required rows fit =
+    rows_plain (λ row. IsCount row.expected.register) (codes "state") (λ row. row.expected) (λ row. state_members row.state)
+    (λ row is. (is, state_plain row.state)) required rows fit
 
 pub report_line : (required : Option (List BankRange)) (is_match : Bool) (verdict : Verdict)
     → IsCount verdict.events → IsCount verdict.locality → IsCount verdict.entries
     → AllByRecursion (λ row. IsCount row.expected.register) verdict.rows → IsOneLine (report_json required is_match verdict)
 report_line required is_match verdict events locality entries rows =
-    one_line (report_json required is_match verdict)
-    ((verdict.events, events, refl), ((verdict.locality, locality, refl), ((verdict.entries, entries, refl),
-    (tt, (rows_plain required verdict.rows rows, (tt, tt))))))
+    one_line (report_json required is_match verdict) (
+      (verdict.events, events, refl),
+      (
+        (verdict.locality, locality, refl),
+        (
+          (verdict.entries, entries, refl),
+          (tt, (report_plain required verdict.rows rows, (tt, tt))),
+        ),
+      ),
+    )
 
 number_after : (fault : Unconfirmed) → IsCount (unconfirmed_number fault)
 number_after (faults.List (lists.Truncated entry)) = omega arith
@@ -177,24 +200,36 @@ place_after (Some entry) fits = fits
 unconfirmed_plain : (unconfirmed : Option Unconfirmed) → IfSome unconfirmed (λ fault. IfSome (unconfirmed_entry fault) IsCount)
     → ArePlain (unconfirmed_members unconfirmed) 2
 unconfirmed_plain None fits = tt
-unconfirmed_plain (Some fault) fits =
-    (told_plain (unconfirmed_kind fault) (Some (unconfirmed_number fault)) (option_map Entry (unconfirmed_entry fault))
-    (unconfirmed_message fault) (number_after fault) (place_after (unconfirmed_entry fault) fits), tt)
+unconfirmed_plain (Some fault) fits = (
+  told_plain (unconfirmed_kind fault) (Some (unconfirmed_number fault)) (option_map Entry (unconfirmed_entry fault))
+      (unconfirmed_message fault) (number_after fault) (place_after (unconfirmed_entry fault) fits),
+  tt,
+)
 
 pub front_report_line : (required : Option (List BankRange)) (front : Verdict) (entries : ℕ) (unconfirmed : Option Unconfirmed)
     → IsCount front.events → IsCount front.locality → IsCount front.entries → IsCount entries
     → IfSome unconfirmed (λ fault. IfSome (unconfirmed_entry fault) IsCount)
     → AllByRecursion (λ row. IsCount row.expected.register) front.rows → IsOneLine (front_report_json required front entries unconfirmed)
 front_report_line required front entries unconfirmed events locality confirmed all after rows =
-    one_line (front_report_json required front entries unconfirmed)
-    ((front.events, events, refl), ((front.locality, locality, refl), ((entries, all, refl), ((front.entries, confirmed, refl),
-    members_joined 2 (unconfirmed_members unconfirmed) _ (unconfirmed_plain unconfirmed after)
-    (tt, (rows_plain required front.rows rows, (tt, tt)))))))
+    one_line (front_report_json required front entries unconfirmed) (
+      (front.events, events, refl),
+      (
+        (front.locality, locality, refl),
+        (
+          (entries, all, refl),
+          (
+            (front.entries, confirmed, refl),
+            members_joined 2 (unconfirmed_members unconfirmed) _ (unconfirmed_plain unconfirmed after)
+                (tt, (report_plain required front.rows rows, (tt, tt))),
+          ),
+        ),
+      ),
+    )
 
 pub list_report_line : (required : Option (List BankRange)) (verdict : ListVerdict) → IsCount verdict.entries
     → AllByRecursion (λ row. IsCount row.expected.register) verdict.rows → IsOneLine (list_report_json required verdict)
 list_report_line required verdict entries rows =
-    one_line (list_report_json required verdict) ((verdict.entries, entries, refl), (rows_plain required verdict.rows rows, (tt, tt)))
+    one_line (list_report_json required verdict) ((verdict.entries, entries, refl), (report_plain required verdict.rows rows, (tt, tt)))
 
 -- ---- places
 
@@ -205,15 +240,12 @@ place_plain (places.Entry number) fits = (tt, ((number, fits, refl), tt))
 place_plain places.Nowhere fits = (tt, tt)
 place_plain places.Absent fits = (tt, tt)
 
-located_plain : (row : Located) → IsCount row.expected.register × IsCountedPlace row.place → IsPlain (located_json row) 1
-located_plain row fits = (tt, ((row.expected.register, fits.0, refl), place_plain row.place fits.1))
-
 pub places_line : (required : Option (List BankRange)) (located : List Located)
     → AllByRecursion (λ row. IsCount row.expected.register × IsCountedPlace row.place) located → IsOneLine (places_json required located)
 places_line required located fit =
-    let rows = mapped_plain (λ row. IsCount row.expected.register × IsCountedPlace row.place) located_json located_plain located fit in
-    one_line (places_json required located)
-    (rows_joined (map located_json located) _ rows (missing_plain (codes "place") required (expected_of_located located)), (tt, tt))
+    let rows = rows_plain (λ row. IsCount row.expected.register × IsCountedPlace row.place) (codes "place") (λ row. row.expected)
+    (λ row. place.place_members row.place) (λ row is. (is.0, place_plain row.place is.1)) required located fit in
+    one_line (places_json required located) (rows, (tt, tt))
 
 -- ---- events
 
@@ -245,7 +277,11 @@ digests_plain digests (alg ∷ algs) =
 pub event_line : (number : ℕ) (event : LogEvent) → IsCount number → IsCount event.register → IsCount event.kind
     → IsOneLine (event_json number event)
 event_line number event count register kind =
-    one_line (event_json number event)
-    ((number, count, refl), ((event.register, register, refl),
-    members_joined 2 (type_members (event_type_name event.kind)) _ (type_plain (event_type_name event.kind))
-    ((event.kind, kind, refl), (digests_plain event.digests all_algs, (tt, tt)))))
+    one_line (event_json number event) (
+      (number, count, refl),
+      (
+        (event.register, register, refl),
+        members_joined 2 (type_members (event_type_name event.kind)) _ (type_plain (event_type_name event.kind))
+            ((event.kind, kind, refl), (digests_plain event.digests all_algs, (tt, tt))),
+      ),
+    )
