@@ -4,11 +4,10 @@ ghost use Rattle.std.specs.Prelude.{◌≡◌, [], ◌∷◌, ◌++◌, Some, op
 ghost use Rattle.std.specs.Str.{IsUtf8};
 ghost use Rattle.growing_lists.specs.FrontTexts.{unconfirmed_entry};
 ghost use Rattle.boot_verdict.specs.Verdicts.{verdict_of};
-ghost use Rattle.json.specs.Tree.{json_tokens};
 ghost use Rattle.json_texts.specs.declared.faults.FaultPlace.TheVariants.{Entry};
 ghost use Rattle.json_texts.specs.JsonValues.{line_of};
 ghost use Rattle.json_texts.specs.ReportJson.{front_report_json, meets, outcome_members, unconfirmed_members};
-ghost use Rattle.json_texts.specs.parts.WrittenParts.{members_written};
+ghost use Rattle.json_texts.specs.parts.WrittenParts.{WritesMembers, WritesValue};
 
 use crate::faults::{FaultPlace, FaultText, write_fault_member};
 use crate::lines::{begin_line, end_line};
@@ -54,9 +53,8 @@ fn write_front_report(
     writer: &mut Writer,
 ) -> Result<(), AllocError>
     ensures before { writer.new.before ≡ writer.old.before }
-    ensures tokens { OnOk result (writer.new.tokens ≡ writer.old.tokens ++ json_tokens
-        (front_report_json (option_map (λ ranges. ranges.now) requirement.entry) (verdict_of front.now.report)
-        front.now.entries front.now.unconfirmed)) }
+    ensures tokens { WritesValue result writer.old writer.new
+        (front_report_json (option_map (λ ranges. ranges.now) requirement.entry) (verdict_of front.now.report) front.now.entries front.now.unconfirmed) }
 {
     let report = &front.report;
     writer.begin_object()?;
@@ -76,9 +74,8 @@ fn write_judged(
     writer: &mut Writer,
 ) -> Result<(), AllocError>
     ensures before { writer.new.before ≡ writer.old.before }
-    ensures tokens { OnOk result (writer.new.tokens ≡ writer.old.tokens ++ members_written
-        (outcome_members (option_map (λ ranges. ranges.now) requirement.entry)
-        (meets (option_map (λ ranges. ranges.now) requirement.entry) (verdict_of report.now)) (verdict_of report.now))) }
+    ensures tokens { WritesMembers result writer.old writer.new
+        (outcome_members (option_map (λ ranges. ranges.now) requirement.entry) (meets (option_map (λ ranges. ranges.now) requirement.entry) (verdict_of report.now)) (verdict_of report.now)) }
 {
     let is_match = meets(report, requirement);
     write_outcome(alloc, report, requirement, is_match, writer)
@@ -91,7 +88,7 @@ fn write_unconfirmed(
     writer: &mut Writer,
 ) -> Result<(), AllocError>
     ensures before { writer.new.before ≡ writer.old.before }
-    ensures tokens { OnOk result (writer.new.tokens ≡ writer.old.tokens ++ members_written (unconfirmed_members unconfirmed)) }
+    ensures tokens { WritesMembers result writer.old writer.new (unconfirmed_members unconfirmed) }
 {
     match unconfirmed {
         None => Ok(()),
@@ -101,7 +98,7 @@ fn write_unconfirmed(
 
 fn write_told(alloc: Global, fault: Unconfirmed, writer: &mut Writer) -> Result<(), AllocError>
     ensures before { writer.new.before ≡ writer.old.before }
-    ensures tokens { OnOk result (writer.new.tokens ≡ writer.old.tokens ++ members_written (unconfirmed_members (Some fault))) }
+    ensures tokens { WritesMembers result writer.old writer.new (unconfirmed_members (Some fault)) }
 {
     let message = fault.message(alloc)?;
     let told = FaultText {

@@ -1,6 +1,6 @@
 use Rattle.std.proofs.Common.{append_assoc, refl}
 use Rattle.json_texts.proofs.WrittenLaws.{members_and_end}
-use Rattle.json_texts.proofs.missing.write_one.Goals as goal
+use Rattle.json_texts.proofs.rows.write_one.Goals as goal
 
 pub returns-clause-tokens : goal.returns-clause-tokens
 returns-clause-tokens c =
