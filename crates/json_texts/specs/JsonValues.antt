@@ -1,7 +1,7 @@
 -- JSON (RFC 8259) as this crate writes it: its values, and their lines. All of this is this project's choice.
-use Rattle.std.specs.Prelude.{◌≡◌, ℕ, ◌^◌, ◌<◌, nat_le, Bool, true, if◌then◌else◌, List, [], ◌∷◌, ◌++◌, codes, decimal, Some}
+use Rattle.std.specs.Prelude.{◌≡◌, ℕ, ◌^◌, ◌<◌, nat_le, Bool, true, if◌then◌else◌, List, [], ◌∷◌, ◌++◌, codes, decimal, Some, Result, OnOk, OnErr}
 use Rattle.std.specs.List.{list_all}
-use Rattle.std.specs.Str.{is_utf8}
+use Rattle.std.specs.Str.{IsUtf8, is_utf8}
 use Rattle.hex.specs.Hex.{encode_lower}
 use Rattle.json.specs.Json.{Json, Items, Members, document}
 use Rattle.json.specs.Json as json
@@ -69,3 +69,9 @@ has_no_control bytes = list_all (λ byte. nat_le 32 byte) bytes
 pub record IsOneLine (value : Json) : Type 0 where
   pub reads_back : document (print (json_tokens value)) ≡ Some value
   pub in_line : has_no_control (print (json_tokens value)) ≡ true
+
+-- The value's line was appended, unless memory ran out: then all is as before.
+pub record AppendsLine {E : Type 0} (result : Result (Unit {0}) E) (old new : List ℕ) (value : Json) : Type 0 where
+  pub ok : OnOk result (new ≡ old ++ line_of value)
+  pub utf8 : OnOk result (IsUtf8 (line_of value))
+  pub err : OnErr result (new ≡ old)

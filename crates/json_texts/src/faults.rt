@@ -1,8 +1,7 @@
 //! The line of a fault.
 
-ghost use Rattle.std.specs.Prelude.{◌≡◌, [], ◌∷◌, ◌++◌, OnOk, OnErr};
-ghost use Rattle.std.specs.Str.{IsUtf8};
-ghost use Rattle.json_texts.specs.JsonValues.{line_of, object_of};
+ghost use Rattle.std.specs.Prelude.{◌≡◌, [], ◌∷◌};
+ghost use Rattle.json_texts.specs.JsonValues.{AppendsLine, object_of};
 ghost use Rattle.json_texts.specs.FaultJson.{fault_json, fault_members, number_members, place_members};
 ghost use Rattle.json_texts.specs.parts.WrittenParts.{WritesMembers, WritesValue};
 
@@ -42,11 +41,8 @@ pub fn append_fault(
     fault: &FaultText<'_>,
     line: &mut Vec<u8>,
 ) -> Result<(), AllocError>
-    ensures ok { OnOk result (line.new.items ≡ line.old.items ++ line_of
-        (fault_json fault.now.kind.now fault.now.number fault.now.place fault.now.message.now)) }
-    ensures utf8 { OnOk result (IsUtf8 (line_of
-        (fault_json fault.now.kind.now fault.now.number fault.now.place fault.now.message.now))) }
-    ensures err { OnErr result (line.new.items ≡ line.old.items) }
+    ensures { AppendsLine result line.old.items line.new.items
+        (fault_json fault.now.kind.now fault.now.number fault.now.place fault.now.message.now) }
 {
     let start = line.len();
     let mut writer = begin_line(alloc, line);
