@@ -1,5 +1,5 @@
 -- Each value is one line.
-use Rattle.std.proofs.Common.{ℕ, zero, suc, refl, ◌+◌, ◌<◌, ◌≤◌, Bool, true, false, cond, List, [], ◌∷◌, ◌++◌, map, Option, Some, None, codes, arith}
+use Rattle.std.proofs.Common.{ℕ, zero, suc, refl, ◌+◌, ◌≤◌, Bool, true, false, cond, List, [], ◌∷◌, ◌++◌, map, Option, Some, None, codes, arith}
 use Rattle.std.specs.Prelude.{flat_map, option_map, IfSome}
 use Rattle.std.specs.List.{AllByRecursion, range_with_len}
 use Rattle.std.proofs.lemmas.List.Concat.{flat_map-append}
