@@ -1,5 +1,5 @@
 -- JSON (RFC 8259) as this crate writes it: its values, and their lines. All of this is this project's choice.
-use Rattle.std.specs.Prelude.{◌≡◌, ℕ, ◌^◌, ◌<◌, nat_le, Bool, true, if◌then◌else◌, List, [], ◌∷◌, ◌++◌, codes, decimal, Some, Result, OnOk, OnErr}
+use Rattle.std.specs.Prelude.{◌≡◌, ℕ, ◌^◌, ◌<◌, nat_le, Bool, true, if◌then◌else◌, List, [], ◌∷◌, ◌++◌, codes, decimal, Option, None, Some, Result, OnOk, OnErr}
 use Rattle.std.specs.List.{list_all}
 use Rattle.std.specs.Str.{IsUtf8, is_utf8}
 use Rattle.hex.specs.Hex.{encode_lower}
@@ -41,6 +41,11 @@ number_json number = json.number (decimal number)
 -- Bytes, as a string of lower case hexadecimal digits.
 abbrev pub hex_json : List ℕ → Json
 hex_json bytes = json.string (encode_lower bytes)
+
+-- The member of this name, if it has a value.
+abbrev pub optional : List ℕ → Option Json → List Member
+optional name None = []
+optional name (Some value) = (name, value) ∷ []
 
 -- ---- bytes that are text, mostly
 

@@ -1,8 +1,8 @@
 //! The line of a fault.
 
-ghost use Rattle.std.specs.Prelude.{◌≡◌, [], ◌∷◌};
-ghost use Rattle.json_texts.specs.JsonValues.{AppendsLine, object_of};
-ghost use Rattle.json_texts.specs.FaultJson.{fault_json, fault_members, number_members, place_members};
+ghost use Rattle.std.specs.Prelude.{◌≡◌, [], ◌∷◌, codes, option_map};
+ghost use Rattle.json_texts.specs.JsonValues.{AppendsLine, number_json, object_of, optional};
+ghost use Rattle.json_texts.specs.FaultJson.{fault_json, fault_members, place_members};
 ghost use Rattle.json_texts.specs.parts.WrittenParts.{WritesMembers, WritesValue};
 
 use crate::lines::{begin_line, end_line};
@@ -93,7 +93,7 @@ fn write_members(fault: &FaultText<'_>, writer: &mut Writer) -> Result<(), Alloc
 
 fn write_fault_number(number: Option<u32>, writer: &mut Writer) -> Result<(), AllocError>
     ensures before { writer.new.before ≡ writer.old.before }
-    ensures tokens { WritesMembers result writer.old writer.new (number_members number) }
+    ensures tokens { WritesMembers result writer.old writer.new (optional (codes "number") (option_map number_json number)) }
 {
     match number {
         Some(number) => write_number("number", number as u64, writer),
