@@ -280,7 +280,7 @@ event_line number event count register kind =
       (
         (event.register, register, refl),
         members_joined 2 (optional (codes "type") (option_map string (event_type_name event.kind))) _
-    (text_plain 2 (codes "type") (λ name. name) (event_type_name event.kind))
+            (text_plain 2 (codes "type") (λ name. name) (event_type_name event.kind))
             ((event.kind, kind, refl), (digests_plain event.digests all_algs, (tt, tt))),
       ),
     )
