@@ -32,7 +32,8 @@ pub fn append_front_report(
     line: &mut Vec<u8>,
 ) -> Result<(), AllocError>
     ensures { AppendsLine result line.old.items line.new.items
-        (front_report_json (option_map (λ ranges. ranges.now) requirement.entry) (verdict_of front.now.report) front.now.entries front.now.unconfirmed) }
+        (front_report_json (option_map (λ ranges. ranges.now) requirement.entry) (verdict_of front.now.report)
+        front.now.entries front.now.unconfirmed) }
 {
     let start = line.len();
     let mut writer = begin_line(alloc, line);
@@ -48,7 +49,8 @@ fn write_front_report(
 ) -> Result<(), AllocError>
     ensures before { writer.new.before ≡ writer.old.before }
     ensures tokens { WritesValue result writer.old writer.new
-        (front_report_json (option_map (λ ranges. ranges.now) requirement.entry) (verdict_of front.now.report) front.now.entries front.now.unconfirmed) }
+        (front_report_json (option_map (λ ranges. ranges.now) requirement.entry) (verdict_of front.now.report)
+        front.now.entries front.now.unconfirmed) }
 {
     let report = &front.report;
     writer.begin_object()?;
@@ -69,7 +71,8 @@ fn write_judged(
 ) -> Result<(), AllocError>
     ensures before { writer.new.before ≡ writer.old.before }
     ensures tokens { WritesMembers result writer.old writer.new
-        (outcome_members (option_map (λ ranges. ranges.now) requirement.entry) (meets (option_map (λ ranges. ranges.now) requirement.entry) (verdict_of report.now)) (verdict_of report.now)) }
+        (outcome_members (option_map (λ ranges. ranges.now) requirement.entry)
+        (meets (option_map (λ ranges. ranges.now) requirement.entry) (verdict_of report.now)) (verdict_of report.now)) }
 {
     let is_match = meets(report, requirement);
     write_outcome(alloc, report, requirement, is_match, writer)

@@ -140,7 +140,7 @@ fn write_list_report(
     Ok(())
 }
 
-/// The same as [`meets`], of a list alone.
+/// Whether the report on a list alone matches and no required register is missing.
 pub fn list_meets(report: &ListReport, requirement: Option<&Requirement>) -> bool
     ensures { result ≡ list_meets (option_map (λ ranges. ranges.now) requirement.entry) (list_verdict_of report.now) }
 {
