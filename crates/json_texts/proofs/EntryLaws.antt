@@ -1,5 +1,5 @@
 -- What an entry's line says.
-use Rattle.std.proofs.Common.{◌≡◌, ℕ, ◌^◌, ◌<◌, Bool, true, false, List, [], Option, Some, None, refl, sym, arith, inl, inr, rules}
+use Rattle.std.proofs.Common.{◌≡◌, ℕ, ◌^◌, ◌<◌, Bool, true, false, List, Option, Some, None, refl, sym, arith, inl, inr, rules}
 use Rattle.std.specs.Prelude.{◌↔◌, ◌⊎◌, ◌||◌, IsTrue, bytes_eq}
 use Rattle.std.proofs.lemmas.Slice.Eq.{bytes_eq-Decides}
 use Rattle.std.proofs.lemmas.Str.{IsUtf8-from_is_utf8}

@@ -1,13 +1,14 @@
 -- Each value is one line.
-use Rattle.std.proofs.Common.{ℕ, zero, suc, refl, ◌+◌, ◌<◌, ◌≤◌, Bool, true, false, cond, List, [], ◌∷◌, ◌++◌, map, Option, Some, None, codes, arith}
+use Rattle.std.proofs.Common.{ℕ, zero, suc, refl, ◌+◌, ◌≤◌, Bool, true, false, cond, List, [], ◌∷◌, ◌++◌, map, Option, Some, None, codes, arith}
 use Rattle.std.specs.Prelude.{flat_map, option_map, IfSome}
 use Rattle.std.specs.List.{AllByRecursion, range_with_len}
 use Rattle.std.proofs.lemmas.List.Concat.{flat_map-append}
 use Rattle.json.specs.Json.{Json, string}
+use Rattle.hex.specs.Hex.{encode_lower}
 use Rattle.pcr_banks.specs.declared.alg.Alg.{Alg}
 use Rattle.pcr_banks.specs.declared.banks.Banks.{Banks}
 use Rattle.pcr_banks.specs.declared.sets.PerBank.{PerBank}
-use Rattle.pcr_banks.specs.Hashing.{all_algs}
+use Rattle.pcr_banks.specs.Hashing.{all_algs, name_of}
 use Rattle.pcr_banks.specs.Registers.{value_at}
 use Rattle.pcr_banks.specs.Sets.{digest_in}
 use Rattle.boot_log.specs.declared.header.Row.{Row as TableRow}
@@ -36,9 +37,9 @@ use Rattle.boot_verdict.specs.Requirements.{is_missing}
 use Rattle.boot_verdict.specs.Verdicts.{Verdict}
 use Rattle.json_texts.specs.declared.faults.FaultPlace.{FaultPlace}
 use Rattle.json_texts.specs.declared.faults.FaultPlace.TheVariants.{Event, Entry}
-use Rattle.json_texts.specs.JsonValues.{IsCount, IsOneLine, Member, items_of}
-use Rattle.json_texts.specs.EventJson.{algorithm_json, algorithms_json, digest_members, event_json, name_members, type_members}
-use Rattle.json_texts.specs.FaultJson.{fault_json, fault_members, number_at, number_members, place_members}
+use Rattle.json_texts.specs.JsonValues.{IsCount, IsOneLine, Member, hex_json, items_of, number_json, optional}
+use Rattle.json_texts.specs.EventJson.{algorithm_json, algorithms_json, event_json}
+use Rattle.json_texts.specs.FaultJson.{fault_json, fault_members, number_at, place_members}
 use Rattle.json_texts.specs.PlaceJson as place
 use Rattle.json_texts.specs.PlaceJson.{IsCountedPlace, places_json}
 use Rattle.json_texts.specs.RegisterJson.{change_values, changed_register, expected_json, missing_among, register_json, registers_json, row_json, rows_values, value_if_missing, value_within}
@@ -92,9 +93,9 @@ if_plain false j plain = tt
 
 -- ---- faults
 
-number_of_fault : (number : Option ℕ) → IfSome number IsCount → ArePlain (number_members number) 1
-number_of_fault None fits = tt
-number_of_fault (Some number) fits = ((number, fits, refl), tt)
+number_plain : (number : Option ℕ) → IfSome number IsCount → ArePlain (optional (codes "number") (option_map number_json number)) 1
+number_plain None fits = tt
+number_plain (Some number) fits = ((number, fits, refl), tt)
 
 place_of_fault : (place : Option FaultPlace) → IfSome place (λ at. IsCount (number_at at)) → ArePlain (place_members place) 1
 place_of_fault None fits = tt
@@ -106,7 +107,7 @@ told_plain : (kind : List ℕ) (number : Option ℕ) (place : Option FaultPlace)
     → IfSome number IsCount → IfSome place (λ at. IsCount (number_at at)) → ArePlain (fault_members kind number place message) 1
 told_plain kind number place message fits placed = (
   tt,
-  members_joined 1 (number_members number) _ (number_of_fault number fits)
+  members_joined 1 (optional (codes "number") (option_map number_json number)) _ (number_plain number fits)
       (members_joined 1 (place_members place) _ (place_of_fault place placed) (tt, tt)),
 )
 
@@ -249,30 +250,27 @@ places_line required located fit =
 
 -- ---- events
 
-name_plain : (alg : Option Alg) → ArePlain (name_members alg) 0
-name_plain None = tt
-name_plain (Some alg) = (tt, tt)
+-- A text, if there is one.
+text_plain : {A : Type 0} (most : ℕ) (name : List ℕ) (text : A → List ℕ) (value : Option A)
+    → ArePlain (optional name (option_map (λ x. string (text x)) value)) most
+text_plain most name text None = tt
+text_plain most name text (Some x) = (tt, tt)
 
 algorithm_plain : (row : TableRow) → IsRow row → IsPlain (algorithm_json row) 1
 algorithm_plain row is =
-    members_joined 0 (name_members (algorithm_with row.id)) _ (name_plain (algorithm_with row.id))
+    members_joined 0 (optional (codes "name") (option_map (λ alg. string (name_of alg)) (algorithm_with row.id))) _
+    (text_plain 0 (codes "name") name_of (algorithm_with row.id))
     ((row.id, omega (arith, is.id_fits), refl), ((row.size, omega (arith, is.size_fits), refl), tt))
 
 pub algorithms_line : (rows : List TableRow) → AllByRecursion IsRow rows → IsOneLine (algorithms_json rows)
 algorithms_line rows are = one_line (algorithms_json rows) (mapped_plain IsRow algorithm_json algorithm_plain rows are, tt)
 
-type_plain : (name : Option (List ℕ)) → ArePlain (type_members name) 2
-type_plain None = tt
-type_plain (Some name) = (tt, tt)
-
-digest_plain : (alg : Alg) (digest : Option (List ℕ)) → ArePlain (digest_members alg digest) 1
-digest_plain alg None = tt
-digest_plain alg (Some digest) = (tt, tt)
-
-digests_plain : (digests : PerBank) (algs : List Alg) → ArePlain (flat_map (λ alg. digest_members alg (digest_in digests alg)) algs) 1
+digests_plain : (digests : PerBank) (algs : List Alg)
+    → ArePlain (flat_map (λ alg. optional (name_of alg) (option_map hex_json (digest_in digests alg))) algs) 1
 digests_plain digests [] = tt
 digests_plain digests (alg ∷ algs) =
-    members_joined 1 (digest_members alg (digest_in digests alg)) _ (digest_plain alg (digest_in digests alg)) (digests_plain digests algs)
+    members_joined 1 (optional (name_of alg) (option_map hex_json (digest_in digests alg))) _
+    (text_plain 1 (name_of alg) encode_lower (digest_in digests alg)) (digests_plain digests algs)
 
 pub event_line : (number : ℕ) (event : LogEvent) → IsCount number → IsCount event.register → IsCount event.kind
     → IsOneLine (event_json number event)
@@ -281,7 +279,8 @@ event_line number event count register kind =
       (number, count, refl),
       (
         (event.register, register, refl),
-        members_joined 2 (type_members (event_type_name event.kind)) _ (type_plain (event_type_name event.kind))
+        members_joined 2 (optional (codes "type") (option_map string (event_type_name event.kind))) _
+            (text_plain 2 (codes "type") (λ name. name) (event_type_name event.kind))
             ((event.kind, kind, refl), (digests_plain event.digests all_algs, (tt, tt))),
       ),
     )

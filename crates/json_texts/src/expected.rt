@@ -1,8 +1,7 @@
 //! The line of expected registers.
 
-ghost use Rattle.std.specs.Prelude.{◌≡◌, ◌++◌, OnOk, OnErr};
-ghost use Rattle.std.specs.Str.{IsUtf8};
-ghost use Rattle.json_texts.specs.JsonValues.{line_of};
+ghost use Rattle.std.specs.Prelude.{◌≡◌};
+ghost use Rattle.json_texts.specs.JsonValues.{AppendsLine};
 ghost use Rattle.json_texts.specs.RegisterJson.{expected_json, value_within, values_within};
 ghost use Rattle.json_texts.specs.parts.WrittenParts.{WritesItems, WritesValue};
 
@@ -23,9 +22,7 @@ pub fn append_expected(
     range: RegisterRange,
     line: &mut Vec<u8>,
 ) -> Result<(), AllocError>
-    ensures ok { OnOk result (line.new.items ≡ line.old.items ++ line_of (expected_json range expected.now)) }
-    ensures utf8 { OnOk result (IsUtf8 (line_of (expected_json range expected.now))) }
-    ensures err { OnErr result (line.new.items ≡ line.old.items) }
+    ensures { AppendsLine result line.old.items line.new.items (expected_json range expected.now) }
 {
     let start = line.len();
     let mut writer = begin_line(alloc, line);

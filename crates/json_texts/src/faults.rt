@@ -1,9 +1,8 @@
 //! The line of a fault.
 
-ghost use Rattle.std.specs.Prelude.{◌≡◌, [], ◌∷◌, ◌++◌, OnOk, OnErr};
-ghost use Rattle.std.specs.Str.{IsUtf8};
-ghost use Rattle.json_texts.specs.JsonValues.{line_of, object_of};
-ghost use Rattle.json_texts.specs.FaultJson.{fault_json, fault_members, number_members, place_members};
+ghost use Rattle.std.specs.Prelude.{◌≡◌, [], ◌∷◌, codes, option_map};
+ghost use Rattle.json_texts.specs.JsonValues.{AppendsLine, number_json, object_of, optional};
+ghost use Rattle.json_texts.specs.FaultJson.{fault_json, fault_members, place_members};
 ghost use Rattle.json_texts.specs.parts.WrittenParts.{WritesMembers, WritesValue};
 
 use crate::lines::{begin_line, end_line};
@@ -42,11 +41,8 @@ pub fn append_fault(
     fault: &FaultText<'_>,
     line: &mut Vec<u8>,
 ) -> Result<(), AllocError>
-    ensures ok { OnOk result (line.new.items ≡ line.old.items ++ line_of
-        (fault_json fault.now.kind.now fault.now.number fault.now.place fault.now.message.now)) }
-    ensures utf8 { OnOk result (IsUtf8 (line_of
-        (fault_json fault.now.kind.now fault.now.number fault.now.place fault.now.message.now))) }
-    ensures err { OnErr result (line.new.items ≡ line.old.items) }
+    ensures { AppendsLine result line.old.items line.new.items
+        (fault_json fault.now.kind.now fault.now.number fault.now.place fault.now.message.now) }
 {
     let start = line.len();
     let mut writer = begin_line(alloc, line);
@@ -97,7 +93,7 @@ fn write_members(fault: &FaultText<'_>, writer: &mut Writer) -> Result<(), Alloc
 
 fn write_fault_number(number: Option<u32>, writer: &mut Writer) -> Result<(), AllocError>
     ensures before { writer.new.before ≡ writer.old.before }
-    ensures tokens { WritesMembers result writer.old writer.new (number_members number) }
+    ensures tokens { WritesMembers result writer.old writer.new (optional (codes "number") (option_map number_json number)) }
 {
     match number {
         Some(number) => write_number("number", number as u64, writer),

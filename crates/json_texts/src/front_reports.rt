@@ -1,11 +1,10 @@
 //! The lines of reports on a confirmed front.
 
-ghost use Rattle.std.specs.Prelude.{◌≡◌, [], ◌∷◌, ◌++◌, Some, option_map, OnOk, OnErr};
-ghost use Rattle.std.specs.Str.{IsUtf8};
+ghost use Rattle.std.specs.Prelude.{◌≡◌, Some, option_map};
 ghost use Rattle.growing_lists.specs.FrontTexts.{unconfirmed_entry};
 ghost use Rattle.boot_verdict.specs.Verdicts.{verdict_of};
 ghost use Rattle.json_texts.specs.declared.faults.FaultPlace.TheVariants.{Entry};
-ghost use Rattle.json_texts.specs.JsonValues.{line_of};
+ghost use Rattle.json_texts.specs.JsonValues.{AppendsLine};
 ghost use Rattle.json_texts.specs.ReportJson.{front_report_json, meets, outcome_members, unconfirmed_members};
 ghost use Rattle.json_texts.specs.parts.WrittenParts.{WritesMembers, WritesValue};
 
@@ -32,13 +31,9 @@ pub fn append_front_report(
     requirement: Option<&Requirement>,
     line: &mut Vec<u8>,
 ) -> Result<(), AllocError>
-    ensures ok { OnOk result (line.new.items ≡ line.old.items
-        ++ line_of (front_report_json (option_map (λ ranges. ranges.now) requirement.entry) (verdict_of front.now.report)
-        front.now.entries front.now.unconfirmed)) }
-    ensures utf8 { OnOk result (IsUtf8 (line_of
+    ensures { AppendsLine result line.old.items line.new.items
         (front_report_json (option_map (λ ranges. ranges.now) requirement.entry) (verdict_of front.now.report)
-        front.now.entries front.now.unconfirmed))) }
-    ensures err { OnErr result (line.new.items ≡ line.old.items) }
+        front.now.entries front.now.unconfirmed) }
 {
     let start = line.len();
     let mut writer = begin_line(alloc, line);
@@ -54,7 +49,8 @@ fn write_front_report(
 ) -> Result<(), AllocError>
     ensures before { writer.new.before ≡ writer.old.before }
     ensures tokens { WritesValue result writer.old writer.new
-        (front_report_json (option_map (λ ranges. ranges.now) requirement.entry) (verdict_of front.now.report) front.now.entries front.now.unconfirmed) }
+        (front_report_json (option_map (λ ranges. ranges.now) requirement.entry) (verdict_of front.now.report)
+        front.now.entries front.now.unconfirmed) }
 {
     let report = &front.report;
     writer.begin_object()?;
@@ -75,7 +71,8 @@ fn write_judged(
 ) -> Result<(), AllocError>
     ensures before { writer.new.before ≡ writer.old.before }
     ensures tokens { WritesMembers result writer.old writer.new
-        (outcome_members (option_map (λ ranges. ranges.now) requirement.entry) (meets (option_map (λ ranges. ranges.now) requirement.entry) (verdict_of report.now)) (verdict_of report.now)) }
+        (outcome_members (option_map (λ ranges. ranges.now) requirement.entry)
+        (meets (option_map (λ ranges. ranges.now) requirement.entry) (verdict_of report.now)) (verdict_of report.now)) }
 {
     let is_match = meets(report, requirement);
     write_outcome(alloc, report, requirement, is_match, writer)

@@ -1,9 +1,8 @@
 //! The line of places.
 
-ghost use Rattle.std.specs.Prelude.{◌≡◌, [], ◌∷◌, ◌++◌, codes, option_map, OnOk, OnErr};
-ghost use Rattle.std.specs.Str.{IsUtf8};
+ghost use Rattle.std.specs.Prelude.{◌≡◌, [], ◌∷◌, codes, option_map};
 ghost use Rattle.json.specs.Json.{string};
-ghost use Rattle.json_texts.specs.JsonValues.{line_of, number_json};
+ghost use Rattle.json_texts.specs.JsonValues.{AppendsLine, number_json};
 ghost use Rattle.json_texts.specs.PlaceJson.{finds, place_members, places_json};
 ghost use Rattle.json_texts.specs.parts.WrittenParts.{WritesMembers, WritesValue};
 
@@ -27,10 +26,8 @@ pub fn append_places(
     requirement: Option<&Requirement>,
     line: &mut Vec<u8>,
 ) -> Result<(), AllocError>
-    ensures ok { OnOk result (line.new.items ≡ line.old.items
-        ++ line_of (places_json (option_map (λ ranges. ranges.now) requirement.entry) located.now)) }
-    ensures utf8 { OnOk result (IsUtf8 (line_of (places_json (option_map (λ ranges. ranges.now) requirement.entry) located.now))) }
-    ensures err { OnErr result (line.new.items ≡ line.old.items) }
+    ensures { AppendsLine result line.old.items line.new.items
+        (places_json (option_map (λ ranges. ranges.now) requirement.entry) located.now) }
 {
     let start = line.len();
     let mut writer = begin_line(alloc, line);

@@ -1,10 +1,9 @@
 //! The line of registers.
 
-ghost use Rattle.std.specs.Prelude.{◌≡◌, ℕ, List, [], ◌∷◌, ◌++◌, Option, option_map, OnOk, OnErr};
-ghost use Rattle.std.specs.Str.{IsUtf8};
+ghost use Rattle.std.specs.Prelude.{◌≡◌, ℕ, List, Option, option_map};
 ghost use Rattle.pcr_banks.specs.declared.alg.Alg.{Alg};
 ghost use Rattle.pcr_banks.specs.Digests.{bytes_of, digest_of};
-ghost use Rattle.json_texts.specs.JsonValues.{line_of};
+ghost use Rattle.json_texts.specs.JsonValues.{AppendsLine};
 ghost use Rattle.json_texts.specs.RegisterJson.{change_values, changed_register, changed_registers, register_json, register_members, registers_json};
 ghost use Rattle.json_texts.specs.parts.WrittenParts.{WritesItems, WritesMembers, WritesValue};
 
@@ -27,9 +26,7 @@ pub fn append_registers(
     start: &Banks,
     line: &mut Vec<u8>,
 ) -> Result<(), AllocError>
-    ensures ok { OnOk result (line.new.items ≡ line.old.items ++ line_of (registers_json now.now start.now)) }
-    ensures utf8 { OnOk result (IsUtf8 (line_of (registers_json now.now start.now))) }
-    ensures err { OnErr result (line.new.items ≡ line.old.items) }
+    ensures { AppendsLine result line.old.items line.new.items (registers_json now.now start.now) }
 {
     let length = line.len();
     let mut writer = begin_line(alloc, line);

@@ -1,11 +1,10 @@
 //! The lines of reports.
 
-ghost use Rattle.std.specs.Prelude.{◌≡◌, [], ◌∷◌, ◌++◌, option_map, OnOk, OnErr};
-ghost use Rattle.std.specs.Str.{IsUtf8};
+ghost use Rattle.std.specs.Prelude.{◌≡◌, option_map};
 ghost use Rattle.boot_verdict.specs.declared.report.State.TheVariants.{Differ};
 ghost use Rattle.boot_verdict.specs.ListVerdicts.{list_verdict_of};
 ghost use Rattle.boot_verdict.specs.Verdicts.{verdict_of};
-ghost use Rattle.json_texts.specs.JsonValues.{line_of};
+ghost use Rattle.json_texts.specs.JsonValues.{AppendsLine};
 ghost use Rattle.json_texts.specs.ReportJson.{count_members, list_meets, list_report_json, meets, outcome_members, report_json, state_members, verdict_word};
 ghost use Rattle.json_texts.specs.parts.WrittenParts.{WritesMembers, WritesValue};
 
@@ -33,11 +32,8 @@ pub fn append_report(
     is_match: bool,
     line: &mut Vec<u8>,
 ) -> Result<(), AllocError>
-    ensures ok { OnOk result (line.new.items ≡ line.old.items
-        ++ line_of (report_json (option_map (λ ranges. ranges.now) requirement.entry) is_match (verdict_of report.now))) }
-    ensures utf8 { OnOk result (IsUtf8 (line_of
-        (report_json (option_map (λ ranges. ranges.now) requirement.entry) is_match (verdict_of report.now)))) }
-    ensures err { OnErr result (line.new.items ≡ line.old.items) }
+    ensures { AppendsLine result line.old.items line.new.items
+        (report_json (option_map (λ ranges. ranges.now) requirement.entry) is_match (verdict_of report.now)) }
 {
     let start = line.len();
     let mut writer = begin_line(alloc, line);
@@ -54,11 +50,8 @@ pub fn append_list_report(
     requirement: Option<&Requirement>,
     line: &mut Vec<u8>,
 ) -> Result<(), AllocError>
-    ensures ok { OnOk result (line.new.items ≡ line.old.items
-        ++ line_of (list_report_json (option_map (λ ranges. ranges.now) requirement.entry) (list_verdict_of report.now))) }
-    ensures utf8 { OnOk result (IsUtf8 (line_of
-        (list_report_json (option_map (λ ranges. ranges.now) requirement.entry) (list_verdict_of report.now)))) }
-    ensures err { OnErr result (line.new.items ≡ line.old.items) }
+    ensures { AppendsLine result line.old.items line.new.items
+        (list_report_json (option_map (λ ranges. ranges.now) requirement.entry) (list_verdict_of report.now)) }
 {
     let start = line.len();
     let mut writer = begin_line(alloc, line);
@@ -147,7 +140,7 @@ fn write_list_report(
     Ok(())
 }
 
-/// The same as [`meets`], of a list alone.
+/// Whether the report on a list alone matches and no required register is missing.
 pub fn list_meets(report: &ListReport, requirement: Option<&Requirement>) -> bool
     ensures { result ≡ list_meets (option_map (λ ranges. ranges.now) requirement.entry) (list_verdict_of report.now) }
 {

@@ -34,7 +34,11 @@ pub(crate) fn write_rows<T: HasExpected + Says>(
 ) -> Result<(), AllocError>
     ensures before { writer.new.before ≡ writer.old.before }
     ensures tokens { WritesMembers result writer.old writer.new
-        ((codes "registers", array_of (rows_values name.now T.expected_of T.members_of (option_map (λ ranges. ranges.now) requirement.entry) rows.now)) ∷ []) }
+        ((
+          codes "registers",
+          array_of (rows_values name.now T.expected_of T.members_of
+              (option_map (λ ranges. ranges.now) requirement.entry) rows.now),
+        ) ∷ []) }
 {
     writer.key("registers")?;
     writer.begin_array()?;
