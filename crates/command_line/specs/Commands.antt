@@ -1,6 +1,6 @@
 -- The commands as they are defined for clap, and how a plan follows from clap's matches. What arguments match is clap's own
 -- definition (`subcommand_of`). All of this is this project's choice.
-use Rattle.std.specs.Prelude.{◌≡◌, ℕ, Bool, false, true, List, [], ◌∷◌, codes, map, option_map, unwrap_or, Option, None, Some, String, string_bytes}
+use Rattle.std.specs.Prelude.{◌≡◌, ℕ, false, true, List, [], ◌∷◌, codes, map, option_map, unwrap_or, Option, None, Some, String, string_bytes}
 use Rattle.std.specs.Global.{Global}
 use Rattle.std.specs.List.{fold}
 use Rattle.std.specs.Str.Parse.{IsNumeral, digits_value, without_leading_plus}

@@ -21,7 +21,7 @@ abbrev pub task_of : Plan → Task × Form
 task_of plans.Registers = (tasks.Registers, Text)
 task_of (plans.Measure alg template workers limit print log files) = (
   tasks.Measure
-  (record { alg = alg; template = template; workers = workers; limit = limit; print = print; log = log; files = files; names = None }),
+      (record { alg = alg; template = template; workers = workers; limit = limit; print = print; log = log; files = files; names = None }),
   Text,
 )
 task_of (plans.Verify log list expected) =

@@ -232,7 +232,7 @@ fn option<'a>(alloc: Global, id: &'a str, help: &'a str, value: &'a str) -> Arg<
     Arg::new(alloc, id).help(help).long(id).value_name(value)
 }
 
-// The same, and it requires this argument.
+// An option without a default value that requires this argument.
 fn option_beside<'a>(
     alloc: Global,
     id: &'a str,

@@ -49,7 +49,7 @@ pub enum Extent {
 pub enum Form {
     /// As lines of text.
     Text,
-    /// As a line of JSON.
+    /// As JSON: one line, or a line for each entry or event.
     Json,
 }
 

@@ -43,7 +43,7 @@ pub fn read_words(alloc: Global, words: &[String]) -> Result<Plan, WordsFault>
     ensures asked { IfOk result (λ plan. IsAskedBy words.now plan × IsWithinRanges plan) }
     // Without arguments the plan is `Registers`, whatever memory there is.
     ensures none { words.now ≡ [] → result ≡ Ok plans.Registers }
-    // The same of `--version`, whatever follows it.
+    // After `--version` the plan is to show the version, whatever follows it.
     ensures version { BeginsWithVersion words.now → result ≡ Ok (plans.Task Version Text) }
 {
     match words.first() {
@@ -72,7 +72,7 @@ pub fn refusal_of(alloc: Global, words: &[String]) -> Result<Option<String>, All
     refusal_by(alloc, words, all_commands(alloc, known)?)
 }
 
-// The same, by this definition of all commands.
+// What `clap` says of them, by this definition of all commands.
 fn refusal_by<'a>(
     alloc: Global,
     words: &'a [String],
@@ -123,7 +123,7 @@ fn plan_in(alloc: Global, words: &[String], command: &str) -> Result<Plan, Words
     plan_by(alloc, words, command, all_commands(alloc, known)?)
 }
 
-// The same, by this definition of all commands.
+// The plan or the help, by this definition of all commands.
 fn plan_by<'a>(
     alloc: Global,
     words: &'a [String],

@@ -1,5 +1,5 @@
 -- What was sent is what is asked for, and is answered with its status.
-use Rattle.std.proofs.Common.{◌≡◌, ℕ, List, [], ◌++◌, Result, Ok, Err, refl, sym, ap, ◌∙◌, append_assoc, append-nil, inl, inr}
+use Rattle.std.proofs.Common.{◌≡◌, ℕ, List, [], ◌++◌, Result, Ok, Err, refl, ap, ◌∙◌, append_assoc, append-nil, inl, inr}
 use Rattle.std.specs.Prelude.{IfErr, IfOk, OnErr}
 use Rattle.byte_streams.specs.declared.streams.Failed.{Failed}
 use Rattle.byte_streams.specs.Streams.{Sends, SinkState}
@@ -31,6 +31,11 @@ sent_less old new fault other text more sends = record {
 }
 
 -- ---- outputs that were prepared whole
+
+-- What holds whatever came, holds of a fault.
+pub kept_so : {A E P : Type 0} (result : Result A E) → P → OnErr result P
+kept_so (Ok value) holds = tt
+kept_so (Err fault) holds = holds
 
 pub text_sent : {form : Form} (IsAsked : List ℕ → ℕ → Type 0) (text : List ℕ) (status : ℕ) (old new : SinkState) (result : Result ℕ StreamFault)
     → IsAsked text status → SendsText text status old new result → Streams form IsAsked old new result

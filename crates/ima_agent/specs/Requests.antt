@@ -25,7 +25,8 @@ abbrev pub requires_by : Judged → Option (String Global) → Requires
 requires_by judged (Some text) = These (string_bytes text)
 requires_by (judged.Verdict log Whole None None) None = Nothing
 requires_by (judged.Verdict log extent resume save) None = Any
-requires_by judged None = Nothing
+requires_by (judged.Places log) None = Nothing
+requires_by judged.ListVerdict None = Nothing
 
 abbrev pub compared_by : Judge → Compared
 compared_by judge = record {

@@ -2,10 +2,10 @@
 //! `agent_inputs`, what `command_line` reads from arguments, and the verdict and its texts from `boot_verdict`.
 #![tactic(auto)]
 
-mod entries_within;
 mod escaping;
 mod explaining;
 mod hexadecimal;
+mod json_within;
 mod program;
 mod progress;
 mod requests;
@@ -31,9 +31,9 @@ pub use command_line::{
     DataShown, Extent, Form, Judge, Judged, Measurement, NameEnd, Names, Plan, Print, Question,
     Task, words_after_name,
 };
-pub use entries_within::{FittedOutput, json_entries_within};
 pub use escaping::escaped;
 pub use explaining::{Failure, explanation};
+pub use json_within::{FittedOutput, json_entries_within};
 pub use measuring::FileProgress;
 pub use program::{exit_code, run, run_with_progress};
 pub use progress::{NoProgress, Progress, SystemProgress};

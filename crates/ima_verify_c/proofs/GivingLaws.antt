@@ -9,12 +9,12 @@ use Rattle.command_line.specs.declared.plan.Form.TheVariants.{Json, Text}
 use Rattle.judging.specs.Asking.{Asked}
 use Rattle.rendering.specs.declared.output.Output.{Output}
 use Rattle.rendering.specs.Outputs.{GivesAnswer, IsRefusalOn}
-use Rattle.ima_agent.specs.declared.entries_within.FittedOutput.{FittedOutput}
+use Rattle.ima_agent.specs.declared.json_within.FittedOutput.{FittedOutput}
 use Rattle.ima_agent.specs.declared.showing.Fitted.{Fitted}
 use Rattle.ima_agent.specs.JsonFaults.{IsFailure, ToldAsJson}
 use Rattle.ima_agent.specs.JsonShowing.{ShowsEntries}
 use Rattle.ima_agent.specs.Showing.{IsFitted, IsNoListFor, ShowsList}
-use Rattle.ima_verify_c.specs.Answers.{Answers, AnswersMore, AreGiven, IsAnswerAndNext, IsAnswerTo, IsEntriesAnswer, IsGiven, IsJsonEntriesAnswer, IsJsonRefusal, IsRefusal, IsRefusalIn}
+use Rattle.ima_verify_c.specs.Answers.{Answers, AnswersMore, AreGiven, HasNoAnswerOn, IsAnswerAndNext, IsAnswerTo, IsEntriesAnswer, IsGiven, IsJsonEntriesAnswer, IsJsonRefusal, IsRefusal, IsRefusalIn}
 use Rattle.ima_verify_c.specs.parts.Givings.{IsFaultIn, IsFaultText, IsJsonOf}
 
 -- What holds of a text and a status holds of equal ones.
@@ -113,7 +113,7 @@ module _ (asked : Asked) (form : Form) (answer : ℤ) (needed : ℕ) (old new : 
   gives_refusal fault cause given = record {
     text = given.text;
     status = given.status;
-    is_answer = ([], inr (refusal_in form (IsRefusalOn untold asked) fault given.text given.status (inr refl) cause given.is_answer, refl));
+    is_answer = ([], inr (refusal_in form (HasNoAnswerOn asked) fault given.text given.status (inr refl) (inl cause) given.is_answer, refl));
     given = given.given;
   }
 
@@ -135,7 +135,7 @@ module _ (asked : Asked) (form : Form) (answer : ℤ) (needed : ℕ) (old new : 
     text = given.text;
     status = given.status;
     state = [];
-    is_answer = inr (refusal_in form (IsRefusalOn untold asked) fault given.text given.status (inr refl) cause given.is_answer, refl);
+    is_answer = inr (refusal_in form (HasNoAnswerOn asked) fault given.text given.status (inr refl) (inl cause) given.is_answer, refl);
     given = record {
       size = given.given.size;
       next_size = refl;

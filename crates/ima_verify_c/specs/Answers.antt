@@ -99,11 +99,15 @@ abbrev pub IsRefusalIn : Form → (RunFault → Type 0) → List ℕ → ℕ →
 IsRefusalIn Text HasCause text status = IsRefusal HasCause text status
 IsRefusalIn Json HasCause text status = IsJsonRefusal HasCause text status
 
+-- Why there is no answer to what is asked, or memory ran out for what is to be given.
+abbrev pub HasNoAnswerOn : Asked → RunFault → Type 0
+HasNoAnswerOn asked fault = IsRefusalOn untold asked fault ⊎ (fault ≡ Memory)
+
 -- The answer to what is asked, in this form, with its status, and the text of the checkpoint of what it is on, which has no bytes unless all
 -- is well; or why there is no answer, and no text of a checkpoint.
 abbrev pub IsAnswerAndNext : Asked → Form → List ℕ → ℕ → List ℕ → Type 0
 IsAnswerAndNext asked form text status state =
-    GivesAnswer untold asked form text status state ⊎ (IsRefusalIn form (IsRefusalOn untold asked) text status × (state ≡ []))
+    GivesAnswer untold asked form text status state ⊎ (IsRefusalIn form (HasNoAnswerOn asked) text status × (state ≡ []))
 
 -- The answer, whatever checkpoint there is.
 abbrev pub IsAnswerTo : Asked → Form → List ℕ → ℕ → Type 0

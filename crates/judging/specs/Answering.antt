@@ -81,7 +81,7 @@ IsKnown inputs resume known = ⊥
 abbrev pub OfMore : Inputs → Where → Option Checkpoint → (List ℕ → List ℕ → Type 0) → Type 0
 OfMore inputs place known P = (taken : List ℕ) → IsTaken known taken → OfInput inputs place (P taken)
 
--- The same of the list that both make.
+-- This holds of the list that both make.
 abbrev pub OfList : Inputs → Where → Option Checkpoint → (List ℕ → Type 0) → Type 0
 OfList inputs place known P = OfMore inputs place known (λ taken more. P (taken ++ more))
 
@@ -147,11 +147,12 @@ pub record IsNotExpected (inputs : Inputs) (place : Where) (fault : RunFault) : 
   pub first_is : OfInput inputs place (λ text. HasFirstFault text first)
   pub says : fault ≡ fault_of_expected first
 
--- Why a text is not read as a checkpoint: it is of another version, or no possible checkpoint's text, or memory ran out.
+-- Why a text is not read as a checkpoint: it is of another version; or it is not, and no possible checkpoint's text; or memory ran out.
 abbrev pub IsNoCheckpoint : List ℕ → RunFault → Type 0
 IsNoCheckpoint text fault =
     ((fault ≡ runs.Checkpoint Version) × IsOfOtherVersion text)
-    ⊎ ((fault ≡ runs.Checkpoint Damaged) × ((known : Checkpoint) → IsPossible known → text ≡ checkpoint_text known → ⊥))
+    ⊎ ((fault ≡ runs.Checkpoint Damaged) × (IsOfOtherVersion text → ⊥)
+    × ((known : Checkpoint) → IsPossible known → text ≡ checkpoint_text known → ⊥))
     ⊎ (fault ≡ runs.Memory)
 
 -- Why there is no log, or no checkpoint, where one is asked for.
@@ -257,7 +258,7 @@ abbrev pub IsAnswer : Inputs → Asked → Answered → Type 0
 IsAnswer inputs (Compares compared) given = IsComparison inputs compared given
 IsAnswer inputs asked given = (answer : Answer) × IsAlone inputs asked answer × (given ≡ alone answer)
 
--- The list of this input is refused: the first cause.
+-- The list of this input is refused: the first cause, or memory ran out.
 abbrev pub IsRefusedList : Inputs → Where → RunFault → Type 0
 IsRefusedList inputs list fault =
     (first : VerifyFault) × IsRefusedAfter inputs list (limit_of list) [] first × IsFaultAt list first fault

@@ -7,7 +7,7 @@ use Rattle.boot_verdict.specs.Places.{all_found}
 use Rattle.boot_verdict.specs.Requirements.{required_found, required_matches}
 use Rattle.boot_verdict.specs.Verdicts.{Verdict, matches, verdict_of}
 use Rattle.judging.specs.declared.answer.Answer.{Answer}
-use Rattle.judging.specs.declared.answer.Answer.TheVariants.{Report, Front, Places, ListReport}
+use Rattle.judging.specs.declared.answer.Answer.TheVariants.{Report, Front, Places, ListReport, Registers, Expected}
 use Rattle.judging.specs.declared.answer.Answered.{Answered}
 use Rattle.judging.specs.Asking.{Requires, Nothing}
 
@@ -18,7 +18,7 @@ is_match Nothing verdict = matches verdict
 is_match requires verdict = matches verdict && not (length verdict.rows == 0)
 
 -- Whether all is well: the verdict is 'match', or each register was located; and no register is missing of those that are required, if a
--- text spells some. (A front is confirmed only where some register is expected.)
+-- text spells some. (A front is confirmed only where some register is expected.) So it is with registers, which are compared with none.
 abbrev pub is_well : Requires → Option (List BankRange) → Answer → Bool
 is_well requires None (Report report) = is_match requires (verdict_of report)
 is_well requires (Some ranges) (Report report) = required_matches ranges (verdict_of report)
@@ -28,7 +28,8 @@ is_well requires None (Places places) = all_found places.items
 is_well requires (Some ranges) (Places places) = required_found ranges places.items
 is_well requires None (ListReport report) = list_matches (list_verdict_of report)
 is_well requires (Some ranges) (ListReport report) = required_list_matches ranges (list_verdict_of report)
-is_well requires ranges answer = true
+is_well requires ranges (Registers registers) = true
+is_well requires ranges (Expected expected range) = true
 
 -- All is well with an answer that compares nothing, and nobody goes on from it.
 abbrev pub alone : Answer → Answered

@@ -71,7 +71,8 @@ impl Answered {
     }
 }
 
-/// Whether all is well where this has to be among the expected registers, of which the text spells these.
+/// Whether all is well where this has to be among the expected registers, of which the text spells these; so it is with an answer that
+/// compares nothing.
 pub(crate) fn is_well(
     required: Required<'_>,
     requirement: Option<&Requirement>,

@@ -23,8 +23,8 @@ use byte_streams::{Failed, SliceSource, Source};
 use command_line::Extent;
 use std::alloc::Global;
 
-/// The answer to what is asked for. What is compared is read in this order: what is required; the log, which is loaded; the expected
-/// registers; the checkpoint; and then the list is opened, and replayed as it is read, without loading it.
+/// The answer to what is asked for. What is compared is read in this order (only in part by the clauses): what is required; the log, which
+/// is loaded; the expected registers; the checkpoint; and then the list is opened, and replayed as it is read, without loading it.
 pub fn answered<F: AgentFiles>(
     alloc: Global,
     files: &mut F,

@@ -82,7 +82,7 @@ pub(crate) fn refused(alloc: Global, list: Input<'_>, fault: VerifyFault) -> Run
     }
 }
 
-// The same of the file of this name.
+// The fault for one of the list in the file of this name.
 fn of_file(alloc: Global, name: &str, fault: VerifyFault) -> RunFault
     ensures { IsFaultOfVerdict name.now fault result }
 {
@@ -96,7 +96,7 @@ fn of_file(alloc: Global, name: &str, fault: VerifyFault) -> RunFault
     }
 }
 
-// The same of bytes in memory.
+// The fault for one of a list in memory.
 fn of_bytes(fault: VerifyFault) -> RunFault
     ensures { result ≡ fault_of_verdict fault }
 {

@@ -310,6 +310,6 @@ module _ (inputs : Inputs) (asked : Measurement) (log : List ℕ) (names : List 
   fault_of Fails more (Ok given) known = tt
   fault_of Fails more (Err fault) known =
       let At : Contents → Type 0 = λ h.
-          IsFileFault h (failing_in inputs) names fault ⊎ IsNotRecorded h log asked names fault in
+      IsFileFault h (failing_in inputs) names fault ⊎ IsNotRecorded h log asked names fault in
       let of_inputs = subst At (same_contents held (files_in inputs) same) (files_fault Fails more fault known) in
       inr (log, has, inr (inr (inl (names, are, of_inputs))))

@@ -25,10 +25,9 @@ use std::thread::Threads;
 ///   there are 2^32 names or more;
 /// - with `Usage` if the workers are not 1 to 8;
 /// - with `TooLong` or `Read` of the first file, in the order of the names, that cannot be read;
-/// - with `Book` if the book cannot be opened, with `Outcome` of the first file that the book refuses, and with `Gather` if the
-///   workers' outcomes do not account for the book's records.
+/// - with `Book` if the book cannot be opened, and with `Outcome` of the first file that the book refuses.
 ///
-/// At any point it may fail with `Memory`.
+/// It may also fail with `Gather`, if the workers' outcomes do not account for the book's records, and at any point with `Memory`.
 pub fn measured<R: Threads + Wait + Sync, F: AgentFiles, P: FileProgress>(
     rt: &R,
     alloc: Global,

@@ -61,7 +61,11 @@ fn write_lines<S: Sink>(given: &Answered, sink: &mut S) -> Result<(), Failed>
         (Answer::ListReport(report), Some(required)) => {
             write_required_list_report(report, required, sink)
         }
-        (Answer::Registers(registers), _) => write_registers(&registers.now, &registers.start, sink),
+        (Answer::Registers(registers), _) => write_registers(
+            &registers.now,
+            &registers.start,
+            sink,
+        ),
         (Answer::Expected { expected, range }, _) => write_expected(expected, *range, sink),
     }
 }

@@ -1,7 +1,7 @@
 use Rattle.std.proofs.Common.{refl, inl, string_bytes}
 use Rattle.std.proofs.lemmas.Result.{IfOk-weaker}
 use Rattle.command_line.specs.declared.plan.Task.TheVariants as tasks
-use Rattle.ima_agent.proofs.OutcomeLaws.{outcome_sent, text_sent}
+use Rattle.ima_agent.proofs.OutcomeLaws.{kept_so, outcome_sent, text_sent}
 use Rattle.ima_agent.proofs.program.perform.Goals as goal
 
 pub returns-in-Registers : goal.returns-in-Registers
@@ -30,11 +30,11 @@ returns-in-Entries g c = rw c.in-Entries.is c.entries_for.ensures
 
 pub returns-in-Help : goal.returns-in-Help
 returns-in-Help g c =
-    rw c.in-Help.is (text_sent _ (string_bytes c.in-Help.text) 0 _ _ _ (inl ((refl, refl), refl)) (rw c.as_bytes.ensures at c.sent_text.ensures))
+    rw c.in-Help.is (text_sent _ (string_bytes c.in-Help.text) 0 _ _ _ (inl ((refl, refl), refl)) (rw c.as_bytes.ensures.value at c.sent_text.ensures))
 
 pub returns-in-Version : goal.returns-in-Version
 returns-in-Version g c =
     rw c.in-Version.is
     (outcome_sent (g.F.Files.told c.args.files.now) tasks.Version c.args.form _ _ c.shown_version.result _ _ _
-    (IfOk-weaker c.shown_version.result _ _ (λ output is. (is, refl)) c.shown_version.ensures.text) ? c.shown_version.ensures.fault
+    (IfOk-weaker c.shown_version.result _ _ (λ output is. (is, refl)) c.shown_version.ensures.text) (kept_so c.shown_version.result refl) c.shown_version.ensures.fault
     c.sent_output-in-Version.ensures)

@@ -18,7 +18,7 @@ pub returns-in-Err-clause-fault : goal.returns-in-Err-clause-fault
 returns-in-Err-clause-fault g c =
     λ inputs gives.
     inr (inl (
-      list_refused inputs (place_of c.args.list) _ _ gives c.in-Err.fault _
-      (source_failed c.replay_from.result c.in-Err.fault _ _ c.in-Err.is c.replay_from.ensures.counts c.replay_from.ensures.telling)
-      (rw c.limit_of.ensures at c.in-Err.ensures.fault) c.refused.ensures
+    list_refused inputs (place_of c.args.list) _ _ gives c.in-Err.fault _
+    (source_failed c.replay_from.result c.in-Err.fault _ _ c.in-Err.is c.replay_from.ensures.counts c.replay_from.ensures.telling)
+    (rw c.limit_of.ensures at c.in-Err.ensures.fault) c.refused.ensures
     ))

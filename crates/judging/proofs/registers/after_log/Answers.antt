@@ -1,4 +1,4 @@
-use Rattle.std.proofs.Common.{inl, inr}
+use Rattle.std.proofs.Common.{inl}
 use Rattle.std.proofs.lemmas.Result.{err_from_is_err_and}
 use Rattle.judging.specs.Asking.{held_bytes}
 use Rattle.judging.specs.declared.answer.Answer.TheVariants as answers

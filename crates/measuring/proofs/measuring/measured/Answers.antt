@@ -16,7 +16,7 @@ returns-in_err-text-clause-fault g c =
       c.in_ok-bytes.bytes.items,
       rw c.deref.ensures at c.in_ok-bytes.ensures.all,
       inr (inl (names_lost (g.F.Files.told c.args.files.now) c.args.asked.now c.in_err-text.field-0.0
-      (rw c.in_ok-bytes.ensures.told at c.in_err-text.ensures.fault))),
+          (rw c.in_ok-bytes.ensures.told at c.in_err-text.ensures.fault))),
     ))
 
 pub returns-in_err-names-clause-fault : goal.returns-in_err-names-clause-fault
@@ -26,8 +26,8 @@ returns-in_err-names-clause-fault g c =
       c.in_ok-bytes.bytes.items,
       rw c.deref.ensures at c.in_ok-bytes.ensures.all,
       inr (names_refused (g.F.Files.told c.args.files.now) c.args.asked.now c.in_ok-bytes.bytes.items c.in_ok-text.text.items
-      c.in_err-names.field-0.0 (rw c.in_ok-bytes.ensures.told at c.in_ok-text.ensures.text)
-      (rw c.deref-3.ensures.value at c.in_err-names.ensures.fault)),
+          c.in_err-names.field-0.0 (rw c.in_ok-bytes.ensures.told at c.in_ok-text.ensures.text)
+          (rw c.deref-3.ensures.value at c.in_err-names.ensures.fault)),
     ))
 
 pub returns-clause-measured : goal.returns-clause-measured

@@ -1,7 +1,6 @@
 use Rattle.std.proofs.Common.{rules, inl, List, ℕ, length, map, arith}
 use Rattle.std.specs.Borrow.{Bor}
 use Rattle.std.proofs.lemmas.List.{length-map}
-use Rattle.std.proofs.lemmas.Result.{err_from_is_err_and}
 use Rattle.measure_book.specs.Operations.{book_outcome_of}
 use Rattle.measuring.specs.Measuring.{AreAllDone, IsFileFault, IsFileMeasure}
 use Rattle.measuring.specs.parts.Names.{names_lent}

@@ -1,6 +1,6 @@
 use Rattle.std.proofs.Common.{◌++◌}
 use Rattle.ima_agent.proofs.ShowingLaws.{added}
-use Rattle.ima_agent.proofs.entries_within.ended.Goals as goal
+use Rattle.ima_agent.proofs.json_within.ended.Goals as goal
 
 pub returns : goal.returns
 returns c =

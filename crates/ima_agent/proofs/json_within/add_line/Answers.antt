@@ -2,7 +2,7 @@ use Rattle.std.proofs.lemmas.Result.{on_ok_weaker}
 use Rattle.json_texts.specs.EntryJson.{entry_json}
 use Rattle.json_texts.specs.JsonValues.{line_of}
 use Rattle.ima_agent.proofs.ShowingLaws.{added}
-use Rattle.ima_agent.proofs.entries_within.add_line.Goals as goal
+use Rattle.ima_agent.proofs.json_within.add_line.Goals as goal
 
 pub returns : goal.returns
 returns c =

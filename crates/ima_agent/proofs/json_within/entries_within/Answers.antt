@@ -2,7 +2,7 @@ use Rattle.std.proofs.Common.{◌++◌, refl}
 use Rattle.std.proofs.lemmas.Result.{IfOk-weaker}
 use Rattle.ima_agent.proofs.EntryLineLaws.{all_lines, counted_more, counted_none, lines_to_fault}
 use Rattle.ima_agent.proofs.ShowingLaws.{none_left, some_left}
-use Rattle.ima_agent.proofs.entries_within.entries_within.Goals as goal
+use Rattle.ima_agent.proofs.json_within.entries_within.Goals as goal
 
 pub loop-rest-init : goal.loop-rest-init
 loop-rest-init c = rw c.new-text.ensures.items (counted_none c.args.room c.args.list.now)
