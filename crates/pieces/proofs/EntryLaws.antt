@@ -31,9 +31,9 @@ lines_last Json entries entry =
 
 pub no_entries_before : (form : Form) (list : List ℕ) → AreEntriesBefore form list (record { offset = 0; number = 0 }) []
 no_entries_before Text list =
-    record { entries = []; rest = list; begins = record { are = tt; parts = refl }; number_is = refl; offset_is = omega arith; text_is = refl }
+    record { entries = []; rest = list; begins = record { are = tt; parts = refl }; number_is = refl; offset_is = omega arith; few = omega arith; text_is = refl }
 no_entries_before Json list =
-    record { entries = []; rest = list; begins = record { are = tt; parts = refl }; number_is = refl; offset_is = omega arith; text_is = refl }
+    record { entries = []; rest = list; begins = record { are = tt; parts = refl }; number_is = refl; offset_is = omega arith; few = omega arith; text_is = refl }
 
 -- What follows the entries is the part of the list from the position on.
 left_is : (form : Form) (list : List ℕ) (position : Position) (before left : List ℕ) (are : AreEntriesBefore form list position before)
@@ -56,11 +56,11 @@ all_before form list position before left part none law are =
 pub next_entry : (form : Form) (list : List ℕ) (position : Position) (before left after : List ℕ) (entry : ListEntry)
     → left ≡ take (length list - position.offset) (drop position.offset list)
     → ((list : List ℕ) (before : List ListEntry) → BeginsWith list before left → BeginsWith list (before ++ entry ∷ []) after)
-    → length after ≤ length list → AreEntriesBefore form list position before
+    → length after ≤ length list → position.offset < length list - length after → AreEntriesBefore form list position before
     → HasEntryLine form list before (line_in form position.number entry)
     × AreEntriesBefore form list (record { offset = length list - length after; number = position.number + 1 })
     (before ++ line_in form position.number entry)
-next_entry form list position before left after entry part read few are =
+next_entry form list position before left after entry part read few further are =
     let same = left_is form list position before left are part in
     let begins = read list are.entries (subst (BeginsWith list are.entries) (sym same) are.begins) in
     let number : line_in form position.number entry ≡ line_in form (length are.entries) entry =
@@ -79,6 +79,7 @@ next_entry form list position before left after entry part read few are =
         begins = begins;
         number_is = omega (arith, are.number_is, length-append are.entries (entry ∷ []));
         offset_is = omega (arith, few);
+        few = omega (arith, are.few, further);
         text_is = ap (λ (t : List ℕ). t ++ line_in form position.number entry) are.text_is
             ∙ ap (λ (t : List ℕ). lines_in form are.entries ++ t) number ∙ sym (lines_last form are.entries entry);
       },

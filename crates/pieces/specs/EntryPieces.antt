@@ -1,5 +1,5 @@
 -- The entries of a list, whose lines are given by pieces. All of this is this project's choice.
-use Rattle.std.specs.Prelude.{◌≡◌, ℕ, ◌+◌, List, [], ◌∷◌, ◌++◌, length, flat_map, Some, Ok, Err}
+use Rattle.std.specs.Prelude.{◌≡◌, ℕ, ◌+◌, ◌≤◌, List, [], ◌∷◌, ◌++◌, length, flat_map, Some, Ok, Err}
 use Rattle.agent_inputs.specs.declared.fault.RunFault.{RunFault}
 use Rattle.agent_inputs.specs.Faults.{fault_of_list}
 use Rattle.command_line.specs.declared.plan.Form.{Form}
@@ -26,13 +26,15 @@ abbrev pub lines_in : Form → List ListEntry → List ℕ
 lines_in Text entries = flat_map line_of entries
 lines_in Json entries = entry_lines entries
 
--- The list begins with entries whose lines are this text: as many as the number of the position, at whose offset they end.
+-- The list begins with entries whose lines are this text: as many as the number of the position, at whose offset they end. They are no more
+-- than the bytes that they take.
 pub record AreEntriesBefore (form : Form) (list : List ℕ) (position : Position) (text : List ℕ) : Type 0 where
   pub entries : List ListEntry
   pub rest : List ℕ
   pub begins : BeginsWith list entries rest
   pub number_is : position.number ≡ length entries
   pub offset_is : position.offset + length rest ≡ length list
+  pub few : position.number ≤ position.offset
   pub text_is : text ≡ lines_in form entries
 
 -- The list begins with entries whose lines are this text, and after them comes another, which has this line.

@@ -1,5 +1,5 @@
 -- The algorithms and the events of a log, whose lines are given by pieces. All of this is this project's choice.
-use Rattle.std.specs.Prelude.{◌≡◌, ℕ, ◌+◌, ◌<◌, ◌⊎◌, List, [], ◌∷◌, ◌++◌, length}
+use Rattle.std.specs.Prelude.{◌≡◌, ℕ, ◌+◌, ◌<◌, ◌≤◌, ◌⊎◌, List, [], ◌∷◌, ◌++◌, length}
 use Rattle.agent_inputs.specs.declared.fault.RunFault.{RunFault}
 use Rattle.agent_inputs.specs.Faults.{fault_of_log}
 use Rattle.boot_log.specs.declared.fault.LogFault.{LogFault}
@@ -13,13 +13,15 @@ use Rattle.pieces.specs.declared.piece.Piece.{Piece}
 use Rattle.pieces.specs.declared.piece.Position.{Position}
 use Rattle.pieces.specs.Pieces.{IsPiece, start}
 
--- The log begins with a header and events whose lines are this text: as many as the number of the position, at whose offset they end.
+-- The log begins with a header and events whose lines are this text: as many as the number of the position, at whose offset they end. They are no
+-- more than the bytes that they take.
 pub record AreReadBefore (log : List ℕ) (position : Position) (text : List ℕ) : Type 0 where
   pub table : List Row
   pub events : List LogEvent
   pub rest : List ℕ
   pub ends : EndsAt log table events rest position.offset position.number
   pub some : 0 < position.offset
+  pub few : position.number ≤ position.offset
   pub text_is : text ≡ log_lines table events
 
 -- They are, or nothing comes before the position.
