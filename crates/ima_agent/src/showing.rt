@@ -151,11 +151,7 @@ fn data_of(requested: DataShown) -> EventData
 }
 
 // The lines of the entries of the list in the file of this name.
-fn shown_list<F: AgentFiles>(
-    alloc: Global,
-    files: &mut F,
-    list: &str,
-) -> Result<Output, RunFault>
+fn shown_list<F: AgentFiles>(alloc: Global, files: &mut F, list: &str) -> Result<Output, RunFault>
     ensures shown { IfOk result (λ output. OfInput (F.told files.old) (Some list.now) (λ bytes. ShowsList bytes output.text.items)
         × (output.status ≡ 0)) }
     ensures fault { IfErr result (λ fault. IsInputFault (F.told files.old) (Some list.now) fault
@@ -247,4 +243,3 @@ pub(crate) fn count_longer(
     }
     Ok(())
 }
-

@@ -4,5 +4,5 @@ mod entries;
 mod events;
 
 pub(crate) use entries::entries_sent;
-pub use events::json_events_on;
 pub(crate) use events::events_sent;
+pub use events::json_events_on;

@@ -33,8 +33,11 @@ module _ (AreBefore : Position → List ℕ → Type 0) (IsPiece : ℕ → List 
       → GivesLines AreBefore IsPiece FailsAfter form size position after answer told old new
   gives_fault fault same within cause given = record {
     misused = λ none. let no : false ≡ true = sym none ∙ within in absurd cc;
-    gives = λ before are. inr (same, refused (λ fault. FailsAfter before fault ⊎ (fault ≡ Memory)) form fault answer told old new
-        (either before are cause) (inr refl) given);
+    gives = λ before are. inr (
+      same,
+      refused (λ fault. FailsAfter before fault ⊎ (fault ≡ Memory)) form fault answer told old new
+          (either before are cause) (inr refl) given,
+    );
   } where
     either : (before : List ℕ) → AreBefore position before
         → (fault ≡ Memory) ⊎ ((before : List ℕ) → AreBefore position before → FailsAfter before fault)

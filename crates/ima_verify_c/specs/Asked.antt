@@ -1,5 +1,5 @@
 -- What a call with these bytes asks for. All of this is this project's choice.
-use Rattle.std.specs.Prelude.{ℕ, ◌==◌, if◌then◌else◌, Bool, true, false, List, [], ◌∷◌, bytes_eq, codes, length, Option, None, Some}
+use Rattle.std.specs.Prelude.{ℕ, ◌==◌, if◌then◌else◌, Bool, List, [], ◌∷◌, bytes_eq, codes, length, Option, None, Some}
 use Rattle.command_line.specs.declared.plan.Extent.{Extent}
 use Rattle.command_line.specs.declared.plan.Extent.TheVariants.{Front, Whole}
 use Rattle.command_line.specs.declared.plan.Form.{Form}

@@ -29,7 +29,12 @@ pub(crate) fn verdict_on<'a>(
         extent: Extent::Whole,
         resume: None,
     };
-    request_on(wanted, list, expected, required_by(Required::Nothing, require))
+    request_on(
+        wanted,
+        list,
+        expected,
+        required_by(Required::Nothing, require),
+    )
 }
 
 /// Where the registers have their values in a log and a list.
@@ -44,7 +49,12 @@ pub(crate) fn places_on<'a>(
     let wanted = Wanted::Places {
         log: Input::Bytes(log),
     };
-    request_on(wanted, list, expected, required_by(Required::Nothing, require))
+    request_on(
+        wanted,
+        list,
+        expected,
+        required_by(Required::Nothing, require),
+    )
 }
 
 /// The verdict on a list alone.

@@ -151,13 +151,7 @@ fn line_of(alloc: Global, fault: &RunFault) -> Result<Vec<u8>, AllocError>
 }
 
 // Writes a text at the front of the caller's room, if it fits, and tells its size and the fault that it is the line of.
-fn put(
-    text: &[u8],
-    status: u8,
-    fault: Option<&RunFault>,
-    out: &mut [u8],
-    told: &mut Told,
-) -> i32
+fn put(text: &[u8], status: u8, fault: Option<&RunFault>, out: &mut [u8], told: &mut Told) -> i32
     ensures { IsGiven text.now status (option_map (λ fault. fault.now) fault.entry) result told.new out.old out.new }
 {
     if out.len() < text.len() {

@@ -19,8 +19,6 @@ ghost use Rattle.ima_verify_c.specs.Answers.{Answers, AnswersMore, IsAnswerAndNe
 ghost use Rattle.ima_verify_c.specs.Asked.{asked_of_list, asked_of_more, asked_of_places, asked_of_registers, asked_of_verdict, form_of, interface_version, range_text};
 ghost use Rattle.ima_verify_c.specs.Lines.{GivesEntries, GivesEvents};
 
-pub use told::Told;
-
 use crate::asking::{
     form_of, list_verdict_on, more_on, places_on, range_by, registers_on, verdict_on,
 };
@@ -29,6 +27,7 @@ use ima_agent::Form;
 use judging::{Input, Request};
 use pieces::{Position, entry_lines, event_lines};
 use std::alloc::Global;
+pub use told::Told;
 
 /// The version of this interface: 1. A later version may have more functions; what these do stays as it is.
 #[unsafe(no_mangle)]

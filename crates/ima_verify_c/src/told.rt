@@ -24,11 +24,17 @@ pub struct Told {
 
 /// The kinds of faults.
 const ARGUMENT: u32 = 1;
+
 const LOG: u32 = 2;
+
 const LIST: u32 = 3;
+
 const REPLAY: u32 = 4;
+
 const EXPECTED: u32 = 5;
+
 const CHECKPOINT: u32 = 6;
+
 const MEMORY: u32 = 7;
 
 impl Told {
