@@ -112,16 +112,20 @@ fn of_value_in(alloc: Global, task: &Task) -> Result<String, AllocError>
     ensures { IfOk result (λ text. list_all is_shown (string_bytes text) ≡ true) }
 {
     match task {
-        Task::Answer(Question::Judge(
-            Judge {
-                required: Some(required),
+        Task::Answer(
+            Question::Judge(
+                Judge {
+                    required: Some(required),
+                    ..
+                },
+            ),
+        ) => of_value(alloc, required, "--require <BANK:A-B[,BANK:C-D..]>"),
+        Task::Answer(
+            Question::Expected {
+                registers: Some(registers),
                 ..
             },
-        )) => of_value(alloc, required, "--require <BANK:A-B[,BANK:C-D..]>"),
-        Task::Answer(Question::Expected {
-            registers: Some(registers),
-            ..
-        }) => of_value(alloc, registers, "--registers <A-B>"),
+        ) => of_value(alloc, registers, "--registers <A-B>"),
         _ => shown_line(alloc, TOO_MANY_FILES),
     }
 }
@@ -221,12 +225,14 @@ fn log_of(task: &Task) -> Option<&str> {
         Task::Registers => Some(STANDARD_INPUT),
         Task::Measure(Measurement { log, .. })
         | Task::Answer(Question::LogRegisters { log })
-        | Task::Answer(Question::Judge(
-            Judge {
-                judged: Judged::Verdict { log, .. } | Judged::Places { log },
-                ..
-            },
-        ))
+        | Task::Answer(
+            Question::Judge(
+                Judge {
+                    judged: Judged::Verdict { log, .. } | Judged::Places { log },
+                    ..
+                },
+            ),
+        )
         | Task::Events { log, .. } => Some(log.as_str()),
         _ => None,
     }
@@ -254,12 +260,14 @@ fn expected_of(task: &Task) -> Option<&str> {
 // The checkpoint that a task goes on from.
 fn checkpoint_of(task: &Task) -> Option<&str> {
     match task {
-        Task::Answer(Question::Judge(
-            Judge {
-                judged: Judged::Verdict { resume, .. },
-                ..
-            },
-        )) => resume.as_deref(),
+        Task::Answer(
+            Question::Judge(
+                Judge {
+                    judged: Judged::Verdict { resume, .. },
+                    ..
+                },
+            ),
+        ) => resume.as_deref(),
         _ => None,
     }
 }

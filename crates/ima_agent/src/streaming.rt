@@ -33,11 +33,7 @@ pub(crate) fn sent_output<S: Sink>(
 }
 
 /// Sends a text, and returns this status.
-pub(crate) fn sent_text<S: Sink>(
-    text: &[u8],
-    status: u8,
-    sink: &mut S,
-) -> Result<u8, StreamFault>
+pub(crate) fn sent_text<S: Sink>(text: &[u8], status: u8, sink: &mut S) -> Result<u8, StreamFault>
     ensures { SendsText text.now status (S.state sink.old) (S.state sink.new) result }
 {
     match send(text, sink) {

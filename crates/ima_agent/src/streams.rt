@@ -4,5 +4,4 @@ mod entries;
 mod events;
 
 pub(crate) use entries::entries_sent;
-pub use events::json_events_on;
 pub(crate) use events::events_sent;
