@@ -1,10 +1,8 @@
 -- A log whose events are sent while they are read: what was sent is what the program is asked for.
-use Rattle.std.proofs.Common.{◌≡◌, ℕ, List, [], ◌++◌, None, Ok, Err, Result, refl, ap, ◌∙◌, inl, inr, codes, Some}
+use Rattle.std.proofs.Common.{◌≡◌, ℕ, List, [], ◌++◌, None, Ok, Err, Result, refl, inl, inr, codes, Some}
 use Rattle.std.specs.Prelude.{String, string_bytes}
 use Rattle.std.specs.Global.{Global}
 use Rattle.byte_streams.specs.declared.streams.Failed.{Failed}
-use Rattle.byte_streams.specs.declared.memory.VecSink.{VecSink}
-use Rattle.byte_streams.specs.Memory.{vec_sink_bytes, vec_sink_state}
 use Rattle.byte_streams.specs.Streams.{SinkState}
 use Rattle.byte_streams.proofs.SinkLaws.{Sends-none, Sends-ok}
 use Rattle.boot_log.specs.declared.fault.LogFault.{LogFault}
@@ -21,7 +19,7 @@ use Rattle.agent_inputs.specs.declared.fault.RunFault.TheVariants as runs
 use Rattle.ima_agent.specs.declared.streaming.StreamFault.{StreamFault}
 use Rattle.ima_agent.specs.declared.streaming.StreamFault.TheVariants as streams
 use Rattle.ima_agent.specs.JsonFaults.{IsFailure, ToldAsJson}
-use Rattle.ima_agent.specs.JsonShowing.{ShowsEventsOf, ShowsJsonEvents}
+use Rattle.ima_agent.specs.JsonShowing.{ShowsEventsOf}
 use Rattle.agent_inputs.specs.Loading.{Holds, Inputs, IsInputFault, Saved}
 use Rattle.ima_agent.specs.Program.{IsOutcome}
 use Rattle.ima_agent.specs.Streaming.{Streams}
@@ -109,35 +107,6 @@ module _ (log : List ℕ) (old new : SinkState) where
     goes_on = no_memory_for sent;
   }
   no_memory_shown (inr none) = record { text = []; sends = Sends-ok old new tt tt [] none.sends; goes_on = no_line }
-
--- ---- the log in some bytes, whose lines a sink over a vector took
-
-pub all_kept : (log : List ℕ) (old new : VecSink) → vec_sink_bytes old ≡ []
-    → SendsEvents log (vec_sink_state old) (vec_sink_state new) (Ok tt) → ShowsJsonEvents log (vec_sink_bytes new) 0
-all_kept log old new none (inl sent) = inl (record {
-  table = sent.table;
-  events = sent.events;
-  log_is = sent.ends;
-  text_is = sent.sends.ok ∙ ap (λ (t : List ℕ). t ++ log_lines sent.table sent.events) none;
-  status_is = refl;
-})
-all_kept log old new none (inr sent) = absurd sent.refused
-
-pub kept_to_fault : (log : List ℕ) (old new : VecSink) (fault : LogFault) (last shown : List ℕ) (status : ℕ) → vec_sink_bytes old ≡ []
-    → SendsEvents log (vec_sink_state old) (vec_sink_state new) (Err (events.Log fault)) → ToldAsJson (runs.Log fault) last status
-    → shown ≡ vec_sink_bytes new ++ last → ShowsJsonEvents log shown status
-kept_to_fault log old new fault last shown status none (inl sent) told is = inr (inl (record {
-  table = sent.table;
-  events = sent.events;
-  fault = fault;
-  last = last;
-  fails = sent.ends;
-  told = told;
-  text_is = is ∙ ap (λ (t : List ℕ). t ++ last) (sent.sends.ok ∙ ap (λ (t : List ℕ). t ++ log_lines sent.table sent.events) none);
-}))
-kept_to_fault log old new fault last shown status none (inr sent) told is =
-    let alone : shown ≡ last = is ∙ ap (λ (t : List ℕ). t ++ last) (sent.sends.ok ∙ ap (λ (t : List ℕ). t ++ []) none) in
-    inr (inr (record { fault = fault; fails = sent.refused; told = rw alone told }))
 
 -- ---- the log in a file
 

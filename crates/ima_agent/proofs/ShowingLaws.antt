@@ -16,7 +16,6 @@ use Rattle.judging.specs.Asking.{LogRegistersOf}
 use Rattle.judging.specs.Inputs.{BytesOf}
 use Rattle.rendering.specs.Outputs.{IsRefusalOn}
 use Rattle.ima_agent.specs.Hexadecimal.{without_white_space}
-use Rattle.ima_agent.specs.parts.Showing.{HasAdded, IsKept}
 use Rattle.ima_agent.specs.Showing.{IsNoListFor, IsRefusedFor, ShowsList}
 
 -- The text has the lines of the entries so far, and `rest` is left of the list.
@@ -58,34 +57,6 @@ pub shows_none : (list text rest : List ℕ) (number : ℕ) (fault : ListFault) 
     → IsReading list (Err fault)) → IsNoListFor list (fault_of_list fault)
 shows_none list text rest number fault shown some read =
     inl (record { first = fault; reading = read list shown.entries shown.begins (sym shown.count) some; says = refl })
-
--- ---- lines that are kept while they fit
-
-pub added : (room : ℕ) (lines last old new : List ℕ) (size : ℕ) → IsKept room lines old size → new ≡ old ++ last
-    → HasAdded room lines last new size
-added room lines last old new size (inl kept) more = inl (more ∙ ap (λ (t : List ℕ). t ++ last) kept.0, kept.1)
-added room lines last old new size (inr kept) more = inr (more ∙ ap (λ (t : List ℕ). t ++ last) kept.0, kept.1, kept.2)
-
--- The lines so far, of which all are kept, or all are counted.
-pub record HasCounted (room : ℕ) (list text rest : List ℕ) (size number : ℕ) : Type 0 where
-  pub lines : List ℕ
-  pub shown : HasShown list lines rest number
-  pub kept : IsKept room lines text size
-
-pub counted_none : (room : ℕ) (list : List ℕ) → HasCounted room list [] list 0 0
-counted_none room list = record { lines = []; shown = shown_none list; kept = inl (refl, refl, omega arith) }
-
-pub counted_more : (room : ℕ) (list text more rest after : List ℕ) (size next number : ℕ) (entry : ListEntry)
-    → HasCounted room list text rest size number
-    → ((list : List ℕ) (before : List ListEntry) → BeginsWith list before rest → BeginsWith list (before ++ entry ∷ []) after)
-    → length after < length rest
-    → ((lines : List ℕ) → IsKept room lines text size → IsKept room (lines ++ line_of entry) more next)
-    → HasCounted room list more after next (number + 1)
-counted_more room list text more rest after size next number entry counted read shorter keeps = record {
-  lines = counted.lines ++ line_of entry;
-  shown = shown_more list counted.lines rest (counted.lines ++ line_of entry) after number entry counted.shown read refl shorter;
-  kept = keeps counted.lines counted.kept;
-}
 
 -- ---- what is left
 

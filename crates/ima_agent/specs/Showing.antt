@@ -1,5 +1,5 @@
 -- The registers and the events of a log and the entries of a list, as the program shows them. All of this is this project's choice.
-use Rattle.std.specs.Prelude.{◌≡◌, ℕ, ◌<◌, ◌≤◌, ◌⊎◌, List, length, flat_map, Option, Ok, Err, IsErr}
+use Rattle.std.specs.Prelude.{◌≡◌, ℕ, ◌⊎◌, List, flat_map, Option, Ok, Err, IsErr}
 use Rattle.hex.specs.Hex.{decode_of}
 use Rattle.boot_log.specs.declared.header.Row.{Row}
 use Rattle.boot_log.specs.Spelling.{LogEvent, IsLog}
@@ -21,8 +21,6 @@ use Rattle.agent_inputs.specs.Loading.{untold}
 use Rattle.judging.specs.Asking.{LogRegistersOf}
 use Rattle.judging.specs.Inputs.{BytesOf}
 use Rattle.rendering.specs.Outputs.{IsRefusalOn, IsShown}
-use Rattle.ima_agent.specs.declared.showing.Fitted.{Fitted}
-use Rattle.ima_agent.specs.declared.showing.Fitted.TheVariants.{Longer, Text}
 use Rattle.ima_agent.specs.Hexadecimal.{without_white_space}
 
 -- The text is a firmware event log in hexadecimal, and what is shown is the answer to what is asked of its bytes, in this form.
@@ -64,11 +62,6 @@ pub record ShowsList (bytes shown : List ℕ) : Type 0 where
   pub entries : List ListEntry
   pub reading : IsReading bytes (Ok entries)
   pub text_is : shown ≡ flat_map line_of entries
-
--- Of the text there is all of it, if it fits into so many bytes of room; else its size.
-abbrev pub IsFitted : ℕ → List ℕ → Fitted → Type 0
-IsFitted room text (Text all) = (all.items ≡ text) × (length text ≤ room)
-IsFitted room text (Longer size) = (size ≡ length text) × (room < size)
 
 -- The bytes are no list, and the fault is that of their reading.
 pub record IsNoList (bytes : List ℕ) (fault : RunFault) : Type 0 where

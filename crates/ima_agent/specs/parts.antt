@@ -1,4 +1,3 @@
 pub mod FaultTexts
 pub mod JsonFaults
-pub mod Showing
 pub mod Streaming

@@ -5,7 +5,6 @@
 mod escaping;
 mod explaining;
 mod hexadecimal;
-mod json_within;
 mod program;
 mod progress;
 mod requests;
@@ -33,12 +32,9 @@ pub use command_line::{
 };
 pub use escaping::escaped;
 pub use explaining::{Failure, explanation};
-pub use json_within::{FittedOutput, json_entries_within};
 pub use measuring::FileProgress;
 pub use program::{exit_code, run, run_with_progress};
 pub use progress::{NoProgress, Progress, SystemProgress};
 pub use rendering::Output;
-pub use showing::{Fitted, entries_within};
-pub use streams::json_events_on;
 pub use texts::{json_fault_line, json_memory_line, status_of, write_fault};
 pub use words::read_words;

@@ -8,11 +8,9 @@ ghost use Rattle.boot_log.specs.declared.header.Row.{Row};
 ghost use Rattle.command_line.specs.declared.plan.Form.TheVariants.{Text};
 ghost use Rattle.command_line.specs.declared.plan.Task.TheVariants as tasks;
 ghost use Rattle.ima_agent.specs.Program.{IsFaultOf, IsOutcome, IsOutputFor};
-ghost use Rattle.ima_agent.specs.Showing.{IsFitted, IsNoListFor, IsNoLogFor, IsRefusedFor, ShowsHexadecimal, ShowsList, data_of};
+ghost use Rattle.ima_agent.specs.Showing.{IsNoListFor, IsNoLogFor, IsRefusedFor, ShowsHexadecimal, ShowsList, data_of};
 ghost use Rattle.ima_agent.specs.Streaming.{Streams};
-ghost use Rattle.ima_agent.specs.parts.Showing.{HasAdded, IsKept};
 ghost use Rattle.ima_agent.specs.parts.Streaming.{ShowsPlainEventsIn, ShowsPlainEventsOf};
-ghost use Rattle.ima_list.specs.Lines.{line_of};
 
 use crate::hexadecimal::{HexFault, decode_hexadecimal};
 use crate::streaming::{DONE, StreamFault, sent_output};
@@ -26,7 +24,7 @@ use ima_list::EntryRef;
 use ima_list::laws::entries_to_the_end_are_the_reading;
 use judging::{Input, Request};
 use rendering::{Output, output_on};
-use std::alloc::{AllocError, Global};
+use std::alloc::Global;
 
 /// The registers that differ from their reset values after the log in hexadecimal on standard input, in this form.
 pub(crate) fn shown_registers<F: AgentFiles>(
@@ -167,79 +165,15 @@ fn entries_on(alloc: Global, list: &[u8]) -> Result<Vec<u8>, RunFault>
     ensures shown { IfOk result (λ shown. ShowsList list.now shown.items) }
     ensures fault { IfErr result (IsNoListFor list.now) }
 {
-    match entries_within(alloc, list, usize::MAX)? {
-        Fitted::Text(text) => Ok(text),
-        Fitted::Longer(_) => unreachable!(),
-    }
-}
-
-/// A text, if there is room for it; else its size.
-#[derive(Drop)]
-pub enum Fitted {
-    /// The text.
-    Text(Vec<u8>),
-    /// How many bytes the text has.
-    Longer(usize),
-}
-
-/// The lines of the entries of this measurement list, which are read in place: what `show` shows of a file with these bytes, here of any
-/// size. If they have more than `room` bytes, they are only counted: then no more than these and one line are in memory at once.
-///
-/// Fails with [`RunFault::List`] if the bytes are no list, and with [`RunFault::Memory`] if memory runs out.
-pub fn entries_within(alloc: Global, list: &[u8], room: usize) -> Result<Fitted, RunFault>
-    ensures shown { IfOk result (λ fitted. (shown : List ℕ) × ShowsList list.now shown × IsFitted room shown fitted) }
-    ensures fault { IfErr result (IsNoListFor list.now) }
-{
     entries_to_the_end_are_the_reading();
     let mut text = Vec::new(alloc);
-    let mut size = 0;
     let mut number = 0;
     let mut rest = list;
     while !rest.is_empty() {
         let (entry, after) = EntryRef::read(number, rest)?;
-        add_line(&entry, &mut text, &mut size, room)?;
+        entry.line(&mut text)?;
         number += 1;
         rest = after;
     }
-    Ok(as_kept(text, size))
-}
-
-/// What is kept of lines: their text, unless they are counted.
-pub(crate) fn as_kept(text: Vec<u8>, size: usize) -> Fitted
-    ensures { (room : ℕ) (lines : List ℕ) → IsKept room lines text.items size → IsFitted room lines result }
-{
-    if size == 0 {
-        return Fitted::Text(text);
-    }
-    Fitted::Longer(size)
-}
-
-// Adds the entry's line to a text that fits into the room; or, once it does not, to the size of all lines, and keeps none.
-fn add_line(
-    entry: &EntryRef,
-    text: &mut Vec<u8>,
-    size: &mut usize,
-    room: usize,
-) -> Result<(), AllocError>
-    ensures { OnOk result ((lines : List ℕ) → IsKept room lines text.old.items size.old
-        → IsKept room (lines ++ line_of entry.now) text.new.items size.new) }
-{
-    entry.line(text)?;
-    count_longer(text, size, room)
-}
-
-/// Counts lines that do not fit into the room, and keeps none of them, after a line was added to the text.
-pub(crate) fn count_longer(
-    text: &mut Vec<u8>,
-    size: &mut usize,
-    room: usize,
-) -> Result<(), AllocError>
-    ensures { OnOk result ((lines last : List ℕ) → HasAdded room lines last text.old.items size.old
-        → IsKept room (lines ++ last) text.new.items size.new) }
-{
-    if *size > 0 || text.len() > room {
-        *size = size.checked_add(text.len()).ok_or(AllocError)?;
-        text.clear();
-    }
-    Ok(())
+    Ok(text)
 }

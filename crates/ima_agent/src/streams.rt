@@ -5,4 +5,3 @@ mod events;
 
 pub(crate) use entries::entries_sent;
 pub(crate) use events::events_sent;
-pub use events::json_events_on;
