@@ -10,12 +10,6 @@
 
 #include <stdio.h>
 #include <stdlib.h>
-#include <string.h>
-
-struct file {
-    uint8_t *bytes;
-    size_t size;
-};
 
 static void fail(const char *what) {
     perror(what);
@@ -23,23 +17,23 @@ static void fail(const char *what) {
 }
 
 /* Files of securityfs do not tell their size, so the bytes are read until there are no more. */
-static struct file read_file(const char *name) {
-    struct file file = {NULL, 0};
-    size_t room = 64 * 1024;
+static struct ima_verify_bytes read_file(const char *name) {
+    uint8_t *bytes = NULL;
+    size_t size = 0, room = 64 * 1024;
     FILE *stream = fopen(name, "rb");
     if (stream == NULL)
         fail(name);
     do {
         room *= 2;
-        file.bytes = realloc(file.bytes, room);
-        if (file.bytes == NULL)
+        bytes = realloc(bytes, room);
+        if (bytes == NULL)
             fail(name);
-        file.size += fread(file.bytes + file.size, 1, room - file.size, stream);
-    } while (file.size == room);
+        size += fread(bytes + size, 1, room - size, stream);
+    } while (size == room);
     if (ferror(stream))
         fail(name);
     fclose(stream);
-    return file;
+    return (struct ima_verify_bytes){.data = bytes, .size = size};
 }
 
 int main(int count, char **words) {
@@ -47,30 +41,31 @@ int main(int count, char **words) {
         fprintf(stderr, "usage: %s LOG LIST EXPECTED REQUIRE\n", words[0]);
         return IMA_VERIFY_REFUSED;
     }
-    const uint8_t *require = (const uint8_t *)words[4];
-    size_t require_size = strlen(words[4]);
-    struct file log = read_file(words[1]), list = read_file(words[2]), expected = read_file(words[3]);
+    struct ima_verify_evidence evidence = {
+        .log = read_file(words[1]),
+        .list = read_file(words[2]),
+        .expected = read_file(words[3]),
+        .require = ima_verify_text(words[4]),
+    };
 
     /* A report has a line for each expected register, so it may be longer than this. Then the first call says how long it is. */
-    size_t room = 256, needed;
-    uint8_t *text = NULL;
-    int32_t status;
+    struct ima_verify_output report = {.room = 256};
+    enum ima_verify_result result;
     for (;;) {
-        text = realloc(text, room);
-        if (text == NULL)
+        report.data = realloc(report.data, report.room);
+        if (report.data == NULL)
             fail("the report");
-        status = ima_verify_required(log.bytes, log.size, list.bytes, list.size, expected.bytes, expected.size, require,
-                                     require_size, text, room, &needed);
-        if (status != IMA_VERIFY_TOO_SHORT)
+        result = ima_verify_verdict(&evidence, IMA_VERIFY_TEXT, &report);
+        if (result != IMA_VERIFY_TOO_SHORT)
             break;
-        room = needed;
+        report.room = report.size;
     }
 
-    if (fwrite(text, 1, needed, stdout) != needed || fflush(stdout) != 0)
+    if (fwrite(report.data, 1, report.size, stdout) != report.size || fflush(stdout) != 0)
         fail("the output");
-    free(text);
-    free(log.bytes);
-    free(list.bytes);
-    free(expected.bytes);
-    return status;
+    free(report.data);
+    free((void *)evidence.log.data);
+    free((void *)evidence.list.data);
+    free((void *)evidence.expected.data);
+    return (int)result;
 }

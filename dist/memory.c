@@ -38,13 +38,13 @@ void rattle_dealloc(void *at) {
 
 int main(int count, char **words) {
     static uint8_t log[1 << 20], text[1 << 16];
-    size_t needed = 0;
+    struct ima_verify_output registers = {.data = text, .room = sizeof text};
     FILE *stream = count == 2 ? fopen(words[1], "rb") : NULL;
     if (stream == NULL)
         return 3;
-    size_t size = fread(log, 1, sizeof log, stream);
+    struct ima_verify_bytes bytes = {log, fread(log, 1, sizeof log, stream)};
     fclose(stream);
-    int32_t status = ima_verify_registers(log, size, text, sizeof text, &needed);
-    fwrite(text, 1, needed, stdout);
-    return status != IMA_VERIFY_DONE || taken == 0 || taken != given_back;
+    enum ima_verify_result result = ima_verify_registers(IMA_VERIFY_OF_LOG, bytes, IMA_VERIFY_TEXT, &registers);
+    fwrite(text, 1, registers.size, stdout);
+    return result != IMA_VERIFY_DONE || taken == 0 || taken != given_back;
 }

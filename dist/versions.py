@@ -19,6 +19,7 @@ PLACES = (
     ("*.antt", rf"ima-agent {NUMBER}", False),
     ("*.py", rf"ima-agent {NUMBER}", False),
     ("fleet/fleet_verify/__init__.py", rf'^__version__ = "{NUMBER}"$', True),
+    ("bindings/python/ima_verify/__init__.py", rf'^__version__ = "{NUMBER}"$', True),
     ("*.md", rf"(?:ima-agent |ima-agent-|ima_verify-|bindings/go/v|\bgo get \S+@v){NUMBER}", False),
 )
 

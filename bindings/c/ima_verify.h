@@ -5,41 +5,32 @@
  * /sys/kernel/security/tpm0/binary_bios_measurements and /sys/kernel/security/ima/binary_runtime_measurements;
  * the expected registers are text, a line for each, as `sha256 10 <64 hexadecimal digits>`.
  *
- * What a function gives is the text that the program `ima-agent` prints for the command of the same name, except
- * that inputs may also be longer than 64 MiB. A function whose name ends in _json gives the lines that the
- * command prints with --json, each a JSON text and a line feed. The page formats.md has the formats, and what each
- * fault number means; ima-agent(1) has the faults, too.
+ *     struct ima_verify_evidence evidence = {
+ *         .log = {log, log_size}, .list = {list, list_size}, .expected = {text, text_size},
+ *         .require = ima_verify_text("sha256:0-10"),
+ *     };
+ *     uint8_t report[4096];
+ *     struct ima_verify_output output = {.data = report, .room = sizeof report};
+ *     if (ima_verify_verdict(&evidence, IMA_VERIFY_TEXT, &output) == IMA_VERIFY_DONE) ..
  *
- * A verdict speaks of the registers that are expected, and of no others. If no register is expected,
- * ima_verify_verdict still says `match`, and ima_verify_more `differ`; so call ima_verify_required, and say which
- * registers it must cover.
+ * What a function gives is the text that the program `ima-agent` prints for the command of the same name, or with
+ * IMA_VERIFY_JSON the lines that it prints with --json, except that inputs may also be longer than 64 MiB. The page
+ * formats.md has the formats, and what each fault number means; ima-agent(1) has the faults, too.
  *
- * A verdict is about the machine's boot only if no event of the log extends register 10 and each entry of the list
- * names register 10: look into what ima_verify_registers and ima_verify_entries_json give.
+ * A verdict speaks of the registers that are expected, and of no others: so say in `require` which registers it
+ * must cover. It is about the machine's boot only if no event of the log extends register 10 and each entry of the
+ * list names register 10: look into what ima_verify_registers and ima_verify_entries give.
  *
- * Pointers. None may be null, `out` and `needed` included, even where its size is 0: give the address of any
- * byte then. To ask for the size alone, give `out` such an address, and an `out_size` of 0. Nothing may change
- * an input during a call. Inputs may overlap each other, and calls may share them; `out` and `needed` may
- * overlap nothing else that a call is given.
- *
- * Output. The text goes to the front of `out`, without a zero byte at its end, and its size in bytes to
- * `*needed`. If it is longer than `out_size`, the function returns IMA_VERIFY_TOO_SHORT, and `out` stays as it
- * was: call again with as much room as `*needed` says. Do so in a loop, since the line of a fault may have
- * another size than what the next call gives.
+ * Pointers. One that is NULL has a size of 0; else the function returns IMA_VERIFY_MISUSED. Nothing may change an
+ * input during a call. Inputs may overlap each other, and calls may share them; outputs may overlap nothing else
+ * that a call is given.
  *
  * Memory. What a call allocates by malloc and realloc it gives back by free before it returns; if you replace
- * them, replace all three. If a call gets no memory, it returns IMA_VERIFY_OUT_OF_MEMORY with the line
- * `failed: memory`, or IMA_VERIFY_TOO_SHORT where `out` has no room for these 15 bytes. With _json the line is
- * `{"fault":{"kind":"memory","message":"failed: memory"}}`, of 55 bytes.
+ * them, replace all three. A call keeps no event of a log and no entry of a list but in the text that it gives. It
+ * takes less than 384 KiB of stack.
  *
- * A call keeps no event of a log and no entry of a list, but the text that it gives. That of
- * ima_verify_events_json grows with the log: limit the size of what comes from elsewhere (a firmware's log has
- * some 100 KB). A text of ima_verify_show or ima_verify_entries_json that is longer than `out_size` is
- * counted, and no more of it is kept than that and one entry's line. A call takes more than 64 KiB of stack:
- * give a thread at least 256 KiB.
- *
- * Threads. Nothing is kept between calls, so any number of threads may call at once, each with its own `out` and
- * `needed`. Do not call from a signal handler, nor in the forked child of a process with threads.
+ * Threads. Nothing is kept between calls, so any number of threads may call at once, each with its own outputs. Do
+ * not call from a signal handler, nor in the forked child of a process with threads.
  *
  * Link with libima_verify.a or libima_verify.so (`pkg-config --cflags --libs ima_verify`). */
 #ifndef IMA_VERIFY_H
@@ -48,204 +39,387 @@
 #include <stdbool.h>
 #include <stddef.h>
 #include <stdint.h>
+#include <string.h>
 
 #ifdef __cplusplus
 extern "C" {
 #endif
 
 /* The version of the interface that this header describes, and the release that it is of. */
-#define IMA_VERIFY_VERSION 2
+#define IMA_VERIFY_VERSION 1
 #define IMA_VERIFY_PACKAGE_VERSION "1.0.0"
 
+#if defined __GNUC__
+#define IMA_VERIFY_USE_RESULT __attribute__((warn_unused_result))
+#else
+#define IMA_VERIFY_USE_RESULT
+#endif
+
 /* What a function returns. */
-enum ima_verify_status {
+enum ima_verify_result {
     /* The text is complete. A verdict is `match`; of places, some register is expected, every value was reached,
-     * and none is missing. */
+     * and none is missing. Of entries or events, these are the last. */
     IMA_VERIFY_DONE = 0,
     /* The text is complete. A verdict is `differ`; of places, no register is expected, a value was not reached, or
      * one is missing. */
     IMA_VERIFY_DIFFERS = 1,
-    /* An input is refused; `out` has the line that says why, as `refused: log fault 1 at event 0`. It is
-     * `refused: command line` if `require` or `registers` is not of its form. With _json the line is an object
-     * whose one member is `fault`; no other line has such a member. */
+    /* An input is refused: `fault` says why, and the text is the line that says so, as
+     * `refused: log fault 1 at event 0`. As JSON it is an object whose one member is `fault`; no other line has
+     * such a member. */
     IMA_VERIFY_REFUSED = 2,
-    /* Memory ran out. */
+    /* Memory ran out: the text is the line `failed: memory`, or that as JSON. */
     IMA_VERIFY_OUT_OF_MEMORY = 3,
-    /* `out` is too short for the text; `*needed` says how long that is. (Of ima_verify_more, or `next` is.) */
-    IMA_VERIFY_TOO_SHORT = 4
+    /* There is too little room for the text, and nothing was written: `size` says how much it needs. Call again
+     * with as much room, in a loop, since the next text may have another size. */
+    IMA_VERIFY_TOO_SHORT = 4,
+    /* The text has whole lines of entries or events, and there are more: call again. */
+    IMA_VERIFY_MORE = 5,
+    /* A pointer is NULL whose size is not 0, or a form, an origin or a position is none. Nothing was read or
+     * written. */
+    IMA_VERIFY_MISUSED = 6
 };
+
+/* In which form a text is given. */
+enum ima_verify_form {
+    /* Lines of text. */
+    IMA_VERIFY_TEXT = 0,
+    /* A line of JSON (RFC 8259); of entries and events one line for each. */
+    IMA_VERIFY_JSON = 1
+};
+
+/* Why an input was refused. */
+enum ima_verify_fault_kind {
+    IMA_VERIFY_NO_FAULT = 0,
+    /* `require` or `registers` is not of its form. */
+    IMA_VERIFY_ARGUMENT = 1,
+    /* The firmware event log: its place is that of an event; the header is event 0. */
+    IMA_VERIFY_LOG = 2,
+    /* The measurement list: its place is that of an entry; the first is 0. */
+    IMA_VERIFY_LIST = 3,
+    /* An entry is not genuine: its place is that of the entry. */
+    IMA_VERIFY_REPLAY = 4,
+    /* The expected registers, or what tpm2-tools printed: its place is that of a line; the first is 1. */
+    IMA_VERIFY_EXPECTED = 5,
+    /* The checkpoint. */
+    IMA_VERIFY_CHECKPOINT = 6,
+    /* Memory ran out. */
+    IMA_VERIFY_MEMORY = 7
+};
+
+/* The place of a fault that names none. */
+#define IMA_VERIFY_NO_PLACE UINT64_MAX
+
+/* A fault. After IMA_VERIFY_REFUSED and IMA_VERIFY_OUT_OF_MEMORY it is that of the text; else there is none. */
+struct ima_verify_fault {
+    /* One of ima_verify_fault_kind. */
+    uint32_t kind;
+    /* Its number among the faults of its kind, as in formats.md; 0 where they have none. */
+    uint32_t number;
+    /* Where it is, or IMA_VERIFY_NO_PLACE. */
+    uint64_t place;
+};
+
+/* Bytes that a call reads. */
+struct ima_verify_bytes {
+    const uint8_t *data;
+    size_t size;
+};
+
+/* A text that a call gives, without a zero byte at its end. */
+struct ima_verify_output {
+    /* Where the text goes, and how many bytes have room there. */
+    uint8_t *data;
+    size_t room;
+    /* The call sets these: the size of the text, and the fault. */
+    size_t size;
+    struct ima_verify_fault fault;
+};
+
+/* What a list is judged by. */
+struct ima_verify_evidence {
+    /* The firmware event log. */
+    struct ima_verify_bytes log;
+    /* The measurement list. */
+    struct ima_verify_bytes list;
+    /* The text of expected registers. */
+    struct ima_verify_bytes expected;
+    /* The registers that must be among them, as `sha256:0-10` or `sha256:0-7,sha1:10`: each that is not has a row,
+     * as `sha256 4 missing`, and then the verdict is `differ`. The word `none` (ima_verify_none) requires no
+     * register; without bytes it is refused. */
+    struct ima_verify_bytes require;
+};
+
+/* The bytes of a text that ends with a zero byte, without that. */
+static inline struct ima_verify_bytes ima_verify_text(const char *text) {
+    struct ima_verify_bytes bytes = {(const uint8_t *)text, strlen(text)};
+    return bytes;
+}
+
+/* For `require`: no register has to be among the expected ones. A verdict of ima_verify_verdict, and of no other
+ * function, may then be `match` though none is expected. */
+static inline struct ima_verify_bytes ima_verify_none(void) {
+    return ima_verify_text("none");
+}
 
 /* The version of the library's interface. A library whose version is that of this header, or later, has all
  * functions below. */
 uint32_t ima_verify_version(void);
 
-/* The verdict on a firmware event log, a measurement list and the expected registers that a text states.
- * IMA_VERIFY_DONE if the boot aggregate is good and each expected register has its value, else
- * IMA_VERIFY_DIFFERS; `out` has the report. The first fault is reported, in this order: the text of expected
- * registers, the log, the list, whether each entry is genuine. */
-int32_t ima_verify_verdict(const uint8_t *log, size_t log_size, const uint8_t *list, size_t list_size,
-                           const uint8_t *expected, size_t expected_size, uint8_t *out, size_t out_size,
-                           size_t *needed);
+/* ---- what the library exports: bytes as pairs of a pointer that is not NULL and a size. The functions further
+ * down call these, and are what a program in C uses. `json` asks for JSON; `told` is set in any case. */
 
-/* The same, where `require` is a text that names the registers which must be among the expected ones, as
- * `sha256:0-10` or `sha256:0-7,sha1:10`: at least one. Each that is not has a row, as `sha256 4 missing`, and
- * then the verdict is `differ`; IMA_VERIFY_DONE says that each register of `require` has its value. The report
- * also says how many registers were compared. A wrong `require` is refused before all else. */
-int32_t ima_verify_required(const uint8_t *log, size_t log_size, const uint8_t *list, size_t list_size,
-                            const uint8_t *expected, size_t expected_size, const uint8_t *require,
-                            size_t require_size, uint8_t *out, size_t out_size, size_t *needed);
+struct ima_verify_told {
+    size_t size;
+    uint32_t fault_kind;
+    uint32_t fault_number;
+    uint64_t fault_place;
+};
 
-/* Where each expected register first has its value, as `sha256 10 after entry 98`. IMA_VERIFY_DONE if a
- * register is expected and every value was reached, else IMA_VERIFY_DIFFERS; `out` has the places. Inputs and
- * refusals are those of ima_verify_verdict. */
-int32_t ima_verify_locate(const uint8_t *log, size_t log_size, const uint8_t *list, size_t list_size,
-                          const uint8_t *expected, size_t expected_size, uint8_t *out, size_t out_size,
-                          size_t *needed);
+int32_t ima_verify_raw_verdict(const uint8_t *log, size_t log_size, const uint8_t *list, size_t list_size,
+                               const uint8_t *expected, size_t expected_size, const uint8_t *require,
+                               size_t require_size, bool json, uint8_t *out, size_t room,
+                               struct ima_verify_told *told);
+int32_t ima_verify_raw_locate(const uint8_t *log, size_t log_size, const uint8_t *list, size_t list_size,
+                              const uint8_t *expected, size_t expected_size, const uint8_t *require,
+                              size_t require_size, bool json, uint8_t *out, size_t room,
+                              struct ima_verify_told *told);
+int32_t ima_verify_raw_replay(const uint8_t *list, size_t list_size, const uint8_t *expected,
+                              size_t expected_size, const uint8_t *require, size_t require_size, bool json,
+                              uint8_t *out, size_t room, struct ima_verify_told *told);
+int32_t ima_verify_raw_more(const uint8_t *log, size_t log_size, const uint8_t *state, size_t state_size,
+                            const uint8_t *more, size_t more_size, const uint8_t *expected,
+                            size_t expected_size, const uint8_t *require, size_t require_size, bool prefix,
+                            bool json, uint8_t *next, size_t next_room, size_t *next_size, uint8_t *out,
+                            size_t room, struct ima_verify_told *told);
+int32_t ima_verify_raw_expected(const uint8_t *printed, size_t printed_size, const uint8_t *registers,
+                                size_t registers_size, bool json, uint8_t *out, size_t room,
+                                struct ima_verify_told *told);
+int32_t ima_verify_raw_registers(const uint8_t *bytes, size_t size, bool of_list, bool json, uint8_t *out,
+                                 size_t room, struct ima_verify_told *told);
+int32_t ima_verify_raw_events(const uint8_t *log, size_t log_size, size_t *offset, size_t *number, uint8_t *out,
+                              size_t room, struct ima_verify_told *told);
+int32_t ima_verify_raw_entries(const uint8_t *list, size_t list_size, size_t *offset, size_t *number, bool json,
+                               uint8_t *out, size_t room, struct ima_verify_told *told);
 
-/* The same, where `require` is as in ima_verify_required; IMA_VERIFY_DONE also says that no register is
- * missing. */
-int32_t ima_verify_locate_required(const uint8_t *log, size_t log_size, const uint8_t *list, size_t list_size,
-                                   const uint8_t *expected, size_t expected_size, const uint8_t *require,
-                                   size_t require_size, uint8_t *out, size_t out_size, size_t *needed);
+/* ---- the functions */
 
-/* The verdict on a measurement list without a log, and the expected registers that a text states: the list is
- * replayed into banks of all algorithms from their registers' reset values, so a register that the firmware
- * extends too differs. `require` is as in ima_verify_required. IMA_VERIFY_DONE if the list has an entry, each
- * expected register has its value and none is missing, else IMA_VERIFY_DIFFERS; `out` has the report that
- * `replay` prints. The first fault is reported, in this order: `require`, the text of expected registers, the
- * list, whether each entry is genuine. */
-int32_t ima_verify_replay_required(const uint8_t *list, size_t list_size, const uint8_t *expected,
-                                   size_t expected_size, const uint8_t *require, size_t require_size,
-                                   uint8_t *out, size_t out_size, size_t *needed);
+/* Bytes for the library, which takes no NULL; and whether the caller may give these. */
+static inline const uint8_t *ima_verify_data(struct ima_verify_bytes bytes) {
+    return bytes.data ? bytes.data : (const uint8_t *)"";
+}
 
-/* The lines of expected registers that a text which tpm2_pcrread or tpm2_checkquote printed states, of the
- * registers in a range, as `0-10` or `4`, or of all if `registers_size` is 0; at least one, else the text is
- * refused. A wrong range is refused before the text. Nothing says who wrote the text, nor whether a quote holds:
+static inline bool ima_verify_is_given(struct ima_verify_bytes bytes) {
+    return bytes.data || !bytes.size;
+}
+
+static inline bool ima_verify_is_output(enum ima_verify_form form, const struct ima_verify_output *output) {
+    return output && (output->data || !output->room) && (form == IMA_VERIFY_TEXT || form == IMA_VERIFY_JSON);
+}
+
+static inline bool ima_verify_is_evidence(const struct ima_verify_evidence *evidence) {
+    return evidence && ima_verify_is_given(evidence->log) && ima_verify_is_given(evidence->list)
+           && ima_verify_is_given(evidence->expected) && ima_verify_is_given(evidence->require);
+}
+
+static inline uint8_t *ima_verify_room(struct ima_verify_output *output, uint8_t *none) {
+    return output->data ? output->data : none;
+}
+
+static inline enum ima_verify_result ima_verify_tell(struct ima_verify_output *output, int32_t result,
+                                                     const struct ima_verify_told *told) {
+    output->size = told->size;
+    output->fault.kind = told->fault_kind;
+    output->fault.number = told->fault_number;
+    output->fault.place = told->fault_place;
+    return (enum ima_verify_result)result;
+}
+
+/* The verdict on a log, a list and expected registers. IMA_VERIFY_DONE if the boot aggregate is good, each expected
+ * register has its value and none of `require` is missing, else IMA_VERIFY_DIFFERS; the text is the report. The
+ * first fault is reported, in this order: `require`, the expected registers, the log, the list, whether each entry
+ * is genuine. */
+IMA_VERIFY_USE_RESULT static inline enum ima_verify_result
+ima_verify_verdict(const struct ima_verify_evidence *evidence, enum ima_verify_form form,
+                   struct ima_verify_output *output) {
+    uint8_t none;
+    struct ima_verify_told told;
+    if (!ima_verify_is_evidence(evidence) || !ima_verify_is_output(form, output)) return IMA_VERIFY_MISUSED;
+    return ima_verify_tell(
+        output,
+        ima_verify_raw_verdict(ima_verify_data(evidence->log), evidence->log.size, ima_verify_data(evidence->list),
+                               evidence->list.size, ima_verify_data(evidence->expected), evidence->expected.size,
+                               ima_verify_data(evidence->require), evidence->require.size,
+                               form == IMA_VERIFY_JSON, ima_verify_room(output, &none), output->room, &told),
+        &told);
+}
+
+/* Where each expected register first has its value, as `sha256 10 after entry 98`. IMA_VERIFY_DONE if a register is
+ * expected, every value was reached and none of `require` is missing, else IMA_VERIFY_DIFFERS; the text has the
+ * places. Faults are those of ima_verify_verdict. */
+IMA_VERIFY_USE_RESULT static inline enum ima_verify_result
+ima_verify_locate(const struct ima_verify_evidence *evidence, enum ima_verify_form form,
+                  struct ima_verify_output *output) {
+    uint8_t none;
+    struct ima_verify_told told;
+    if (!ima_verify_is_evidence(evidence) || !ima_verify_is_output(form, output)) return IMA_VERIFY_MISUSED;
+    return ima_verify_tell(
+        output,
+        ima_verify_raw_locate(ima_verify_data(evidence->log), evidence->log.size, ima_verify_data(evidence->list),
+                              evidence->list.size, ima_verify_data(evidence->expected), evidence->expected.size,
+                              ima_verify_data(evidence->require), evidence->require.size, form == IMA_VERIFY_JSON,
+                              ima_verify_room(output, &none), output->room, &told),
+        &told);
+}
+
+/* The verdict on a list alone: it is replayed into banks of all algorithms from their registers' reset values, so a
+ * register that the firmware extends too differs. The log is not looked at. IMA_VERIFY_DONE if the list has an
+ * entry, some register is expected, each has its value and none of `require` is missing, else IMA_VERIFY_DIFFERS;
+ * the text is the report. The first fault is reported, in this order: `require`, the expected registers, the list,
+ * whether each entry is genuine. */
+IMA_VERIFY_USE_RESULT static inline enum ima_verify_result
+ima_verify_replay(const struct ima_verify_evidence *evidence, enum ima_verify_form form,
+                  struct ima_verify_output *output) {
+    uint8_t none;
+    struct ima_verify_told told;
+    if (!ima_verify_is_evidence(evidence) || !ima_verify_is_output(form, output)) return IMA_VERIFY_MISUSED;
+    return ima_verify_tell(
+        output,
+        ima_verify_raw_replay(ima_verify_data(evidence->list), evidence->list.size,
+                              ima_verify_data(evidence->expected), evidence->expected.size,
+                              ima_verify_data(evidence->require), evidence->require.size, form == IMA_VERIFY_JSON,
+                              ima_verify_room(output, &none), output->room, &told),
+        &told);
+}
+
+/* The verdict on a list that grows, and in `next` where to go on from the next time.
+ *
+ * Without bytes in `state`, the list is that from its beginning. Else `state` is a checkpoint that an earlier call
+ * gave, and the list has the bytes after what that checkpoint is of. The verdict is on the whole list, and faults
+ * number its entries from the first. If no register is expected, the verdict is `differ`. With `prefix` the report
+ * is on the confirmed front, if there is one: the list's shortest front, no shorter than what the checkpoint is of,
+ * whose entries are genuine and on which the verdict is `match`. What comes after it is not refused, and the report
+ * says how many entries it has.
+ *
+ * After IMA_VERIFY_DONE `next` has the checkpoint of what the report is on, the whole list or the confirmed front:
+ * less than 20000 bytes. If one of both outputs has too little room, the function returns IMA_VERIFY_TOO_SHORT,
+ * tells both sizes, and writes to neither. With any other result there is no checkpoint: its size is 0, and the bytes
+ * of `next` stay as they were. Keep the checkpoint that you have until a call has given the next one.
+ *
+ * The first fault is reported, in this order: `require`, the expected registers, the text of the checkpoint
+ * (`refused: checkpoint fault 1` or `2`), the log, whether the checkpoint is of this boot (`refused: checkpoint fault
+ * 3`), the list, whether each entry is genuine. (If 64 MiB would not fit between the list and 2^63 bytes, it is
+ * IMA_VERIFY_OUT_OF_MEMORY.) A checkpoint is trusted: who can write it can choose the verdict. Give only what this
+ * function gave. */
+IMA_VERIFY_USE_RESULT static inline enum ima_verify_result
+ima_verify_more(const struct ima_verify_evidence *evidence, struct ima_verify_bytes state, bool prefix,
+                enum ima_verify_form form, struct ima_verify_output *next, struct ima_verify_output *output) {
+    uint8_t none, none_next;
+    struct ima_verify_told told, told_next = {0, IMA_VERIFY_NO_FAULT, 0, IMA_VERIFY_NO_PLACE};
+    int32_t result;
+    if (!ima_verify_is_evidence(evidence) || !ima_verify_is_given(state) || !ima_verify_is_output(form, next)
+        || !ima_verify_is_output(form, output))
+        return IMA_VERIFY_MISUSED;
+    result = ima_verify_raw_more(
+        ima_verify_data(evidence->log), evidence->log.size, ima_verify_data(state), state.size,
+        ima_verify_data(evidence->list), evidence->list.size, ima_verify_data(evidence->expected),
+        evidence->expected.size, ima_verify_data(evidence->require), evidence->require.size, prefix,
+        form == IMA_VERIFY_JSON, ima_verify_room(next, &none_next), next->room, &told_next.size,
+        ima_verify_room(output, &none), output->room, &told);
+    (void)ima_verify_tell(next, result, &told_next);
+    return ima_verify_tell(output, result, &told);
+}
+
+/* The expected registers that a text which tpm2_pcrread or tpm2_checkquote printed states, of those in the range
+ * that `registers` spells, as `0-10` or `4`, or of all without bytes; at least one, else the text is refused. A
+ * wrong range is refused before the text. Nothing says who wrote the text, nor whether a quote holds:
  * tpm2_checkquote prints the same of one that it refuses. */
-int32_t ima_verify_expected(const uint8_t *printed, size_t printed_size, const uint8_t *registers,
-                            size_t registers_size, uint8_t *out, size_t out_size, size_t *needed);
+IMA_VERIFY_USE_RESULT static inline enum ima_verify_result
+ima_verify_expected(struct ima_verify_bytes printed, struct ima_verify_bytes registers, enum ima_verify_form form,
+                    struct ima_verify_output *output) {
+    uint8_t none;
+    struct ima_verify_told told;
+    if (!ima_verify_is_given(printed) || !ima_verify_is_given(registers) || !ima_verify_is_output(form, output))
+        return IMA_VERIFY_MISUSED;
+    return ima_verify_tell(output,
+                           ima_verify_raw_expected(ima_verify_data(printed), printed.size,
+                                                   ima_verify_data(registers), registers.size,
+                                                   form == IMA_VERIFY_JSON, ima_verify_room(output, &none),
+                                                   output->room, &told),
+                           &told);
+}
 
-/* The registers that differ from their reset values after a firmware event log, as lines of expected
+/* Of what registers are given. */
+enum ima_verify_origin {
+    /* After a firmware event log. */
+    IMA_VERIFY_OF_LOG = 0,
+    /* After a measurement list without a log, from the reset values of all registers. It is no verdict. */
+    IMA_VERIFY_OF_LIST = 1
+};
+
+/* The registers that differ from their reset values after a log, or after a list alone, as lines of expected
  * registers. */
-int32_t ima_verify_registers(const uint8_t *log, size_t log_size, uint8_t *out, size_t out_size, size_t *needed);
+IMA_VERIFY_USE_RESULT static inline enum ima_verify_result
+ima_verify_registers(enum ima_verify_origin origin, struct ima_verify_bytes bytes, enum ima_verify_form form,
+                     struct ima_verify_output *output) {
+    uint8_t none;
+    struct ima_verify_told told;
+    if ((origin != IMA_VERIFY_OF_LOG && origin != IMA_VERIFY_OF_LIST) || !ima_verify_is_given(bytes)
+        || !ima_verify_is_output(form, output))
+        return IMA_VERIFY_MISUSED;
+    return ima_verify_tell(output,
+                           ima_verify_raw_registers(ima_verify_data(bytes), bytes.size,
+                                                    origin == IMA_VERIFY_OF_LIST, form == IMA_VERIFY_JSON,
+                                                    ima_verify_room(output, &none), output->room, &told),
+                           &told);
+}
 
-/* The entries of a measurement list, each in the kernel's form. Paths stand as they are: they may have line
- * feeds and control bytes. */
-int32_t ima_verify_show(const uint8_t *list, size_t list_size, uint8_t *out, size_t out_size, size_t *needed);
+/* Where lines of entries or events go on: {0, 0} at first, and then what the last call set. Any other is not
+ * looked into: what comes then says nothing of the bytes. */
+struct ima_verify_position {
+    /* How many bytes come before it, and how many entries or events. */
+    size_t offset;
+    size_t number;
+};
 
-/* The verdict on a list that grows: the report that `verify` prints, and where to go on from the next time.
- *
- * With a `state_size` of 0, `more` is the list from its beginning. Else `state` is a checkpoint that an earlier
- * call gave, and `more` are the list's bytes from there on: those after what that checkpoint is of. The verdict
- * is on the whole list, and faults number its entries from the first. `require` is as in ima_verify_required; the
- * word `none` requires nothing, and an empty one is refused. If no register is expected, the verdict is `differ`.
- * With `prefix` the report is on the confirmed front, if there is one: the list's shortest front, no shorter than
- * what the checkpoint is of, whose entries are genuine and on which the verdict is `match`. What comes after it is
- * not refused, and the report says how many entries it has.
- *
- * After IMA_VERIFY_DONE `next` has the checkpoint of what the report is on, the whole list or the confirmed front,
- * and `*next_needed` is its size, less than 20000 bytes. If `next` or `out` has too little room for its text, the
- * function returns IMA_VERIFY_TOO_SHORT, tells both sizes, and writes to neither. With any other status there is
- * no checkpoint: `*next_needed` is 0, and `next` stays as it was. Keep the checkpoint that you have until a call
- * has given the next one. `next` and `next_needed` are as `out` and `needed`: they may overlap nothing else that
- * the call is given, so `state` neither.
- *
- * The first fault is reported, in this order: `require`, the text of expected registers, the text of the
- * checkpoint (`refused: checkpoint fault 1` or `2`), the log, whether the checkpoint is of this boot
- * (`refused: checkpoint fault 3`), the list, whether each entry is genuine. (If 64 MiB would not fit between the
- * list and 2^63 bytes, it is IMA_VERIFY_OUT_OF_MEMORY.) A checkpoint is trusted: who can write it can choose the
- * verdict. Give only what this function gave. */
-int32_t ima_verify_more(const uint8_t *log, size_t log_size, const uint8_t *state, size_t state_size,
-                        const uint8_t *more, size_t more_size, const uint8_t *expected, size_t expected_size,
-                        const uint8_t *require, size_t require_size, bool prefix, uint8_t *next,
-                        size_t next_size, size_t *next_needed, uint8_t *out, size_t out_size, size_t *needed);
+/* The entries of a list from this position on, as many whole lines as there is room for: as text in the kernel's
+ * form, in which paths stand as they are and may have line feeds and control bytes, or as JSON, in which `genuine`
+ * is a member. The position is set to where the next call goes on. IMA_VERIFY_MORE if there are more bytes, and
+ * IMA_VERIFY_DONE at the end. The line of a fault comes by a call of its own, after the lines before it, with
+ * IMA_VERIFY_REFUSED. With IMA_VERIFY_TOO_SHORT `size` is that of one line. */
+IMA_VERIFY_USE_RESULT static inline enum ima_verify_result
+ima_verify_entries(struct ima_verify_bytes list, struct ima_verify_position *position, enum ima_verify_form form,
+                   struct ima_verify_output *output) {
+    uint8_t none;
+    struct ima_verify_told told;
+    if (!ima_verify_is_given(list) || !position || position->offset > list.size
+        || !ima_verify_is_output(form, output))
+        return IMA_VERIFY_MISUSED;
+    return ima_verify_tell(output,
+                           ima_verify_raw_entries(ima_verify_data(list), list.size, &position->offset,
+                                                  &position->number, form == IMA_VERIFY_JSON,
+                                                  ima_verify_room(output, &none), output->room, &told),
+                           &told);
+}
 
-/* The verdict of ima_verify_verdict as a line of JSON, with its statuses and refusals. */
-int32_t ima_verify_verdict_json(const uint8_t *log, size_t log_size, const uint8_t *list, size_t list_size,
-                                const uint8_t *expected, size_t expected_size, uint8_t *out, size_t out_size,
-                                size_t *needed);
-
-/* The verdict of ima_verify_required as a line of JSON, with its statuses and refusals. */
-int32_t ima_verify_required_json(const uint8_t *log, size_t log_size, const uint8_t *list, size_t list_size,
-                                 const uint8_t *expected, size_t expected_size, const uint8_t *require,
-                                 size_t require_size, uint8_t *out, size_t out_size, size_t *needed);
-
-/* The places of ima_verify_locate as a line of JSON, with its statuses and refusals. */
-int32_t ima_verify_locate_json(const uint8_t *log, size_t log_size, const uint8_t *list, size_t list_size,
-                               const uint8_t *expected, size_t expected_size, uint8_t *out, size_t out_size,
-                               size_t *needed);
-
-/* The places of ima_verify_locate_required as a line of JSON, with its statuses and refusals. */
-int32_t ima_verify_locate_required_json(const uint8_t *log, size_t log_size, const uint8_t *list,
-                                        size_t list_size, const uint8_t *expected, size_t expected_size,
-                                        const uint8_t *require, size_t require_size, uint8_t *out,
-                                        size_t out_size, size_t *needed);
-
-/* The verdict of ima_verify_replay_required as a line of JSON, with its statuses and refusals. */
-int32_t ima_verify_replay_required_json(const uint8_t *list, size_t list_size, const uint8_t *expected,
-                                        size_t expected_size, const uint8_t *require, size_t require_size,
-                                        uint8_t *out, size_t out_size, size_t *needed);
-
-/* The verdict of ima_verify_more as a line of JSON, with its statuses, checkpoints and refusals. */
-int32_t ima_verify_more_json(const uint8_t *log, size_t log_size, const uint8_t *state, size_t state_size,
-                             const uint8_t *more, size_t more_size, const uint8_t *expected,
-                             size_t expected_size, const uint8_t *require, size_t require_size, bool prefix,
-                             uint8_t *next, size_t next_size, size_t *next_needed, uint8_t *out, size_t out_size,
-                             size_t *needed);
-
-/* The registers that differ from their reset values after a measurement list without a log, as a line of JSON:
- * what `replay --json` prints of a list alone. It is no verdict. The list is replayed as by
- * ima_verify_replay_required, and refused as there. */
-int32_t ima_verify_replay_json(const uint8_t *list, size_t list_size, uint8_t *out, size_t out_size,
-                               size_t *needed);
-
-/* The registers of ima_verify_registers as a line of JSON. */
-int32_t ima_verify_registers_json(const uint8_t *log, size_t log_size, uint8_t *out, size_t out_size,
-                                  size_t *needed);
-
-/* The algorithms that a firmware event log declares, and then its events, each as a line of JSON: what
- * `events --json` prints. Of a damaged log the text has the lines before the fault, and then the fault's, and
- * the function returns IMA_VERIFY_REFUSED. The whole text is in memory, also where `out_size` is 0: two to seven
- * bytes for each byte of the log, and up to three times that while it grows. If memory runs out, the text is
- * that fault's line alone. */
-int32_t ima_verify_events_json(const uint8_t *log, size_t log_size, uint8_t *out, size_t out_size,
-                               size_t *needed);
-
-/* The entries of a measurement list, each as a line of JSON: what `show --json` prints. Whether an entry is
- * genuine is one of its members, and refuses nothing. Of a damaged list the text has the entries before the
- * fault, and then the fault's line, and the function returns IMA_VERIFY_REFUSED: so what it returns says whether
- * the list is whole. If memory runs out, the text is that fault's line alone. */
-int32_t ima_verify_entries_json(const uint8_t *list, size_t list_size, uint8_t *out, size_t out_size,
-                                size_t *needed);
+/* The algorithms that a log declares, and its events with their data, each as a line of JSON, from this position on,
+ * as ima_verify_entries gives entries. */
+IMA_VERIFY_USE_RESULT static inline enum ima_verify_result
+ima_verify_events(struct ima_verify_bytes log, struct ima_verify_position *position,
+                  struct ima_verify_output *output) {
+    uint8_t none;
+    struct ima_verify_told told;
+    if (!ima_verify_is_given(log) || !position || position->offset > log.size
+        || !ima_verify_is_output(IMA_VERIFY_JSON, output))
+        return IMA_VERIFY_MISUSED;
+    return ima_verify_tell(output,
+                           ima_verify_raw_events(ima_verify_data(log), log.size, &position->offset,
+                                                 &position->number, ima_verify_room(output, &none), output->room,
+                                                 &told),
+                           &told);
+}
 
 #ifdef __cplusplus
 }
-#endif
-
-/* The names that version 1 and drafts of version 2 had. Version 3 will not have them; nor has this header, if
- * IMA_VERIFY_NO_OLD_NAMES is defined before it. */
-#ifndef IMA_VERIFY_NO_OLD_NAMES
-#define ima_status ima_verify_status
-#define IMA_DONE IMA_VERIFY_DONE
-#define IMA_DIFFERS IMA_VERIFY_DIFFERS
-#define IMA_REFUSED IMA_VERIFY_REFUSED
-#define IMA_OUT_OF_MEMORY IMA_VERIFY_OUT_OF_MEMORY
-#define IMA_TOO_SHORT IMA_VERIFY_TOO_SHORT
-#define ima_verify ima_verify_verdict
-#define ima_verify_json ima_verify_verdict_json
-#define ima_locate ima_verify_locate
-#define ima_locate_json ima_verify_locate_json
-#define ima_locate_required ima_verify_locate_required
-#define ima_locate_required_json ima_verify_locate_required_json
-#define ima_replay_json ima_verify_replay_json
-#define ima_replay_required ima_verify_replay_required
-#define ima_replay_required_json ima_verify_replay_required_json
-#define ima_expected ima_verify_expected
-#define ima_registers ima_verify_registers
-#define ima_registers_json ima_verify_registers_json
-#define ima_show ima_verify_show
-#define ima_entries_json ima_verify_entries_json
-#define ima_events_json ima_verify_events_json
 #endif
 
 #endif

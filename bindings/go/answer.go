@@ -3,89 +3,68 @@ package imaverify
 import (
 	"bytes"
 	"fmt"
-	"io"
 	"math"
-	"regexp"
-	"strconv"
+	"strings"
 )
 
 const (
-	unset    = math.MaxUint64
+	// The first buffer for a text. (Four banks have 96 PCRs, and no row has more than 256 bytes; a checkpoint has less than
+	// 20000.)
+	room = 64 * 1024
+	// The longest buffer that is tried.
 	mostRoom = 1 << 40
 )
 
-// An answer of the library, and the text that it gave. The methods read the text, and give an *UnexpectedError unless it is as
-// docs/formats.md has it.
+// answer is what the library gives to a call: a result, a text, what it reports of an error, and a next checkpoint. The
+// methods read the text, and give an *UnexpectedError unless it is as docs/formats.md says.
 type answer struct {
-	status int32
-	text   []byte
+	result     int32
+	told       told
+	next, text []byte
 }
 
-// Calls the library with room for a text of this size, and once more if that is too short. The answer is a result or a refusal.
-func ask(room int, call func(out []byte, needed *length) int32) (answer, error) {
-	given, _, err := askForTexts([]int{room}, func(outs [][]byte, needed []length) int32 { return call(outs[0], &needed[0]) })
-	return given, err
+// ask calls the library with a buffer for a text, and with a longer one while that is too short.
+func ask(out []byte, call func(out []byte) (int32, told)) (answer, error) {
+	return askForBoth(nil, out, func(_, out []byte) (int32, uint64, told) {
+		result, given := call(out)
+		return result, 0, given
+	})
 }
 
-// Calls the library with room for texts of these sizes, and once more if one is too short. The last text is the answer's, which is a result
-// or a refusal.
-func askForTexts(rooms []int, call func(outs [][]byte, needed []length) int32) (answer, [][]byte, error) {
+// askForBoth calls the library with buffers for a next checkpoint, whose size the call gives, and for a text.
+func askForBoth(next, out []byte, call func(next, out []byte) (int32, uint64, told)) (answer, error) {
 	if found := libraryVersion(); found < headerVersion {
 		err := fmt.Errorf("libima_verify has version %d of the interface, and %d or later is needed", found, headerVersion)
-		return answer{}, nil, err
+		return answer{}, err
 	}
-	outs, needed := buffers(rooms)
-	status := call(outs, needed)
-	if enough, canBe := enoughFor(needed, rooms); status == tooShort && canBe {
-		outs, needed = buffers(enough)
-		status = call(outs, needed)
-	}
-	for k, size := range needed {
-		if size > length(len(outs[k])) {
-			return answer{}, nil, &UnexpectedError{status, uint64(size), nil}
+	for {
+		result, nextSize, given := call(next, out)
+		if result == tooShort {
+			longerNext, isNextLonger := lengthened(next, nextSize)
+			longerOut, isOutLonger := lengthened(out, given.size)
+			if isNextLonger || isOutLonger {
+				next, out = longerNext, longerOut
+				continue
+			}
 		}
-		outs[k] = outs[k][:size]
-	}
-	given := answer{status, outs[len(outs)-1]}
-	switch status {
-	case done, differs, refused:
-		return given, outs, nil
-	case outOfMemory:
-		if len(given.text) == 0 || faultIn(given.text[given.lastLine():]) == ErrOutOfMemory {
-			return answer{}, nil, ErrOutOfMemory
+		if given.size > uint64(len(out)) || nextSize > uint64(len(next)) {
+			return answer{}, &UnexpectedError{Result: result, Size: given.size}
 		}
+		return answer{result, given, next[:nextSize], out[:given.size]}.accepted()
 	}
-	return answer{}, nil, given.unexpected()
 }
 
-func buffers(rooms []int) ([][]byte, []length) {
-	outs, needed := make([][]byte, len(rooms)), make([]length, len(rooms))
-	for k, room := range rooms {
-		outs[k], needed[k] = make([]byte, room), unset
+// lengthened is a buffer for a text of this size, and whether it is a new one.
+func lengthened(buffer []byte, size uint64) ([]byte, bool) {
+	if size <= uint64(len(buffer)) || size > mostRoom {
+		return buffer, false
 	}
-	return outs, needed
+	return make([]byte, size), true
 }
 
-// Rooms that are enough for texts of these sizes, and whether some are needed that can be had.
-func enoughFor(needed []length, rooms []int) ([]int, bool) {
-	enough, isMore := append([]int(nil), rooms...), false
-	for k, size := range needed {
-		if size > mostRoom {
-			return nil, false
-		}
-		if size > length(rooms[k]) {
-			enough[k], isMore = int(size), true
-		}
-	}
-	return enough, isMore
-}
-
-// What is read from the answer to a call, if it is no refusal. Of a call that requests registers, that may be malformed.
-func askFor[T any](read func(a answer) (T, error), room int, requests bool, call func(out []byte, needed *length) int32) (T, error) {
-	given, err := ask(room, call)
-	if err == nil {
-		err = given.refusal(requests)
-	}
+// askFor reads a result from the answer to a call.
+func askFor[T any](read func(a answer) (T, error), call func(out []byte) (int32, told)) (T, error) {
+	given, err := ask(make([]byte, room), call)
 	if err != nil {
 		var none T
 		return none, err
@@ -93,37 +72,72 @@ func askFor[T any](read func(a answer) (T, error), room int, requests bool, call
 	return read(given)
 }
 
+// accepted gives the answer, or the error that it reports.
+func (a answer) accepted() (answer, error) {
+	switch a.result {
+	case done, differs, moreLines:
+		if a.told.kind == noKind {
+			return a, nil
+		}
+	case refused:
+		kind, isKind := kinds[a.told.kind]
+		if line, isLine := faultLine(a.text); isKind && isLine {
+			return answer{}, refusal(line, kind, a.told)
+		}
+	case outOfMemory:
+		if a.told.kind == memoryKind {
+			return answer{}, ErrOutOfMemory
+		}
+	}
+	return answer{}, a.unexpected()
+}
+
+func refusal(line string, kind Kind, given told) *RefusedError {
+	err := &RefusedError{Line: line, Kind: kind, Number: uint64(given.number), HasPlace: given.place != noPlace}
+	if err.HasPlace {
+		err.Place = given.place
+	}
+	return err
+}
+
+// faultLine is the line that a refusal's text is, or that its JSON has, and whether there is one.
+func faultLine(text []byte) (string, bool) {
+	line := string(bytes.TrimSuffix(text, []byte("\n")))
+	isLine := len(line) == len(text)-1 && !strings.Contains(line, "\n")
+	if isLine && strings.HasPrefix(line, "{") {
+		var r reader
+		line = member[string](&r, member[object](&r, r.object(text), "fault"), "message")
+		isLine = !r.wrong
+	}
+	return line, isLine && strings.HasPrefix(line, "refused: ")
+}
+
 func (a answer) unexpected() error {
-	return &UnexpectedError{a.status, uint64(len(a.text)), a.text}
+	return &UnexpectedError{a.result, uint64(len(a.text)), a.text}
 }
 
-// Where the last line starts.
-func (a answer) lastLine() int {
-	return bytes.LastIndexByte(bytes.TrimSuffix(a.text, []byte("\n")), '\n') + 1
-}
-
-// What is read from an answer of one line, which states no fault.
+// read reads a value from an answer of one line, which has no error.
 func read[T any](a answer, from func(r *reader, o object) T) (T, error) {
-	return readLine(a.status, a.text, from)
+	return readLine(a.result, a.text, from)
 }
 
-func readLine[T any](status int32, line []byte, from func(r *reader, o object) T) (T, error) {
+func readLine[T any](result int32, line []byte, from func(r *reader, o object) T) (T, error) {
 	var r reader
 	o := r.object(line)
 	value := from(&r, o)
 	if r.wrong || has(o, "fault") {
 		var none T
-		return none, answer{status, line}.unexpected()
+		return none, &UnexpectedError{result, uint64(len(line)), line}
 	}
 	return value, nil
 }
 
-// The line of an answer that is one.
+// line is the text of an answer of one line.
 func (a answer) line() string {
 	return string(bytes.TrimSuffix(a.text, []byte("\n")))
 }
 
-// The verdict on a whole list. On no registers it is no match, though the report says that it is.
+// verdict reads the verdict on a whole list. One on no PCRs is no match, though the report says that it is.
 func (a answer) verdict() (Verdict, error) {
 	return read(a, func(r *reader, o object) Verdict {
 		v := a.verdictIn(r, o, true)
@@ -132,26 +146,26 @@ func (a answer) verdict() (Verdict, error) {
 	})
 }
 
-// The verdict of a report, where one on no registers may say that it is a match, or may not.
+// verdictIn reads a report, where one on no PCRs may say that it is a match, or may not.
 func (a answer) verdictIn(r *reader, o object, mayMatchNothing bool) Verdict {
 	v := Verdict{Events: r.number(o, "events", math.MaxUint64), Locality: uint8(r.number(o, "locality", math.MaxUint8)),
 		Entries: r.number(o, "entries", math.MaxUint64), Rows: r.rows(o), JSON: a.line()}
 	v.BootAggregate = oneOf(r, o, "boot_aggregate", BootAggregateGood, BootAggregateWrong, BootAggregateNoBank, BootAggregateMissing)
 	isGood := v.BootAggregate == BootAggregateGood && (len(v.Rows) > 0 || mayMatchNothing)
-	v.Matches = r.matches(a.status, o, v.Rows, isGood) && len(v.Rows) > 0
-	v.Confirmed, v.Unconfirmed = r.front(o, v.Entries)
+	v.Matches = r.matches(a.result, o, v.Rows, isGood) && len(v.Rows) > 0
+	v.Confirmed, v.Unconfirmed = r.confirmed(o, v.Entries)
 	return v
 }
 
-// The verdict on a list that has so many bytes after a checkpoint, and the next checkpoint. Only a match has one: of the confirmed front,
-// which the report of a call that asks for it has then, or of the whole list. After any other verdict it is the one before.
-func (a answer) more(state []byte, from checkpoint, size uint64, hasFront bool) (Verdict, checkpoint, error) {
-	reached, isState := checkpointIn(state)
+// more reads the verdict on a list that has so many bytes after a checkpoint, and the next checkpoint. Only a match has one:
+// of the confirmed part, if the call asks for it, or of the whole list. After any other verdict it is the one before.
+func (a answer) more(from checkpoint, size uint64, prefix bool) (Verdict, checkpoint, error) {
+	reached, isState := checkpointIn(a.next)
 	v, err := read(a, func(r *reader, o object) Verdict {
 		v := a.verdictIn(r, o, false)
-		r.require((v.Confirmed != 0) == (hasFront && v.Matches))
+		r.require((v.Confirmed != 0) == (prefix && v.Matches))
 		if !v.Matches {
-			r.require(len(state) == 0 && from.entries <= v.Entries)
+			r.require(len(a.next) == 0 && from.entries <= v.Entries)
 			reached = from
 			return v
 		}
@@ -165,11 +179,11 @@ func (a answer) more(state []byte, from checkpoint, size uint64, hasFront bool) 
 	return v, reached, err
 }
 
-// The verdict on a list alone.
+// listVerdict reads the verdict on a list alone. One on no PCRs is no match.
 func (a answer) listVerdict() (ListVerdict, error) {
 	return read(a, func(r *reader, o object) ListVerdict {
 		v := ListVerdict{Entries: r.number(o, "entries", math.MaxUint64), Rows: r.rows(o), JSON: a.line()}
-		v.Matches = r.matches(a.status, o, v.Rows, v.Entries > 0 && len(v.Rows) > 0)
+		v.Matches = r.matches(a.result, o, v.Rows, v.Entries > 0 && len(v.Rows) > 0)
 		return v
 	})
 }
@@ -182,13 +196,13 @@ func (a answer) places() (Places, error) {
 			row := r.placeRow(o)
 			p.Rows, p.Located = append(p.Rows, row), p.Located && row.Place.isReached()
 		}
-		r.require(member[bool](r, o, "located") == p.Located && a.status == statusOf(p.Located))
+		r.require(member[bool](r, o, "located") == p.Located && a.result == resultOf(p.Located))
 		return p
 	})
 }
 
-// The status of a report or of places.
-func statusOf(all bool) int32 {
+// resultOf is the result of a report or of places.
+func resultOf(all bool) int32 {
 	if all {
 		return done
 	}
@@ -197,7 +211,7 @@ func statusOf(all bool) int32 {
 
 func (a answer) registers() ([]Register, error) {
 	return read(a, func(r *reader, o object) []Register {
-		r.require(a.status == done)
+		r.require(a.result == done)
 		var registers []Register
 		for _, row := range member[[]object](r, o, "registers") {
 			algorithm := r.algorithm(row, "bank")
@@ -207,143 +221,10 @@ func (a answer) registers() ([]Register, error) {
 	})
 }
 
-// The entries, which are none only of an empty list, or before a fault.
-func (a answer) entries(isEmpty bool) (*Listing[Entry], error) {
-	lines, fault, err := a.linesAndFault(isEmpty)
-	if err != nil {
-		return nil, err
-	}
-	return &Listing[Entry]{a.status, lines, 0, fault, (*reader).entry}, nil
-}
-
-// The events, after the algorithms. Without these there is nothing but a fault.
-func (a answer) events() (*EventListing, error) {
-	lines, fault, err := a.linesAndFault(false)
-	if err == nil && fault != nil && len(lines) == 0 {
-		err = fault
-	}
-	if err != nil {
-		return nil, err
-	}
-	end := bytes.IndexByte(lines, '\n') + 1
-	algorithms, err := readLine(a.status, lines[:end], (*reader).algorithms)
-	if err != nil {
-		return nil, err
-	}
-	return &EventListing{Listing[Event]{a.status, lines[end:], 1, fault, (*reader).event}, algorithms}, nil
-}
-
-// The lines before the fault, if the status says that the last line is one, and the fault.
-func (a answer) linesAndFault(isEmpty bool) ([]byte, *RefusedError, error) {
-	if a.status != refused {
-		lines, err := a.lines(isEmpty)
-		return lines, nil, err
-	}
-	end := a.lastLine()
-	fault, isInput := faultIn(a.text[end:]).(*RefusedError)
-	if !isInput {
-		return nil, nil, a.unexpected()
-	}
-	return a.text[:end], fault, nil
-}
-
-// Lines as they are, which are none only if they have to be.
-func (a answer) lines(isEmpty bool) ([]byte, error) {
-	if a.status != done || isEmpty != (len(a.text) == 0) || !isEmpty && a.text[len(a.text)-1] != '\n' {
+// lines gives the lines of expected PCRs, with no more memory than they need.
+func (a answer) lines() ([]byte, error) {
+	if a.result != done || !bytes.HasSuffix(a.text, []byte("\n")) {
 		return nil, a.unexpected()
 	}
-	return a.text, nil
-}
-
-// The same with no more memory than they need.
-func (a answer) copied(isEmpty bool) ([]byte, error) {
-	lines, err := a.lines(isEmpty)
-	return append(make([]byte, 0, len(lines)), lines...), err
-}
-
-// Next gives the next item, or, after the last, io.EOF, or what is wrong with the input: a *RefusedError that says where it is
-// damaged.
-func (l *Listing[T]) Next() (T, error) {
-	var none T
-	switch {
-	case len(l.rest) > 0:
-	case l.fault != nil:
-		return none, l.fault
-	default:
-		return none, io.EOF
-	}
-	end := bytes.IndexByte(l.rest, '\n') + 1
-	item, err := readLine(l.status, l.rest[:end], func(r *reader, o object) T { return l.read(r, o, l.number) })
-	if err == nil { // (else it fails again the next time)
-		l.rest, l.number = l.rest[end:], l.number+1
-	}
-	return item, err
-}
-
-// Fault gives the *RefusedError that comes after the last item, or nil exactly if the input is whole. It is known from the start: look at
-// it if you stop before the end, which tells nothing of what comes later.
-func (l *Listing[T]) Fault() error {
-	if l.fault == nil {
-		return nil
-	}
-	return l.fault
-}
-
-const digits = `(0|[1-9][0-9]*)`
-
-var faultLine = regexp.MustCompile(`^refused: (?:(log) fault ` + digits + `(?: at event ` + digits + `)?|(list|replay) fault ` + digits +
-	` at entry ` + digits + `|(expected) fault ` + digits + `(?: at line ` + digits + `)?|(checkpoint) fault ` + digits + `)$`)
-
-// The error of an answer that is a refusal.
-func (a answer) refusal(requests bool) error {
-	if a.status != refused {
-		return nil
-	}
-	fault := faultIn(a.text)
-	if _, isInput := fault.(*RefusedError); isInput || requests && fault == ErrMalformed {
-		return fault
-	}
-	return a.unexpected()
-}
-
-// The error that the line of a fault states, or nil if it states none.
-func faultIn(line []byte) error {
-	if bytes.HasPrefix(line, []byte("{")) {
-		var r reader
-		if fault := r.fault(r.object(line)); !r.wrong {
-			return fault
-		}
-		return nil
-	}
-	if text := bytes.TrimSuffix(line, []byte("\n")); len(text) < len(line) {
-		return faultSaidBy(string(text))
-	}
-	return nil
-}
-
-func faultSaidBy(line string) error {
-	switch line {
-	case "refused: command line":
-		return ErrMalformed
-	case "failed: memory":
-		return ErrOutOfMemory
-	}
-	var words []string
-	for k, word := range faultLine.FindStringSubmatch(line) {
-		if k > 0 && word != "" {
-			words = append(words, word)
-		}
-	}
-	if len(words) == 0 {
-		return nil
-	}
-	number, err := strconv.ParseUint(words[1], 10, 64)
-	fault := &RefusedError{Line: line, Kind: Kind(words[0]), Number: number, HasPlace: len(words) == 3}
-	if err == nil && fault.HasPlace {
-		fault.Place, err = strconv.ParseUint(words[2], 10, 64)
-	}
-	if err != nil {
-		return nil
-	}
-	return fault
+	return clone(a.text), nil
 }

@@ -2,10 +2,14 @@ package imaverify
 
 import (
 	"errors"
-	"io"
+	"fmt"
+	"math"
 	"strings"
 	"testing"
 )
+
+// The size that a call reports if it reports none.
+const unset = math.MaxUint64
 
 // Lines of the forms that docs/formats.md shows.
 const (
@@ -40,8 +44,40 @@ var (
 		`"},"data":"00"}` + "\n"
 )
 
+// The errors whose lines these are.
+var faults = map[string]told{
+	listFault: faultOf(KindList, 1, 2),
+	logFault:  faultOf(KindLog, 1, 2),
+	malformed: faultOf(KindArgument, 0, noPlace),
+}
+
+// What is reported of an error of this kind.
+func faultOf(kind Kind, number uint32, place uint64) told {
+	for code, known := range kinds {
+		if known == kind {
+			return told{kind: code, number: number, place: place}
+		}
+	}
+	panic(kind)
+}
+
+// What is reported of a text; of one that is no line of an error something that fits the status.
+func toldOf(status int32, text string) told {
+	given, isFault := faults[text]
+	switch {
+	case status == outOfMemory:
+		given = told{kind: memoryKind, place: noPlace}
+	case status != refused:
+		given = told{place: noPlace}
+	case !isFault:
+		given = faults[listFault]
+	}
+	given.size = uint64(len(text))
+	return given
+}
+
 func of(status int32, text string) answer {
-	return answer{status, []byte(text)}
+	return answer{status, toldOf(status, text), nil, []byte(text)}
 }
 
 // What is read from a status and a text.
@@ -71,50 +107,84 @@ func readRegisters(status int32, text string) error {
 	return err
 }
 
-// All of a listing; an error comes again if one asks again.
-func drained[T any](listing *Listing[T], err error) ([]T, error) {
-	if err != nil {
-		return nil, err
-	}
-	var items []T
-	for {
-		item, err := listing.Next()
-		if err == io.EOF {
-			return items, nil
+// A library that gives these answers, one to each call.
+func scripted(answers []answer) func(out []byte) (int32, told) {
+	return func(out []byte) (int32, told) {
+		if len(answers) == 0 {
+			panic("a call after the last one")
 		}
-		if err != nil {
-			if _, again := listing.Next(); again == nil || again.Error() != err.Error() {
-				panic("an error that does not last")
-			}
-			return items, err
-		}
-		items = append(items, item)
+		given := answers[0]
+		answers = answers[1:]
+		copy(out, given.text)
+		return given.result, given.told
 	}
 }
 
+// All entries of a scanner, and its error, which it keeps.
+func drained(s *EntryScanner) ([]Entry, error) {
+	var entries []Entry
+	for s.Next() {
+		if s.Err() != nil {
+			panic("an entry with an error")
+		}
+		entries = append(entries, s.Entry())
+	}
+	err := s.Err()
+	if s.Next() || s.Err() != err || s.Entry().TemplateDigest != nil {
+		panic("an end that does not last")
+	}
+	return entries, err
+}
+
+func drainedEvents(s *EventScanner, err error) ([]Event, error) {
+	if err != nil {
+		return nil, err
+	}
+	var events []Event
+	for s.Next() {
+		if s.Err() != nil {
+			panic("an event with an error")
+		}
+		events = append(events, s.Event())
+	}
+	err = s.Err()
+	if s.Next() || s.Err() != err || s.Event().Data != nil {
+		panic("an end that does not last")
+	}
+	return events, err
+}
+
+// The entries that these answers have, of a list that has bytes.
+func entriesOf(answers ...answer) ([]Entry, error) {
+	return drained(&EntryScanner{lines: linesOf(false, scripted(answers))})
+}
+
+func eventsIn(answers ...answer) ([]Event, error) {
+	return drainedEvents(eventsOf(linesOf(false, scripted(answers))))
+}
+
+// What is read from one answer of entries.
 func readEntries(status int32, text string) error {
-	_, err := drained(of(status, text).entries(false))
+	_, err := entriesOf(of(status, text))
 	return err
-}
-
-func drainedEvents(events *EventListing, err error) ([]Event, error) {
-	if err != nil {
-		return nil, err
-	}
-	return drained(&events.Listing, nil)
 }
 
 func readEvents(status int32, text string) error {
-	_, err := drainedEvents(of(status, text).events())
+	_, err := eventsIn(of(status, text))
 	return err
 }
 
-// What is made of an answer to a call with room for 1000 bytes.
+// What is made of an answer to a call whose text has this size.
 func answered(status int32, text string, needed uint64) error {
-	_, err := askFor(answer.verdict, room, false, func(out []byte, size *length) int32 {
+	given := toldOf(status, text)
+	given.size = needed
+	return answeredWith(status, text, given)
+}
+
+func answeredWith(status int32, text string, given told) error {
+	_, err := askFor(answer.verdict, func(out []byte) (int32, told) {
 		copy(out, text)
-		*size = length(needed)
-		return status
+		return status, given
 	})
 	return err
 }
@@ -145,7 +215,7 @@ func TestRightAnswersAreRead(t *testing.T) {
 	equal(t, readPlaces(done, placesLine), nil)
 	equal(t, readPlaces(differs, notLocated), nil)
 	equal(t, readRegisters(done, register), nil)
-	lines, err := of(done, expectedLine+expectedLine).lines(false)
+	lines, err := of(done, expectedLine+expectedLine).lines()
 	equal(t, []interface{}{string(lines), err}, []interface{}{expectedLine + expectedLine, nil})
 }
 
@@ -263,15 +333,9 @@ func TestWrongAnswersAreNoRegistersAndNoLines(t *testing.T) {
 		{register, ""}, {register, expectedLine},
 	})
 	checkUnexpected(t, readRegisters(differs, register), register)
-	for _, isEmpty := range []bool{false, true} {
-		for _, wrong := range []answer{of(differs, "x\n"), of(done, "x"), of(differs, "")} {
-			_, err := wrong.lines(isEmpty)
-			checkUnexpected(t, err, string(wrong.text))
-		}
-	}
-	for text, isEmpty := range map[string]bool{"": false, expectedLine: true} {
-		_, err := of(done, text).copied(isEmpty)
-		checkUnexpected(t, err, text)
+	for _, wrong := range []answer{of(differs, "x\n"), of(moreLines, "x\n"), of(done, "x"), of(done, ""), of(differs, "")} {
+		_, err := wrong.lines()
+		checkUnexpected(t, err, string(wrong.text))
 	}
 }
 
@@ -304,68 +368,126 @@ func TestEntryThatContradictsItselfIsNone(t *testing.T) {
 		{`"violation":true`, `"violation":false`},
 	})
 	checkChanges(t, readEntries, done, entryLine, [][2]string{{`"violation":false`, `"violation":true`}, {strings.Repeat("1", 40), zeros}})
-	found, err := drained(of(done, strings.Replace(entryLine, `"genuine":true`, `"genuine":false`, 1)).entries(false))
+	found, err := entriesOf(of(done, strings.Replace(entryLine, `"genuine":true`, `"genuine":false`, 1)))
 	equal(t, []interface{}{found[0].Genuine, found[0].Violation, err}, []interface{}{false, false, nil})
 }
 
 func TestEntriesAreRead(t *testing.T) {
-	found, err := drained(of(done, entryLine+otherLine).entries(false))
 	digest := []byte(strings.Repeat("\xaa", 20))
-	equal(t, err, nil)
-	equal(t, found, []Entry{
+	wanted := []Entry{
 		{0, 10, "ima-sig", []byte(strings.Repeat("\x11", 20)), false, true, &File{AlgorithmSHA1, digest, "/a", []byte{}}, nil},
 		{1, 10, "\xff\n", make([]byte, 20), true, true, nil, []byte{0}},
-	})
-	found, err = drained(of(done, "").entries(true))
+	}
+	for _, pieces := range [][]answer{{of(done, entryLine+otherLine)}, {of(moreLines, entryLine), of(done, otherLine)}} {
+		found, err := entriesOf(pieces...)
+		equal(t, []interface{}{found, err}, []interface{}{wanted, nil})
+	}
+	found, err := drained(&EntryScanner{lines: linesOf(true, scripted([]answer{of(done, "")}))})
 	equal(t, []interface{}{len(found), err}, []interface{}{0, nil})
 }
 
 func TestEventsAreRead(t *testing.T) {
-	events, err := of(done, algorithms+eventLine).events()
-	equal(t, err, nil)
-	equal(t, events.Algorithms, []LogAlgorithm{{"", 18, 1}, {"sha1", 4, 20}})
-	found, err := drained(&events.Listing, nil)
-	equal(t, err, nil)
 	digests := map[Algorithm][]byte{AlgorithmSHA1: []byte(strings.Repeat("\xaa", 20))}
-	equal(t, found, []Event{{1, 0, "EV_SEPARATOR", 4, digests, []byte{0}}})
-	found, err = drainedEvents(of(done, algorithms+strings.Replace(eventLine, `"type":"EV_SEPARATOR",`, "", 1)).events())
+	for _, pieces := range [][]answer{{of(done, algorithms+eventLine)}, {of(moreLines, algorithms), of(done, eventLine)}} {
+		events, err := eventsOf(linesOf(false, scripted(pieces)))
+		equal(t, err, nil)
+		equal(t, events.Algorithms(), []LogAlgorithm{{"", 18, 1}, {"sha1", 4, 20}})
+		found, err := drainedEvents(events, nil)
+		equal(t, []interface{}{found, err}, []interface{}{[]Event{{1, 0, "EV_SEPARATOR", 4, digests, []byte{0}}}, nil})
+	}
+	found, err := eventsIn(of(done, algorithms+strings.Replace(eventLine, `"type":"EV_SEPARATOR",`, "", 1)))
 	equal(t, []interface{}{found[0].Type, err}, []interface{}{"", nil})
 	equal(t, readEvents(done, algorithms), nil)
 }
 
-func TestWhatStandsBeforeAFaultComesFirst(t *testing.T) {
+func TestWhatComesBeforeAnErrorComesFirst(t *testing.T) {
 	wanted := RefusedError{"refused: list fault 1 at entry 2", KindList, 1, 2, true}
-	for text, count := range map[string]int{entryLine + otherLine + listFault: 2, entryLine + listFault: 1, listFault: 0} {
-		listing, err := of(refused, text).entries(false)
-		equal(t, err, nil)
-		checkRefused(t, listing.Fault(), wanted)
-		found, err := drained(listing, nil)
-		equal(t, len(found), count)
+	for _, test := range []struct {
+		pieces []answer
+		count  int
+	}{
+		{[]answer{of(moreLines, entryLine+otherLine), of(refused, listFault)}, 2},
+		{[]answer{of(moreLines, entryLine), of(moreLines, otherLine), of(refused, listFault)}, 2},
+		{[]answer{of(moreLines, entryLine), of(refused, listFault)}, 1},
+		{[]answer{of(refused, listFault)}, 0},
+	} {
+		found, err := entriesOf(test.pieces...)
+		equal(t, len(found), test.count)
 		checkRefused(t, err, wanted)
 	}
 	wanted = RefusedError{"refused: log fault 1 at event 2", KindLog, 1, 2, true}
-	for text, count := range map[string]int{algorithms + eventLine + logFault: 1, algorithms + logFault: 0, logFault: 0} {
-		found, err := drainedEvents(of(refused, text).events())
+	for count, text := range []string{algorithms, algorithms + eventLine} {
+		found, err := eventsIn(of(moreLines, text), of(refused, logFault))
 		equal(t, len(found), count)
 		checkRefused(t, err, wanted)
 	}
-	_, err := of(refused, logFault).events()
+	_, err := eventsOf(linesOf(false, scripted([]answer{of(refused, logFault)})))
 	checkRefused(t, err, wanted)
-	whole, err := of(done, entryLine).entries(false)
-	equal(t, []interface{}{whole.Fault(), err}, []interface{}{nil, nil})
+	found, err := entriesOf(of(moreLines, entryLine), of(outOfMemory, memoryFault))
+	equal(t, []interface{}{len(found), err}, []interface{}{1, ErrOutOfMemory})
+}
+
+// A scanner has one buffer for all pieces, which grows for a line that is longer.
+func TestBufferGrowsForOneLongLine(t *testing.T) {
+	line := func(number, size int) string {
+		text := strings.Replace(entryLine, `"entry":0`, fmt.Sprintf(`"entry":%d`, number), 1)
+		return strings.Replace(text, "/a", "/"+strings.Repeat("a", size), 1)
+	}
+	var rooms []int
+	texts := []string{line(0, 1), line(1, 3*room), line(2, 1)}
+	s := &EntryScanner{lines: linesOf(false, func(out []byte) (int32, told) {
+		rooms = append(rooms, len(out))
+		text := texts[0]
+		if len(text) > len(out) {
+			return tooShort, told{size: uint64(len(text)), place: noPlace}
+		}
+		texts = texts[1:]
+		copy(out, text)
+		return map[bool]int32{true: moreLines, false: done}[len(texts) > 0], toldOf(done, text)
+	})}
+	long := len(texts[1])
+	found, err := drained(s)
+	equal(t, []interface{}{len(found), err}, []interface{}{3, nil})
+	equal(t, []int{len(found[0].File.Path), len(found[1].File.Path), len(found[2].File.Path)}, []int{2, 3*room + 1, 2})
+	equal(t, rooms, []int{room, room, long, long})
 }
 
 func TestWrongAnswersAreNoEntries(t *testing.T) {
 	for _, wrong := range []answer{
-		of(done, ""), of(done, entryLine[:len(entryLine)-1]), of(done, "\n"), of(done, listFault), of(done, "{}\n"), of(done, "\n"+entryLine),
-		of(differs, entryLine), of(refused, entryLine), of(refused, ""), of(refused, listFault[:len(listFault)-1]), of(refused, listFault+"\n"),
-		of(refused, memoryFault), of(refused, malformed), of(refused, entryLine+"{}\n"), of(done, entryLine+entryLine), of(done, otherLine), of(done, entryLine+listFault),
-		of(done, entryLine+otherLine[:len(otherLine)-1]), of(done, entryLine+"\n"), of(done, entryLine+"null\n"),
+		of(done, ""), of(done, entryLine[:len(entryLine)-1]), of(done, "\n"), of(done, listFault), of(done, "{}\n"),
+		of(done, "\n"+entryLine), of(differs, entryLine), of(refused, entryLine), of(refused, ""),
+		of(refused, listFault[:len(listFault)-1]), of(refused, listFault+"\n"), of(refused, memoryFault),
+		of(refused, entryLine+"{}\n"), of(refused, entryLine+listFault), of(done, entryLine+entryLine), of(done, otherLine),
+		of(done, entryLine+listFault), of(done, entryLine+otherLine[:len(otherLine)-1]), of(done, entryLine+"\n"),
+		of(done, entryLine+"null\n"), of(moreLines, ""), of(moreLines, entryLine[:len(entryLine)-1]), of(moreLines, listFault),
+		of(misused, ""), of(misused, entryLine), of(7, entryLine),
 	} {
-		checkUnexpected(t, readEntries(wrong.status, string(wrong.text)), string(wrong.text))
+		checkUnexpected(t, readEntries(wrong.result, string(wrong.text)), string(wrong.text))
 	}
-	_, err := of(done, entryLine).entries(true)
-	checkUnexpected(t, err, entryLine)
+	for _, wrong := range []answer{of(done, entryLine), of(moreLines, entryLine), of(moreLines, "")} {
+		_, err := drained(&EntryScanner{lines: linesOf(true, scripted([]answer{wrong}))})
+		checkUnexpected(t, err, string(wrong.text))
+	}
+	for _, wrong := range []answer{of(done, entryLine), of(done, ""), of(differs, otherLine), of(refused, otherLine)} {
+		found, err := entriesOf(of(moreLines, entryLine), wrong) // (the next piece)
+		checkUnexpected(t, err, string(wrong.text))
+		equal(t, len(found), 1)
+	}
+}
+
+func TestTextOfEntriesIsItsPieces(t *testing.T) {
+	for _, pieces := range [][]answer{{of(done, "a\nb\n")}, {of(moreLines, "a\n"), of(done, "b\n")}} {
+		text, err := allOf(linesOf(false, scripted(pieces)))
+		equal(t, []interface{}{string(text), err}, []interface{}{"a\nb\n", nil})
+	}
+	for _, wrong := range []answer{of(done, "b"), of(done, ""), of(differs, "b\n"), of(moreLines, "")} {
+		text, err := allOf(linesOf(false, scripted([]answer{of(moreLines, "a\n"), wrong})))
+		checkUnexpected(t, err, string(wrong.text))
+		equal(t, text, []byte(nil))
+	}
+	text, err := allOf(linesOf(false, scripted([]answer{of(moreLines, "a\n"), of(refused, listFault)})))
+	checkRefused(t, err, RefusedError{"refused: list fault 1 at entry 2", KindList, 1, 2, true})
+	equal(t, text, []byte(nil))
 }
 
 func TestWrongLinesAreNoEntries(t *testing.T) {
@@ -390,10 +512,10 @@ func TestWrongAnswersAreNoEvents(t *testing.T) {
 	for _, wrong := range []answer{
 		of(done, ""), of(done, eventLine), of(done, algorithms[:len(algorithms)-1]), of(done, logFault), of(differs, algorithms),
 		of(refused, algorithms), of(refused, ""), of(refused, logFault[:len(logFault)-1]), of(refused, eventLine+logFault),
-		of(done, algorithms+eventLine+eventLine),
+		of(refused, algorithms+logFault), of(moreLines, ""), of(done, algorithms+eventLine+eventLine),
 		of(done, algorithms+eventLine+logFault), of(done, algorithms+eventLine+algorithms),
 	} {
-		checkUnexpected(t, readEvents(wrong.status, string(wrong.text)), string(wrong.text))
+		checkUnexpected(t, readEvents(wrong.result, string(wrong.text)), string(wrong.text))
 	}
 	checkChanges(t, readEvents, done, algorithms+eventLine, [][2]string{
 		{`"algorithms"`, `"banks"`}, {`"size":20`, `"size":"20"`}, {`"id":4`, `"id":65536`}, {`"id":18,`, ``}, {`"sha1","id"`, `1,"id"`},
@@ -403,137 +525,140 @@ func TestWrongAnswersAreNoEvents(t *testing.T) {
 	})
 }
 
-func TestTextThatNamesNoRegistersIsMalformed(t *testing.T) {
-	said := func(requests bool, status int32, text string) error {
-		_, err := askFor(answer.verdict, room, requests, func(out []byte, size *length) int32 {
-			*size = length(copy(out, text))
-			return status
-		})
-		return err
-	}
-	for _, text := range []string{malformed, "refused: command line\n"} {
-		equal(t, said(true, refused, text), ErrMalformed)
-		checkUnexpected(t, said(true, refused, text[:len(text)-1]), text)
-		checkUnexpected(t, said(true, 5, text), text)
-		checkUnexpected(t, said(false, refused, text), text)
-	}
-}
-
-func TestRefusalsAreRead(t *testing.T) {
-	for text, wanted := range map[string]RefusedError{
-		`{"fault":{"kind":"log","number":2,"message":"refused: log fault 2"}}`: {"refused: log fault 2", KindLog, 2, 0, false},
-		`{"fault":{"kind":"replay","number":1,"entry":2,"message":"refused: replay fault 1 at entry 2"}}`: {
-			"refused: replay fault 1 at entry 2", KindReplay, 1, 2, true},
-		`{"fault":{"kind":"expected","number":1,"message":"refused: expected fault 1 at line 2"}}`: {"refused: expected fault 1 at line 2",
-			KindExpected, 1, 2, true},
-		`{"fault":{"kind":"expected","number":6,"message":"refused: expected fault 6"}}`:     {"refused: expected fault 6", KindExpected, 6, 0, false},
-		`{"fault":{"kind":"checkpoint","number":3,"message":"refused: checkpoint fault 3"}}`: {"refused: checkpoint fault 3", KindCheckpoint, 3, 0, false},
+func TestRefusalsAreWhatIsReported(t *testing.T) {
+	for _, test := range []struct {
+		line  string
+		fault told
+		error RefusedError
+	}{
+		{"refused: log fault 2", faultOf(KindLog, 2, noPlace), RefusedError{Kind: KindLog, Number: 2}},
+		{"refused: log fault 1 at event 0", faultOf(KindLog, 1, 0), RefusedError{Kind: KindLog, Number: 1, HasPlace: true}},
+		{"refused: list fault 3 at entry 2", faultOf(KindList, 3, 2), RefusedError{Kind: KindList, Number: 3, Place: 2, HasPlace: true}},
+		{"refused: replay fault 1 at entry 2", faultOf(KindReplay, 1, 2), RefusedError{Kind: KindReplay, Number: 1, Place: 2, HasPlace: true}},
+		{"refused: expected fault 1 at line 2", faultOf(KindExpected, 1, 2), RefusedError{Kind: KindExpected, Number: 1, Place: 2, HasPlace: true}},
+		{"refused: expected fault 6", faultOf(KindExpected, 6, noPlace), RefusedError{Kind: KindExpected, Number: 6}},
+		{"refused: checkpoint fault 3", faultOf(KindCheckpoint, 3, noPlace), RefusedError{Kind: KindCheckpoint, Number: 3}},
+		{"refused: list fault 1 at entry 18446744073709551614", faultOf(KindList, 1, noPlace-1),
+			RefusedError{Kind: KindList, Number: 1, Place: noPlace - 1, HasPlace: true}},
+		{"refused: command line", faultOf(KindArgument, 0, noPlace), RefusedError{Kind: KindArgument}},
+		// (kind, number and place are not those that the line spells, but those that are reported)
+		{"refused: something else", faultOf(KindLog, 9, 7), RefusedError{Kind: KindLog, Number: 9, Place: 7, HasPlace: true}},
 	} {
-		checkRefused(t, answered(refused, text+"\n", uint64(len(text))+1), wanted)
+		test.error.Line = test.line
+		for _, text := range []string{test.line + "\n", fmt.Sprintf(`{"fault":{"x":1,"message":%q}}`+"\n", test.line)} {
+			test.fault.size = uint64(len(text))
+			var found *RefusedError
+			if !errors.As(answeredWith(refused, text, test.fault), &found) {
+				t.Fatalf("no refusal: %q", text)
+			}
+			equal(t, *found, test.error)
+		}
 	}
 }
 
 func TestWrongRefusalsAreNoRefusals(t *testing.T) {
 	for _, text := range []string{
-		"", listFault[1:], listFault + "\n", listFault + listFault, entryLine + listFault, report, memoryFault, malformed, "{}\n",
+		"", listFault[1:], listFault + "\n", listFault + listFault, entryLine + listFault, report, memoryFault, "{}\n",
 		`{"fault":{}}` + "\n", `{"fault":1}` + "\n", `{"fault":null}` + "\n", `{"fault":{"message":1}}` + "\n",
-		strings.Replace(listFault, `fault 1`, `fault 01`, 1), strings.Replace(listFault, `"message"`, `"line"`, 1),
-		`{"fault":{"kind":"job","number":7,"message":"refused: job 0 book fault 7"}}` + "\n",
+		`{"fault":{"message":null}}` + "\n", `{"fault":{"message":"list fault 1"}}` + "\n",
+		strings.Replace(listFault, `"message"`, `"line"`, 1), strings.Replace(listFault, "refused: ", "Refused: ", 1),
+		"refused: log fault 1 at event 0", "refused: replay fault 1 at entry 5\n\n", "failed: memory\n", "\n", "\n\n\n\n",
+		" refused: log fault 2\n", "\nrefused: log fault 2\n",
 	} {
 		checkUnexpected(t, answered(refused, text, uint64(len(text))), text)
 	}
-	for _, text := range []string{"", "refused: log fault 1 at event 0", "refused: log fault 1 at entry 0\n",
-		"refused: list fault 1\n", "refused: replay fault 1 at entry 5\n\n", "refused: expected fault 1 at entry 5\n",
-		"refused: job 1\n", "refused: log fault  1\n", "failed: memory\n", "refused: log fault 01\n", "refused: book fault 1\n",
-		"refused: log fault 1 of event 0\n", "\n\n\n\n", "refused: log fault 18446744073709551616\n"} {
-		checkUnexpected(t, of(refused, text).refusal(false), text)
-	}
-	checkRefused(t, of(refused, "refused: log fault 2\n").refusal(false), RefusedError{"refused: log fault 2", KindLog, 2, 0, false})
 }
 
-func TestFaultWhoseMembersContradictIsNone(t *testing.T) {
-	refusal := func(status int32, text string) error { return of(status, text).refusal(true) }
-	for line, place := range map[string]string{listFault: `"entry"`, logFault: `"event"`} {
-		changes := [][2]string{
-			{`"kind":"l`, `"kind":"x`}, {`"kind":"l`, `"kind":"replay","x":"`}, {`"kind":"`, `"kinds":"`},
-			{`"number":1`, `"number":2`}, {`"number":1`, `"number":"1"`}, {`"number":1`, `"number":true`}, {`"number":1`, `"number":null`},
-			{`"number":1`, `"number":1.0`}, {`"number":1,`, ``}, {place + `:2`, place + `:3`}, {place + `:2,`, ``},
-			{place + `:2`, `"event":2,"entry":2`}, {`"message":"refused: l`, `"message":"refused: replay fault 1 at entry 2","x":"`},
-			{` fault 1 at`, ` fault 2 at`}, {` 2"}`, ` 3"}`},
+// A result has no error; a refusal has one of the kinds of inputs; memory that ran out has its own kind.
+func TestReportedErrorIsOfTheResult(t *testing.T) {
+	for kind := uint32(0); kind < 10; kind++ {
+		fault := told{kind: kind, number: 1, place: 2, size: uint64(len(listFault))}
+		found := answeredWith(refused, listFault, fault)
+		if _, isKind := kinds[kind]; isKind {
+			equal(t, found, &RefusedError{"refused: list fault 1 at entry 2", kinds[kind], 1, 2, true})
+		} else {
+			checkUnexpected(t, found, listFault)
 		}
-		checkChanges(t, refusal, refused, line, changes)
-		checkChanges(t, readEntries, refused, entryLine+line, changes)
-		checkChanges(t, readEvents, refused, algorithms+line, changes)
+		fault.size = uint64(len(memoryFault))
+		if found := answeredWith(outOfMemory, memoryFault, fault); kind == memoryKind {
+			equal(t, found, ErrOutOfMemory)
+		} else {
+			checkUnexpected(t, found, memoryFault)
+		}
+		fault.size = uint64(len(report))
+		if found := answeredWith(done, report, fault); kind == noKind {
+			equal(t, found, nil)
+		} else {
+			checkUnexpected(t, found, report)
+		}
 	}
-	for _, line := range []string{`{"fault":{"kind":"log","number":2,"message":"refused: log fault 2"}}` + "\n",
-		`{"fault":{"kind":"checkpoint","number":1,"message":"refused: checkpoint fault 1"}}` + "\n",
-		`{"fault":{"kind":"expected","number":1,"message":"refused: expected fault 1 at line 2"}}` + "\n"} {
-		checkChanges(t, refusal, refused, line, [][2]string{{`"message"`, `"event":0,"message"`}, {`"message"`, `"entry":2,"message"`}})
-	}
-	checkChanges(t, refusal, refused, malformed, [][2]string{{"command_line", "list"}, {"command_line", "memory"},
-		{`"message"`, `"number":1,"message"`}})
-	more := strings.Replace(listFault, `{"kind"`, `{"x":0,"kind"`, 1)
-	checkRefused(t, refusal(refused, more), RefusedError{"refused: list fault 1 at entry 2", KindList, 1, 2, true})
-}
-
-func TestFaultIsOfTheStatus(t *testing.T) {
-	for _, text := range []string{memoryFault, strings.Replace(memoryFault, "failed: memory", "refused: command line", 1), "failed: memory\n"} {
-		checkUnexpected(t, of(refused, text).refusal(true), text)
-	}
-	for _, text := range []string{listFault, logFault, malformed, report, entryLine, memoryFault[:len(memoryFault)-1],
-		strings.Replace(memoryFault, `"memory"`, `"list"`, 1), strings.Replace(memoryFault, `"message"`, `"number":1,"message"`, 1),
-		"refused: log fault 2\n"} {
-		checkUnexpected(t, answered(outOfMemory, text, uint64(len(text))), text)
-	}
+	equal(t, len(kinds), 6)
 }
 
 func TestErrorsSayWhatIsWrong(t *testing.T) {
 	equal(t, ErrOutOfMemory.Error(), "libima_verify got no memory")
-	equal(t, ErrMalformed.Error(), "the text names no registers in its form, as sha256:0-10 or 0-10")
+	equal(t, (&RefusedError{Line: "refused: log fault 2", Kind: KindLog, Number: 2}).Error(), "refused: log fault 2")
+	equal(t, (&RefusedError{Line: "refused: command line", Kind: KindArgument}).Error(),
+		"refused: command line (no PCRs are named in the form sha256:0-10 or 0-10)")
 	equal(t, (&UnexpectedError{5, 10, []byte("text\n")}).Error(),
-		`libima_verify answered status 5 and size 10, with a text that begins "text\n"`)
+		`libima_verify gave the result 5 and the size 10, with a text that begins "text\n"`)
 }
 
 func TestNoMemoryIsItsError(t *testing.T) {
-	for _, text := range []string{memoryFault, entryLine + memoryFault, "failed: memory\n", ""} {
+	for _, text := range []string{memoryFault, "failed: memory\n", ""} {
 		equal(t, answered(outOfMemory, text, uint64(len(text))), ErrOutOfMemory)
 	}
 }
 
-func TestAnswerThatIsCutAtALinesEndIsNone(t *testing.T) {
-	text := entryLine + otherLine + listFault
+func TestTextThatIsCutIsNone(t *testing.T) {
+	text := entryLine + otherLine
 	for size := 0; size < len(text); size++ {
-		checkUnexpected(t, readEntries(refused, text[:size]), text[:size])
+		if size != len(entryLine) { // (two calls may have the two lines)
+			checkUnexpected(t, readEntries(done, text[:size]), text[:size])
+		}
 	}
-	// What has no room for its last lines is told to be longer than the room.
-	for _, size := range []int{len(entryLine), len(entryLine + otherLine)} {
-		for _, status := range []int32{done, refused} {
-			given, err := ask(size, func(out []byte, needed *length) int32 {
-				*needed = length(len(text))
-				copy(out, text)
-				return status
+	for size := 0; size < len(listFault); size++ {
+		checkUnexpected(t, readEntries(refused, listFault[:size]), listFault[:size])
+	}
+	// A text that has no room for its last lines is reported to be longer than the room.
+	for _, size := range []int{len(entryLine), len(text)} {
+		for _, status := range []int32{done, moreLines, refused} {
+			given, err := ask(make([]byte, size), func(out []byte) (int32, told) {
+				copy(out, text+listFault)
+				return status, toldOf(status, text+listFault)
 			})
 			checkUnexpected(t, err, text[:size])
 			equal(t, len(given.text), 0)
 		}
-		calls := 0
-		given, err := ask(1, func(out []byte, needed *length) int32 {
-			calls++
-			*needed = length(size + calls - 1)
-			copy(out, text)
-			return map[bool]int32{true: tooShort, false: done}[calls == 1]
-		})
-		checkUnexpected(t, err, text[:size])
-		equal(t, []interface{}{len(given.text), calls}, []interface{}{0, 2})
 	}
 }
 
-func TestSizesAndStatusesThatCannotBeAreErrors(t *testing.T) {
+func TestSizesAndResultsThatCannotBeAreErrors(t *testing.T) {
 	for _, wrong := range []struct {
-		status int32
+		result int32
 		needed uint64
-	}{{done, room + 1}, {done, unset}, {refused, unset}, {tooShort, 50}, {tooShort, room}, {tooShort, room + 1}, {tooShort, unset},
-		{tooShort, 1 << 62}, {5, 10}, {-1, 10}} {
-		checkUnexpected(t, answered(wrong.status, report, wrong.needed), report)
+	}{{done, room + 1}, {done, unset}, {refused, unset}, {moreLines, 10}, {tooShort, 50}, {tooShort, room}, {tooShort, unset},
+		{tooShort, 1 << 62}, {misused, 0}, {7, 10}, {-1, 10}} {
+		checkUnexpected(t, answered(wrong.result, report, wrong.needed), report)
 	}
+}
+
+func TestCallIsMadeAgainWithAsMuchRoomAsItNeeds(t *testing.T) {
+	var rooms []int
+	given, err := ask(make([]byte, 5), func(out []byte) (int32, told) {
+		rooms = append(rooms, len(out))
+		if len(rooms) < 4 { // (the next text may have another size)
+			return tooShort, told{size: uint64(10 * len(rooms)), place: noPlace}
+		}
+		return done, toldOf(done, expectedLine[:copy(out, expectedLine)])
+	})
+	equal(t, []interface{}{rooms, string(given.text), err}, []interface{}{[]int{5, 10, 20, 30}, expectedLine[:30], nil})
+	// (a library that asks for what it has, or for less, is not called again)
+	calls := 0
+	_, err = ask(make([]byte, 5), func(out []byte) (int32, told) {
+		calls++
+		return tooShort, told{size: 10, place: noPlace}
+	})
+	checkUnexpected(t, err, "")
+	equal(t, calls, 2)
 }

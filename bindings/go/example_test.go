@@ -5,7 +5,6 @@ import (
 	"encoding/hex"
 	"errors"
 	"fmt"
-	"io"
 	"log"
 	"os"
 	"path/filepath"
@@ -21,8 +20,8 @@ func read(name string) []byte {
 	return data
 }
 
-func ExampleVerifyRequired() {
-	verdict, err := imaverify.VerifyRequired(read("firmware.log"), read("ima.list"), read("expected.txt"), "sha256:0-10")
+func ExampleVerify() {
+	verdict, err := imaverify.Verify(read("firmware.log"), read("ima.list"), read("expected.txt"), "sha256:0-10")
 	if err != nil {
 		log.Fatal(err) // such as "refused: replay fault 1 at entry 5", of the type *imaverify.RefusedError
 	}
@@ -30,8 +29,8 @@ func ExampleVerifyRequired() {
 	// Output: true 99 24
 }
 
-func ExampleLocateRequired() {
-	places, err := imaverify.LocateRequired(read("firmware.log"), read("ima.list"), read("expected.txt"), "sha256:0-10")
+func ExampleLocate() {
+	places, err := imaverify.Locate(read("firmware.log"), read("ima.list"), read("expected.txt"), "sha256:0-10")
 	if err != nil {
 		log.Fatal(err)
 	}
@@ -43,9 +42,9 @@ func ExampleLocateRequired() {
 	// sha256 10 entry 98
 }
 
-func ExampleReplayRequired() {
+func ExampleReplay() {
 	tenth := bytes.SplitAfter(read("expected.txt"), []byte("\n"))[10] // the list's register
-	verdict, err := imaverify.ReplayRequired(read("ima.list"), tenth, "sha256:10")
+	verdict, err := imaverify.Replay(read("ima.list"), tenth, "sha256:10")
 	if err != nil {
 		log.Fatal(err)
 	}
@@ -105,9 +104,21 @@ func ExampleShow() {
 	// Output: true
 }
 
+func ExampleVerify_nothingRequired() {
+	tenth := bytes.SplitAfter(read("expected.txt"), []byte("\n"))[10]
+	verdict, err := imaverify.Verify(read("firmware.log"), read("ima.list"), tenth, imaverify.NothingRequired)
+	fmt.Println(verdict.Matches, verdict.Compared(), err)
+	_, err = imaverify.Verify(read("firmware.log"), read("ima.list"), tenth, "")
+	var refused *imaverify.RefusedError
+	fmt.Println(errors.As(err, &refused) && refused.Kind == imaverify.KindArgument)
+	// Output:
+	// true 1 <nil>
+	// true
+}
+
 func ExampleRefusedError() {
 	changed := bytes.Replace(read("ima.list"), []byte("/bin/helper"), []byte("/bin/helpex"), 1)
-	_, err := imaverify.VerifyRequired(read("firmware.log"), changed, read("expected.txt"), "sha256:0-10")
+	_, err := imaverify.Verify(read("firmware.log"), changed, read("expected.txt"), "sha256:0-10")
 	var refused *imaverify.RefusedError
 	if errors.As(err, &refused) {
 		fmt.Println(refused.Kind, refused.Number, refused.Place)
@@ -119,52 +130,42 @@ func ExampleRefusedError() {
 }
 
 func ExampleEntries() {
-	entries, err := imaverify.Entries(read("ima.list"))
-	if err != nil {
-		log.Fatal(err)
-	}
 	known := map[string]bool{} // here those of all files but the one in /bin/helper
-	for {
-		entry, err := entries.Next()
-		if err == io.EOF {
-			break
+	entries := imaverify.Entries(read("ima.list"))
+	for entries.Next() {
+		file := entries.Entry().File
+		if file != nil && file.Path == "/bin/helper" && !known[string(file.Digest)] {
+			fmt.Println(entries.Entry().Number, file.Path, hex.EncodeToString(file.Digest[:4]))
 		}
-		if err != nil {
-			log.Fatal(err) // the list is damaged, after the entries before
-		}
-		if entry.File != nil && entry.File.Path == "/bin/helper" && !known[string(entry.File.Digest)] {
-			fmt.Println(entry.Number, entry.File.Path, hex.EncodeToString(entry.File.Digest[:4]))
-		}
+	}
+	if err := entries.Err(); err != nil {
+		log.Fatal(err) // the list is damaged, after the entries before
 	}
 	// Output: 5 /bin/helper 21b4a32e
 }
 
-func ExampleListing_Fault() {
+func ExampleEntryScanner_Err() {
 	list := read("ima.list")
-	entries, err := imaverify.Entries(list[:len(list)-1])
-	if err != nil {
-		log.Fatal(err)
+	entries := imaverify.Entries(list[:len(list)-1])
+	count := 0
+	for entries.Next() {
+		count++
 	}
-	entry, err := entries.Next()
-	fmt.Println(entry.File.Path, err)
-	fmt.Println(entries.Fault())
-	// Output:
-	// boot_aggregate <nil>
-	// refused: list fault 1 at entry 98
+	fmt.Println(count, entries.Err())
+	// Output: 98 refused: list fault 1 at entry 98
 }
 
 func ExampleSession() {
 	firmware, list, expected := read("firmware.log"), read("ima.list"), read("expected.txt")
 	ofFirmware := bytes.Join(bytes.SplitAfter(expected, []byte("\n"))[:10], nil)
-	first, err := imaverify.NewSession(firmware, ofFirmware, imaverify.Require("sha256:0-9"))
+	first, err := imaverify.NewSession(firmware, ofFirmware, "sha256:0-9")
 	if err != nil {
 		log.Fatal(err)
 	}
 	verdict, err := first.More(list[:101]) // the boot aggregate
 	fmt.Println(verdict.Matches, verdict.Entries, err)
 
-	options := []imaverify.Option{imaverify.Require("sha256:0-10"), imaverify.Prefix(), imaverify.Resume(first.State())}
-	later, err := imaverify.NewSession(firmware, expected, options...)
+	later, err := imaverify.NewSession(firmware, expected, "sha256:0-10", imaverify.Prefix(), imaverify.Resume(first.State()))
 	if err != nil {
 		log.Fatal(err) // such as "refused: checkpoint fault 1", of the type *imaverify.RefusedError
 	}
@@ -177,7 +178,7 @@ func ExampleSession() {
 
 func ExampleEvents() {
 	firmware := read("firmware.log")
-	places, err := imaverify.LocateRequired(firmware, read("ima.list"), read("expected.txt"), "sha256:4")
+	places, err := imaverify.Locate(firmware, read("ima.list"), read("expected.txt"), "sha256:4")
 	if err != nil {
 		log.Fatal(err)
 	}
@@ -185,17 +186,14 @@ func ExampleEvents() {
 	if err != nil {
 		log.Fatal(err)
 	}
-	for {
-		event, err := events.Next()
-		if err == io.EOF {
-			break
-		}
-		if err != nil {
-			log.Fatal(err)
-		}
+	for events.Next() {
+		event := events.Event()
 		if place := places.Rows[4].Place; place.Kind == imaverify.PlaceEvent && place.Number == event.Number {
 			fmt.Println("PCR 4 has its value after event", event.Number, event.Type)
 		}
+	}
+	if err := events.Err(); err != nil {
+		log.Fatal(err)
 	}
 	// Output: PCR 4 has its value after event 18 EV_SEPARATOR
 }

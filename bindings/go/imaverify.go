@@ -1,16 +1,18 @@
-// Package imaverify tells whether a machine's boot log and measurement list account for the registers (PCRs) of its TPM 2.0.
+// Package imaverify tells whether a machine's boot log and measurement list account for the PCRs of its TPM 2.0.
 //
-// A firmware event log (TCG, crypto-agile) and a binary measurement list of Linux IMA are replayed, and the registers that they
-// make are compared with expected ones: what /sys/kernel/security/tpm0/binary_bios_measurements,
-// /sys/kernel/security/ima/binary_runtime_measurements, and lines as `sha256 10 <64 hexadecimal digits>` hold.
+// A firmware event log (TCG, crypto-agile) and a binary measurement list of Linux IMA are replayed, and the resulting PCRs are
+// compared with expected ones. On the machine the files are /sys/kernel/security/tpm0/binary_bios_measurements and
+// /sys/kernel/security/ima/binary_runtime_measurements. The expected PCRs are text, a line for each, such as
+// `sha256 10 <64 hexadecimal digits>`.
 //
-// Say which registers a verdict must cover: VerifyRequired(log, list, expected, "sha256:0-10"). That of Verify covers only those that
-// expected names; one on none is no match. A match covers only a log and a list that are apart (AreApart). Entries and Events go
-// through the inputs themselves. A Session is for a list that grows, and for one that went on after the expected registers were read.
+// A verdict covers only the boot aggregate and the PCRs in the expected text. So each call says which PCRs it must cover:
+// Verify(log, list, expected, "sha256:0-10"). A requirement that is empty is refused. A match covers only a log and a list that
+// are apart (AreApart). Entries and Events go through the inputs themselves. A Session is for a list that grows, and for one
+// that grew after the expected PCRs were read.
 //
-// A refused input gives an error of the type *RefusedError, and a requirement or a range that is not of its form ErrMalformed; if memory
-// runs out, it is ErrOutOfMemory; what the library's header does not describe gives an *UnexpectedError. With any error the result is
-// the zero value, whose Matches and Located are false.
+// If an input, a requirement or a range is refused, the error is a *RefusedError. If memory runs out, it is ErrOutOfMemory. If the
+// library's answer is not as its header describes, it is an *UnexpectedError. With any error the result is the zero value, whose
+// Matches and Located are false.
 //
 // Any number of goroutines may call at once. No input may change during a call.
 package imaverify
@@ -20,7 +22,7 @@ import (
 	"fmt"
 )
 
-// Algorithm is that of a bank of registers.
+// Algorithm is the hash algorithm of a bank of PCRs.
 type Algorithm string
 
 const (
@@ -30,28 +32,28 @@ const (
 	AlgorithmSHA512 Algorithm = "sha512"
 )
 
-// BootAggregate says how the list's first entry compares with the registers after the log.
+// BootAggregate says how the list's first entry compares with the PCRs after the log.
 type BootAggregate string
 
 const (
-	BootAggregateGood    BootAggregate = "good"    // it is the boot aggregate of these registers
+	BootAggregateGood    BootAggregate = "good"    // it is the boot aggregate of these PCRs
 	BootAggregateWrong   BootAggregate = "wrong"   // it is a boot aggregate, of other values
 	BootAggregateNoBank  BootAggregate = "nobank"  // it is one of a bank that the log lacks
 	BootAggregateMissing BootAggregate = "missing" // the list is empty, or its first entry is something else
 )
 
-// State says how a register compares with its expected value.
+// State says how a PCR compares with its expected value.
 type State string
 
 const (
 	StateMatch   State = "match"
 	StateDiffer  State = "differ"
 	StateAbsent  State = "absent"  // the log has no such bank
-	StateMissing State = "missing" // it is required, and not among the expected registers
+	StateMissing State = "missing" // it is required, and not among the expected PCRs
 )
 
-// Row is an expected register, compared, or a required one that is missing. Value is what the register has instead, if the state is
-// StateDiffer, else nil.
+// Row is an expected PCR, compared, or a required one that is missing. Value is what the PCR has instead, if the state is
+// StateDiffer; otherwise it is nil.
 type Row struct {
 	Algorithm Algorithm
 	Register  int
@@ -59,13 +61,13 @@ type Row struct {
 	Value     []byte
 }
 
-// Verdict is that on a log, a list and expected registers.
+// Verdict is the verdict on a log, a list and expected PCRs.
 //
-// Matches says that the boot aggregate is good, that each expected register has its value, that there is one, and that no required one is
-// missing. It says nothing of registers that have no row. JSON is the report as `ima-agent verify --json` prints it, without the line feed.
+// Matches says that the boot aggregate is good, that each expected PCR has its value, that there is one, and that no required one
+// is missing. It covers no PCR that has no row. JSON is the report as `ima-agent verify --json` prints it, without the line feed.
 //
-// Only a Session with Prefix gives a Confirmed other than 0: then the verdict is a match on the list's first entries, so many of all Entries,
-// and says nothing of those after them. Unconfirmed is the first fault of these, or nil if they have none.
+// Only a Session with Prefix gives a Confirmed other than 0: then the verdict is a match on that many first entries, of all
+// Entries, and does not cover those after them. Unconfirmed is the first error in these, or nil if they have none.
 type Verdict struct {
 	Events        uint64
 	Locality      uint8
@@ -78,9 +80,8 @@ type Verdict struct {
 	Unconfirmed   *Unconfirmed
 }
 
-// Unconfirmed is a fault of a list after its confirmed front, for which the list is not refused. Line tells it, as
-// "unconfirmed: replay fault 1 at entry 98"; Kind, which is KindList or KindReplay, and Number are those of the fault, and Entry is the
-// entry's number.
+// Unconfirmed is an error in a list after its confirmed part, for which the list is not refused. Kind is KindList or KindReplay.
+// Number is the error's, and Entry the entry's. Line has them, such as "unconfirmed: replay fault 1 at entry 98".
 type Unconfirmed struct {
 	Line   string
 	Kind   Kind
@@ -88,14 +89,14 @@ type Unconfirmed struct {
 	Entry  uint64
 }
 
-// Compared is how many expected registers were compared.
+// Compared is how many expected PCRs were compared.
 func (v Verdict) Compared() int {
 	return compared(v.Rows)
 }
 
-// ListVerdict is that on a list without a log, and expected registers.
+// ListVerdict is the verdict on a list without a log, and expected PCRs.
 //
-// Matches says that the list has an entry, that each expected register has its value, that there is one, and that no required one is
+// Matches says that the list has an entry, that each expected PCR has its value, that there is one, and that no required one is
 // missing. JSON is the report as `ima-agent replay --json` prints it, without the line feed.
 type ListVerdict struct {
 	Entries uint64
@@ -104,7 +105,7 @@ type ListVerdict struct {
 	JSON    string
 }
 
-// Compared is how many expected registers were compared.
+// Compared is how many expected PCRs were compared.
 func (v ListVerdict) Compared() int {
 	return compared(v.Rows)
 }
@@ -119,7 +120,7 @@ func compared(rows []Row) int {
 	return count
 }
 
-// PlaceKind is the kind of the earliest point at which a register has its expected value.
+// PlaceKind is the kind of the earliest point at which a PCR has its expected value.
 type PlaceKind string
 
 const (
@@ -128,10 +129,10 @@ const (
 	PlaceEntry   PlaceKind = "entry" // after an entry of the list; entries count from 0
 	PlaceNowhere PlaceKind = "nowhere"
 	PlaceAbsent  PlaceKind = "absent"  // the log has no such bank
-	PlaceMissing PlaceKind = "missing" // it is required, and not among the expected registers
+	PlaceMissing PlaceKind = "missing" // it is required, and not among the expected PCRs
 )
 
-// Place is such a point. Number is that of the event or the entry, else 0.
+// Place is such a point. Number is that of the event or the entry; otherwise it is 0.
 type Place struct {
 	Kind   PlaceKind
 	Number uint64
@@ -141,22 +142,22 @@ func (p Place) isReached() bool {
 	return p.Kind == PlaceReset || p.Kind == PlaceEvent || p.Kind == PlaceEntry
 }
 
-// PlaceRow says where an expected register first has its value, or that a required one is missing.
+// PlaceRow says where an expected PCR first has its value, or that a required one is missing.
 type PlaceRow struct {
 	Algorithm Algorithm
 	Register  int
 	Place     Place
 }
 
-// Places says where each expected register first has its value. Located says that each was reached, that there is one, and that no
-// required one is missing. JSON is what `ima-agent locate --json` prints, without the line feed.
+// Places says where each expected PCR first has its value. Located says that each value was reached, that there is one, and that
+// no required PCR is missing. JSON is what `ima-agent locate --json` prints, without the line feed.
 type Places struct {
 	Rows    []PlaceRow
 	Located bool
 	JSON    string
 }
 
-// Register is a register and its value.
+// Register is a PCR and its value.
 type Register struct {
 	Algorithm Algorithm
 	Register  int
@@ -167,18 +168,19 @@ type Register struct {
 type Kind string
 
 const (
+	KindArgument Kind = "argument" // the requirement, or the range of PCRs, is not of its form; it has no number
 	KindLog      Kind = "log"
 	KindList     Kind = "list"
-	KindReplay   Kind = "replay" // an entry of the list is not genuine
+	KindReplay   Kind = "replay" // the template digest of an entry is not valid
 	KindExpected Kind = "expected"
 
-	// The state of a session: it is damaged (1), of another version (2), or of another boot (3).
+	// The state of a session is damaged (1), of another version (2), or of another boot (3).
 	KindCheckpoint Kind = "checkpoint"
 )
 
-// RefusedError is the error of an input that is refused. Line says why, as "refused: replay fault 1 at entry 5"; Kind and Number are
-// those of the fault. Place is the number of the event, the entry or the line, if HasPlace. docs/formats.md says what each
-// fault means.
+// RefusedError is the error of an input that is refused. Kind, Number and Place are as the library reports them; Place is the
+// number of the event, the entry or the line, if HasPlace. Line is what `ima-agent` prints, such as "refused: replay fault 1 at
+// entry 5". docs/formats.md says what each number means.
 type RefusedError struct {
 	Line     string
 	Kind     Kind
@@ -188,30 +190,31 @@ type RefusedError struct {
 }
 
 func (r *RefusedError) Error() string {
+	if r.Kind == KindArgument {
+		return r.Line + " (no PCRs are named in the form sha256:0-10 or 0-10)"
+	}
 	return r.Line
 }
 
 // ErrOutOfMemory says that the library got no memory.
 var ErrOutOfMemory = errors.New("libima_verify got no memory")
 
-// ErrMalformed says that what is required, or the range of registers, is not of its form.
-var ErrMalformed = errors.New("the text names no registers in its form, as sha256:0-10 or 0-10")
-
 // UnexpectedError is the error of an answer that the library's header does not describe, so nothing is known of the inputs.
 type UnexpectedError struct {
-	Status int32
-	Needed uint64
+	Result int32
+	Size   uint64
 	Text   []byte
 }
 
 func (u *UnexpectedError) Error() string {
-	return fmt.Sprintf("libima_verify answered status %d and size %d, with a text that begins %.200q", u.Status, u.Needed, u.Text)
+	return fmt.Sprintf("libima_verify gave the result %d and the size %d, with a text that begins %.200q", u.Result, u.Size, u.Text)
 }
 
 // Entry is one of a measurement list; entries count from 0.
 //
-// File is what a payload says that has the fields of its template; of any other it is nil, and Payload is the whole. An entry is Genuine if
-// its template digest is that of what it covers, or if it is a Violation, whose file's digest may be anything. Template may be any bytes.
+// If the payload has the fields of its template, File has them, and Payload is nil. Otherwise File is nil, and Payload is the
+// whole. An entry is Genuine if its template digest is valid, or if it is a Violation, whose file's digest may be anything.
+// Template may be any bytes.
 type Entry struct {
 	Number         uint64
 	Register       int
@@ -223,8 +226,8 @@ type Entry struct {
 	Payload        []byte
 }
 
-// File is what an entry says of a file. Path may be any bytes without a NUL. Signature is nil unless the template is ima-sig, and then it
-// may be empty.
+// File is what an entry says of a file. Path may be any bytes without a NUL. Signature is nil unless the template is ima-sig, and
+// then it may be empty.
 type File struct {
 	Algorithm Algorithm
 	Digest    []byte
@@ -232,8 +235,8 @@ type File struct {
 	Signature []byte
 }
 
-// Event is one of a firmware event log; events count from 1. Type is the name of the type, or empty if it has none. Digests has those of
-// the log's banks.
+// Event is one of a firmware event log; events count from 1. Type is the name of the type, or empty if it has none. Digests has
+// those of the log's banks.
 type Event struct {
 	Number     uint64
 	Register   uint32
@@ -250,91 +253,59 @@ type LogAlgorithm struct {
 	Size int
 }
 
-// Listing has what an input has, one item after another, and then, if the input is damaged, the *RefusedError that says where.
-type Listing[T any] struct {
-	status int32
-	rest   []byte
-	number uint64
-	fault  *RefusedError
-	read   func(r *reader, o object, number uint64) T
-}
+// NothingRequired is a requirement that names no PCR: a verdict then covers only what the expected text names. A verdict on no
+// PCRs is no match, even if its JSON says so.
+const NothingRequired = "none"
 
-// EventListing is the Listing of a firmware event log's events, with the algorithms that its header declares.
-type EventListing struct {
-	Listing[Event]
-	Algorithms []LogAlgorithm
-}
-
-// Four banks have 96 registers, and no row of these has more than 256 bytes. (A checkpoint has each register twice, in at most 140 bytes.)
-const room = 32 * 1024
-
-// Version is that of the library's interface.
+// Version is the version of the library's interface.
 func Version() uint32 {
 	return libraryVersion()
 }
 
-// Verify gives the verdict on a firmware event log, a measurement list and the expected registers that a text states. Nothing is required. A
-// verdict on no registers is no match, though its JSON is what the program prints, which is one.
-func Verify(log, list, expected []byte) (Verdict, error) {
-	return askFor(answer.verdict, room, false, func(out []byte, needed *length) int32 { return callVerify(log, list, expected, out, needed) })
+// Verify gives the verdict on a firmware event log, a measurement list and the expected PCRs that a text states.
+//
+// require names the PCRs that must be among the expected ones, such as "sha256:0-10" or "sha256:0-7,sha1:10". Each that is not has
+// a row whose state is StateMissing, and then the verdict is no match. NothingRequired requires none; an empty text is refused.
+func Verify(log, list, expected []byte, require string) (Verdict, error) {
+	return askFor(answer.verdict, func(out []byte) (int32, told) { return callVerdict(log, list, expected, []byte(require), out) })
 }
 
-// VerifyRequired does the same, where require names the registers that must be among the expected ones, as "sha256:0-10" or
-// "sha256:0-7,sha1:10". Each that is not has a row whose state is StateMissing, and then the verdict is no match.
-func VerifyRequired(log, list, expected []byte, require string) (Verdict, error) {
-	return askFor(answer.verdict, room, true, func(out []byte, needed *length) int32 {
-		return callVerifyRequired(log, list, expected, []byte(require), out, needed)
-	})
+// Locate says where each expected PCR first has its value. The arguments and the errors are those of Verify.
+func Locate(log, list, expected []byte, require string) (Places, error) {
+	return askFor(answer.places, func(out []byte) (int32, told) { return callLocate(log, list, expected, []byte(require), out) })
 }
 
-// Locate says where each expected register first has its value. Inputs and refusals are those of Verify.
-func Locate(log, list, expected []byte) (Places, error) {
-	return askFor(answer.places, room, false, func(out []byte, needed *length) int32 { return callLocate(log, list, expected, out, needed) })
+// Replay gives the verdict on a measurement list without a log. The list is replayed from the PCRs' reset values, so a PCR that the
+// firmware extends too differs. The arguments are as in Verify. A list without entries is no match.
+func Replay(list, expected []byte, require string) (ListVerdict, error) {
+	return askFor(answer.listVerdict, func(out []byte) (int32, told) { return callReplay(list, expected, []byte(require), out) })
 }
 
-// LocateRequired does the same, where require is as in VerifyRequired.
-func LocateRequired(log, list, expected []byte, require string) (Places, error) {
-	return askFor(answer.places, room, true, func(out []byte, needed *length) int32 {
-		return callLocateRequired(log, list, expected, []byte(require), out, needed)
-	})
-}
-
-// ReplayRequired gives the verdict on a measurement list without a log, and the expected registers that a text states. The list is replayed
-// from the registers' reset values, so a register that the firmware extends too differs. require is as in VerifyRequired. A list without
-// entries is no match.
-func ReplayRequired(list, expected []byte, require string) (ListVerdict, error) {
-	return askFor(answer.listVerdict, room, true, func(out []byte, needed *length) int32 {
-		return callReplay(list, expected, []byte(require), out, needed)
-	})
-}
-
-// ExpectedFrom gives the lines of expected registers, for Verify and Locate, of what tpm2_pcrread or tpm2_checkquote printed: of the
-// registers in a range, as "0-10" or "4", or of all, if that is empty; at least one, else the text is refused. Neither who wrote the text
-// nor whether a quote holds is known from it: take the values of a quote that was checked, or of a machine that is trusted.
+// ExpectedFrom gives the lines of expected PCRs, as Verify takes them, that a text which tpm2_pcrread or tpm2_checkquote printed
+// states: of the PCRs in a range, such as "0-10" or "4", or of all, if that is empty. A text with none of them is refused. Nothing
+// says who wrote the text, nor whether a quote holds: take the values of a quote that was checked, or of a trusted machine.
 func ExpectedFrom(printed []byte, registers string) ([]byte, error) {
-	read := func(a answer) ([]byte, error) { return a.copied(false) }
-	return askFor(read, room, registers != "", func(out []byte, needed *length) int32 {
-		return callExpected(printed, []byte(registers), out, needed)
-	})
+	return askFor(answer.lines, func(out []byte) (int32, told) { return callExpected(printed, []byte(registers), out) })
 }
 
-// Registers gives the registers that differ from their reset values after a firmware event log.
+// Registers gives the PCRs that differ from their reset values after a firmware event log.
 func Registers(log []byte) ([]Register, error) {
-	return askFor(answer.registers, room, false, func(out []byte, needed *length) int32 { return callRegisters(log, out, needed) })
+	return askFor(answer.registers, func(out []byte) (int32, told) { return callRegisters(log, false, out) })
 }
 
-// ListRegisters gives the registers, in banks of all algorithms, that differ from their reset values after a measurement list without a
-// log.
+// ListRegisters gives the PCRs, in banks of all algorithms, that differ from their reset values after a measurement list without
+// a log.
 func ListRegisters(list []byte) ([]Register, error) {
-	return askFor(answer.registers, room, false, func(out []byte, needed *length) int32 { return callListRegisters(list, out, needed) })
+	return askFor(answer.registers, func(out []byte) (int32, told) { return callRegisters(list, true, out) })
 }
 
-// The register that IMA alone extends.
+// The PCR that IMA alone extends.
 const listRegister = 10
 
-// AreApart says whether no event of the log extends register 10, which IMA alone does, and no entry of the list names another. Otherwise
-// all registers can match though entries were moved from the list into the log, or events from the log into the list. Each part of a list
-// that grows can be asked about by itself. Inputs are refused as by Registers and ListRegisters; with an error it says false.
+// AreApart says whether no event of the log extends PCR 10, which IMA alone does, and no entry of the list names another PCR.
+// Otherwise all PCRs can match though entries were moved from the list into the log, or events from the log into the list. Each
+// part of a list that grows can be asked about by itself. Inputs are refused as by Registers and ListRegisters; with an error it
+// is false.
 func AreApart(log, list []byte) (bool, error) {
 	ofLog, err := Registers(log)
 	if err != nil {
@@ -349,51 +320,4 @@ func AreApart(log, list []byte) (bool, error) {
 		areApart = areApart && extended.Register == listRegister
 	}
 	return areApart, err
-}
-
-// Entries gives the entries of a measurement list, one after another by Next, each with whether it is genuine. Of a damaged list the
-// entries before the fault come, and then its *RefusedError, which Fault knows from the start.
-func Entries(list []byte) (*Listing[Entry], error) {
-	answer, err := ask(roomOfLines(len(list)), func(out []byte, needed *length) int32 { return callEntries(list, out, needed) })
-	if err != nil {
-		return nil, err
-	}
-	return answer.entries(len(list) == 0)
-}
-
-// Events gives the events of a firmware event log after its header, one after another by Next. Of a damaged log the events before the fault
-// come, and then its *RefusedError, which Fault knows from the start; if the fault is in the header, it comes at once.
-func Events(log []byte) (*EventListing, error) {
-	answer, err := ask(roomOfLines(len(log)), func(out []byte, needed *length) int32 { return callEvents(log, out, needed) })
-	if err != nil {
-		return nil, err
-	}
-	return answer.events()
-}
-
-// Show gives the entries of a measurement list, each in the kernel's form. Paths stand as they are: they may have line feeds and
-// control bytes. Entries gives each by itself.
-func Show(list []byte) ([]byte, error) {
-	read := func(a answer) ([]byte, error) { return a.copied(len(list) == 0) }
-	return askFor(read, roomOfEntries(len(list)), false, func(out []byte, needed *length) int32 { return callShow(list, out, needed) })
-}
-
-// Room for the entries of a list of this size: an entry's text is at most twice as long as the entry.
-func roomOfEntries(size int) int {
-	return roomFor(size, 2)
-}
-
-// Room for most entries or events as JSON. (A control byte of a path takes six; then a second call is needed.)
-func roomOfLines(size int) int {
-	return roomFor(size, 4)
-}
-
-// The most room that is made before the library says how much is needed.
-const mostRoomUnasked = 1 << 30
-
-func roomFor(size, times int) int {
-	if size > (mostRoomUnasked-1024)/times {
-		return mostRoomUnasked
-	}
-	return times*size + 1024
 }

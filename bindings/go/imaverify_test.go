@@ -4,7 +4,6 @@ import (
 	"bytes"
 	"errors"
 	"fmt"
-	"math"
 	"os"
 	"path/filepath"
 	"reflect"
@@ -57,18 +56,18 @@ func equal(t *testing.T, found, wanted interface{}) {
 	}
 }
 
-func verify(t *testing.T, log, list, expected []byte) Verdict {
+func verify(t *testing.T, log, list, expected []byte, require string) Verdict {
 	t.Helper()
-	verdict, err := Verify(log, list, expected)
+	verdict, err := Verify(log, list, expected, require)
 	if err != nil {
 		t.Fatal(err)
 	}
 	return verdict
 }
 
-func locate(t *testing.T, log, list, expected []byte) Places {
+func locate(t *testing.T, log, list, expected []byte, require string) Places {
 	t.Helper()
-	places, err := Locate(log, list, expected)
+	places, err := Locate(log, list, expected, require)
 	if err != nil {
 		t.Fatal(err)
 	}
@@ -83,7 +82,7 @@ func TestVerdictOnTheSampleIsAMatch(t *testing.T) {
 		rows = append(rows, fmt.Sprintf(`{"bank":"sha256","register":%d,"state":"match"}`, k))
 	}
 	wanted.JSON = `{"events":24,"locality":0,"entries":99,"boot_aggregate":"good","registers":[` + strings.Join(rows, ",") + `],"verdict":"match"}`
-	equal(t, verify(t, bootLog, bootList, bootTPM), wanted)
+	equal(t, verify(t, bootLog, bootList, bootTPM, NothingRequired), wanted)
 }
 
 func TestRegistersAreThoseOfTheSample(t *testing.T) {
@@ -99,7 +98,7 @@ func TestEntriesAreTheKernelsText(t *testing.T) {
 }
 
 func TestListThatWentOnDiffersInRegister10(t *testing.T) {
-	verdict := verify(t, bootLog, longer, bootTPM)
+	verdict := verify(t, bootLog, longer, bootTPM, NothingRequired)
 	equal(t, []interface{}{verdict.Matches, verdict.Entries, verdict.BootAggregate, len(verdict.Rows)},
 		[]interface{}{false, uint64(100), BootAggregateGood, 24})
 	for k, row := range verdict.Rows {
@@ -112,7 +111,7 @@ func TestListThatWentOnDiffersInRegister10(t *testing.T) {
 }
 
 func TestListThatWentOnIsLocatedBeforeItsEnd(t *testing.T) {
-	places := locate(t, bootLog, longer, bootTPM)
+	places := locate(t, bootLog, longer, bootTPM, NothingRequired)
 	equal(t, places.Located, true)
 	equal(t, len(places.Rows), 24)
 	equal(t, places.Rows[10], PlaceRow{AlgorithmSHA256, 10, Place{PlaceEntry, 98}})
@@ -126,68 +125,50 @@ func TestListThatWentOnIsLocatedBeforeItsEnd(t *testing.T) {
 
 func TestExpectedRegistersMayBeAbsentOrReachedNowhere(t *testing.T) {
 	text := []byte("sha1 10 " + strings.Repeat("0", 40) + "\nsha256 10 " + strings.Repeat("1", 64))
-	verdict, places := verify(t, bootLog, longer, text), locate(t, bootLog, longer, text)
+	verdict, places := verify(t, bootLog, longer, text, NothingRequired), locate(t, bootLog, longer, text, NothingRequired)
 	equal(t, verdict.Matches || places.Located, false)
 	equal(t, verdict.Rows[0], Row{AlgorithmSHA1, 10, StateAbsent, nil})
 	equal(t, fmt.Sprintf("%s %x", verdict.Rows[1].State, verdict.Rows[1].Value), "differ "+afterLonger)
 	equal(t, places.Rows, []PlaceRow{{AlgorithmSHA1, 10, Place{Kind: PlaceAbsent}}, {AlgorithmSHA256, 10, Place{Kind: PlaceNowhere}}})
 }
 
-func verifyRequired(t *testing.T, log, list, expected []byte, require string) Verdict {
-	t.Helper()
-	verdict, err := VerifyRequired(log, list, expected, require)
-	if err != nil {
-		t.Fatal(err)
-	}
-	return verdict
-}
-
-func locateRequired(t *testing.T, log, list, expected []byte, require string) Places {
-	t.Helper()
-	places, err := LocateRequired(log, list, expected, require)
-	if err != nil {
-		t.Fatal(err)
-	}
-	return places
-}
-
 func TestAllRequiredRegistersAreExpected(t *testing.T) {
 	for _, require := range []string{"sha256:0-10", "sha256:0-23", "sha256:10,sha256:0-7"} {
-		verdict := verifyRequired(t, bootLog, bootList, bootTPM, require)
+		verdict := verify(t, bootLog, bootList, bootTPM, require)
 		equal(t, []interface{}{verdict.Matches, verdict.Compared(), verdict.Entries}, []interface{}{true, 24, uint64(99)})
-		equal(t, verdict.Rows, verify(t, bootLog, bootList, bootTPM).Rows)
-		equal(t, locateRequired(t, bootLog, bootList, bootTPM, require), locate(t, bootLog, bootList, bootTPM))
+		equal(t, verdict.Rows, verify(t, bootLog, bootList, bootTPM, NothingRequired).Rows)
+		equal(t, locate(t, bootLog, bootList, bootTPM, require), locate(t, bootLog, bootList, bootTPM, NothingRequired))
 	}
-	verdict := verifyRequired(t, bootLog, longer, bootTPM, "sha256:10")
+	verdict := verify(t, bootLog, longer, bootTPM, "sha256:10")
 	equal(t, []interface{}{verdict.Matches, verdict.Rows[10].State}, []interface{}{false, StateDiffer})
 }
 
 func TestRequiredRegisterThatIsNotExpectedIsMissing(t *testing.T) {
 	text := bootTPM[:bytes.Index(bootTPM, []byte("sha256 23 "))]
-	equal(t, verifyRequired(t, bootLog, bootList, text, "sha256:0-22").Matches, true)
-	verdict := verifyRequired(t, bootLog, bootList, text, "sha256:0-23,sha1:10")
+	equal(t, verify(t, bootLog, bootList, text, "sha256:0-22").Matches, true)
+	verdict := verify(t, bootLog, bootList, text, "sha256:0-23,sha1:10")
 	equal(t, []interface{}{verdict.Matches, verdict.Compared()}, []interface{}{false, 23})
-	equal(t, verdict.Rows[:23], verify(t, bootLog, bootList, text).Rows)
+	equal(t, verdict.Rows[:23], verify(t, bootLog, bootList, text, NothingRequired).Rows)
 	equal(t, verdict.Rows[23:], []Row{{AlgorithmSHA1, 10, StateMissing, nil}, {AlgorithmSHA256, 23, StateMissing, nil}})
-	places := locateRequired(t, bootLog, bootList, text, "sha256:0-23,sha1:10")
+	places := locate(t, bootLog, bootList, text, "sha256:0-23,sha1:10")
 	equal(t, places.Located, false)
-	equal(t, places.Rows[:23], locate(t, bootLog, bootList, text).Rows)
+	equal(t, places.Rows[:23], locate(t, bootLog, bootList, text, NothingRequired).Rows)
 	equal(t, places.Rows[23:], []PlaceRow{{AlgorithmSHA1, 10, Place{Kind: PlaceMissing}}, {AlgorithmSHA256, 23, Place{Kind: PlaceMissing}}})
 }
 
 func TestNothingExpectedNeverMatches(t *testing.T) {
 	for _, empty := range [][]byte{nil, {}, []byte("\n")} {
-		verdict := verifyRequired(t, bootLog, bootList, empty, "sha256:10")
+		verdict := verify(t, bootLog, bootList, empty, "sha256:10")
 		equal(t, []interface{}{verdict.Matches, verdict.Compared()}, []interface{}{false, 0})
 		equal(t, verdict.Rows, []Row{{AlgorithmSHA256, 10, StateMissing, nil}})
-		places := locateRequired(t, bootLog, bootList, empty, "sha256:10")
+		places := locate(t, bootLog, bootList, empty, "sha256:10")
 		equal(t, []interface{}{places.Located, places.Rows}, []interface{}{false, []PlaceRow{{AlgorithmSHA256, 10, Place{Kind: PlaceMissing}}}})
 	}
 }
 
-func replayRequired(t *testing.T, list, expected []byte, require string) ListVerdict {
+func replay(t *testing.T, list, expected []byte, require string) ListVerdict {
 	t.Helper()
-	verdict, err := ReplayRequired(list, expected, require)
+	verdict, err := Replay(list, expected, require)
 	if err != nil {
 		t.Fatal(err)
 	}
@@ -199,9 +180,9 @@ var tenth = bootTPM[bytes.Index(bootTPM, []byte("sha256 10 ")):bytes.Index(bootT
 
 func TestRegisterOfTheListAloneMatches(t *testing.T) {
 	rows := []Row{{AlgorithmSHA256, 10, StateMatch, nil}}
-	equal(t, replayRequired(t, bootList, tenth, "sha256:10"),
+	equal(t, replay(t, bootList, tenth, "sha256:10"),
 		ListVerdict{99, rows, true, `{"entries":99,"registers":[{"bank":"sha256","register":10,"state":"match"}],"verdict":"match"}`})
-	verdict := replayRequired(t, longer, tenth, "sha256:10")
+	verdict := replay(t, longer, tenth, "sha256:10")
 	equal(t, []interface{}{verdict.Matches, verdict.Entries, fmt.Sprintf("%x", verdict.Rows[0].Value)},
 		[]interface{}{false, uint64(100), afterLonger})
 }
@@ -218,7 +199,6 @@ func TestRegistersAfterTheListAlone(t *testing.T) {
 	checkRefused(t, err, RefusedError{"refused: replay fault 1 at entry 5", KindReplay, 1, 5, true})
 }
 
-// Without a requirement all expected registers count, and no others.
 func areApart(t *testing.T, log, list []byte) bool {
 	t.Helper()
 	found, err := AreApart(log, list)
@@ -273,7 +253,7 @@ func TestRegistersThatAreExpectedHaveRows(t *testing.T) {
 			text += fmt.Sprintf("%s %d %s\r\n", algorithm, k, strings.Repeat("0", 2*digestSizes[algorithm]))
 		}
 	}
-	verdict, places := verify(t, bootLog, bootList, []byte(text)), locate(t, bootLog, bootList, []byte(text))
+	verdict, places := verify(t, bootLog, bootList, []byte(text), NothingRequired), locate(t, bootLog, bootList, []byte(text), NothingRequired)
 	equal(t, []int{len(verdict.Rows), verdict.Compared(), len(places.Rows)}, []int{96, 96, 96})
 	for k, row := range all {
 		equal(t, Row{Algorithm: verdict.Rows[k].Algorithm, Register: verdict.Rows[k].Register}, row)
@@ -282,7 +262,7 @@ func TestRegistersThatAreExpectedHaveRows(t *testing.T) {
 }
 
 func TestRegistersOfTheFirmwareDifferAfterTheListAlone(t *testing.T) {
-	verdict := replayRequired(t, bootList, bootTPM, "sha256:0-23")
+	verdict := replay(t, bootList, bootTPM, "sha256:0-23")
 	equal(t, []interface{}{verdict.Matches, verdict.Compared()}, []interface{}{false, 24})
 	equal(t, verdict.Rows[0], Row{AlgorithmSHA256, 0, StateDiffer, make([]byte, 32)})
 	differing := map[int]bool{}
@@ -295,45 +275,57 @@ func TestRegistersOfTheFirmwareDifferAfterTheListAlone(t *testing.T) {
 }
 
 func TestListAloneNeverMatchesWithoutItsRegistersOrEntries(t *testing.T) {
-	verdict := replayRequired(t, bootList, tenth, "sha1:10,sha256:10")
+	verdict := replay(t, bootList, tenth, "sha1:10,sha256:10")
 	equal(t, []interface{}{verdict.Matches, verdict.Compared()}, []interface{}{false, 1})
 	equal(t, verdict.Rows, []Row{{AlgorithmSHA256, 10, StateMatch, nil}, {AlgorithmSHA1, 10, StateMissing, nil}})
-	verdict = replayRequired(t, bootList, nil, "sha1:10")
+	verdict = replay(t, bootList, nil, "sha1:10")
 	equal(t, []interface{}{verdict.Matches, verdict.Rows}, []interface{}{false, []Row{{AlgorithmSHA1, 10, StateMissing, nil}}})
-	verdict = replayRequired(t, nil, []byte("sha256 10 "+strings.Repeat("0", 64)), "sha256:10")
+	verdict = replay(t, nil, []byte("sha256 10 "+strings.Repeat("0", 64)), "sha256:10")
 	equal(t, []interface{}{verdict.Matches, verdict.Entries, verdict.Rows},
 		[]interface{}{false, uint64(0), []Row{{AlgorithmSHA256, 10, StateMatch, nil}}})
 }
 
+func TestListAloneMayRequireNothing(t *testing.T) {
+	verdict := replay(t, bootList, tenth, NothingRequired)
+	equal(t, []interface{}{verdict.Matches, verdict.Rows}, []interface{}{true, []Row{{AlgorithmSHA256, 10, StateMatch, nil}}})
+	equal(t, replay(t, longer, tenth, NothingRequired).Matches, false)
+	verdict = replay(t, bootList, nil, NothingRequired)
+	equal(t, []interface{}{verdict.Matches, verdict.Entries, verdict.Rows}, []interface{}{false, uint64(99), []Row(nil)})
+}
+
 func TestListAloneIsRefused(t *testing.T) {
-	verdict, err := ReplayRequired(changed, tenth, "sha256:10")
+	verdict, err := Replay(changed, tenth, "sha256:10")
 	checkRefused(t, err, RefusedError{"refused: replay fault 1 at entry 5", KindReplay, 1, 5, true})
 	equal(t, verdict, ListVerdict{})
-	_, err = ReplayRequired(bootList[:len(bootList)-1], tenth, "sha256:10")
+	_, err = Replay(bootList[:len(bootList)-1], tenth, "sha256:10")
 	checkRefused(t, err, RefusedError{"refused: list fault 1 at entry 98", KindList, 1, 98, true})
-	_, err = ReplayRequired(bootList[:1], []byte("x"), "sha256:10")
+	_, err = Replay(bootList[:1], []byte("x"), "sha256:10")
 	checkRefused(t, err, RefusedError{"refused: expected fault 1 at line 1", KindExpected, 1, 1, true})
 }
 
-func TestWrongRequirementOrRangeIsMalformed(t *testing.T) {
-	for _, require := range []string{"", "sha256", "sha256:24", "sha256:10-0", "sha256:0-10,", "sha256: 0", "none", "0-10", "\xff"} {
-		verdict, err := VerifyRequired(nil, nil, nil, require)
-		equal(t, []interface{}{verdict, err}, []interface{}{Verdict{}, ErrMalformed})
-		places, err := LocateRequired(nil, nil, nil, require)
-		equal(t, []interface{}{places, err}, []interface{}{Places{}, ErrMalformed})
-		alone, err := ReplayRequired(nil, nil, require)
-		equal(t, []interface{}{alone, err}, []interface{}{ListVerdict{}, ErrMalformed})
+func TestWrongRequirementOrRangeIsRefused(t *testing.T) {
+	for _, require := range []string{"", "sha256", "sha256:24", "sha256:10-0", "sha256:0-10,", "sha256: 0", "None", "none ", "none,sha256:0",
+		"0-10", "\xff"} {
+		verdict, err := Verify(nil, nil, nil, require)
+		checkArgument(t, err)
+		equal(t, verdict, Verdict{})
+		places, err := Locate(nil, nil, nil, require)
+		checkArgument(t, err)
+		equal(t, places, Places{})
+		alone, err := Replay(nil, nil, require)
+		checkArgument(t, err)
+		equal(t, alone, ListVerdict{})
 	}
 	for _, registers := range []string{"24", "10-0", "0-", "-", " ", "sha256:0"} {
 		_, err := ExpectedFrom(sample("tpm2_pcrread.txt"), registers)
-		equal(t, err, ErrMalformed)
+		checkArgument(t, err)
 	}
 }
 
 func TestInputsAreRefusedAsWithoutARequirement(t *testing.T) {
-	_, err := VerifyRequired(bootLog, changed, bootTPM, "sha256:0")
+	_, err := Verify(bootLog, changed, bootTPM, "sha256:0")
 	checkRefused(t, err, RefusedError{"refused: replay fault 1 at entry 5", KindReplay, 1, 5, true})
-	_, err = LocateRequired(bootLog[:31], bootList, bootTPM, "sha256:0")
+	_, err = Locate(bootLog[:31], bootList, bootTPM, "sha256:0")
 	checkRefused(t, err, RefusedError{"refused: log fault 1 at event 0", KindLog, 1, 0, true})
 }
 
@@ -344,8 +336,8 @@ func TestExpectedRegistersAreThoseThatWerePrinted(t *testing.T) {
 	some, err := ExpectedFrom(printed, "0-10")
 	equal(t, err, nil)
 	equal(t, registersIn(t, some), registersIn(t, bootTPM)[:11])
-	equal(t, verifyRequired(t, bootLog, bootList, some, "sha256:0-10").Matches, true)
-	equal(t, verifyRequired(t, bootLog, bootList, some, "sha256:0-11").Matches, false)
+	equal(t, verify(t, bootLog, bootList, some, "sha256:0-10").Matches, true)
+	equal(t, verify(t, bootLog, bootList, some, "sha256:0-11").Matches, false)
 	_, err = ExpectedFrom(bootTPM, "")
 	checkRefused(t, err, RefusedError{"refused: expected fault 1 at line 1", KindExpected, 1, 1, true})
 	_, err = ExpectedFrom(nil, "")
@@ -357,6 +349,17 @@ func TestVersionIsThatOfTheHeader(t *testing.T) {
 	equal(t, err, nil)
 	equal(t, strings.Contains(string(header), fmt.Sprintf("#define IMA_VERIFY_VERSION %d\n", headerVersion)), true)
 	equal(t, Version() >= headerVersion, true)
+}
+
+// The requirement, or the range, is refused.
+func checkArgument(t *testing.T, err error) {
+	t.Helper()
+	var found *RefusedError
+	if !errors.As(err, &found) {
+		t.Fatalf("found %v", err)
+	}
+	equal(t, []interface{}{found.Kind, found.Number, found.Place, found.HasPlace}, []interface{}{KindArgument, uint64(0), uint64(0), false})
+	equal(t, strings.HasPrefix(err.Error(), found.Line+" "), true)
 }
 
 func checkRefused(t *testing.T, err error, wanted RefusedError) {
@@ -371,16 +374,16 @@ func checkRefused(t *testing.T, err error, wanted RefusedError) {
 
 func TestChangedEntryIsNotGenuine(t *testing.T) {
 	wanted := RefusedError{"refused: replay fault 1 at entry 5", KindReplay, 1, 5, true}
-	verdict, err := Verify(bootLog, changed, bootTPM)
+	verdict, err := Verify(bootLog, changed, bootTPM, NothingRequired)
 	checkRefused(t, err, wanted)
 	equal(t, verdict, Verdict{})
-	places, err := Locate(bootLog, changed, bootTPM)
+	places, err := Locate(bootLog, changed, bootTPM, NothingRequired)
 	checkRefused(t, err, wanted)
 	equal(t, places, Places{})
 }
 
 func TestLogThatIsCutIsRefused(t *testing.T) {
-	_, err := Verify(bootLog[:31], bootList, bootTPM)
+	_, err := Verify(bootLog[:31], bootList, bootTPM, NothingRequired)
 	checkRefused(t, err, RefusedError{"refused: log fault 1 at event 0", KindLog, 1, 0, true})
 	_, err = Registers(bootLog[:len(bootLog)-1])
 	checkRefused(t, err, RefusedError{"refused: log fault 1 at event 24", KindLog, 1, 24, true})
@@ -398,16 +401,16 @@ func TestListThatIsCutIsRefused(t *testing.T) {
 
 func TestExpectedRegistersOfAnotherFormAreRefused(t *testing.T) {
 	text := append(append([]byte(nil), bootTPM...), "sha256 24 "+strings.Repeat("0", 64)...)
-	_, err := Verify(bootLog, bootList, text)
+	_, err := Verify(bootLog, bootList, text, NothingRequired)
 	checkRefused(t, err, RefusedError{"refused: expected fault 1 at line 25", KindExpected, 1, 25, true})
 	text = append(append([]byte(nil), bootTPM...), bootTPM[:75]...)
-	_, err = Locate(bootLog, bootList, text)
+	_, err = Locate(bootLog, bootList, text, NothingRequired)
 	checkRefused(t, err, RefusedError{"refused: expected fault 2 at line 25", KindExpected, 2, 25, true})
 }
 
 func TestInputIsTakenWhole(t *testing.T) {
 	text := append(bytes.Repeat([]byte("\n"), 1<<24), 'x')
-	_, err := Verify(bootLog, bootList, text)
+	_, err := Verify(bootLog, bootList, text, NothingRequired)
 	checkRefused(t, err, RefusedError{"refused: expected fault 1 at line 16777217", KindExpected, 1, 1<<24 + 1, true})
 }
 
@@ -415,78 +418,81 @@ func TestInputsWithoutBytes(t *testing.T) {
 	for _, empty := range [][]byte{nil, {}, bootLog[:0]} {
 		_, err := Registers(empty)
 		checkRefused(t, err, RefusedError{"refused: log fault 1 at event 0", KindLog, 1, 0, true})
-		_, err = Verify(empty, empty, empty)
+		_, err = Verify(empty, empty, empty, NothingRequired)
 		checkRefused(t, err, RefusedError{"refused: log fault 1 at event 0", KindLog, 1, 0, true})
 		shown, err := Show(empty)
 		equal(t, err, nil)
 		equal(t, len(shown), 0)
-		verdict := verify(t, bootLog, empty, bootTPM)
+		verdict := verify(t, bootLog, empty, bootTPM, NothingRequired)
 		equal(t, []interface{}{verdict.Matches, verdict.Entries, verdict.BootAggregate}, []interface{}{false, uint64(0), BootAggregateMissing})
 		// (on nothing, there is no match)
-		equal(t, verify(t, bootLog, bootList, empty), Verdict{Events: 24, Entries: 99, BootAggregate: BootAggregateGood,
+		equal(t, verify(t, bootLog, bootList, empty, NothingRequired), Verdict{Events: 24, Entries: 99, BootAggregate: BootAggregateGood,
 			JSON: `{"events":24,"locality":0,"entries":99,"boot_aggregate":"good","registers":[],"verdict":"match"}`})
-		equal(t, locate(t, bootLog, bootList, empty), Places{nil, false, `{"registers":[],"located":false}`})
+		equal(t, locate(t, bootLog, bootList, empty, NothingRequired), Places{nil, false, `{"registers":[],"located":false}`})
 	}
 }
 
-func TestTextLongerThanTheBufferTakesASecondCall(t *testing.T) {
-	for _, room := range []int{1, 2, len(ascii) / 2, len(ascii) - 1, len(ascii)} {
-		calls := 0
-		answer, err := ask(room, func(out []byte, needed *length) int32 {
-			calls++
-			return callShow(bootList, out, needed)
-		})
-		equal(t, err, nil)
-		equal(t, string(answer.text), string(ascii))
-		equal(t, calls, map[bool]int{true: 2, false: 1}[room < len(ascii)])
+// The calls that a text of entries takes with a buffer of this size, and the text.
+func shown(t *testing.T, list []byte, isJSON bool, room int) (int, string) {
+	calls, at := 0, new(position)
+	l := linesOf(len(list) == 0, func(out []byte) (int32, told) {
+		calls++
+		return callEntries(list, at, isJSON, out)
+	})
+	l.buffer = make([]byte, room)
+	text, err := allOf(l)
+	equal(t, err, nil)
+	return calls, string(text)
+}
+
+func TestTextOfEntriesIsTheSameByPiecesOfAnySize(t *testing.T) {
+	_, whole := shown(t, bootList, true, 1<<20)
+	longest := 0
+	for _, line := range strings.SplitAfter(string(ascii), "\n") {
+		if len(line) > longest {
+			longest = len(line)
+		}
+	}
+	for _, room := range []int{1, 2, longest - 1, longest, 1000, len(ascii) / 2, len(ascii) - 1, len(ascii), len(whole)} {
+		calls, text := shown(t, bootList, false, room)
+		equal(t, text, string(ascii))
+		equal(t, calls > 1, room < len(ascii))
+		_, text = shown(t, bootList, true, room)
+		equal(t, text, whole)
+	}
+	many := bytes.Repeat(bootList, 20) // (longer than the buffer of a scanner)
+	equal(t, len(ascii)*20 > 2*room, true)
+	found, err := Show(many)
+	equal(t, []interface{}{string(found) == strings.Repeat(string(ascii), 20), err}, []interface{}{true, nil})
+	entries := entriesIn(t, many)
+	equal(t, len(entries), 1980)
+	for k, entry := range entries {
+		equal(t, []interface{}{entry.Number, entry.File.Path}, []interface{}{uint64(k), entries[k%99].File.Path})
 	}
 }
 
 func TestLineOfAFaultLongerThanTheBuffer(t *testing.T) {
-	given, err := ask(5, func(out []byte, needed *length) int32 { return callRegisters(nil, out, needed) })
-	equal(t, err, nil)
-	checkRefused(t, given.refusal(false), RefusedError{"refused: log fault 1 at event 0", KindLog, 1, 0, true})
+	_, err := ask(make([]byte, 5), func(out []byte) (int32, told) { return callRegisters(nil, false, out) })
+	checkRefused(t, err, RefusedError{"refused: log fault 1 at event 0", KindLog, 1, 0, true})
 }
 
-func TestEntriesLongerThanTheBufferTakeASecondCall(t *testing.T) {
+func TestEntriesLongerThanTheBuffer(t *testing.T) {
 	// (a path of control bytes is six times as long as JSON)
-	path := strings.Repeat("\x01", 4000)
-	found, err := drained(Entries(bytes.Repeat(entryOf("ima-ng", ng("sha1", make([]byte, 20), path)), 3)))
-	equal(t, err, nil)
-	for _, entry := range found {
-		equal(t, entry.File.Path, path)
+	paths := []string{strings.Repeat("\x01", 4000), strings.Repeat("\x02", 2*room), "/x"}
+	var list []byte
+	for _, path := range paths {
+		list = append(list, entryOf("ima-ng", ng("sha1", make([]byte, 20), path))...)
 	}
-	equal(t, len(found), 3)
-}
-
-func TestRoomOfLongInputsIsPositiveAndLimited(t *testing.T) {
-	const most = 1 << 30
-	for _, size := range []int{0, 1, 1 << 20, 1<<28 - 257, 1 << 28, 1<<29 - 513, 1 << 29, math.MaxInt32, math.MaxInt/4 + 1, math.MaxInt/2 + 1,
-		math.MaxInt} {
-		for _, room := range []int{roomOfEntries(size), roomOfLines(size)} {
-			equal(t, room >= 1024 && room <= most && (room == most || room > size), true)
-		}
-	}
-	equal(t, []int{roomOfEntries(1000), roomOfLines(1000)}, []int{3024, 5024})
-}
-
-func TestFirstBufferIsLargeEnough(t *testing.T) {
-	// The smallest entry of its template has the longest text for its size.
-	ima := append(append(make([]byte, 4), bytes.Repeat([]byte("x"), 20)...), "\x03\x00\x00\x00ima"+strings.Repeat("\x00", 24)...)
-	nameless := append(append(make([]byte, 4), bytes.Repeat([]byte("x"), 20)...), make([]byte, 8)...)
-	for _, list := range [][]byte{nil, ima[:1], bytes.Repeat(ima, 900), bytes.Repeat(nameless, 900), bootList} {
-		calls := 0
-		ask(roomOfEntries(len(list)), func(out []byte, needed *length) int32 {
-			calls++
-			return callShow(list, out, needed)
-		})
-		equal(t, calls, 1)
+	found := entriesIn(t, list)
+	equal(t, len(found), len(paths))
+	for k, entry := range found {
+		equal(t, entry.File.Path, paths[k])
 	}
 }
 
 func TestCallsAtOnceGiveWhatTheyGiveAlone(t *testing.T) {
-	verdict, differing := verify(t, bootLog, bootList, bootTPM), verify(t, bootLog, longer, bootTPM)
-	places := locate(t, bootLog, longer, bootTPM)
+	verdict, differing := verify(t, bootLog, bootList, bootTPM, NothingRequired), verify(t, bootLog, longer, bootTPM, NothingRequired)
+	places := locate(t, bootLog, longer, bootTPM, NothingRequired)
 	registers := registersIn(t, sample("registers.txt"))
 	var group sync.WaitGroup
 	start := make(chan struct{})
@@ -497,12 +503,12 @@ func TestCallsAtOnceGiveWhatTheyGiveAlone(t *testing.T) {
 			<-start
 			for round := 0; round < 100; round++ {
 				for _, found := range []struct{ found, wanted interface{} }{
-					{called(Verify(bootLog, bootList, bootTPM)), called(verdict, nil)},
-					{called(Verify(bootLog, longer, bootTPM)), called(differing, nil)},
-					{called(Locate(bootLog, longer, bootTPM)), called(places, nil)},
+					{called(Verify(bootLog, bootList, bootTPM, NothingRequired)), called(verdict, nil)},
+					{called(Verify(bootLog, longer, bootTPM, NothingRequired)), called(differing, nil)},
+					{called(Locate(bootLog, longer, bootTPM, NothingRequired)), called(places, nil)},
 					{called(Registers(bootLog)), called(registers, nil)},
 					{called(Show(bootList)), called(ascii, nil)},
-					{called(Verify(bootLog, changed, bootTPM)),
+					{called(Verify(bootLog, changed, bootTPM, NothingRequired)),
 						called(Verdict{}, &RefusedError{"refused: replay fault 1 at entry 5", KindReplay, 1, 5, true})},
 				} {
 					if !reflect.DeepEqual(found.found, found.wanted) {

@@ -4,6 +4,7 @@ import (
 	"bytes"
 	"encoding/hex"
 	"encoding/json"
+	"fmt"
 	"math"
 	"strings"
 )
@@ -12,12 +13,9 @@ const registersOfBank = 24
 
 var digestSizes = map[Algorithm]int{AlgorithmSHA1: 20, AlgorithmSHA256: 32, AlgorithmSHA384: 48, AlgorithmSHA512: 64}
 
-// The members of faults that tell the place.
-var placeNames = map[Kind]string{KindLog: "event", KindList: "entry", KindReplay: "entry"}
-
 type object map[string]json.RawMessage
 
-// What reads objects of JSON. From the first thing that is not as it should be it is wrong.
+// reader reads objects of JSON. It is wrong from the first thing on that is not as docs/formats.md says.
 type reader struct {
 	wrong bool
 }
@@ -26,14 +24,14 @@ func (r *reader) require(condition bool) {
 	r.wrong = r.wrong || !condition
 }
 
-// The object of a line, which ends with its only line feed.
+// object reads the object of a line, which ends with its only line feed.
 func (r *reader) object(line []byte) object {
 	var o object
 	r.require(bytes.IndexByte(line, '\n') == len(line)-1 && json.Unmarshal(line, &o) == nil)
 	return o
 }
 
-// A member, which is there, and no null. (What is not UTF-8, json gives as U+FFFD.)
+// member reads a member, which is there, and no null. (What is not UTF-8, json gives as U+FFFD.)
 func member[T any](r *reader, o object, name string) T {
 	var value T
 	raw, found := o[name]
@@ -87,7 +85,7 @@ func (r *reader) digest(o object, name string, algorithm Algorithm) []byte {
 	return value
 }
 
-// A name, which stands in hexadecimal if it is not UTF-8.
+// name reads a name, which is in hexadecimal if it is not UTF-8.
 func (r *reader) name(o object, name string) []byte {
 	if has(o, name) {
 		return []byte(member[string](r, o, name))
@@ -112,13 +110,14 @@ func (r *reader) rows(o object) []Row {
 	return rows
 }
 
-// Whether a report is a match: of what is good before its rows, and of each of these. Its status and its verdict say the same.
-func (r *reader) matches(status int32, o object, rows []Row, isGood bool) bool {
+// matches is whether a report is a match: what comes before its rows is good, and each row matches. Its result and its verdict
+// say the same.
+func (r *reader) matches(result int32, o object, rows []Row, isGood bool) bool {
 	matches := isGood
 	for _, row := range rows {
 		matches = matches && row.State == StateMatch
 	}
-	r.require((oneOf(r, o, "verdict", "match", "differ") == "match") == matches && status == statusOf(matches))
+	r.require((oneOf(r, o, "verdict", "match", "differ") == "match") == matches && result == resultOf(matches))
 	return matches
 }
 
@@ -149,8 +148,8 @@ func (r *reader) entry(o object, number uint64) Entry {
 	return e
 }
 
-// How many of all entries the confirmed front of a report has, at least the first, or 0, and what is told of those after them.
-func (r *reader) front(o object, entries uint64) (uint64, *Unconfirmed) {
+// confirmed is how many of all entries are confirmed, at least the first, or 0, and what is wrong after them.
+func (r *reader) confirmed(o object, entries uint64) (uint64, *Unconfirmed) {
 	if !has(o, "confirmed") {
 		r.require(!has(o, "unconfirmed"))
 		return 0, nil
@@ -166,40 +165,14 @@ func (r *reader) front(o object, entries uint64) (uint64, *Unconfirmed) {
 	return confirmed, &fault
 }
 
-func (r *reader) unconfirmed(fault object) Unconfirmed {
-	line := member[string](r, fault, "message")
-	said, isInput := r.faultWith(fault, strings.Replace(line, "unconfirmed: ", "refused: ", 1)).(*RefusedError)
-	r.require(strings.HasPrefix(line, "unconfirmed: ") && isInput)
-	if r.wrong {
-		return Unconfirmed{}
-	}
-	return Unconfirmed{line, said.Kind, said.Number, said.Place}
+func (r *reader) unconfirmed(o object) Unconfirmed {
+	fault := Unconfirmed{member[string](r, o, "message"), oneOf(r, o, "kind", KindList, KindReplay),
+		r.number(o, "number", math.MaxUint64), r.number(o, "entry", math.MaxUint64)}
+	r.require(fault.Line == fmt.Sprintf("unconfirmed: %s fault %d at entry %d", fault.Kind, fault.Number, fault.Entry))
+	return fault
 }
 
-func (r *reader) fault(o object) error {
-	fault := member[object](r, o, "fault")
-	return r.faultWith(fault, member[string](r, fault, "message"))
-}
-
-// The error of a fault that a line states. Its members say the same, but that the line alone has the line of a text.
-func (r *reader) faultWith(fault object, line string) error {
-	said := faultSaidBy(line)
-	kind, numbers := map[error]string{ErrMalformed: "command_line", ErrOutOfMemory: "memory"}[said], map[string]uint64{}
-	if refusal, isInput := said.(*RefusedError); isInput {
-		kind, numbers["number"] = string(refusal.Kind), refusal.Number
-		if name := placeNames[refusal.Kind]; refusal.HasPlace && name != "" {
-			numbers[name] = refusal.Place
-		}
-	}
-	r.require(said != nil && member[string](r, fault, "kind") == kind)
-	for _, name := range []string{"number", "event", "entry"} {
-		number, isSaid := numbers[name]
-		r.require(has(fault, name) == isSaid && (!isSaid || r.number(fault, name, math.MaxUint64) == number))
-	}
-	return said
-}
-
-func (r *reader) algorithms(o object) []LogAlgorithm {
+func (r *reader) algorithms(o object, _ uint64) []LogAlgorithm {
 	var algorithms []LogAlgorithm
 	for _, row := range member[[]object](r, o, "algorithms") {
 		algorithm := LogAlgorithm{"", uint16(r.number(row, "id", math.MaxUint16)), int(r.number(row, "size", math.MaxUint16))}

@@ -1,12 +1,13 @@
 package imaverify
 
-// How the library is found: `#include <ima_verify.h>` and `-lima_verify` suffice where both are installed for the system's
-// compiler. Else say where they are:
+// The compiler finds the library by `#include <ima_verify.h>` and `-lima_verify` where both are installed for the system.
+// Otherwise say where they are:
 //
 //	CGO_CFLAGS=-I/path/of/header CGO_LDFLAGS=-L/path/of/library go build
 //	CGO_CFLAGS=$(pkg-config --cflags ima_verify) CGO_LDFLAGS=$(pkg-config --libs ima_verify) go build
 //
-// A program that is linked with libima_verify.so needs it when it runs, where the system's loader finds it or in LD_LIBRARY_PATH.
+// A program that is linked with libima_verify.so needs it when it runs, where the system's loader finds it or in
+// LD_LIBRARY_PATH.
 
 /*
 #cgo LDFLAGS: -lima_verify
@@ -16,23 +17,56 @@ import "C"
 
 import "unsafe"
 
+// What a call returns.
 const (
 	done        = C.IMA_VERIFY_DONE
 	differs     = C.IMA_VERIFY_DIFFERS
 	refused     = C.IMA_VERIFY_REFUSED
 	outOfMemory = C.IMA_VERIFY_OUT_OF_MEMORY
 	tooShort    = C.IMA_VERIFY_TOO_SHORT
-
-	headerVersion = C.IMA_VERIFY_VERSION
+	moreLines   = C.IMA_VERIFY_MORE
+	misused     = C.IMA_VERIFY_MISUSED
 )
 
-// The size of a text in C.
-type length = C.size_t
+// The kinds of errors for which the package has no Kind, and the place of an error that names none.
+const (
+	noKind     = C.IMA_VERIFY_NO_FAULT
+	memoryKind = C.IMA_VERIFY_MEMORY
+	noPlace    = C.IMA_VERIFY_NO_PLACE
+)
 
-// Where an input without bytes points, since no pointer may be null.
+const headerVersion = C.IMA_VERIFY_VERSION
+
+// The kinds of errors for which an input is refused.
+var kinds = map[uint32]Kind{
+	C.IMA_VERIFY_ARGUMENT:   KindArgument,
+	C.IMA_VERIFY_LOG:        KindLog,
+	C.IMA_VERIFY_LIST:       KindList,
+	C.IMA_VERIFY_REPLAY:     KindReplay,
+	C.IMA_VERIFY_EXPECTED:   KindExpected,
+	C.IMA_VERIFY_CHECKPOINT: KindCheckpoint,
+}
+
+// told is what a call reports of its text: the size, and the error that the text is the line of.
+type told struct {
+	size         uint64
+	kind, number uint32
+	place        uint64
+}
+
+func givenBy(result C.int32_t, t *C.struct_ima_verify_told) (int32, told) {
+	return int32(result), told{uint64(t.size), uint32(t.fault_kind), uint32(t.fault_number), uint64(t.fault_place)}
+}
+
+// position is where the lines of entries or events continue.
+type position struct {
+	offset, number C.size_t
+}
+
+// nothing is where an input without bytes points, since no pointer may be null.
 var nothing [1]byte
 
-// The address of the bytes, which the library has only during the call that this is an argument of.
+// start is the address of the bytes, which the library has only during the call that this is an argument of.
 func start(data []byte) *C.uint8_t {
 	if len(data) == 0 {
 		return (*C.uint8_t)(unsafe.Pointer(&nothing[0]))
@@ -48,57 +82,52 @@ func libraryVersion() uint32 {
 	return uint32(C.ima_verify_version())
 }
 
-func callVerify(log, list, expected, out []byte, needed *length) int32 {
-	return int32(C.ima_verify_verdict_json(start(log), size(log), start(list), size(list), start(expected), size(expected),
-		start(out), size(out), needed))
+func callVerdict(log, list, expected, require, out []byte) (int32, told) {
+	var t C.struct_ima_verify_told
+	return givenBy(C.ima_verify_raw_verdict(start(log), size(log), start(list), size(list), start(expected), size(expected),
+		start(require), size(require), true, start(out), size(out), &t), &t)
 }
 
-func callVerifyRequired(log, list, expected, require, out []byte, needed *length) int32 {
-	return int32(C.ima_verify_required_json(start(log), size(log), start(list), size(list), start(expected), size(expected),
-		start(require), size(require), start(out), size(out), needed))
+func callLocate(log, list, expected, require, out []byte) (int32, told) {
+	var t C.struct_ima_verify_told
+	return givenBy(C.ima_verify_raw_locate(start(log), size(log), start(list), size(list), start(expected), size(expected),
+		start(require), size(require), true, start(out), size(out), &t), &t)
 }
 
-func callMore(log, state, more, expected, require []byte, prefix bool, next []byte, nextNeeded *length, out []byte, needed *length) int32 {
-	return int32(C.ima_verify_more_json(start(log), size(log), start(state), size(state), start(more), size(more),
-		start(expected), size(expected), start(require), size(require), C.bool(prefix), start(next), size(next), nextNeeded,
-		start(out), size(out), needed))
+func callReplay(list, expected, require, out []byte) (int32, told) {
+	var t C.struct_ima_verify_told
+	return givenBy(C.ima_verify_raw_replay(start(list), size(list), start(expected), size(expected),
+		start(require), size(require), true, start(out), size(out), &t), &t)
 }
 
-func callLocate(log, list, expected, out []byte, needed *length) int32 {
-	return int32(C.ima_verify_locate_json(start(log), size(log), start(list), size(list), start(expected), size(expected),
-		start(out), size(out), needed))
+// callMore also gives the size of the next checkpoint.
+func callMore(log, state, data, expected, require []byte, prefix bool, next, out []byte) (int32, uint64, told) {
+	var t C.struct_ima_verify_told
+	var nextSize C.size_t
+	result, given := givenBy(C.ima_verify_raw_more(start(log), size(log), start(state), size(state), start(data), size(data),
+		start(expected), size(expected), start(require), size(require), C.bool(prefix), true,
+		start(next), size(next), &nextSize, start(out), size(out), &t), &t)
+	return result, uint64(nextSize), given
 }
 
-func callLocateRequired(log, list, expected, require, out []byte, needed *length) int32 {
-	return int32(C.ima_verify_locate_required_json(start(log), size(log), start(list), size(list), start(expected), size(expected),
-		start(require), size(require), start(out), size(out), needed))
+func callExpected(printed, registers, out []byte) (int32, told) {
+	var t C.struct_ima_verify_told
+	return givenBy(C.ima_verify_raw_expected(start(printed), size(printed), start(registers), size(registers), false,
+		start(out), size(out), &t), &t)
 }
 
-func callReplay(list, expected, require, out []byte, needed *length) int32 {
-	return int32(C.ima_verify_replay_required_json(start(list), size(list), start(expected), size(expected),
-		start(require), size(require), start(out), size(out), needed))
+func callRegisters(data []byte, ofList bool, out []byte) (int32, told) {
+	var t C.struct_ima_verify_told
+	return givenBy(C.ima_verify_raw_registers(start(data), size(data), C.bool(ofList), true, start(out), size(out), &t), &t)
 }
 
-func callExpected(printed, registers, out []byte, needed *length) int32 {
-	return int32(C.ima_verify_expected(start(printed), size(printed), start(registers), size(registers), start(out), size(out), needed))
+func callEntries(list []byte, at *position, isJSON bool, out []byte) (int32, told) {
+	var t C.struct_ima_verify_told
+	return givenBy(C.ima_verify_raw_entries(start(list), size(list), &at.offset, &at.number, C.bool(isJSON),
+		start(out), size(out), &t), &t)
 }
 
-func callRegisters(log, out []byte, needed *length) int32 {
-	return int32(C.ima_verify_registers_json(start(log), size(log), start(out), size(out), needed))
-}
-
-func callListRegisters(list, out []byte, needed *length) int32 {
-	return int32(C.ima_verify_replay_json(start(list), size(list), start(out), size(out), needed))
-}
-
-func callEvents(log, out []byte, needed *length) int32 {
-	return int32(C.ima_verify_events_json(start(log), size(log), start(out), size(out), needed))
-}
-
-func callEntries(list, out []byte, needed *length) int32 {
-	return int32(C.ima_verify_entries_json(start(list), size(list), start(out), size(out), needed))
-}
-
-func callShow(list, out []byte, needed *length) int32 {
-	return int32(C.ima_verify_show(start(list), size(list), start(out), size(out), needed))
+func callEvents(log []byte, at *position, out []byte) (int32, told) {
+	var t C.struct_ima_verify_told
+	return givenBy(C.ima_verify_raw_events(start(log), size(log), &at.offset, &at.number, start(out), size(out), &t), &t)
 }

@@ -122,7 +122,7 @@ func TestPathsAreTheirBytes(t *testing.T) {
 	}
 }
 
-func TestDamagedListGivesWhatStandsBeforeTheFault(t *testing.T) {
+func TestDamagedListGivesWhatComesBeforeTheError(t *testing.T) {
 	last := len(bootList) - 95
 	for _, damaged := range []struct {
 		list  []byte
@@ -134,10 +134,7 @@ func TestDamagedListGivesWhatStandsBeforeTheFault(t *testing.T) {
 		{[]byte("x"), 0, RefusedError{"refused: list fault 1 at entry 0", KindList, 1, 0, true}},
 		{joined(bootList[:last], number(24), bootList[last+4:]), 98, RefusedError{"refused: list fault 2 at entry 98", KindList, 2, 98, true}},
 	} {
-		listing, err := Entries(damaged.list)
-		equal(t, err, nil)
-		checkRefused(t, listing.Fault(), damaged.fault)
-		found, err := drained(listing, nil)
+		found, err := drained(Entries(damaged.list))
 		checkRefused(t, err, damaged.fault)
 		equal(t, len(found), damaged.count)
 		if damaged.count > 0 {
@@ -148,8 +145,6 @@ func TestDamagedListGivesWhatStandsBeforeTheFault(t *testing.T) {
 
 func TestListWithoutEntriesHasNone(t *testing.T) {
 	for _, empty := range [][]byte{nil, {}, bootList[:0]} {
-		listing, err := Entries(empty)
-		equal(t, []interface{}{listing.Fault(), err}, []interface{}{nil, nil})
 		equal(t, len(entriesIn(t, empty)), 0)
 	}
 }
@@ -157,8 +152,8 @@ func TestListWithoutEntriesHasNone(t *testing.T) {
 func TestEventsOfTheSample(t *testing.T) {
 	events, err := Events(bootLog)
 	equal(t, err, nil)
-	equal(t, []interface{}{events.Algorithms, events.Fault()}, []interface{}{[]LogAlgorithm{{"sha256", 11, 32}}, nil})
-	found, err := drained(&events.Listing, nil)
+	equal(t, events.Algorithms(), []LogAlgorithm{{"sha256", 11, 32}})
+	found, err := drainedEvents(events, nil)
 	equal(t, err, nil)
 	equal(t, len(found), 24)
 	// (the first event of the file, after the header of 65 bytes: register 0, type 8, one digest of SHA-256, 2 bytes of data)
@@ -183,8 +178,8 @@ func TestEventsWithoutNamesOrDigests(t *testing.T) {
 		number(0), number(255), number(2), []byte{18, 0, 0xab}, sha1s, withLength([]byte("\"\n")))
 	events, err := Events(log)
 	equal(t, err, nil)
-	equal(t, events.Algorithms, []LogAlgorithm{{"", 18, 1}, {"sha1", 4, 20}})
-	found, err := drained(&events.Listing, nil)
+	equal(t, events.Algorithms(), []LogAlgorithm{{"", 18, 1}, {"sha1", 4, 20}})
+	found, err := drainedEvents(events, nil)
 	equal(t, err, nil)
 	equal(t, found, []Event{
 		{1, 0x01020304, "EV_NO_ACTION", 3, map[Algorithm][]byte{}, []byte{}},
@@ -192,7 +187,7 @@ func TestEventsWithoutNamesOrDigests(t *testing.T) {
 	})
 }
 
-func TestDamagedLogIsRefusedAfterWhatStandsBeforeTheFault(t *testing.T) {
+func TestDamagedLogIsRefusedAfterWhatComesBeforeTheError(t *testing.T) {
 	whole, err := drainedEvents(Events(bootLog))
 	equal(t, err, nil)
 	for _, damaged := range []struct {

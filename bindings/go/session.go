@@ -6,8 +6,8 @@ import (
 	"strconv"
 )
 
-// Session gives verdicts on a measurement list that grows: each is on all of the list so far, but only what is new of it is given. It is
-// for one goroutine at a time.
+// Session gives verdicts on a measurement list that grows: each is on all of the list so far, but only what is new of it is
+// given. It is for one goroutine at a time.
 type Session struct {
 	log, expected []byte
 	require       string
@@ -15,24 +15,12 @@ type Session struct {
 	reached       checkpoint
 }
 
-// Option is one of a session: Require, Prefix or Resume.
+// Option is one of a session: Prefix or Resume.
 type Option func(s *Session) error
 
-// Require names the registers that must be among the expected ones, as VerifyRequired does, where "none" requires nothing, too. From a text
-// that is not of its form, such as an empty one, More gives ErrMalformed.
-func Require(registers string) Option {
-	return func(s *Session) error {
-		s.require = registers
-		return nil
-	}
-}
-
-// What a session requires without the option Require.
-const nothingRequired = "none"
-
-// Prefix has the verdict be that on the confirmed front, if there is one: the list's first entries, as few as give a match. What comes after
-// them may be new since the registers were read, or damaged; the verdict's Confirmed says how many entries they are, and its Unconfirmed
-// what is wrong after them.
+// Prefix has the verdict be on the confirmed part of the list, if there is one: the list's first entries, as few as give a
+// match. What comes after them may be new since the PCRs were read, or damaged. The verdict's Confirmed says how many entries
+// they are, and its Unconfirmed what is wrong after them.
 func Prefix() Option {
 	return func(s *Session) error {
 		s.prefix = true
@@ -40,8 +28,9 @@ func Prefix() Option {
 	}
 }
 
-// Resume has the session go on from the State of an earlier one, with a log of the same boot; the expected registers may be others. A state
-// that is not whole, and so an empty one, also nil, is refused with the kind KindCheckpoint, by NewSession or by More.
+// Resume has the session continue from the State of an earlier one, with a log of the same boot. The expected PCRs may be
+// others. A state that is not whole, even an empty one or nil, is refused with the kind KindCheckpoint, by NewSession or by
+// More.
 //
 // A state is trusted: who can write it can choose the verdict. Never take it from the machine that is judged.
 func Resume(state []byte) Option {
@@ -55,10 +44,10 @@ func Resume(state []byte) Option {
 	}
 }
 
-// NewSession gives a session on a list, of which nothing is known unless it is resumed. The firmware event log and the expected registers
-// are as of Verify, and copied.
-func NewSession(log, expected []byte, options ...Option) (*Session, error) {
-	s := &Session{log: clone(log), expected: clone(expected), require: nothingRequired}
+// NewSession gives a session on a list, of which nothing is known unless it is resumed. The arguments are as in Verify; log and
+// expected are copied. For a requirement that is not of its form, such as an empty one, More gives the error.
+func NewSession(log, expected []byte, require string, options ...Option) (*Session, error) {
+	s := &Session{log: clone(log), expected: clone(expected), require: require}
 	for _, option := range options {
 		if err := option(s); err != nil {
 			return nil, err
@@ -67,34 +56,31 @@ func NewSession(log, expected []byte, options ...Option) (*Session, error) {
 	return s, nil
 }
 
-// More gives the verdict on the list that the state covers, followed by these bytes, which may be none. If it is a match, the state then
-// covers the list that it is on: the confirmed front, with Prefix, else the whole list.
+// More gives the verdict on the list that the state covers, followed by these bytes, which may be none. If it is a match, the
+// state then covers the list that it is on: with Prefix the confirmed part, otherwise the whole list.
 //
-// Numbers of entries, also of a refusal, are those of the whole list. With an error, and after a verdict that is no match, the session stays
-// as it was, and these bytes come again.
+// Numbers of entries, even in an error, are those of the whole list. After an error, and after a verdict that is no match, the
+// session is as it was before: give these bytes again.
 func (s *Session) More(data []byte) (Verdict, error) {
-	return s.more(len(data), func(outs [][]byte, needed []length) int32 {
-		return callMore(s.log, s.reached.text, data, s.expected, []byte(s.require), s.prefix, outs[0], &needed[0], outs[1], &needed[1])
+	return s.more(len(data), func(next, out []byte) (int32, uint64, told) {
+		return callMore(s.log, s.reached.text, data, s.expected, []byte(s.require), s.prefix, next, out)
 	})
 }
 
-// The same of a call with so many bytes.
-func (s *Session) more(size int, call func(outs [][]byte, needed []length) int32) (Verdict, error) {
-	given, texts, err := askForTexts([]int{room, room}, call)
-	if err == nil {
-		err = given.refusal(s.require != nothingRequired)
-	}
+// more is More for a call with so many bytes.
+func (s *Session) more(size int, call func(next, out []byte) (int32, uint64, told)) (Verdict, error) {
+	given, err := askForBoth(make([]byte, room), make([]byte, room), call)
 	if err != nil {
 		return Verdict{}, err
 	}
-	verdict, reached, err := given.more(texts[0], s.reached, uint64(size), s.prefix)
+	verdict, reached, err := given.more(s.reached, uint64(size), s.prefix)
 	if err == nil {
 		s.reached = reached
 	}
 	return verdict, err
 }
 
-// State is where the session is: what to keep, and to Resume another from. It is nil before the first match on a list from its start.
+// State is what to keep, and to Resume another session from. It is nil before the first match on a list from its start.
 func (s *Session) State() []byte {
 	return clone(s.reached.text)
 }
@@ -108,17 +94,20 @@ func clone(data []byte) []byte {
 	return append([]byte(nil), data...)
 }
 
-// The text of a checkpoint, and how many entries and bytes of the list it covers. That of no entries has no text.
+// checkpoint is the text of a checkpoint, and how many entries and bytes of the list it covers. That of no entries has no text.
 type checkpoint struct {
 	text           []byte
 	entries, bytes uint64
 }
 
-const checkpointName, checkpointVersion = "ima-agent checkpoint ", "1\n"
+const (
+	checkpointName, checkpointVersion = "ima-agent checkpoint ", "1\n"
+	digits                            = `(0|[1-9][0-9]*)`
+)
 
 var checkpointCounts = regexp.MustCompile("^" + checkpointName + checkpointVersion + "entries " + digits + "\nbytes " + digits + "\n")
 
-// A copy of the checkpoint whose text this is, if it begins as one. (The library judges the rest.)
+// checkpointIn is a copy of the checkpoint whose text this is, if it begins as one. (The library judges the rest.)
 func checkpointIn(text []byte) (checkpoint, bool) {
 	match := checkpointCounts.FindSubmatch(text)
 	if match == nil {
@@ -132,7 +121,7 @@ func checkpointIn(text []byte) (checkpoint, bool) {
 	return checkpoint{clone(text), entries, size}, err == nil && entries <= size
 }
 
-// The error of a text that does not begin as a checkpoint.
+// refusedState is the error of a text that does not begin as a checkpoint.
 func refusedState(text []byte) error {
 	const damaged, otherVersion = 1, 2
 	name, version := []byte(checkpointName), []byte(checkpointName+checkpointVersion)

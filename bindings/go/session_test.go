@@ -49,9 +49,9 @@ func forged(place int) []byte {
 	return list
 }
 
-func session(t *testing.T, log, expected []byte, options ...Option) *Session {
+func session(t *testing.T, log, expected []byte, require string, options ...Option) *Session {
 	t.Helper()
-	s, err := NewSession(log, expected, options...)
+	s, err := NewSession(log, expected, require, options...)
 	if err != nil {
 		t.Fatal(err)
 	}
@@ -70,7 +70,7 @@ func more(t *testing.T, s *Session, data []byte) Verdict {
 // The state after so many entries, which are confirmed; after none it is made by hand, since no verdict on none is a match.
 func stateAfter(t *testing.T, count int) []byte {
 	t.Helper()
-	s := session(t, bootLog, tenthAfter(count))
+	s := session(t, bootLog, tenthAfter(count), NothingRequired)
 	more(t, s, bootList[:ends[count]])
 	if count > 0 {
 		return s.State()
@@ -106,7 +106,7 @@ func checkSessionRefuses(t *testing.T, s *Session, data []byte, wanted RefusedEr
 // No session goes on from this state, whether that is known at once or only by the library.
 func checkNoState(t *testing.T, state []byte, number uint64) {
 	t.Helper()
-	s, err := NewSession(bootLog, bootTPM, Resume(state))
+	s, err := NewSession(bootLog, bootTPM, NothingRequired, Resume(state))
 	if err == nil {
 		_, err = s.More(bootList)
 	} else if s != nil {
@@ -118,13 +118,13 @@ func checkNoState(t *testing.T, state []byte, number uint64) {
 func TestListInTwoPartsIsAsTheWhole(t *testing.T) {
 	equal(t, tenthAfter(99), bootTPM)
 	for _, cut := range cuts {
-		s := session(t, bootLog, tenthAfter(cut))
+		s := session(t, bootLog, tenthAfter(cut), NothingRequired)
 		equal(t, []interface{}{s.State() == nil, s.Offset()}, []interface{}{true, uint64(0)})
 		first := more(t, s, bootList[:ends[cut]])
-		equal(t, first, verify(t, bootLog, bootList[:ends[cut]], tenthAfter(cut)))
+		equal(t, first, verify(t, bootLog, bootList[:ends[cut]], tenthAfter(cut), NothingRequired))
 		equal(t, []interface{}{first.Matches, s.Offset(), s.State() == nil}, []interface{}{cut > 0, uint64(ends[cut]), cut == 0})
-		later := session(t, bootLog, bootTPM, Resume(stateAfter(t, cut)))
-		equal(t, more(t, later, bootList[ends[cut]:]), verify(t, bootLog, bootList, bootTPM))
+		later := session(t, bootLog, bootTPM, NothingRequired, Resume(stateAfter(t, cut)))
+		equal(t, more(t, later, bootList[ends[cut]:]), verify(t, bootLog, bootList, bootTPM, NothingRequired))
 		equal(t, []interface{}{later.State(), later.Offset()}, []interface{}{stateAfter(t, 99), uint64(len(bootList))})
 	}
 }
@@ -132,7 +132,7 @@ func TestListInTwoPartsIsAsTheWhole(t *testing.T) {
 func TestOnlyAMatchMovesTheSession(t *testing.T) {
 	for _, cut := range cuts {
 		for _, options := range [][]Option{nil, {Prefix()}} {
-			s := session(t, bootLog, bootTPM, append(options, resumed(t, cut)...)...)
+			s := session(t, bootLog, bootTPM, NothingRequired, append(options, resumed(t, cut)...)...)
 			before := s.State()
 			for end := cut; end < 99; end += 7 {
 				equal(t, more(t, s, bootList[ends[cut]:ends[end]]).Matches, false)
@@ -147,59 +147,59 @@ func TestOnlyAMatchMovesTheSession(t *testing.T) {
 }
 
 func TestListInManyParts(t *testing.T) {
-	s := session(t, bootLog, tenthAfter(1), Require("sha256:0-10"))
+	s := session(t, bootLog, tenthAfter(1), "sha256:0-10")
 	equal(t, more(t, s, bootList[:ends[1]]).Matches, true)
 	for count := 2; count < len(ends); count++ {
-		s = session(t, bootLog, tenthAfter(count), Require("sha256:0-10"), Resume(s.State()))
+		s = session(t, bootLog, tenthAfter(count), "sha256:0-10", Resume(s.State()))
 		verdict := more(t, s, bootList[ends[count-1]:ends[count]])
 		equal(t, []interface{}{verdict.Entries, verdict.Matches, s.Offset()}, []interface{}{uint64(count), true, uint64(ends[count])})
 	}
 	for _, nothing := range [][]byte{nil, {}} {
-		equal(t, more(t, s, nothing), verifyRequired(t, bootLog, bootList, bootTPM, "sha256:0-10"))
+		equal(t, more(t, s, nothing), verify(t, bootLog, bootList, bootTPM, "sha256:0-10"))
 	}
-	equal(t, more(t, s, bootList[ends[98]:]), verifyRequired(t, bootLog, longer, bootTPM, "sha256:0-10"))
+	equal(t, more(t, s, bootList[ends[98]:]), verify(t, bootLog, longer, bootTPM, "sha256:0-10"))
 }
 
 func TestAnotherSessionGoesOnFromTheState(t *testing.T) {
 	for _, cut := range cuts {
 		state := stateAfter(t, cut)
-		s := session(t, bootLog, tenthAfter(98), Resume(state))
+		s := session(t, bootLog, tenthAfter(98), NothingRequired, Resume(state))
 		equal(t, []interface{}{s.State(), s.Offset()}, []interface{}{state, uint64(ends[cut])})
 		equal(t, more(t, s, bootList[ends[cut]:]).Rows[10].State, StateDiffer)
-		later := session(t, bootLog, bootTPM, Resume(s.State()), Require("sha256:0-23"))
-		equal(t, more(t, later, bootList[ends[cut]:]), verifyRequired(t, bootLog, bootList, bootTPM, "sha256:0-23"))
+		later := session(t, bootLog, bootTPM, "sha256:0-23", Resume(s.State()))
+		equal(t, more(t, later, bootList[ends[cut]:]), verify(t, bootLog, bootList, bootTPM, "sha256:0-23"))
 	}
 }
 
 func TestPartOfAListNeverMatchesWithoutTheState(t *testing.T) {
 	for _, cut := range cuts[1:] {
 		for _, options := range [][]Option{nil, {Prefix()}} {
-			verdict := more(t, session(t, bootLog, bootTPM, options...), bootList[ends[cut]:])
+			verdict := more(t, session(t, bootLog, bootTPM, NothingRequired, options...), bootList[ends[cut]:])
 			equal(t, []interface{}{verdict.Matches, verdict.BootAggregate, verdict.Confirmed}, []interface{}{false, BootAggregateMissing, uint64(0)})
 		}
-		verdict := more(t, session(t, bootLog, bootTPM, resumed(t, cut)...), bootList)
+		verdict := more(t, session(t, bootLog, bootTPM, NothingRequired, resumed(t, cut)...), bootList)
 		equal(t, []interface{}{verdict.Matches, verdict.Entries}, []interface{}{false, uint64(cut + 99)})
 	}
 }
 
 func TestRefusalsLeaveTheSessionAsItWas(t *testing.T) {
 	for _, cut := range cuts[:len(cuts)-1] {
-		s := session(t, bootLog, bootTPM, resumed(t, cut)...)
+		s := session(t, bootLog, bootTPM, NothingRequired, resumed(t, cut)...)
 		checkSessionRefuses(t, s, bootList[ends[cut]:len(bootList)-1], RefusedError{"refused: list fault 1 at entry 98", KindList, 1, 98, true})
 		data := forged(98)[ends[cut]:]
 		checkSessionRefuses(t, s, data, RefusedError{"refused: replay fault 1 at entry 98", KindReplay, 1, 98, true})
 		checkSessionRefuses(t, s, append(data, 'x'), RefusedError{"refused: list fault 1 at entry 99", KindList, 1, 99, true})
 		equal(t, more(t, s, bootList[ends[cut]:]).Matches, true)
 	}
-	cutLog := session(t, bootLog[:len(bootLog)-1], bootTPM)
+	cutLog := session(t, bootLog[:len(bootLog)-1], bootTPM, NothingRequired)
 	checkSessionRefuses(t, cutLog, bootList, RefusedError{"refused: log fault 1 at event 24", KindLog, 1, 24, true})
-	wrongText := session(t, bootLog, append(clone(bootTPM), 'x'))
+	wrongText := session(t, bootLog, append(clone(bootTPM), 'x'), NothingRequired)
 	checkSessionRefuses(t, wrongText, bootList, RefusedError{"refused: expected fault 1 at line 25", KindExpected, 1, 25, true})
 }
 
 func TestInputsOfASessionAreCopied(t *testing.T) {
 	log, expected, state := clone(bootLog), clone(bootTPM), stateAfter(t, 50)
-	s := session(t, log, expected, Resume(state))
+	s := session(t, log, expected, NothingRequired, Resume(state))
 	for _, data := range [][]byte{log, expected, state, s.State()} {
 		for k := range data {
 			data[k] = 0
@@ -211,7 +211,7 @@ func TestInputsOfASessionAreCopied(t *testing.T) {
 func TestSessionsAtOnceGiveWhatTheyGiveAlone(t *testing.T) {
 	var wanted []Verdict
 	for _, cut := range cuts {
-		wanted = append(wanted, verify(t, bootLog, bootList[:ends[cut]], tenthAfter(cut)))
+		wanted = append(wanted, verify(t, bootLog, bootList[:ends[cut]], tenthAfter(cut), NothingRequired))
 	}
 	var group sync.WaitGroup
 	for thread := 0; thread < 8; thread++ {
@@ -222,7 +222,7 @@ func TestSessionsAtOnceGiveWhatTheyGiveAlone(t *testing.T) {
 				var options []Option
 				for k, cut := range cuts {
 					var verdict Verdict
-					s, err := NewSession(bootLog, tenthAfter(cut), options...)
+					s, err := NewSession(bootLog, tenthAfter(cut), NothingRequired, options...)
 					if err == nil {
 						verdict, err = s.More(bootList[s.Offset():ends[cut]])
 					}
@@ -239,20 +239,23 @@ func TestSessionsAtOnceGiveWhatTheyGiveAlone(t *testing.T) {
 
 func TestRequiredRegistersOfASession(t *testing.T) {
 	text := bootTPM[:bytes.LastIndex(bootTPM, []byte("sha256 23 "))]
-	for _, options := range [][]Option{{Require("sha256:0-23,sha1:10")}, {Prefix(), Require("sha256:0-23,sha1:10")}} {
-		s := session(t, bootLog, text, options...)
+	for _, options := range [][]Option{nil, {Prefix()}} {
+		s := session(t, bootLog, text, "sha256:0-23,sha1:10", options...)
 		verdict := more(t, s, bootList)
 		missing := []Row{{AlgorithmSHA1, 10, StateMissing, nil}, {AlgorithmSHA256, 23, StateMissing, nil}}
 		equal(t, []interface{}{verdict.Matches, verdict.Compared(), verdict.Rows[23:], verdict.Confirmed}, []interface{}{false, 23, missing, uint64(0)})
 	}
 	for _, wrong := range []string{"", "sha256", "sha256:24", "sha256:10-0", "sha256:0-10,", " ", "None", "none ", "\xff"} {
-		for _, s := range []*Session{session(t, nil, []byte("x"), Require(wrong)), session(t, bootLog, bootTPM, Require(wrong))} {
-			_, err := s.More(bootList)
-			equal(t, []interface{}{err, s.State() == nil}, []interface{}{ErrMalformed, true})
+		for _, s := range []*Session{session(t, nil, []byte("x"), wrong), session(t, bootLog, bootTPM, wrong)} {
+			verdict, err := s.More(bootList)
+			checkArgument(t, err)
+			equal(t, []interface{}{verdict, s.State() == nil}, []interface{}{Verdict{}, true})
 		}
 	}
+	_, err := (&Session{log: bootLog, expected: bootTPM}).More(bootList) // (nothing says what it requires)
+	checkArgument(t, err)
 	for _, options := range [][]Option{nil, {Prefix()}, {Resume(stateAfter(t, 50))}} {
-		s := session(t, bootLog, nil, options...)
+		s := session(t, bootLog, nil, NothingRequired, options...)
 		verdict := more(t, s, bootList[s.Offset():])
 		equal(t, []interface{}{verdict.Matches, verdict.Confirmed, len(verdict.Rows)}, []interface{}{false, uint64(0), 0})
 		equal(t, []interface{}{verdict.BootAggregate, strings.HasSuffix(verdict.JSON, `"verdict":"differ"}`)}, []interface{}{BootAggregateGood, true})
@@ -262,17 +265,16 @@ func TestRequiredRegistersOfASession(t *testing.T) {
 func TestRequirementOfAResumedSessionHolds(t *testing.T) {
 	ten := bootTPM[:bytes.Index(bootTPM, []byte("sha256 10 "))]
 	for _, cut := range []int{0, 1, 50, 99} {
-		resume, require := Resume(stateAfter(t, cut)), Require("sha256:0-10")
-		for _, options := range [][]Option{{resume, require}, {require, resume}, {require, Prefix(), resume}, {require, resume, Prefix()},
-			{resume, Prefix(), require}, {Prefix(), require, resume}} {
-			s := session(t, bootLog, ten, options...)
+		resume := Resume(stateAfter(t, cut))
+		for _, options := range [][]Option{{resume}, {Prefix(), resume}, {resume, Prefix()}} {
+			s := session(t, bootLog, ten, "sha256:0-10", options...)
 			for k := 0; k < 2; k++ {
 				verdict := more(t, s, bootList[ends[cut]:])
 				equal(t, []interface{}{verdict.Matches, verdict.Rows[10:]}, []interface{}{false, []Row{{AlgorithmSHA256, 10, StateMissing, nil}}})
 			}
 		}
-		for _, options := range [][]Option{{resume, Require("sha256:0-9")}, {resume}, {Require("none"), resume}} {
-			equal(t, more(t, session(t, bootLog, ten, options...), bootList[ends[cut]:]).Matches, true)
+		for _, require := range []string{"sha256:0-9", NothingRequired, "none"} {
+			equal(t, more(t, session(t, bootLog, ten, require, resume), bootList[ends[cut]:]).Matches, true)
 		}
 	}
 }
@@ -288,24 +290,24 @@ func checkFront(t *testing.T, verdict Verdict, entries, confirmed int, unconfirm
 
 func TestFrontThatTheRegistersConfirm(t *testing.T) {
 	for _, count := range []int{1, 2, 50, 97, 98, 99} {
-		s := session(t, bootLog, tenthAfter(count), Require("sha256:0-10"), Prefix())
+		s := session(t, bootLog, tenthAfter(count), "sha256:0-10", Prefix())
 		checkFront(t, more(t, s, bootList), 99, count, nil)
 		equal(t, []interface{}{s.State(), s.Offset()}, []interface{}{stateAfter(t, count), uint64(ends[count])})
 	}
 	// (without register 10 nothing speaks for more than the boot aggregate)
 	without := bootTPM[:bytes.Index(bootTPM, []byte("sha256 10 "))]
-	checkFront(t, more(t, session(t, bootLog, without, Prefix()), bootList), 99, 1, nil)
+	checkFront(t, more(t, session(t, bootLog, without, NothingRequired, Prefix()), bootList), 99, 1, nil)
 }
 
 func TestSessionGoesOnFromTheFront(t *testing.T) {
-	s := session(t, bootLog, tenthAfter(97), Prefix())
+	s := session(t, bootLog, tenthAfter(97), NothingRequired, Prefix())
 	checkFront(t, more(t, s, bootList), 99, 97, nil)
-	later := session(t, bootLog, bootTPM, Prefix(), Resume(s.State()))
+	later := session(t, bootLog, bootTPM, NothingRequired, Prefix(), Resume(s.State()))
 	for k := 0; k < 2; k++ {
 		checkFront(t, more(t, later, longer[later.Offset():]), 100, 99, nil)
 		equal(t, later.Offset(), uint64(len(bootList)))
 	}
-	early := session(t, bootLog, tenthAfter(50), Prefix(), Resume(stateAfter(t, 97)))
+	early := session(t, bootLog, tenthAfter(50), NothingRequired, Prefix(), Resume(stateAfter(t, 97)))
 	equal(t, []interface{}{more(t, early, bootList[ends[97]:]).Matches, early.Offset()}, []interface{}{false, uint64(ends[97])})
 }
 
@@ -323,27 +325,27 @@ func TestDamageAfterTheFrontIsTold(t *testing.T) {
 	} {
 		fault := damage.fault
 		for _, cut := range []int{0, 1, 50, 97} {
-			s := session(t, bootLog, tenthAfter(97), append(resumed(t, cut), Prefix(), Require("sha256:10"))...)
+			s := session(t, bootLog, tenthAfter(97), "sha256:10", append(resumed(t, cut), Prefix())...)
 			wanted := Unconfirmed{"unconfirmed: " + fault.Line, fault.Kind, fault.Number, fault.Place}
 			checkFront(t, more(t, s, damage.list[ends[cut]:]), damage.entries, 97, &wanted)
 			equal(t, s.State(), stateAfter(t, 97))
 		}
 		fault.Line = "refused: " + fault.Line
-		checkSessionRefuses(t, session(t, bootLog, tenthAfter(97)), damage.list, fault)
+		checkSessionRefuses(t, session(t, bootLog, tenthAfter(97), NothingRequired), damage.list, fault)
 	}
 	for _, place := range []int{0, 5, 96} {
 		fault := RefusedError{fmt.Sprintf("refused: replay fault 1 at entry %d", place), KindReplay, 1, uint64(place), true}
-		checkSessionRefuses(t, session(t, bootLog, tenthAfter(97), Prefix()), forged(place), fault)
+		checkSessionRefuses(t, session(t, bootLog, tenthAfter(97), NothingRequired, Prefix()), forged(place), fault)
 	}
 }
 
 func TestListWithoutAFrontIsAsWithoutPrefix(t *testing.T) {
 	nowhere := []byte("sha256 10 " + strings.Repeat("1", 64))
 	for _, options := range [][]Option{nil, {Prefix()}} {
-		s := session(t, bootLog, nowhere, options...)
+		s := session(t, bootLog, nowhere, NothingRequired, options...)
 		checkSessionRefuses(t, s, forged(5), RefusedError{"refused: replay fault 1 at entry 5", KindReplay, 1, 5, true})
 		checkSessionRefuses(t, s, bootList[:len(bootList)-1], RefusedError{"refused: list fault 1 at entry 98", KindList, 1, 98, true})
-		equal(t, more(t, s, bootList), verify(t, bootLog, bootList, nowhere))
+		equal(t, more(t, s, bootList), verify(t, bootLog, bootList, nowhere, NothingRequired))
 		equal(t, s.State() == nil, true)
 	}
 }
@@ -382,39 +384,39 @@ func TestStateThatIsNotWholeIsRefused(t *testing.T) {
 func TestStateOfAnotherBootIsRefused(t *testing.T) {
 	// (another event, of register 16, which is in no boot aggregate: the list matches)
 	other := joined(bootLog, number(16), number(13), number(1), []byte{0x0b, 0}, ones, ones[:12], number(0))
-	s := session(t, other, bootTPM[:bytes.Index(bootTPM, []byte("sha256 11 "))], Require("sha256:0-10"))
+	s := session(t, other, bootTPM[:bytes.Index(bootTPM, []byte("sha256 11 "))], "sha256:0-10")
 	equal(t, more(t, s, bootList).Matches, true)
 	checkNoState(t, s.State(), 3)
 	fault := RefusedError{Line: "refused: checkpoint fault 3", Kind: KindCheckpoint, Number: 3}
-	checkSessionRefuses(t, session(t, other, bootTPM, Resume(stateAfter(t, 99))), nil, fault)
+	checkSessionRefuses(t, session(t, other, bootTPM, NothingRequired, Resume(stateAfter(t, 99))), nil, fault)
 }
 
 func TestStateOfAnotherListGivesNoMatch(t *testing.T) {
 	other := joined(bootList[:ends[50]], bootList[ends[51]:ends[60]])
 	_, values := listed(other)
 	expected := fmt.Sprintf("%ssha256 10 %x\n", bootTPM[:bytes.Index(bootTPM, []byte("sha256 10 "))], values[59])
-	foreign := session(t, bootLog, []byte(expected))
+	foreign := session(t, bootLog, []byte(expected), NothingRequired)
 	equal(t, more(t, foreign, other).Matches, true)
 	for _, cut := range []int{50, 51, 59, 60} {
 		for _, options := range [][]Option{{Resume(foreign.State())}, {Prefix(), Resume(foreign.State())}} {
-			equal(t, more(t, session(t, bootLog, bootTPM, options...), bootList[ends[cut]:]).Matches, false)
+			equal(t, more(t, session(t, bootLog, bootTPM, NothingRequired, options...), bootList[ends[cut]:]).Matches, false)
 		}
 	}
 	none := stateAfter(t, 0)
 	equal(t, bytes.Contains(none, []byte("\nentries 0\nbytes 0\nboot_aggregate none\n")), true)
-	equal(t, more(t, session(t, bootLog, bootTPM, Resume(none)), bootList).Matches, true)
+	equal(t, more(t, session(t, bootLog, bootTPM, NothingRequired, Resume(none)), bootList).Matches, true)
 }
 
 func TestSecondCallHasRoomForBothTexts(t *testing.T) {
-	state, line := stateAfter(t, 99), verify(t, bootLog, bootList, bootTPM).JSON+"\n"
+	state, line := stateAfter(t, 99), verify(t, bootLog, bootList, bootTPM, NothingRequired).JSON+"\n"
 	for _, rooms := range [][]int{{1, 1}, {1, 40000}, {40000, 1}, {len(state) - 1, len(line)}, {len(state), len(line) - 1},
 		{len(state), len(line)}, {40000, 40000}} {
 		calls := 0
-		given, texts, err := askForTexts(rooms, func(outs [][]byte, needed []length) int32 {
+		given, err := askForBoth(make([]byte, rooms[0]), make([]byte, rooms[1]), func(next, out []byte) (int32, uint64, told) {
 			calls++
-			return callMore(bootLog, nil, bootList, bootTPM, []byte(nothingRequired), false, outs[0], &needed[0], outs[1], &needed[1])
+			return callMore(bootLog, nil, bootList, bootTPM, []byte(NothingRequired), false, next, out)
 		})
-		equal(t, []interface{}{err, texts[0], string(given.text)}, []interface{}{nil, state, line})
+		equal(t, []interface{}{err, given.next, string(given.text)}, []interface{}{nil, state, line})
 		equal(t, calls, map[bool]int{true: 2, false: 1}[rooms[0] < len(state) || rooms[1] < len(line)])
 	}
 }
@@ -441,15 +443,14 @@ func stateOf(status int32) string {
 
 // What a session makes of an answer to a call with so many bytes, whose texts have the sizes that are said, or their own.
 func (s *Session) given(size int, status int32, state, text string, sizes ...uint64) (Verdict, error) {
-	return s.more(size, func(outs [][]byte, needed []length) int32 {
-		for k, text := range []string{state, text} {
-			copy(outs[k], text)
-			needed[k] = length(len(text))
-			if len(sizes) > 0 {
-				needed[k] = length(sizes[k])
-			}
+	return s.more(size, func(next, out []byte) (int32, uint64, told) {
+		given, nextSize := toldOf(status, text), uint64(len(state))
+		copy(next, state)
+		copy(out, text)
+		if len(sizes) > 0 {
+			nextSize, given.size = sizes[0], sizes[1]
 		}
-		return status
+		return status, nextSize, given
 	})
 }
 
@@ -458,7 +459,7 @@ func sessionError(t *testing.T, status int32, state, text string, hasFront bool,
 	t.Helper()
 	var err error
 	for _, options := range [][]Option{nil, {Resume([]byte(stateText))}} {
-		s := session(t, nil, nil, options...)
+		s := session(t, nil, nil, NothingRequired, options...)
 		s.prefix = hasFront
 		before := s.reached
 		var verdict Verdict
@@ -485,7 +486,7 @@ func TestRightAnswersToSessionsAreRead(t *testing.T) {
 		{done, frontAndList, true, 3, &Unconfirmed{"unconfirmed: list fault 1 at entry 5", KindList, 1, 5}},
 		{done, strings.Replace(report, `"entries":3,`, `"entries":3,"confirmed":3,`, 1), true, 3, nil},
 	} {
-		s, state, offset := session(t, nil, nil), stateOf(right.status), uint64(300)
+		s, state, offset := session(t, nil, nil, NothingRequired), stateOf(right.status), uint64(300)
 		s.prefix = right.hasFront
 		if right.status != done {
 			offset = 0
@@ -559,26 +560,26 @@ func TestStateThatIsNotThatOfTheReportIsNone(t *testing.T) {
 		text, old, new string
 		size           int
 	}{{report, "300", "2", 2}, {front, "300", "2", 2}, {none, "entries 3", "entries 0", 300}} { // (fewer bytes than entries; no entry)
-		s := session(t, nil, nil)
+		s := session(t, nil, nil, NothingRequired)
 		s.prefix = wrong.text != report
 		_, err := s.given(wrong.size, done, strings.Replace(stateText, wrong.old, wrong.new, 1), wrong.text)
 		checkUnexpected(t, err, wrong.text)
 	}
 	less := strings.Replace(stateText, "300", "299", 1)
 	checkUnexpected(t, sessionError(t, done, less, report, false), report)
-	s := session(t, nil, nil, Prefix())
+	s := session(t, nil, nil, NothingRequired, Prefix())
 	verdict, err := s.given(300, done, less, front) // (the front's end may be anywhere)
 	equal(t, []interface{}{verdict.Confirmed, err, s.Offset()}, []interface{}{uint64(3), nil, uint64(299)})
-	_, err = session(t, nil, nil, Prefix(), Resume([]byte(stateText))).given(0, done, less, front)
+	_, err = session(t, nil, nil, NothingRequired, Prefix(), Resume([]byte(stateText))).given(0, done, less, front)
 	checkUnexpected(t, err, front)
 	later := strings.NewReplacer("entries 3", "entries 4", "300", "400").Replace(stateText)
 	for _, text := range []string{report, front} {
-		s := session(t, nil, nil, Resume([]byte(later)))
+		s := session(t, nil, nil, NothingRequired, Resume([]byte(later)))
 		s.prefix = text == front
 		_, err := s.given(0, done, strings.Replace(stateText, "300", "400", 1), text)
 		checkUnexpected(t, err, text)
 	}
-	_, err = session(t, nil, nil, Resume([]byte(later))).given(0, differs, "", differing)
+	_, err = session(t, nil, nil, NothingRequired, Resume([]byte(later))).given(0, differs, "", differing)
 	checkUnexpected(t, err, differing)
 }
 
@@ -594,11 +595,13 @@ func TestReportToASessionOnNoRegistersIsNoMatch(t *testing.T) {
 
 func TestFailuresLeaveTheSessionAsItWas(t *testing.T) {
 	for _, wrong := range []answer{of(done, ""), of(done, "{}\n"), of(done, report[:len(report)-1]), of(differs, report), of(done, differing),
-		of(refused, report), of(outOfMemory, report), of(tooShort, report), of(5, report), of(-1, report), of(done, listFault),
-		of(refused, memoryFault), of(outOfMemory, listFault), of(refused, malformed)} {
-		checkUnexpected(t, sessionError(t, wrong.status, stateOf(wrong.status), string(wrong.text), false), string(wrong.text))
+		of(refused, report), of(tooShort, report), of(moreLines, report), of(misused, report), of(-1, report), of(done, listFault),
+		of(refused, memoryFault)} {
+		checkUnexpected(t, sessionError(t, wrong.result, stateOf(wrong.result), string(wrong.text), false), string(wrong.text))
 	}
+	checkArgument(t, sessionError(t, refused, "", malformed, false))
 	fault := `{"fault":{"kind":"checkpoint","number":3,"message":"refused: checkpoint fault 3"}}` + "\n"
+	faults[fault] = faultOf(KindCheckpoint, 3, noPlace)
 	wanted := RefusedError{Line: "refused: checkpoint fault 3", Kind: KindCheckpoint, Number: 3}
 	checkRefused(t, sessionError(t, refused, "", fault, false), wanted)
 	equal(t, sessionError(t, outOfMemory, "", memoryFault, false), ErrOutOfMemory)

@@ -83,40 +83,31 @@ def without_path(text: str, path: str) -> str:
     return text
 
 
-def required_verdict(log: bytes, measurements: bytes, expected: bytes, require: str) -> Any:
-    """The library's verdict where these registers are required. Its rows stay in the report: to read them takes longer than to hash the
-    inputs."""
-    from ima_verify import report
+def required(require: str) -> Any:
+    """What the library is asked to require, by the text of `--require`."""
+    from ima_verify import NOTHING
 
-    if require == NONE:
-        return report(log, measurements, expected)
-    return report(log, measurements, expected, require=require)
-
-
-def session_on(log: bytes, expected: bytes, require: str, checkpoint: Optional[bytes]) -> Any:
-    """The library's session on a list, from a checkpoint on, where these registers are required."""
-    from ima_verify import Session
-
-    if require == NONE:
-        return Session(log, expected, state=checkpoint)
-    return Session(log, expected, require=require, state=checkpoint)
+    return NOTHING if require == NONE else require
 
 
 def require_fitness(require: str, is_poll: bool) -> None:
     """Makes sure that this process has the library, with sessions for a poll, and that it takes this text for what is required.
 
-    Else there is an ImportError, or a ValueError. The library reads that text before the inputs."""
+    Otherwise there is an ImportError, or a ValueError, and no error of a class of `ima_verify`: the client may lack the package. The library
+    reads that text before the inputs."""
     import ima_verify
     from ima_verify import list_registers, log_extends  # noqa: F401
 
     if is_poll:
         from ima_verify import Session  # noqa: F401
     try:
-        required_verdict(b"", b"", b"", require)
-    except ValueError:
+        ima_verify.report(b"", b"", b"", require=required(require))
+    except ima_verify.Misuse:
         raise ValueError(f"--require {require!r} is neither BANK:A-B[,BANK:C-D..], as sha256:0-10, nor {NONE}") from None
     except ima_verify.Refused:  # (no log is empty)
         pass
+    except ima_verify.Error as fault:
+        raise ImportError(str(fault)) from None
 
 
 def list_start(checkpoint: Optional[bytes]) -> int:
@@ -126,7 +117,7 @@ def list_start(checkpoint: Optional[bytes]) -> int:
     import ima_verify
 
     try:
-        return int(ima_verify.Session(b"", b"", state=checkpoint).offset)
+        return int(ima_verify.Session(b"", b"", require=ima_verify.NOTHING, state=checkpoint).offset)
     except ima_verify.Refused:
         return 0
 
@@ -241,17 +232,19 @@ def verdict_on(
     next_checkpoint = {}
     try:
         if is_poll:
-            session = session_on(log, expected, require, checkpoint)
-            verdict = session.more(measurements or b"")
+            session = ima_verify.Session(log, expected, require=required(require), state=checkpoint)
+            verdict: Any = session.more(measurements or b"")
             if verdict.matches:
+                assert session.state is not None
                 next_checkpoint["checkpoint"] = session.state.decode()
         else:
             assert measurements is not None
-            verdict = required_verdict(log, measurements, expected, require)
+            # (its rows stay in the report: to read them takes longer than to hash the inputs)
+            verdict = ima_verify.report(log, measurements, expected, require=required(require))
     except ima_verify.Refused as fault:
         # (an empty checkpoint is a damaged one: the machine is refused until --whole)
-        kept = {"checkpoint": ""} if fault.line == DAMAGED else {}
-        return {**fields, "verdict": "refused", "cause": fault.line, **kept}
+        kept = {"checkpoint": ""} if fault.message == DAMAGED else {}
+        return {**fields, "verdict": "refused", "cause": fault.message, **kept}
     if measurements is None:
         return {**fields, "verdict": "unreadable", "cause": SHORTER}
     if not verdict.compared:

@@ -1,12 +1,13 @@
 """The programs of the bindings' pages: what they read, and what they must print."""
 
+import hashlib
 import re
 
 import inputs
 from harness import ROOT
 from reference import answer
-from reference.log import Event
-from reference.measurement_list import IMA_NG, Entry, entry_of, list_spelling
+from reference.log import Event, Log
+from reference.measurement_list import IMA_NG, VIOLATION, Entry, entry_of, list_spelling
 from reference.registers import SHA1, SHA256
 
 SAMPLE = ROOT / "samples/real-boot"
@@ -75,6 +76,18 @@ def hiding_inputs():
     log, event = log._replace(events=log.events[:-1]), log.events[-1]
     moved = Entry(event.register, SHA1.hash(event.data), b"x", event.data)
     yield "an event in the list", log, [*inputs.made_entries(log, inputs.made_measurements(5)), moved]
+
+
+def doc_samples():
+    """The files that Rust's doc tests read, by name: a small boot whose registers 0 to 10 match, with one violation."""
+    measured = [(0, 8, b"1\0"), *((register, 4, bytes(4)) for register in range(8)), (9, inputs.EV_EVENT_TAG, b"kernel")]
+    events = [Event(register, kind, {SHA256.identifier: SHA256.hash(data)}, data) for register, kind, data in measured]
+    log = Log({SHA256.identifier: SHA256.size}, events)
+    files = [(path, hashlib.sha256(path.rpartition(b"/")[2]).digest()) for path in (b"/sbin/init", b"/bin/helper")]
+    entries = inputs.made_entries(log, [*files, (b"/var/log/open", bytes(SHA256.size))])
+    entries[-1] = entries[-1]._replace(template_digest=VIOLATION)
+    expected = inputs.expected_text(inputs.expected_after(log, entries)[:11])
+    return dict(zip(FILES, (log.spelling(), list_spelling(entries), expected)))
 
 
 def made_folder(folder, log, entries):

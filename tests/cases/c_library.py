@@ -1,69 +1,91 @@
-"""Asks the library for C what a command of the program does, through the package for Python."""
+"""Asks the library for C what a command of the program does, by the functions that it exports.
+
+A call that has too little room must write nothing, and say how much it needs; the fault that a call tells must be that of its text. Entries
+and events are asked for by pieces: with room for single lines and for many, which must give the same lines."""
 
 import ctypes
-import importlib
+import json
 import os
+import re
 import sys
 from dataclasses import dataclass
-from typing import Optional
+from typing import NamedTuple, Optional
 
 from form import ROOT
 
-sys.path.insert(0, str(ROOT / "bindings/python"))
+sys.path.insert(1, str(ROOT / "dist"))
+from header import constants_of, exports_of  # noqa: E402
 
 # What the program takes; the library takes more.
 MOST_BYTES = 64 << 20
 # The option of a command that a function takes as a text after the files.
 OPTIONS = {"verify": "--require", "locate": "--require", "replay": "--require", "expected": "--registers"}
-# For a command, with how many files and whether with its option, the function without `ima_verify_`.
+# For a command, with how many files, the function without `ima_verify_raw_`.
 FUNCTIONS = {
-    ("verify", 3, False): "verdict",
-    ("verify", 3, True): "required",
-    ("locate", 3, False): "locate",
-    ("locate", 3, True): "locate_required",
-    ("replay", 2, True): "replay_required",
-    ("expected", 1, False): "expected",
-    ("expected", 1, True): "expected",
-    ("registers", 1, False): "registers",
-    ("show", 1, False): "show",
+    ("verify", 3): "verdict",
+    ("locate", 3): "locate",
+    ("replay", 2): "replay",
+    ("replay", 1): "registers",
+    ("expected", 1): "expected",
+    ("registers", 1): "registers",
+    ("show", 1): "entries",
+    ("events", 1): "events",
 }
-# The same with `--json`.
-JSON_FUNCTIONS = {
-    ("verify", 3, False): "verdict_json",
-    ("verify", 3, True): "required_json",
-    ("locate", 3, False): "locate_json",
-    ("locate", 3, True): "locate_required_json",
-    ("replay", 1, False): "replay_json",
-    ("replay", 2, True): "replay_required_json",
-    ("registers", 1, False): "registers_json",
-    ("events", 1, False): "events_json",
-    ("show", 1, False): "entries_json",
-}
-# The function for `verify` of a list that grows, which takes this option and has a checkpoint too.
-MORE_FUNCTION = "more"
-MORE_OPTIONS = ("--require", "--resume", "--save")
-# What it takes in place of a text that requires registers.
+# What requires nothing: the command has no such word.
 NONE_REQUIRED = "none"
+# Those that take a text of their command's option each time, and which if there is none.
+TEXTS = {"verdict": NONE_REQUIRED, "locate": NONE_REQUIRED, "replay": NONE_REQUIRED, "expected": ""}
+# What `verify` of a list that grows has, of which `ima_verify_more` answers.
+MORE_OPTIONS = ("--require", "--resume", "--save")
 ROOM = 16 * 1024
+# The rooms of pieces, of which the first has none for a line: then single lines are asked for. It is for inputs of so many bytes alone.
+ROOMS, SMALL_BYTES = (1, 4096, 1 << 20), 32 * 1024
 # No checkpoint is longer.
 CHECKPOINT_ROOM = 20000
+FILL = b"\xa7"
+
+CONSTANTS = {name.removeprefix("IMA_VERIFY_"): int(number) for name, number in constants_of(ROOT).items()}
+DONE, REFUSED, OUT_OF_MEMORY, TOO_SHORT, MORE = (
+    CONSTANTS[name] for name in ("DONE", "REFUSED", "OUT_OF_MEMORY", "TOO_SHORT", "MORE")
+)
+NO_FAULT, NO_PLACE = (CONSTANTS["NO_FAULT"], 0, (1 << 64) - 1), (1 << 64) - 1
+KINDS = {"command line": "ARGUMENT", **{name.lower(): name for name in ("LOG", "LIST", "REPLAY", "EXPECTED", "CHECKPOINT")}}
+FAULT = re.compile(r"refused: (command line|\w+)(?: fault (\d+))?(?: at \w+ (\d+))?")
+
+
+class Told(ctypes.Structure):
+    _fields_ = [("size", ctypes.c_size_t), ("kind", ctypes.c_uint32), ("number", ctypes.c_uint32), ("place", ctypes.c_uint64)]
+
+    @property
+    def fault(self):
+        return self.kind, self.number, self.place
+
+
+class Unlike(Exception):
+    """A call does not answer as the header says."""
+
+
+TYPES = {
+    "const uint8_t *": ctypes.c_void_p,
+    "uint8_t *": ctypes.c_void_p,
+    "size_t ": ctypes.c_size_t,
+    "size_t *": ctypes.POINTER(ctypes.c_size_t),
+    "bool ": ctypes.c_bool,
+    "struct ima_verify_told *": ctypes.POINTER(Told),
+}
 
 
 class Library:
-    """The library for C, by the lowest functions of the package for Python, which give its texts as they are."""
+    """The library for C, by the functions that it exports."""
 
     def __init__(self, file):
-        os.environ["IMA_VERIFY_LIBRARY"] = os.path.abspath(file)
-        self.package = importlib.import_module("ima_verify._library")
-        # (the package types the functions that it calls itself, and not all are among them)
-        for (name, files, has_option), function in [*FUNCTIONS.items(), *JSON_FUNCTIONS.items()]:
-            self.package.INPUTS.setdefault(f"ima_verify_{function}", files + (has_option or name == "expected"))
-        self.functions = self.package.load()
-        for name in (MORE_FUNCTION, f"{MORE_FUNCTION}_json"):
-            function = getattr(self.functions, f"ima_verify_{name}")
-            size, sizes = ctypes.c_size_t, ctypes.POINTER(ctypes.c_size_t)
-            given = [ctypes.c_void_p, size] * 5 + [ctypes.c_bool]
-            function.argtypes, function.restype = given + [ctypes.c_void_p, size, sizes] * 2, ctypes.c_int32
+        functions = ctypes.CDLL(os.path.abspath(file))
+        self.functions = {}
+        for name, (_, parameters) in exports_of(ROOT).items():
+            function = getattr(functions, name)
+            function.argtypes = [TYPES[re.sub(r"\w+$", "", each)] for each in parameters if each != "void"]
+            function.restype = ctypes.c_int32
+            self.functions[name.removeprefix("ima_verify_raw_")] = function
 
     def takes(self, words, folder, most_bytes=MOST_BYTES):
         """Whether there is a function for a command, and it is given files of at most so many bytes, texts of options and nothing else; and
@@ -75,13 +97,78 @@ class Library:
 
     def answer(self, words, folder):
         """What the function for a command answers. The checkpoint that the command saves is written as there."""
-        more = more_of(words)
-        if more is not None:
-            return self.answer_more(more, folder)
-        call = call_of(words)
-        data = [(folder / file).read_bytes() for file in call.files]
-        texts = [text.encode("utf-8", "surrogateescape") for text in call.texts]
-        return self.package.ask(getattr(self.functions, f"ima_verify_{call.function}"), [*data, *texts], ROOM + 2 * len(data[-1]))
+        try:
+            more = more_of(words)
+            return self.answer_more(more, folder) if more else self.answer_to(call_of(words), folder)
+        except Unlike as cause:
+            return None, f"not answered: {cause}".encode()
+
+    def answer_to(self, call, folder):
+        inputs = [(folder / file).read_bytes() for file in call.files]
+        if call.function in ("entries", "events"):
+            return self.answer_by_pieces(call, inputs[0])
+        flags = [call.is_of_list] if call.function == "registers" else []
+        texts = [] if call.text is None else [encoded(call.text)]
+        room = ROOM
+        while True:
+            status, text, told = self.ask(call.function, [*inputs, *texts], [*flags, call.is_json], room)
+            if status != TOO_SHORT:
+                return status, text
+            room = told.size
+
+    def ask(self, function, inputs, between, room):
+        """The status, the text, and what else is told, of one call with this much room."""
+        out, told = ctypes.create_string_buffer(FILL * room, max(room, 1)), Told()
+        status = self.functions[function](*pairs(inputs), *between, out, room, ctypes.byref(told))
+        return self.looked_at(status, out, room, told)
+
+    def looked_at(self, status, out, room, told):
+        """The same, once it is seen that it is as the header says."""
+        if status == TOO_SHORT:
+            if out.raw[:room].strip(FILL) or told.size <= room or told.fault != NO_FAULT:
+                raise Unlike("too short")
+            return status, b"", told
+        if out.raw[told.size : room].strip(FILL):
+            raise Unlike("more than the text is written")
+        text = out.raw[: told.size]
+        wanted = fault_in(text) if status in (REFUSED, OUT_OF_MEMORY) else NO_FAULT
+        if told.fault != wanted:
+            raise Unlike(f"the fault {told.fault}, and not {wanted}")
+        return status, text, told
+
+    def answer_by_pieces(self, call, data):
+        """What a command shows: where it does not show the lines before a fault, these are left out."""
+        rooms = ROOMS if len(data) <= SMALL_BYTES else ROOMS[-1:]
+        answer, *others = [self.pieces(call, data, room) for room in rooms]
+        if any(other != answer for other in others):
+            raise Unlike("other lines with another room")
+        return answer.status, answer.fault if answer.fault and not call.is_json else answer.lines + answer.fault
+
+    def pieces(self, call, data, room):
+        """What the calls for all lines come to."""
+        offset, number, lines = ctypes.c_size_t(), ctypes.c_size_t(), []
+        form = [call.is_json] if call.function == "entries" else []
+        asked = room
+        while True:
+            before = offset.value, number.value
+            status, text, told = self.ask(call.function, [data], [ctypes.byref(offset), ctypes.byref(number), *form], asked)
+            if status == TOO_SHORT:
+                if (offset.value, number.value) != before:
+                    raise Unlike("a piece that is too short moves the position")
+                asked = told.size
+                continue
+            asked = room
+            if status != MORE:
+                break
+            if not text.endswith(b"\n") or offset.value <= before[0]:
+                raise Unlike(f"a piece of {len(text)} bytes at {before}, and then {offset.value}")
+            lines.append(text)
+        if status == DONE and offset.value != len(data):
+            raise Unlike(f"the last position is {offset.value} of {len(data)}")
+        if status == REFUSED and call.function == "entries" and told.place != number.value:
+            raise Unlike(f"a fault at {told.place} after {number.value} entries")
+        is_fault = status in (REFUSED, OUT_OF_MEMORY)
+        return Pieces(status, b"".join([*lines, b"" if is_fault else text]), text if is_fault else b"", offset.value)
 
     def answer_more(self, more, folder):
         log, listed, expected = ((folder / file).read_bytes() for file in more.files)
@@ -89,39 +176,70 @@ class Library:
         if more.resume is not None and not state:
             # (no bytes are no checkpoint for the command, and for the function the list's beginning)
             state = b"\n"
-        function = getattr(self.functions, f"ima_verify_{more.function}")
-        status, text, checkpoint = self.call_more(function, [log, state, listed, expected, more.require], more.prefix)
-        if (status == 0) != bool(checkpoint):
-            return None, f"status {status} and a checkpoint of {len(checkpoint)} bytes".encode()
+        status, text, checkpoint = self.ask_more([log, state, listed, expected, more.require], [more.prefix, more.is_json])
+        if (status == DONE) != bool(checkpoint):
+            raise Unlike(f"status {status} and a checkpoint of {len(checkpoint)} bytes")
         if more.save is not None and checkpoint:
             (folder / more.save).write_bytes(checkpoint)
         return status, text
 
-    def call_more(self, function, given, prefix):
+    def ask_more(self, inputs, flags):
         """The status, the text and the checkpoint; asked once more if there was too little room, which must leave the buffers as they were. What
         follows the checkpoint must stay as it was, too."""
         room, next_room = ROOM, CHECKPOINT_ROOM // 4
         while True:
-            out, following = ctypes.create_string_buffer(b"\xa7" * room, room), ctypes.create_string_buffer(b"\xa7" * next_room, next_room)
-            needed, next_needed = ctypes.c_size_t(), ctypes.c_size_t()
-            words = [word for data in given for word in (data or b"\0", len(data))]
-            status = function(*words, prefix, following, next_room, ctypes.byref(next_needed), out, room, ctypes.byref(needed))
-            if status != self.package.TOO_SHORT:
-                if following.raw[next_needed.value :].strip(b"\xa7"):
-                    return None, b"not answered: more than the checkpoint is written", b""
-                return status, out.raw[: needed.value], following.raw[: next_needed.value]
-            if (out.raw + following.raw).strip(b"\xa7") or (needed.value <= room and next_needed.value <= next_room):
-                return None, b"not answered: too short", b""
-            room, next_room = max(room, needed.value), max(next_room, next_needed.value)
+            out, following = (ctypes.create_string_buffer(FILL * size, size) for size in (room, next_room))
+            told, next_size = Told(), ctypes.c_size_t()
+            words = [*pairs(inputs), *flags, following, next_room, ctypes.byref(next_size), out, room, ctypes.byref(told)]
+            status = self.functions["more"](*words)
+            if status != TOO_SHORT:
+                if following.raw[next_size.value :].strip(FILL):
+                    raise Unlike("more than the checkpoint is written")
+                return *self.looked_at(status, out, room, told)[:2], following.raw[: next_size.value]
+            if (out.raw + following.raw).strip(FILL) or (told.size <= room and next_size.value <= next_room) or told.fault != NO_FAULT:
+                raise Unlike("too short")
+            room, next_room = max(room, told.size), max(next_room, next_size.value)
+
+
+def pairs(inputs):
+    return [word for data in inputs for word in (data, len(data))]
+
+
+def encoded(text):
+    return text.encode("utf-8", "surrogateescape")
+
+
+def fault_in(text):
+    """The fault that a line says, as the library tells it."""
+    line = text.decode(errors="surrogateescape").removesuffix("\n")
+    if line.startswith("{"):
+        line = json.loads(line)["fault"]["message"]
+    if line == "failed: memory":
+        return CONSTANTS["MEMORY"], 0, NO_PLACE
+    found = FAULT.fullmatch(line)
+    if found is None or found[1] not in KINDS:
+        raise Unlike(f"no line of a fault: {line[:200]!r}")
+    return CONSTANTS[KINDS[found[1]]], int(found[2] or 0), NO_PLACE if found[3] is None else int(found[3])
+
+
+class Pieces(NamedTuple):
+    """What the last call for lines returns, all lines, the line of a fault if there is one, and how many bytes come before it, or in all."""
+
+    status: int
+    lines: bytes
+    fault: bytes
+    offset: int
 
 
 @dataclass(frozen=True)
 class Call:
-    """A function of the library without `ima_verify_`, its files, and the texts after them."""
+    """A function of the library without `ima_verify_raw_`, its files, the text after them if it takes one, and whether JSON is asked for."""
 
     function: str
     files: list
-    texts: list
+    text: Optional[str]
+    is_json: bool
+    is_of_list: bool
 
     def inputs(self):
         return self.files
@@ -129,15 +247,15 @@ class Call:
 
 @dataclass(frozen=True)
 class More:
-    """A call of the function for a list that grows, or of its form as JSON: the files of log, list and expected registers, what is required,
-    whether a front is asked for, the file to go on from and the one to save."""
+    """A call of the function for a list that grows: the files of log, list and expected registers, what is required, whether a front is asked
+    for, the file to go on from and the one to save, and whether JSON is asked for."""
 
-    function: str
     files: list
     require: bytes
     prefix: bool
     resume: Optional[str]
     save: Optional[str]
+    is_json: bool
 
     def inputs(self):
         return self.files + ([] if self.resume is None else [self.resume])
@@ -161,26 +279,26 @@ def more_of(words):
     if values.get("--require") == NONE_REQUIRED:
         # (the command has no such word)
         return None
-    function = f"{MORE_FUNCTION}_json" if "--json" in flags else MORE_FUNCTION
-    require = values.get("--require", NONE_REQUIRED).encode("utf-8", "surrogateescape")
-    return More(function, files, require, "--prefix" in flags, values.get("--resume"), values.get("--save"))
+    require = encoded(values.get("--require", NONE_REQUIRED))
+    return More(files, require, "--prefix" in flags, values.get("--resume"), values.get("--save"), "--json" in flags)
 
 
 def call_of(words):
     """The call that answers what a command does, or None."""
     name, *rest = words or [""]
-    functions = JSON_FUNCTIONS if "--json" in rest else FUNCTIONS
     option, files, values, rest = OPTIONS.get(name), [], [], (word for word in rest if word != "--json")
     for word in rest:
         if option and word.partition("=")[0] == option:
             values.append(word.partition("=")[2] if "=" in word else next(rest, ""))
         else:
             files.append(word)
-    function = functions.get((name, len(files), bool(values)))
+    function, is_json = FUNCTIONS.get((name, len(files))), "--json" in words
     if function is None or len(values) > 1 or "" in values or words.count("--json") > 1:
         return None
-    # (`ima_verify_expected` takes a range each time, and an empty one is of all registers)
-    return Call(function, files, values or ([""] if function == "expected" else []))
+    if (values and function not in TEXTS) or (function != "expected" and NONE_REQUIRED in values) or (function == "events" and not is_json):
+        # (the command has no such option or word, or the function no such form)
+        return None
+    return Call(function, files, values[0] if values else TEXTS.get(function), is_json, name == "replay")
 
 
 def is_input(name, folder, most_bytes):

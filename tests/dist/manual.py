@@ -2,8 +2,7 @@
 
 - ima-agent.1: commands, synopses, options with their values and defaults, statuses and tables of faults are those of the program's help.
   The fault lines are those of docs/formats.md.
-- ima_verify.3: functions with their types, and constants, are those of the header. The functions of version 1 are those of
-  dist/libima_verify.map.
+- ima_verify.3: functions with their types, and constants, are those of the header. It names no other function.
 - ima-attest.1, fleet-verify.1: the options are those of the usage. The statuses of fleet-verify.1 are those of docs/fleet.md."""
 
 import re
@@ -11,9 +10,11 @@ import subprocess
 
 import help as helps
 from harness import ROOT
-from header import constants_of, functions_of, versions_of
+from header import constants_of, functions_of
 
 MACROS = re.compile(r"^\.(?:It|Li|Ql|Pa|Cm|Ar|Fl|Dv|Fn|Fa|Dq|Xr|Pq|Sx)\b")
+# The functions of the header that make inputs.
+HELPERS = {"ima_verify_text", "ima_verify_none"}
 WORDS = re.compile(r"(?<!\S)(?:No|Ar|Cm|Li|Ql)(?!\S) ?")
 
 
@@ -140,20 +141,17 @@ def check_program(program):
 
 def check_library():
     page = Page("ima_verify.3")
+    lines = [line for part in page.parts.values() for line in part]
     synopsis = "\n".join(page.part("SYNOPSIS"))
-    found = {name: (kind, re.findall(r'"(.*)"', arguments))
-             for kind, name, arguments in re.findall(r"^\.Ft (\S+)\n\.Fo (\w+)\n((?:\.Fa .*\n)*)\.Fc", synopsis, re.MULTILINE)}
+    found = {name: (kind, re.findall(r'"(.*)"', arguments)) for kind, name, arguments in re.findall(
+        r'^\.Ft "?([\w ]+)"?\n\.Fo (\w+)\n((?:\.Fa .*\n)*)\.Fc', synopsis, re.MULTILINE)}
     wanted = functions_of(ROOT)
     yield from differences(page.name, list(wanted.items()), list(found.items()))
-    told = set(re.findall(r"^\.Fn (\w+)", "\n".join(page.part("DESCRIPTION") + page.part("RETURN VALUES")), re.MULTILINE))
-    for name in wanted:
-        if name not in told and not (name.endswith("_json") and name[: -len("_json")] in told):
-            yield f"{page.name}: says nothing of {name}"
+    told = set(re.findall(r"\bFn (\w+)", "\n".join(lines))) - HELPERS
+    yield from (f"{page.name}: says nothing of {name}" for name in wanted if name not in told)
     yield from (f"{page.name}: tells of {name}, which the header lacks" for name in sorted(told - set(wanted)))
-    statuses = dict(re.findall(r"^\.It Dv (\w+) No \((\d+)\)", "\n".join(page.part("RETURN VALUES")), re.MULTILINE))
-    yield from differences(page.name, list(constants_of(ROOT).items()), list(statuses.items()))
-    first = re.findall(r"^\.Fn (\w+)", "\n".join(page.part("HISTORY")), re.MULTILINE)
-    yield from differences(f"{page.name}: version 1", [name for name, version in versions_of(ROOT).items() if version == 1], first)
+    constants = dict(re.findall(r"^\.It Dv (\w+) No \((\d+)\)", "\n".join(lines), re.MULTILINE))
+    yield from differences(page.name, list(constants_of(ROOT).items()), list(constants.items()))
 
 
 def check_usage(name, usage):

@@ -4,10 +4,10 @@ of the two with the lowest bit of one byte turned.
 
 tests/faults/damaged.py [LIBRARY]: a libima_verify.so; without it `dist/library` makes one, which builds what is not up to date.
 
-The text of each input is compared, and its verdict. Most of a log is data that no register depends on, so a log is judged with the first
-entry of the list alone. For each kind of input the script prints how many have which answer. It counts inputs."""
+The text of each input is compared, and its verdict; of a damaged list also the lines of the entries before the fault. Most of a log is data
+that no register depends on, so a log is judged with the first entry of the list alone. For each kind of input the script prints how many have
+which answer. It counts inputs."""
 
-import ctypes
 import os
 import subprocess
 import sys
@@ -15,8 +15,9 @@ from collections import Counter
 from concurrent.futures import ProcessPoolExecutor
 from pathlib import Path
 
-sys.path.insert(0, str(Path(__file__).resolve().parents[1]))
+sys.path[:0] = [str(Path(__file__).resolve().parents[1]), str(Path(__file__).resolve().parents[1] / "cases")]
 import harness  # noqa: E402
+from c_library import Call, Library, Unlike  # noqa: E402
 from harness import ROOT  # noqa: E402
 from reference.faults import Fault  # noqa: E402
 from reference.log import read_log  # noqa: E402
@@ -57,9 +58,12 @@ def shown(listed):
 KINDS = {
     "registers after the log": (LOG, "registers", lambda log: [log], registers),
     "verdict on the log and the first entry": (LOG, "verdict", lambda log: [log, FIRST_ENTRY, b""], judged),
-    "entries of the list": (LIST, "show", lambda listed: [listed], shown),
+    "entries of the list": (LIST, "entries", lambda listed: [listed], shown),
     "verdict on the log and the list": (LIST, "verdict", lambda listed: [LOG, listed, TENTH], judged),
 }
+# What a function takes beside the inputs: a requirement, and its form.
+NOTHING_REQUIRED, AS_TEXT, OF_LOG = b"none", False, False
+ENTRIES = Call("entries", [], None, AS_TEXT, False)
 DAMAGES = {
     "fronts": (lambda data: range(len(data) + 1), lambda data, place: data[:place]),
     "one bit turned": (lambda data: range(len(data)), lambda data, place: data[:place] + bytes([data[place] ^ 1]) + data[place + 1 :]),
@@ -68,10 +72,22 @@ DAMAGES = {
 
 def library_answer(library, function, inputs):
     """The status and the text that the library answers."""
-    text, size = ctypes.create_string_buffer(ROOM), ctypes.c_size_t()
-    words = [word for data in inputs for word in (ctypes.c_char_p(data), ctypes.c_size_t(len(data)))]
-    status = getattr(library, f"ima_verify_{function}")(*words, text, ctypes.c_size_t(ROOM), ctypes.byref(size))
-    return status, text.raw[: size.value]
+    try:
+        if function == "entries":
+            return entries_answer(library, *inputs)
+        if function == "registers":
+            return library.ask(function, inputs, [OF_LOG, AS_TEXT], ROOM)[:2]
+        return library.ask(function, [*inputs, NOTHING_REQUIRED], [AS_TEXT], ROOM)[:2]
+    except Unlike as cause:
+        return None, f"not answered: {cause}".encode()
+
+
+def entries_answer(library, listed):
+    """All entries, or the line of a fault. Those before that must be the entries of the bytes before it."""
+    status, lines, fault, offset = library.pieces(ENTRIES, listed, ROOM)
+    if fault and lines != shown(listed[:offset])[0]:
+        raise Unlike(f"other lines before byte {offset}")
+    return status, fault or lines
 
 
 def kind_of_answer(answer):
@@ -82,7 +98,7 @@ def kind_of_answer(answer):
 
 def compared(file, kind, damage):
     """How many inputs of a kind had which answer, and those of which the two answers differ."""
-    library = ctypes.CDLL(file)
+    library = Library(file)
     data, function, inputs_with, decide = KINDS[kind]
     places_in, damaged = DAMAGES[damage]
     counts, wrong = Counter(), []

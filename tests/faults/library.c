@@ -1,12 +1,16 @@
 /* Calls one function of the verifier's library again and again, with another of its allocations refused each time.
  *
- *     library FUNCTION STATUS TEXT ROOM NEXT NEXT_ROOM INPUT..
+ *     library FUNCTION RESULT TEXT ROOM NEXT NEXT_ROOM INPUT..
  *
- * FUNCTION is the name of a function without ima_verify_, and ends in :prefix if it is to be asked for the confirmed front. INPUT are its
- * files, and ROOM is the size of its buffer. STATUS and the file TEXT are the answer that it has with ample memory, and the file NEXT is
- * the checkpoint that it gives in a buffer of NEXT_ROOM bytes; a function that gives none has no such buffer. In the Nth turn the
- * Nth allocation is refused, until a turn ends with none refused. Each turn calls twice: the call whose allocation is refused has the
- * answer, or says that memory ran out, and then leaves the checkpoint's buffer as it was; the next one has the answer.
+ * FUNCTION is the name of a function without ima_verify_. After it can stand :json for that form, :prefix if the confirmed front is asked
+ * for, and :list for the registers of a list. INPUT are its files, and ROOM is the size of its buffer. RESULT and the file TEXT are the
+ * answer that it has with ample memory, and the file NEXT is the checkpoint that it gives in a buffer of NEXT_ROOM bytes; a function that
+ * gives none has no such buffer. In the Nth turn the Nth allocation is refused, until a turn ends with none refused. Each turn calls twice:
+ * the call whose allocation is refused has the answer, or says that memory ran out, and then leaves the checkpoint's buffer as it was; the
+ * next one has the answer. The fault that a call tells must be that of its text.
+ *
+ * Of entries and events a turn calls until the last line has come: by pieces for which there is ROOM, or, if that is too short for a line,
+ * by single lines. What comes must be TEXT, also where a call in between says that memory ran out.
  *
  * Prints how many allocations were refused; or what is wrong, with status 1. tests/faults/library.py builds and runs it. */
 #define _POSIX_C_SOURCE 200809L
@@ -22,22 +26,17 @@
 #include <sys/stat.h>
 #include <unistd.h>
 
-enum { MOST_BLOCKS = 1 << 16, MOST_TURNS = 100000, MOST_INPUTS = 5, MARGIN = 64, FREED = 0xdd, UNUSED = 0xa7 };
-
-struct bytes {
-    const uint8_t *at;
-    size_t size;
-};
+enum { MOST_BLOCKS = 1 << 16, MOST_TURNS = 100000, MOST_INPUTS = 5, MARGIN = 64, FREED = 0xdd, UNUSED = 0xa7, LINE = 256 };
 
 struct answer {
-    int32_t status;
-    struct bytes text, next;
+    enum ima_verify_result result;
+    struct ima_verify_bytes text, next;
 };
 
-/* A buffer of a call, with a margin at both ends, and the size that the call tells. */
+/* A buffer with a margin at both ends, as the output of a call. */
 struct room {
     uint8_t *buffer;
-    size_t size, needed;
+    struct ima_verify_output output;
 };
 
 /* A block that the library was given. Given back, it is filled with FREED, and stays here until the call has ended. */
@@ -154,7 +153,7 @@ static void settle(void) {
 }
 
 /* A file's bytes, which nothing can write to. */
-static struct bytes load(const char *name) {
+static struct ima_verify_bytes load(const char *name) {
     struct stat about;
     int file = open(name, O_RDONLY);
     if (file < 0 || fstat(file, &about) != 0)
@@ -164,7 +163,21 @@ static struct bytes load(const char *name) {
     if (at == MAP_FAILED)
         fail("%s cannot be read", name);
     close(file);
-    return (struct bytes){at, size};
+    return (struct ima_verify_bytes){at, size};
+}
+
+static bool has(const char *function, const char *word) {
+    return strstr(function, word) != NULL;
+}
+
+static enum ima_verify_form form_of(const char *function) {
+    return has(function, ":json") ? IMA_VERIFY_JSON : IMA_VERIFY_TEXT;
+}
+
+/* Whether the name, without what stands after it, is this. */
+static bool is(const char *function, const char *name) {
+    size_t size = strcspn(function, ":");
+    return size == strlen(name) && memcmp(function, name, size) == 0;
 }
 
 /* How many inputs a function takes, or 0 if there is no such function. */
@@ -172,95 +185,39 @@ static int inputs_of(const char *function) {
     static const struct {
         const char *name;
         int inputs;
-    } functions[] = {
-        {"show", 1},
-        {"registers", 1},
-        {"expected", 2},
-        {"verdict", 3},
-        {"locate", 3},
-        {"required", 4},
-        {"more", 5},
-        {"more:prefix", 5},
-        {"more_json", 5},
-        {"more_json:prefix", 5},
-        {"locate_required", 4},
-        {"replay_required", 3},
-        {"entries_json", 1},
-        {"registers_json", 1},
-        {"replay_json", 1},
-        {"events_json", 1},
-        {"verdict_json", 3},
-        {"locate_json", 3},
-        {"required_json", 4},
-        {"locate_required_json", 4},
-        {"replay_required_json", 3},
-    };
+    } functions[] = {{"verdict", 4},  {"locate", 4},    {"replay", 3},  {"more", 5},
+                     {"expected", 2}, {"registers", 1}, {"entries", 1}, {"events", 1}};
     for (size_t i = 0; i < sizeof functions / sizeof functions[0]; i++)
-        if (strcmp(function, functions[i].name) == 0)
+        if (is(function, functions[i].name))
             return functions[i].inputs;
     return 0;
 }
 
-static int is_json(const char *function) {
-    return strstr(function, "_json") != NULL;
+static bool is_by_pieces(const char *function) {
+    return is(function, "entries") || is(function, "events");
 }
 
-/* Whether a function gives a checkpoint too. */
-static int has_next(const char *function) {
-    return strncmp(function, "more", 4) == 0;
-}
-
-static int32_t call_more(const char *function, const struct bytes *in, struct room *next, struct room *out) {
-    struct bytes a = in[0], b = in[1], c = in[2], d = in[3], e = in[4];
-    bool prefix = strstr(function, ":prefix") != NULL;
-    uint8_t *state = next->buffer + MARGIN, *text = out->buffer + MARGIN;
-    if (is_json(function))
-        return ima_verify_more_json(a.at, a.size, b.at, b.size, c.at, c.size, d.at, d.size, e.at, e.size, prefix, state, next->size,
-                                    &next->needed, text, out->size, &out->needed);
-    return ima_verify_more(a.at, a.size, b.at, b.size, c.at, c.size, d.at, d.size, e.at, e.size, prefix, state, next->size, &next->needed,
-                           text, out->size, &out->needed);
-}
-
-static int32_t call_json(const char *function, const struct bytes *in, uint8_t *out, size_t room, size_t *needed) {
-    struct bytes a = in[0], b = in[1], c = in[2], d = in[3];
-    if (strcmp(function, "verdict_json") == 0)
-        return ima_verify_verdict_json(a.at, a.size, b.at, b.size, c.at, c.size, out, room, needed);
-    if (strcmp(function, "required_json") == 0)
-        return ima_verify_required_json(a.at, a.size, b.at, b.size, c.at, c.size, d.at, d.size, out, room, needed);
-    if (strcmp(function, "locate_json") == 0)
-        return ima_verify_locate_json(a.at, a.size, b.at, b.size, c.at, c.size, out, room, needed);
-    if (strcmp(function, "locate_required_json") == 0)
-        return ima_verify_locate_required_json(a.at, a.size, b.at, b.size, c.at, c.size, d.at, d.size, out, room, needed);
-    if (strcmp(function, "replay_required_json") == 0)
-        return ima_verify_replay_required_json(a.at, a.size, b.at, b.size, c.at, c.size, out, room, needed);
-    if (strcmp(function, "replay_json") == 0)
-        return ima_verify_replay_json(a.at, a.size, out, room, needed);
-    if (strcmp(function, "registers_json") == 0)
-        return ima_verify_registers_json(a.at, a.size, out, room, needed);
-    if (strcmp(function, "events_json") == 0)
-        return ima_verify_events_json(a.at, a.size, out, room, needed);
-    return ima_verify_entries_json(a.at, a.size, out, room, needed);
-}
-
-static int32_t call(const char *function, const struct bytes *in, uint8_t *out, size_t room, size_t *needed) {
-    struct bytes a = in[0], b = in[1], c = in[2], d = in[3];
-    if (is_json(function))
-        return call_json(function, in, out, room, needed);
-    if (strcmp(function, "verdict") == 0)
-        return ima_verify_verdict(a.at, a.size, b.at, b.size, c.at, c.size, out, room, needed);
-    if (strcmp(function, "required") == 0)
-        return ima_verify_required(a.at, a.size, b.at, b.size, c.at, c.size, d.at, d.size, out, room, needed);
-    if (strcmp(function, "locate") == 0)
-        return ima_verify_locate(a.at, a.size, b.at, b.size, c.at, c.size, out, room, needed);
-    if (strcmp(function, "locate_required") == 0)
-        return ima_verify_locate_required(a.at, a.size, b.at, b.size, c.at, c.size, d.at, d.size, out, room, needed);
-    if (strcmp(function, "replay_required") == 0)
-        return ima_verify_replay_required(a.at, a.size, b.at, b.size, c.at, c.size, out, room, needed);
-    if (strcmp(function, "expected") == 0)
-        return ima_verify_expected(a.at, a.size, b.at, b.size, out, room, needed);
-    if (strcmp(function, "registers") == 0)
-        return ima_verify_registers(a.at, a.size, out, room, needed);
-    return ima_verify_show(a.at, a.size, out, room, needed);
+static enum ima_verify_result call(const char *function, const struct ima_verify_bytes *in, struct ima_verify_position *position,
+                                   struct ima_verify_output *next, struct ima_verify_output *out) {
+    enum ima_verify_form form = form_of(function);
+    if (is(function, "entries"))
+        return ima_verify_entries(in[0], position, form, out);
+    if (is(function, "events"))
+        return ima_verify_events(in[0], position, out);
+    if (is(function, "registers"))
+        return ima_verify_registers(has(function, ":list") ? IMA_VERIFY_OF_LIST : IMA_VERIFY_OF_LOG, in[0], form, out);
+    if (is(function, "expected"))
+        return ima_verify_expected(in[0], in[1], form, out);
+    if (is(function, "replay")) {
+        struct ima_verify_evidence evidence = {.list = in[0], .expected = in[1], .require = in[2]};
+        return ima_verify_replay(&evidence, form, out);
+    }
+    if (is(function, "more")) {
+        struct ima_verify_evidence evidence = {.log = in[0], .list = in[2], .expected = in[3], .require = in[4]};
+        return ima_verify_more(&evidence, in[1], has(function, ":prefix"), form, next, out);
+    }
+    struct ima_verify_evidence evidence = {.log = in[0], .list = in[1], .expected = in[2], .require = in[3]};
+    return is(function, "verdict") ? ima_verify_verdict(&evidence, form, out) : ima_verify_locate(&evidence, form, out);
 }
 
 /* What the byte at a place of the buffer is before a call. */
@@ -268,60 +225,188 @@ static uint8_t before(size_t place) {
     return (uint8_t)(place * 37 + 129);
 }
 
-/* A buffer of this size. */
+/* A buffer of this size. What a call has to set is something else before it. */
 static struct room room_of(size_t size) {
-    struct room room = {malloc(size + 2 * MARGIN), size, SIZE_MAX};
-    if (room.buffer == NULL)
+    uint8_t *buffer = malloc(size + 2 * MARGIN);
+    if (buffer == NULL)
         fail("there is no memory for this test");
     for (size_t i = 0; i < size + 2 * MARGIN; i++)
-        room.buffer[i] = before(i);
-    return room;
+        buffer[i] = before(i);
+    return (struct room){buffer, {buffer + MARGIN, size, SIZE_MAX, {UINT32_MAX, UINT32_MAX, 0}}};
 }
 
 /* Whether a text is at the front of a buffer, if it is `written`, and all other bytes are as before. */
-static int has_text(struct bytes text, const struct room *room, int written) {
+static bool has_text(struct ima_verify_bytes text, const struct room *room, bool written) {
     size_t size = written ? text.size : 0;
-    if (room->needed != text.size || memcmp(room->buffer + MARGIN, text.at, size) != 0)
-        return 0;
-    for (size_t i = 0; i < room->size + 2 * MARGIN; i++)
+    if (room->output.size != text.size || memcmp(room->buffer + MARGIN, text.data, size) != 0)
+        return false;
+    for (size_t i = 0; i < room->output.room + 2 * MARGIN; i++)
         if ((i < MARGIN || i >= MARGIN + size) && room->buffer[i] != before(i))
-            return 0;
-    return 1;
+            return false;
+    return true;
+}
+
+/* The fault that a line says. */
+static struct ima_verify_fault fault_in(struct ima_verify_bytes line) {
+    static const char *const kinds[] = {"", "command", "log", "list", "replay", "expected", "checkpoint"};
+    struct ima_verify_fault fault = {IMA_VERIFY_NO_FAULT, 0, IMA_VERIFY_NO_PLACE};
+    char text[LINE] = "", kind[LINE] = "";
+    unsigned number = 0;
+    unsigned long long place = 0;
+    memcpy(text, line.data, line.size < LINE ? line.size : LINE - 1);
+    const char *said = strstr(text, "refused: ");
+    if (said == NULL) {
+        fault.kind = has(text, "failed: memory") ? IMA_VERIFY_MEMORY : IMA_VERIFY_NO_FAULT;
+        return fault;
+    }
+    int found = sscanf(said, "refused: %s fault %u at %*s %llu", kind, &number, &place);
+    for (uint32_t i = 1; i < sizeof kinds / sizeof kinds[0]; i++)
+        if (strcmp(kind, kinds[i]) == 0)
+            fault.kind = i;
+    fault.number = number;
+    if (found == 3)
+        fault.place = place;
+    return fault;
+}
+
+/* Whether a call tells the fault of its text, if that is the line of one. */
+static bool has_fault(enum ima_verify_result result, struct ima_verify_bytes text, const struct ima_verify_output *output) {
+    bool is_one = result == IMA_VERIFY_REFUSED || result == IMA_VERIFY_OUT_OF_MEMORY;
+    struct ima_verify_bytes line = is_one ? text : ima_verify_none();
+    struct ima_verify_fault fault = fault_in(line);
+    return output->fault.kind == fault.kind && output->fault.number == fault.number && output->fault.place == fault.place
+           && is_one == (fault.kind != IMA_VERIFY_NO_FAULT);
+}
+
+/* The answer of a call that gets no memory. */
+static struct answer memory_answer(const char *function) {
+    bool is_json = form_of(function) == IMA_VERIFY_JSON || is(function, "events");
+    const char *line = is_json ? "{\"fault\":{\"kind\":\"memory\",\"message\":\"failed: memory\"}}\n" : "failed: memory\n";
+    return (struct answer){IMA_VERIFY_OUT_OF_MEMORY, ima_verify_text(line), {&nothing, 0}};
 }
 
 /* Whether an answer is given as the header says: each text at the front of its buffer and all other bytes as before; or, if a
  * buffer is too short for its text, all bytes as before. */
-static int is_given(const char *function, struct answer answer, int32_t status, const struct room *next, const struct room *out) {
-    int fits = answer.text.size <= out->size && (!has_next(function) || answer.next.size <= next->size);
-    if (status != (fits ? answer.status : IMA_VERIFY_TOO_SHORT) || !has_text(answer.text, out, fits))
-        return 0;
-    return !has_next(function) || has_text(answer.next, next, fits);
+static bool is_given(const char *function, struct answer answer, enum ima_verify_result result, const struct room *next,
+                     const struct room *out) {
+    bool fits = answer.text.size <= out->output.room && (!is(function, "more") || answer.next.size <= next->output.room);
+    if (result != (fits ? answer.result : IMA_VERIFY_TOO_SHORT) || !has_text(answer.text, out, fits)
+        || !has_fault(result, answer.text, &out->output))
+        return false;
+    return !is(function, "more") || (has_text(answer.next, next, fits) && has_fault(IMA_VERIFY_DONE, answer.next, &next->output));
 }
 
-/* Calls once. The answer is the right one or, if an allocation was refused, that memory ran out. Returns whether one was. */
-static int turn(const char *function, const struct bytes *in, size_t size, size_t next_size, struct answer right) {
-    static const char plain[] = "failed: memory\n", json[] = "{\"fault\":{\"kind\":\"memory\",\"message\":\"failed: memory\"}}\n";
-    const char *line = is_json(function) ? json : plain;
-    struct answer memory = {IMA_VERIFY_OUT_OF_MEMORY, {(const uint8_t *)line, strlen(line)}, {&nothing, 0}};
+static void fail_of(const struct room *next, const struct room *out, enum ima_verify_result result) {
+    fail("result %d, %zu and %zu bytes, fault %u %u %llu, and the buffer has '%.40s'", (int)result, out->output.size, next->output.size,
+         out->output.fault.kind, out->output.fault.number, (unsigned long long)out->output.fault.place, (char *)out->buffer + MARGIN);
+}
+
+/* Calls once. The answer is the right one or, if an allocation was refused, that memory ran out. */
+static void turn_whole(const char *function, const struct ima_verify_bytes *in, size_t size, size_t next_size, struct answer right) {
     struct room out = room_of(size), next = room_of(next_size);
-    allocations = 0;
-    int32_t status = has_next(function) ? call_more(function, in, &next, &out)
-                                        : call(function, in, out.buffer + MARGIN, size, &out.needed);
-    int is_refused = refused > 0 && allocations >= refused;
-    if (!is_given(function, right, status, &next, &out) && !(is_refused && is_given(function, memory, status, &next, &out)))
-        fail("status %d, %zu and %zu bytes are needed, and the buffer has '%.40s'", status, out.needed, next.needed,
-             (char *)out.buffer + MARGIN);
+    enum ima_verify_result result = call(function, in, NULL, &next.output, &out.output);
+    bool is_refused = refused > 0 && allocations >= refused;
+    if (!is_given(function, right, result, &next, &out)
+        && !(is_refused && is_given(function, memory_answer(function), result, &next, &out)))
+        fail_of(&next, &out, result);
     settle();
     free(out.buffer);
     free(next.buffer);
-    return is_refused;
+}
+
+static bool begins_with(const uint8_t *at, const uint8_t *end, const char *word) {
+    return (size_t)(end - at) >= strlen(word) && memcmp(at, word, strlen(word)) == 0;
+}
+
+/* The line at the front of a text, or nothing. (A path may have line feeds; all entries of the sample are of register 10.) */
+static struct ima_verify_bytes line_of(struct ima_verify_bytes text) {
+    const uint8_t *at = text.data, *end = text.data + text.size;
+    while (at < end)
+        if (*at++ == '\n' && (begins_with(at, end, "10 ") || begins_with(at, end, "{") || begins_with(at, end, "refused: ")))
+            break;
+    return (struct ima_verify_bytes){text.data, (size_t)(at - text.data)};
+}
+
+/* How many bytes of a text a call has to give: as many whole lines as there is room for, and the line of a fault by itself. */
+static size_t piece_of(struct answer right, size_t room) {
+    size_t size = 0;
+    for (;;) {
+        struct ima_verify_bytes rest = {right.text.data + size, right.text.size - size}, line = line_of(rest);
+        bool is_fault = right.result == IMA_VERIFY_REFUSED && line.size == rest.size;
+        if (line.size == 0 || line.size > room - size || (is_fault && size > 0))
+            return size;
+        size += line.size;
+    }
+}
+
+/* Calls for one piece of what is still to come, and returns how many of its bytes came. */
+static size_t take_piece(const char *function, const struct ima_verify_bytes *in, struct ima_verify_position *position, size_t *size,
+                         struct answer rest, bool *is_last) {
+    long before_it = allocations;
+    struct ima_verify_position at = *position;
+    struct room out = room_of(*size), none = room_of(0);
+    enum ima_verify_result result = call(function, in, position, NULL, &out.output);
+    bool is_refused = before_it < refused && allocations >= refused;
+    size_t piece = piece_of(rest, *size);
+    bool is_end = piece == rest.text.size;
+    struct answer right = {is_end ? rest.result : IMA_VERIFY_MORE, {rest.text.data, piece}, {&nothing, 0}};
+    if (piece == 0 && rest.text.size > 0)
+        right = (struct answer){IMA_VERIFY_TOO_SHORT, line_of(rest.text), {&nothing, 0}};
+    bool is_right = is_given(function, right, result, &none, &out);
+    if (is_refused && result == IMA_VERIFY_MORE && !is_right) {
+        /* (the lines that came before that) */
+        piece = out.output.size < rest.text.size ? out.output.size : 0;
+        is_end = false;
+        right = (struct answer){IMA_VERIFY_MORE, {rest.text.data, piece}, {&nothing, 0}};
+        is_right = piece > 0 && rest.text.data[piece - 1] == '\n' && is_given(function, right, result, &none, &out);
+    }
+    if (!is_right && !(is_refused && is_given(function, memory_answer(function), result, &none, &out)))
+        fail_of(&none, &out, result);
+    if (result == IMA_VERIFY_TOO_SHORT)
+        *size = out.output.size;
+    if (result == IMA_VERIFY_TOO_SHORT && (position->offset != at.offset || position->number != at.number))
+        fail("a piece that is too short moves the position from %zu to %zu", at.offset, position->offset);
+    *is_last = is_right && is_end && result != IMA_VERIFY_TOO_SHORT;
+    if (*is_last && result == IMA_VERIFY_DONE && position->offset != in[0].size)
+        fail("the last position is %zu of %zu bytes", position->offset, in[0].size);
+    settle();
+    free(out.buffer);
+    free(none.buffer);
+    return result == IMA_VERIFY_MORE ? piece : 0;
+}
+
+/* Calls until the last piece has come. */
+static void turn_by_pieces(const char *function, const struct ima_verify_bytes *in, size_t size, struct answer right) {
+    struct ima_verify_position position = {0, 0};
+    bool is_last = false;
+    while (!is_last) {
+        size_t room = size;
+        /* (a line for which there is too little room is asked for alone) */
+        do {
+            size_t came = take_piece(function, in, &position, &room, right, &is_last);
+            right.text.data += came;
+            right.text.size -= came;
+            if (came > 0)
+                break;
+        } while (!is_last);
+    }
+}
+
+/* Calls for the whole answer. Returns whether an allocation was refused. */
+static bool turn(const char *function, const struct ima_verify_bytes *in, size_t size, size_t next_size, struct answer right) {
+    allocations = 0;
+    if (is_by_pieces(function))
+        turn_by_pieces(function, in, size, right);
+    else
+        turn_whole(function, in, size, next_size, right);
+    return refused > 0 && allocations >= refused;
 }
 
 int main(int count, char **words) {
-    struct bytes in[MOST_INPUTS] = {{&nothing, 0}};
+    struct ima_verify_bytes in[MOST_INPUTS] = {{&nothing, 0}};
     if (count < 8 || count != 7 + inputs_of(words[1]))
-        fail("library FUNCTION STATUS TEXT ROOM NEXT NEXT_ROOM INPUT..");
-    struct answer right = {(int32_t)strtol(words[2], NULL, 10), load(words[3]), load(words[5])};
+        fail("library FUNCTION RESULT TEXT ROOM NEXT NEXT_ROOM INPUT..");
+    struct answer right = {(enum ima_verify_result)strtol(words[2], NULL, 10), load(words[3]), load(words[5])};
     size_t room = strtoul(words[4], NULL, 10), next_room = strtoul(words[6], NULL, 10);
     for (int i = 7; i < count; i++)
         in[i - 7] = load(words[i]);
@@ -329,7 +414,7 @@ int main(int count, char **words) {
         fail("the library's version is %u, and it took memory %ld times to say so", ima_verify_version(), allocations);
     for (long number = 1; number < MOST_TURNS; number++) {
         refused = number;
-        int is_refused = turn(words[1], in, room, next_room, right);
+        bool is_refused = turn(words[1], in, room, next_room, right);
         refused = 0;
         turn(words[1], in, room, next_room, right);
         if (!is_refused) {

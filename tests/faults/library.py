@@ -4,32 +4,36 @@
 tests/faults/library.py [PROGRAM ARCHIVE]: the program and the static library that the toolchain made; without them, those of this tree,
 which `dist/library` builds first if they are not there or are older than a source.
 
-The answers that are wanted, and the checkpoints, are those of the program to the same files. Each function is called with each input, and
-with buffers that have room to spare, just enough, and too little. In the Nth turn the Nth allocation is refused (tests/faults/library.c, which
-gives the library its memory), until a turn ends with none refused. A call must have the answer, or say that memory ran out. It must write
-nothing but its text, and nothing to a checkpoint's buffer if memory ran out. It must give back, once, all memory that it took, and have the
-answer when it is made again. A function that takes no memory at all fails, and so does one that takes it elsewhere, a crash, and a run of more
-than a minute. Needs cc and nm."""
+The answers that are wanted, and the checkpoints, are those of the program to the same files. Each function of the header is called with each
+input, in both forms, and with buffers that have room to spare, just enough, and too little; entries and events come by pieces. In the Nth
+turn the Nth allocation is refused (tests/faults/library.c, which gives the library its memory), until a turn ends with none refused. A call
+must have the answer, or say that memory ran out. It must tell the fault of its text, and write nothing but that, and nothing to a
+checkpoint's buffer if memory ran out. It must give back, once, all memory that it took, and have the answer when it is made again. A function
+that takes no memory at all fails, and so does one that takes it elsewhere, a crash, and a run of more than a minute. Needs cc and nm."""
 
+import re
 import subprocess
 import sys
 from dataclasses import dataclass
 from itertools import product
 from pathlib import Path
 
-sys.path.insert(0, str(Path(__file__).resolve().parents[1]))
+sys.path[:0] = [str(Path(__file__).resolve().parents[1]), str(Path(__file__).resolve().parents[2] / "dist")]
 import harness  # noqa: E402
 from harness import PROGRAM, ROOT  # noqa: E402
+from header import VERSION, functions_of  # noqa: E402
 from sweep import check_runs  # noqa: E402
 
 SECONDS = 60
 MEMORY = b"failed: memory\n"
 JSON_MEMORY = b'{"fault":{"kind":"memory","message":"failed: memory"}}\n'
-# The command of each function whose name does not begin with it.
-COMMANDS = {"entries": "show", "verdict": "verify", "required": "verify"}
-# The first 97 entries of the sample's list.
-FRONT_BYTES = 11731
-# What `ima_verify_more` takes where the program has no `--require`.
+# The command of each function that has another name, and the option that the last of its inputs is the value of.
+COMMANDS = {"entries": "show", "verdict": "verify", "registers:list": "replay"}
+OPTIONS = {"verdict": "--require", "locate": "--require", "replay": "--require", "expected": "--registers"}
+# The first 97 entries of the sample's list, and the first three.
+FRONT_BYTES, THREE_ENTRIES_BYTES = 11731, 292
+FEW_LINES = 8
+# What the library takes where the program has no `--require`.
 NONE_REQUIRED = b"none"
 REPLACED = {"rattle_alloc", "rattle_realloc", "rattle_dealloc"}
 ELSEWHERE = {"malloc", "calloc", "realloc", "reallocarray", "free", "posix_memalign", "aligned_alloc", "memalign", "valloc"}
@@ -38,49 +42,62 @@ ELSEWHERE |= {"mmap", "munmap", "mremap", "brk", "sbrk", "strdup", "strndup"}
 
 @dataclass
 class Case:
-    """A function's name without `ima_verify_`, what it is given, and the files of that, of which the last may have an option's value."""
+    """A function, as library.c names it, what it is given, and the files of that, of which the last may have an option's value."""
 
     function: str
     title: str
     inputs: list
-    option: str = ""
+
+    @property
+    def name(self):
+        """The function without the form."""
+        return self.function.replace(":json", "")
 
     def is_json(self):
-        return "_json" in self.function
+        """Whether the answer has this form, of which alone events are."""
+        return self.name != self.function or self.name == "events"
 
     def is_more(self):
         """Whether the function gives a checkpoint too."""
-        return self.function.startswith("more")
+        return self.name.startswith("more")
 
     def words(self, save):
         """What asks the program for the same, and to save a checkpoint, if there is one, in that file."""
+        json = ["--json"] if self.is_json() else []
         if self.is_more():
             log, state, listed, expected, require = self.inputs
-            flags = (["--json"] if self.is_json() else []) + (["--prefix"] if ":prefix" in self.function else [])
+            flags = ["--prefix"] if ":prefix" in self.function else []
             flags += [f"--resume={state}"] if state.read_bytes() else []
-            flags += [f"--require={require.read_text()}"] if require.read_bytes() != NONE_REQUIRED else []
-            return ["verify", *flags, f"--save={save}", log, listed, expected]
-        name = self.function.partition("_")[0]
-        command = [COMMANDS.get(name, name), *(["--json"] if self.is_json() else [])]
-        if not self.option:
+            return ["verify", *json, *flags, *option_of("--require", require), f"--save={save}", log, listed, expected]
+        command = [COMMANDS.get(self.name, self.name), *json]
+        if self.name not in OPTIONS:
             return [*command, *self.inputs]
         *files, value = self.inputs
-        text = value.read_text()
-        return [*command, *([f"{self.option}={text}"] if text else []), *files]
+        return [*command, *option_of(OPTIONS[self.name], value), *files]
 
-    def rooms(self, size):
-        """Sizes of the buffer for a text of that size: too little, just enough and more, and so for the line that says that memory ran out."""
-        memory = len(JSON_MEMORY if self.is_json() else MEMORY)
-        return sorted({size + 64, size, size - 1, memory, memory - 1, 0}, reverse=True)
+    def rooms(self, text):
+        """Sizes of the buffer for a text: too little, just enough and more, and so for the line that says that memory ran out. Pieces of one
+        line are asked for where there are few, since each turn has as many calls as lines, and each call its turns."""
+        memory, size = len(JSON_MEMORY if self.is_json() else MEMORY), len(text)
+        rooms = {size + 64, size, max(size - 1, 0)}
+        if self.name in ("entries", "events") and text.count(b"\n") > FEW_LINES:
+            return sorted({*rooms, size // 2, size // 4}, reverse=True)
+        return sorted({*rooms, memory, memory - 1, 0}, reverse=True)
+
+
+def option_of(name, value):
+    """The option of the program, if it has one: all registers are the range without bytes."""
+    text = value.read_bytes()
+    return [] if text == NONE_REQUIRED or not text and name == "--registers" else [f"{name}={text.decode()}"]
 
 
 @dataclass
 class Run:
-    """A case, the sizes of the buffers, and the answer with ample memory: its status, the file of its text and that of the checkpoint."""
+    """A case, the sizes of the buffers, and the answer with ample memory: the result, the file of its text and that of the checkpoint."""
 
     case: Case
     room: int
-    status: int
+    result: int
     text: Path
     next: Path
     next_room: int
@@ -104,6 +121,9 @@ def made_files(folder, program):
         "longer list": listed + listed[-95:],
         "changed list": listed.replace(b"/bin/helper", b"/bin/helpex"),
         "cut list": listed[:-1],
+        "early log": log[:300],
+        "first entries": listed[:THREE_ENTRIES_BYTES],
+        "early list": listed[: THREE_ENTRIES_BYTES - 1],
         "front": listed[:FRONT_BYTES],
         "rest": listed[FRONT_BYTES:],
         "rest and more": listed[FRONT_BYTES:] + listed[-95:],
@@ -136,107 +156,112 @@ def made_files(folder, program):
     return files
 
 
-def cases(files):
-    """Every function, with inputs that it takes and inputs that it refuses."""
-    for function in ("verdict", "locate", "verdict_json", "locate_json"):
-        for title, *names in (
-            ("the real boot", "log", "list", "expected"),
-            ("a longer list", "log", "longer list", "expected"),
-            ("a changed list", "log", "changed list", "expected"),
-            ("a bank that the log lacks", "log", "list", "other bank"),
-            ("an empty list", "log", "empty", "expected"),
-            ("no expected registers", "log", "list", "empty"),
-            ("an empty log", "empty", "list", "expected"),
-            ("a log that is cut short", "cut log", "list", "expected"),
-            ("a list that is cut short", "log", "cut list", "expected"),
-            ("expected registers of which one is wrong", "log", "list", "wrong line"),
-        ):
-            yield Case(function, title, [files[name] for name in names])
-    for function in ("required", "locate_required", "required_json", "locate_required_json"):
-        for title, *names in (
-            ("the real boot", "log", "list", "expected", "all"),
-            ("a longer list", "log", "longer list", "expected", "all"),
-            ("registers that are missing", "log", "list", "expected", "more"),
-            ("no expected registers", "log", "list", "empty", "all"),
-            ("a requirement that names none", "log", "list", "expected", "no registers"),
-            ("a list that is cut short", "log", "cut list", "expected", "more"),
-        ):
-            yield Case(function, title, [files[name] for name in names], "--require")
-    for function, (title, *names) in product(
-        ("more", "more:prefix", "more_json", "more_json:prefix"),
-        (
-            ("the real boot", "log", "empty", "list", "expected", "none"),
-            ("a longer list", "log", "empty", "longer list", "expected", "all"),
-            ("what follows a checkpoint", "log", "checkpoint", "rest", "expected", "all"),
-            ("more than that", "log", "checkpoint", "rest and more", "expected", "none"),
-            ("a changed list", "log", "empty", "changed list", "tenth", "ten"),
-            ("what follows and is cut short", "log", "checkpoint", "cut rest", "expected", "none"),
-            ("registers that are missing", "log", "checkpoint", "rest", "expected", "more"),
-            ("a damaged checkpoint", "log", "damaged", "rest", "expected", "none"),
-            ("a checkpoint of another version", "log", "other version", "rest", "expected", "none"),
-            ("a checkpoint of another boot", "one event", "checkpoint", "rest", "expected", "none"),
-            ("no expected registers", "log", "checkpoint", "rest", "empty", "none"),
-            ("an empty requirement", "log", "damaged", "cut rest", "wrong line", "empty"),
-            ("a requirement that names none", "log", "checkpoint", "rest", "expected", "no registers"),
-        ),
-    ):
-        yield Case(function, title, [files[name] for name in names])
-    for function, (title, *names) in product(
-        ("replay_required", "replay_required_json"),
-        (
-            ("the real boot", "list", "tenth", "ten"),
-            ("a longer list", "longer list", "tenth", "ten"),
-            ("a changed list", "changed list", "tenth", "ten"),
-            ("registers that are missing", "list", "tenth", "more"),
-            ("an empty list", "empty", "tenth", "ten"),
-            ("no expected registers", "list", "empty", "ten"),
-            ("expected registers of which one is wrong", "list", "wrong line", "ten"),
-            ("a requirement that names none", "list", "tenth", "no registers"),
-            ("a list that is cut short", "cut list", "tenth", "ten"),
-        ),
-    ):
-        yield Case(function, title, [files[name] for name in names], "--require")
-    for title, *names in (
+# What each function takes, by names of files, and in which forms.
+BOTH = ("", ":json")
+CASES = (
+    (("verdict", "locate"), BOTH, (
+        ("the real boot", "log", "list", "expected", "all"),
+        ("the real boot, and nothing required", "log", "list", "expected", "none"),
+        ("a longer list", "log", "longer list", "expected", "all"),
+        ("a changed list", "log", "changed list", "expected", "none"),
+        ("a bank that the log lacks", "log", "list", "other bank", "none"),
+        ("an empty list", "log", "empty", "expected", "none"),
+        ("no expected registers", "log", "list", "empty", "none"),
+        ("no expected registers, but required ones", "log", "list", "empty", "all"),
+        ("registers that are missing", "log", "list", "expected", "more"),
+        ("an empty log", "empty", "list", "expected", "none"),
+        ("a log that is cut short", "cut log", "list", "expected", "none"),
+        ("a list that is cut short", "log", "cut list", "expected", "more"),
+        ("expected registers of which one is wrong", "log", "list", "wrong line", "none"),
+        ("an empty requirement", "log", "list", "expected", "empty"),
+        ("a requirement that names none", "log", "list", "expected", "no registers"),
+    )),
+    (("more", "more:prefix"), BOTH, (
+        ("the real boot", "log", "empty", "list", "expected", "none"),
+        ("a longer list", "log", "empty", "longer list", "expected", "all"),
+        ("what follows a checkpoint", "log", "checkpoint", "rest", "expected", "all"),
+        ("more than that", "log", "checkpoint", "rest and more", "expected", "none"),
+        ("a changed list", "log", "empty", "changed list", "tenth", "ten"),
+        ("what follows and is cut short", "log", "checkpoint", "cut rest", "expected", "none"),
+        ("registers that are missing", "log", "checkpoint", "rest", "expected", "more"),
+        ("a damaged checkpoint", "log", "damaged", "rest", "expected", "none"),
+        ("a checkpoint of another version", "log", "other version", "rest", "expected", "none"),
+        ("a checkpoint of another boot", "one event", "checkpoint", "rest", "expected", "none"),
+        ("no expected registers", "log", "checkpoint", "rest", "empty", "none"),
+        ("an empty requirement", "log", "damaged", "cut rest", "wrong line", "empty"),
+        ("a requirement that names none", "log", "checkpoint", "rest", "expected", "no registers"),
+    )),
+    (("replay",), BOTH, (
+        ("the real boot", "list", "tenth", "ten"),
+        ("the real boot, and nothing required", "list", "tenth", "none"),
+        ("a longer list", "longer list", "tenth", "ten"),
+        ("a changed list", "changed list", "tenth", "ten"),
+        ("registers that are missing", "list", "tenth", "more"),
+        ("an empty list", "empty", "tenth", "ten"),
+        ("no expected registers", "list", "empty", "ten"),
+        ("expected registers of which one is wrong", "list", "wrong line", "ten"),
+        ("an empty requirement", "list", "tenth", "empty"),
+        ("a requirement that names none", "list", "tenth", "no registers"),
+        ("a list that is cut short", "cut list", "tenth", "ten"),
+    )),
+    (("expected",), BOTH, (
         ("what was printed", "printed", "empty"),
         ("a range of it", "printed", "range"),
         ("a range that is none", "printed", "no registers"),
         ("another text", "expected", "range"),
-    ):
-        yield Case("expected", title, [files[name] for name in names], "--registers")
-    for functions, title, name in (
-        (("registers", "registers_json", "events_json"), "the real boot", "log"),
-        (("registers", "registers_json", "events_json"), "one event", "one event"),
-        (("registers", "registers_json", "events_json"), "a log that is cut short", "cut log"),
-        (("registers", "registers_json", "events_json"), "an empty log", "empty"),
-        (("show", "entries_json", "replay_json"), "the real boot", "list"),
-        (("show", "entries_json", "replay_json"), "a changed list", "changed list"),
-        (("show", "entries_json", "replay_json"), "a list that is cut short", "cut list"),
-    ):
-        for function in functions:
-            yield Case(function, title, [files[name]])
+    )),
+    (("registers",), BOTH, (
+        ("the real boot", "log"), ("one event", "one event"), ("a log that is cut short", "cut log"), ("an empty log", "empty"),
+    )),
+    (("events",), ("",), (
+        ("the real boot", "log"), ("one event", "one event"), ("a log that is cut short", "cut log"),
+        ("a log that is cut early", "early log"), ("an empty log", "empty"),
+    )),
+    (("registers:list", "entries"), BOTH, (
+        ("the real boot", "list"), ("a changed list", "changed list"), ("a list that is cut short", "cut list"),
+        ("three entries", "first entries"), ("a list that is cut early", "early list"),
+    )),
+)  # fmt: skip
 
 
-def runs_of(case, program, file):
-    """The runs of a case, one for each size of the buffers. The answer is the program's; its text goes to a file, and the checkpoint to one
-    beside it, which is empty if there is none."""
-    following = file.with_suffix(".next")
+def cases(files):
+    """Every function, with inputs that it takes and inputs that it refuses."""
+    for functions, forms, rows in CASES:
+        for function, form, (title, *names) in product(functions, forms, rows):
+            yield Case(function + form, title, [files[name] for name in names])
+
+
+def answer_to(case, program, following, files):
+    """The program's answer. It prints no entries of a damaged list without --json: those before the fault are the sample's."""
     answer = subprocess.run([program, *case.words(following)], capture_output=True, timeout=SECONDS)
     if answer.returncode not in (0, 1, 2):
         raise RuntimeError(f"{program} {case.function} of {case.title}: status {answer.returncode}, {answer.stderr[-500:]!r}")
-    file.write_bytes(answer.stdout)
-    size = len(answer.stdout)
+    if case.function == "entries" and answer.returncode == 2:
+        whole = subprocess.run([program, "show", files["list"]], capture_output=True, timeout=SECONDS, check=True)
+        before = re.split(rb"^(?=10 )", whole.stdout, flags=re.MULTILINE)[1 : 1 + int(answer.stdout.split()[-1])]  # (a path has a line feed)
+        return answer.returncode, b"".join(before) + answer.stdout
+    return answer.returncode, answer.stdout
+
+
+def runs_of(case, program, file, files):
+    """The runs of a case, one for each size of the buffers. The answer is the program's; its text goes to a file, and the checkpoint to one
+    beside it, which is empty if there is none."""
+    following = file.with_suffix(".next")
+    result, text = answer_to(case, program, following, files)
+    file.write_bytes(text)
+    size = len(text)
     following.touch()
     next_size = following.stat().st_size
-    for room in case.rooms(size):
-        yield Run(case, room, answer.returncode, file, following, next_size + (64 if room > size else 0))
+    for room in case.rooms(text):
+        yield Run(case, room, result, file, following, next_size + (64 if room > size else 0))
     if next_size:
         for next_room in (next_size - 1, 0):
-            yield Run(case, size, answer.returncode, file, following, next_room)
+            yield Run(case, size, result, file, following, next_room)
 
 
 def swept(run, caller):
     """How many allocations were refused, and what was wrong, or None."""
-    words = [caller, run.case.function, str(run.status), run.text, str(run.room), run.next, str(run.next_room), *run.case.inputs]
+    words = [caller, run.case.function, str(run.result), run.text, str(run.room), run.next, str(run.next_room), *run.case.inputs]
     try:
         ended = subprocess.run(words, capture_output=True, timeout=SECONDS)
     except subprocess.TimeoutExpired:
@@ -277,8 +302,11 @@ class Library(harness.TestCase):
         program, archive = (Path(name).resolve() for name in sys.argv[1:] or built_files(folder))
         caller, runs = caller_of(archive, folder), []
         self.check("where the library takes its memory", memory_fault(archive), None)
-        for number, case in enumerate(cases(made_files(folder, program))):
-            runs += runs_of(case, program, folder / f"answer-{number}")
+        files = made_files(folder, program)
+        for number, case in enumerate(cases(files)):
+            runs += runs_of(case, program, folder / f"answer-{number}", files)
+        called = {f"ima_verify_{run.case.name.partition(':')[0]}" for run in runs}
+        self.check("each function of the header is called", called, set(functions_of(ROOT)) - {VERSION})
         check_runs(self, runs, lambda run: swept(run, caller), "allocations refused")
 
 

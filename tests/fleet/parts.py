@@ -155,6 +155,30 @@ FOLDERS_WANTED = [
     "log: FileNotFoundError: [Errno 2] No such file or directory",
 ]
 
+# Prints what a worker says of itself with the library, of what may be required and what not, and then without it. A client that lacks
+# `ima_verify` has to read each error, so none is of a class of that package.
+FITNESS = """
+import os
+import ima_verify
+from fleet_verify.work import require_fitness, required
+def judge(require):
+    for is_poll in (False, True):
+        try:
+            require_fitness(require, is_poll)
+            print("fit")
+        except Exception as fault:
+            print(type(fault).__module__, type(fault).__name__, str(fault).startswith(f"--require {require!r} is neither"))
+for require in ("sha256:0-10", "none", "", "sha256:24", "None"):
+    judge(require)
+print(required("none"), required("sha256:0-10"), repr(required("")))
+os.environ["IMA_VERIFY_LIBRARY"] = "/nowhere/libima_verify.so"
+ima_verify._library.loaded.cache_clear()
+judge("sha256:0-10")
+"""
+FITNESS_WANTED = [
+    *4 * ["fit"], *6 * ["builtins ValueError True"], "Nothing.NOTHING sha256:0-10 ''", *2 * ["builtins ImportError False"],
+]
+
 
 def test_parts(tools):
     modules = {"PYTHONPATH": f"{ROOT / 'bindings/python'}:{ROOT / 'fleet'}"}
@@ -164,6 +188,7 @@ def test_parts(tools):
         ("a run that is stopped records what is answered", STOPPED, (tools.folder / "stopped",), STOPPED_WANTED),
         ("causes without the paths", CAUSES, (), CAUSES_WANTED),
         ("the files of folders", FOLDERS, (), FOLDERS_WANTED),
+        ("what a worker says of itself", FITNESS, (), FITNESS_WANTED),
     ):
         said = tools.start(["-c", script, *words], **modules).communicate(timeout=SECONDS)[0]
         tools.check(title, said.splitlines(), wanted)

@@ -1,9 +1,10 @@
 """Do a machine's boot log and measurement list account for the registers (PCRs) of its TPM 2.0?
 
-A firmware event log (TCG, crypto-agile) and a binary measurement list of Linux IMA are replayed, and the registers that they make
-are compared with expected ones. Each function takes bytes: what /sys/kernel/security/tpm0/binary_bios_measurements,
-/sys/kernel/security/ima/binary_runtime_measurements, and lines as `sha256 10 <64 hexadecimal digits>` hold. Bytes may be of any
-bytes-like type; a bytearray, or other memory that can be written, may not change during a call.
+A firmware event log (TCG, crypto-agile) and a binary measurement list of Linux IMA are replayed, and the resulting registers are compared
+with expected ones. Each function takes the bytes of /sys/kernel/security/tpm0/binary_bios_measurements and of
+/sys/kernel/security/ima/binary_runtime_measurements, and expected registers as lines such as `sha256 10 <64 hexadecimal digits>`. Bytes may
+be of any bytes-like type. A bytearray, or other memory that can be written, may not change during a call, or while its entries or events are
+gone through.
 
 >>> import ima_verify
 >>> from pathlib import Path
@@ -12,105 +13,121 @@ bytes-like type; a bytearray, or other memory that can be written, may not chang
 >>> verdict.matches, verdict.entries
 (True, 99)
 
-Say which registers a verdict must cover, as here. Without `require` only those count that `expected` names; a verdict on none is no match.
+Each verdict takes `require`: the registers that must be among the expected ones, such as `sha256:0-10` or `sha256:0-7,sha1:10`. One that is
+not has a row whose state is MISSING, and then the verdict is no match. There is no default: `NOTHING` requires none, and then a verdict covers
+only the registers that `expected` names. A verdict on no registers is no match.
+
 A match covers only a log and a list that are apart (`are_apart`). `entries(measurements)` and `events(log)` go through the inputs themselves.
-A `Session` is for a list that grows, and for one that went on after the expected registers were read.
+A `Session` is for a list that grows, and for one that grew after the expected registers were read.
 
-An input that is refused raises `Refused`, and a `require` or `registers` that is not of its form ValueError; if memory runs out, that
-is MemoryError; an answer that the library's header does not describe raises `LibraryError`. Nothing else that the library answers is
-taken for a result.
+All errors are `Error`. An input that is refused raises `Refused`; an argument without a meaning, such as an empty `require`, `Misuse`, which is
+a ValueError; if memory runs out, that is `OutOfMemory`, which is a MemoryError. An answer that the library's header does not describe raises
+`LibraryError`. An argument of another type raises TypeError.
 
-Calls from several threads run at once: ctypes releases the GIL during each, and the library keeps nothing between calls. Do not
-call in the forked child of a process with threads.
+Calls from several threads run at once: ctypes releases the GIL during each, and the library keeps nothing between calls. Do not call in the
+forked child of a process with threads.
 
-The shared library is the file that the environment variable IMA_VERIFY_LIBRARY names, else `libima_verify.so` in this package's
-folder, else what the system's loader finds as `libima_verify.so.1`. It is loaded by the first call, which raises ImportError if it cannot
-be used."""
+The shared library is the file that the environment variable IMA_VERIFY_LIBRARY names, otherwise `libima_verify.so` in this package's folder,
+otherwise what the system's loader finds as `libima_verify.so.1`. It is loaded by the first call. If it cannot be used, that call raises
+`LoadError`, which is an ImportError, or if it is of an earlier version `VersionError`, which is a LoadError."""
 
 import operator
 from enum import Enum
-from typing import Callable, Optional, Sequence, Tuple, Union
+from typing import Optional, Tuple, Union
 
 from . import _answers, _library
-from ._library import BytesLike
+from ._errors import Error, Kind, LibraryError, LoadError, Misuse, OutOfMemory, Refused, VersionError
+from ._library import JSON, TEXT, BytesLike
+from ._listings import Entries, Events
 from ._results import (
-    Algorithm, BootAggregate, Entries, Entry, Event, Events, Kind, LibraryError, ListVerdict, LogAlgorithm, Place, PlaceRow, Places,
-    Refused, Register, Report, Row, State, Unconfirmed, Verdict,
+    Algorithm, BootAggregate, Entry, Event, ListVerdict, LogAlgorithm, Place, PlaceRow, Places, Register, Report, Row, State, Unconfirmed,
+    Verdict,
 )
 
+__version__ = "1.0.0"
+
 __all__ = [
-    "Algorithm", "BootAggregate", "BytesLike", "Entries", "Entry", "Event", "Events", "Kind", "LibraryError", "ListVerdict",
-    "LogAlgorithm", "Place", "PlaceRow", "Places", "Refused", "Register", "Report", "Row", "Session", "State", "Unconfirmed", "Verdict",
-    "are_apart", "entries", "events", "expected", "list_registers", "locate", "log_extends", "registers", "replay", "report", "show",
-    "verify", "version",
+    "Algorithm", "BootAggregate", "BytesLike", "Entries", "Entry", "Error", "Event", "Events", "Kind", "LibraryError", "ListVerdict",
+    "LoadError", "LogAlgorithm", "Misuse", "NOTHING", "Nothing", "OutOfMemory", "Place", "PlaceRow", "Places", "Refused", "Register", "Report",
+    "Row", "Session", "State", "Unconfirmed", "Verdict", "VersionError", "are_apart", "entries", "events", "expected", "list_registers",
+    "locate", "log_extends", "registers", "replay", "report", "show", "verify", "version",
 ]
 
-Text = Union[BytesLike, str]
-_Function = Callable[..., int]
 
-
-class _Default(Enum):
-    """What `require` is if it is not given, with the word by which a session requires nothing.
-
-    None is not: a setting that lacks it must not come to require nothing. Nor is an empty text, which is passed on and refused."""
+class Nothing(Enum):
+    """The type of `NOTHING`."""
 
     NOTHING = "none"
 
+    def __repr__(self) -> str:
+        return f"ima_verify.{self.name}"
+
+
+NOTHING = Nothing.NOTHING
+"""What `require` is if no register has to be among the expected ones."""
+
+Text = Union[BytesLike, str]
+Required = Union[str, Nothing]
 
 # The register that IMA alone extends.
 _LIST_REGISTER = 10
-
-# 4 banks have 96 registers, and no row of these has more than 256 bytes. (A checkpoint has each register twice, in at most 140 bytes.)
-_ROOM = 32 * 1024
+_OF_LOG, _OF_LIST = False, True
 
 
 def version() -> int:
-    """The version of the library's interface.
+    """The version of the library's interface. (The package's own is `__version__`.)
 
-    >>> ima_verify.version()
-    2
+    >>> ima_verify.version() >= 1
+    True
     """
     return int(_library.loaded().ima_verify_version())
 
 
-def verify(
-    log: BytesLike, measurements: BytesLike, expected: Text, *, require: Union[Text, _Default] = _Default.NOTHING
-) -> Verdict:
+def verify(log: BytesLike, measurements: BytesLike, expected: Text, *, require: Required) -> Verdict:
     """The verdict on a firmware event log, a measurement list and the expected registers that a text states.
 
-    `require` names the registers that must be among these, as `sha256:0-10` or `sha256:0-7,sha1:10`. Each that is not has a row whose
-    state is MISSING, and then the verdict is no match. None is a TypeError. If it is not given, nothing is required. A verdict on no
-    registers is no match, though its `json` is what the program prints, which is one.
+    Raises:
+        Refused: `expected`, the log or the list is not of its form, or the template digest of an entry does not match.
+        Misuse: `require` is not of its form.
+        OutOfMemory, LibraryError, LoadError: As for every call.
 
     >>> verdict = ima_verify.verify(log, measurements, expected, require="sha256:0-10,sha1:10")
     >>> verdict.matches, [(row.algorithm.value, row.register) for row in verdict.rows if row.state is ima_verify.State.MISSING]
     (False, [('sha1', 10)])
     """
-    return _answers.read_verdict(*_report_on(log, measurements, expected, require))
+    return _answers.read_verdict(*_judged("verdict", (log, measurements), expected, require))
 
 
-def report(
-    log: BytesLike, measurements: BytesLike, expected: Text, *, require: Union[Text, _Default] = _Default.NOTHING
-) -> Report:
-    """The verdict of `verify` for a caller that keeps it as `json`, and has no use for the rows. Of a match it takes less time.
+def report(log: BytesLike, measurements: BytesLike, expected: Text, *, require: Required) -> Report:
+    """The verdict of `verify` for a caller that keeps it as `json` and has no use for the rows. For a match it takes less time.
+
+    Raises:
+        Refused, Misuse: As `verify` does.
 
     >>> report = ima_verify.report(log, measurements, expected, require="sha256:0-10")
     >>> report.matches, report.compared, report.json == ima_verify.verify(log, measurements, expected, require="sha256:0-10").json
     (True, 24, True)
     """
-    return _answers.read_report(*_report_on(log, measurements, expected, require))
+    return _answers.read_report(*_judged("verdict", (log, measurements), expected, require))
 
 
 class Session:
-    """Verdicts on a measurement list that grows: each is on all of the list so far, but only what is new of it is given.
+    """Verdicts on a measurement list that grows: each is on the whole list so far, but only what is new of it is given.
 
-    `log` and `expected` are as of `verify`, and so is `require`, where `none` requires nothing, too. With `prefix` the verdict is that on
-    the confirmed front, if there is one: the list's first entries, as few as give a match. What comes after them may be new since the
-    registers were read, or damaged; `confirmed` of the verdict says how many entries they are, and `unconfirmed` what is wrong after them.
+    Args:
+        log: As for `verify`.
+        expected: As for `verify`.
+        require: As for `verify`.
+        prefix: Whether the verdict is on the confirmed part, if there is one: the list's first entries, as few as give a match. What comes
+            after them may be new since the registers were read, or damaged. `confirmed` of the verdict is their number, and `unconfirmed` what
+            is wrong after them.
+        state: The state of an earlier session, to continue from with a log of the same boot. `expected` may be another. If it is None, the
+            list begins at its first entry. A state is trusted: who can write it can choose the verdict. Never take it from the machine that
+            is judged.
 
-    `state` is that of an earlier session, to go on from with a log of the same boot; `expected` may be another. Without it, or if it is None,
-    the list starts at its first entry. One that is not whole, and so an empty one, is refused with the kind CHECKPOINT, here or by `more`.
-    A state is trusted: who can write it can choose the verdict. Never take it from the machine that is judged.
+    Raises:
+        Refused: The state does not begin as one does. (`more` refuses one that is damaged further on.)
+        Misuse: `require` is empty, or the text `none`. (`more` raises it for one that is not of its form otherwise.)
 
     Use a session in one thread at a time.
 
@@ -118,39 +135,42 @@ class Session:
     >>> verdict = session.more(measurements + measurements[-95:])  # (an entry more than the registers confirm)
     >>> verdict.matches, verdict.confirmed, verdict.entries
     (True, 99, 100)
-    >>> later = ima_verify.Session(log, expected, state=session.state)
+    >>> later = ima_verify.Session(log, expected, require="sha256:0-10", state=session.state)
     >>> later.more(measurements[later.offset:]).matches
     True
     """
 
     def __init__(
-        self, log: BytesLike, expected: Text, *, require: Union[Text, _Default] = _Default.NOTHING, prefix: bool = False,
-        state: Optional[BytesLike] = None
+        self, log: BytesLike, expected: Text, *, require: Required, prefix: bool = False, state: Optional[BytesLike] = None
     ) -> None:
         if not isinstance(prefix, bool):
             raise TypeError(f"prefix is True or False, and not {prefix!r}")
         self._log, self._expected = _copy_of(log), _copy_of(_bytes_of(expected))
-        self._request = None if isinstance(require, _Default) else require
-        self._require = _copy_of(_bytes_of(require.value if isinstance(require, _Default) else require))
+        self._require, self._required = require, _required(require)
         self._prefix = prefix
         self._reached = _answers.START if state is None else _answers.read_state(_copy_of(state))
 
     def more(self, data: BytesLike) -> Verdict:
-        """The verdict on the list that the state covers, followed by these bytes, which may be none. If it is a match, the state then covers
-        the list that it is on: the confirmed front, with `prefix`, else the whole list.
+        """The verdict on the list that the state covers, followed by these bytes, which may be none.
 
-        Numbers of entries, also of a refusal, are those of the whole list. After a refusal, and after a verdict that is no match, the session
-        stays as it was, and these bytes come again."""
-        start, function = self._reached, _library.loaded().ima_verify_more_json
-        inputs = self._log, start.text, data, self._expected, self._require
-        status, (state, text) = _library.ask_for_texts(function, inputs, (self._prefix,), (_ROOM, _ROOM))
-        _answers.raise_failure(status, text, self._request)
-        verdict, self._reached = _answers.read_more(status, text, state, start, memoryview(data).nbytes, self._prefix)
+        After a match the state covers the list that the verdict is on: the confirmed part, with `prefix`, otherwise the whole list. After any
+        other verdict, and after an error, the session is as it was: give these bytes again, with those that come next.
+
+        Numbers of entries, also of an error, are those in the whole list.
+
+        Raises:
+            Refused: As `verify` does, or the state is damaged, or of another boot.
+            Misuse: `require` is not of its form.
+        """
+        start, inputs = self._reached, (self._log, self._reached.text, data, self._expected, self._required)
+        verdict, self._reached = _answers.read_more(
+            *_library.call_more(inputs, self._prefix, self._require), start, memoryview(data).nbytes, self._prefix
+        )
         return verdict
 
     @property
     def state(self) -> Optional[bytes]:
-        """Where the session is: what to keep, and to give another as its `state`. None before the first match on a list from its start."""
+        """What to keep, and to give another session as its `state`. None before the first match on a list from its beginning."""
         return self._reached.text or None
 
     @property
@@ -159,129 +179,145 @@ class Session:
         return self._reached.bytes
 
 
-def locate(
-    log: BytesLike, measurements: BytesLike, expected: Text, *, require: Union[Text, _Default] = _Default.NOTHING
-) -> Places:
-    """Where each expected register first has its value. Inputs, `require` and refusals are those of `verify`.
+def locate(log: BytesLike, measurements: BytesLike, expected: Text, *, require: Required) -> Places:
+    """Where each expected register first has its value.
+
+    Raises:
+        Refused, Misuse: As `verify` does.
 
     >>> for row in ima_verify.locate(log, measurements, expected, require="sha256:0-10").rows[9:11]:
     ...     print(row.register, row.place.value, row.number)
     9 event 22
     10 entry 98
     """
-    library = _library.loaded()
-    functions = library.ima_verify_locate_json, library.ima_verify_locate_required_json
-    return _answers.read_places(*_answer_on(expected, require, functions, (log, measurements)))
+    return _answers.read_places(*_judged("locate", (log, measurements), expected, require))
 
 
-def replay(measurements: BytesLike, expected: Text, *, require: Text) -> ListVerdict:
+def replay(measurements: BytesLike, expected: Text, *, require: Required) -> ListVerdict:
     """The verdict on a measurement list without a log, and the expected registers that a text states.
 
-    The list is replayed from the registers' reset values, so a register that the firmware extends too differs. `require` is as in
-    `verify`, and has to be given. A list without entries is no match.
+    The list is replayed from the registers' reset values, so a register that the firmware extends too differs. A list without entries is no
+    match.
+
+    Raises:
+        Refused, Misuse: As `verify` does.
 
     >>> tenth = next(line for line in expected.splitlines() if line.startswith(b"sha256 10 "))
     >>> ima_verify.replay(measurements, tenth, require="sha256:10").matches
     True
     """
-    inputs = measurements, _bytes_of(expected), _bytes_of(require)
-    return _answers.read_list_verdict(*_answer_of(_library.loaded().ima_verify_replay_required_json, inputs, _ROOM, require))
+    return _answers.read_list_verdict(*_judged("replay", (measurements,), expected, require))
 
 
-def expected(printed: Text, registers: Optional[Text] = None) -> bytes:
-    """The lines of expected registers, for `verify` and `locate`, of what tpm2_pcrread or tpm2_checkquote printed.
+def expected(printed: Text, registers: Optional[str] = None) -> bytes:
+    """The lines of expected registers that a text states which tpm2_pcrread or tpm2_checkquote printed.
 
-    `registers` is a range, as `0-10` or `4`, whose registers are written; else all are. A text without any is refused. Neither who wrote
-    the text nor whether a quote holds is known from it: take the values of a quote that was checked, or of a machine that is trusted.
+    `registers` is a range such as `0-10`, or a number, and selects registers; None selects all. Neither who wrote the text nor whether a
+    quote holds is known from it: take the values of a quote that was checked, or of a machine that is trusted.
+
+    Raises:
+        Refused: The text is not of its form, or states no register of the range.
+        Misuse: `registers` is not of its form.
 
     >>> printed = Path("tpm2_pcrread.txt").read_bytes()
     >>> ima_verify.expected(printed, "0-10") == b"".join(expected.splitlines(True)[:11])
     True
     """
-    request = b"" if registers is None else registers
-    inputs = _bytes_of(printed), _bytes_of(request)
-    return _answers.read_lines(*_answer_of(_library.loaded().ima_verify_expected, inputs, _ROOM, request), False)
+    if not isinstance(registers, (str, type(None))):
+        raise TypeError(f"registers is a text or None, and not {registers!r}")
+    inputs = _bytes_of(printed), _bytes_of(registers or "")
+    return _answers.read_lines(*_library.call("expected", inputs, (TEXT,), argument=registers))
 
 
 def registers(log: BytesLike) -> Tuple[Register, ...]:
     """The registers that differ from their reset values after a firmware event log.
 
+    Raises:
+        Refused: The log is not of its form.
+
     >>> first = ima_verify.registers(log)[0]
     >>> first.algorithm.value, first.register, first.value.hex()[:8]
     ('sha256', 0, '177e29c4')
     """
-    return _answers.read_registers(*_answer_of(_library.loaded().ima_verify_registers_json, (log,), _ROOM))
+    return _answers.read_registers(*_library.call("registers", (log,), (_OF_LOG, JSON)))
 
 
 def list_registers(measurements: BytesLike) -> Tuple[Register, ...]:
     """The registers, in banks of all algorithms, that differ from their reset values after a measurement list without a log.
 
+    Raises:
+        Refused: The list is not of its form, or the template digest of an entry does not match.
+
     >>> [(found.algorithm.value, found.register) for found in ima_verify.list_registers(measurements)]
     [('sha1', 10), ('sha256', 10), ('sha384', 10), ('sha512', 10)]
     """
-    return _answers.read_registers(*_answer_of(_library.loaded().ima_verify_replay_json, (measurements,), _ROOM))
+    return _answers.read_registers(*_library.call("registers", (measurements,), (_OF_LIST, JSON)))
 
 
 def entries(measurements: BytesLike) -> Entries:
-    """The entries of a measurement list, one after another, each with whether it is genuine.
+    """The entries of a measurement list, one after another, each with whether its template digest matches. They are never all in memory.
 
-    Of a damaged list the entries before the fault come, and then `Refused` is raised. If you stop before the end, look at `fault` of what
-    this returns: it is None exactly if the list is whole.
+    Raises:
+        Refused: The list is damaged; this is raised by the iterator, after the entries before the damage. So a loop that stops early does not
+            show that the list is whole.
 
-    >>> found = ima_verify.entries(measurements)
-    >>> [entry.path for entry in found if not entry.violation][:2], found.fault
-    ([b'boot_aggregate', b'/init'], None)
+    >>> [entry.path for entry in ima_verify.entries(measurements) if not entry.violation][:2]
+    [b'boot_aggregate', b'/init']
     """
-    answer = _library.ask(_library.loaded().ima_verify_entries_json, (measurements,), _room_of_lines(measurements))
-    return _answers.read_entries(*answer, memoryview(measurements).nbytes == 0)
+    return Entries(measurements)
 
 
 def events(log: BytesLike) -> Events:
-    """The events of a firmware event log after its header, one after another; what this returns also has the header's `algorithms`.
+    """The events of a firmware event log after its header, one after another. They are never all in memory.
 
-    Of a damaged log the events before the fault come, and then `Refused` is raised, at once if the fault is in the header. If you stop
-    before the end, look at `fault` of what this returns: it is None exactly if the log is whole.
+    Raises:
+        Refused: The log's header is damaged. If another event is, this is raised by the iterator, after the events before it. So a loop that
+            stops early does not show that the log is whole.
 
     >>> events = ima_verify.events(log)
     >>> [algorithm.name for algorithm in events.algorithms], next(events).type
     (['sha256'], 'EV_S_CRTM_VERSION')
     """
-    return _answers.read_events(*_library.ask(_library.loaded().ima_verify_events_json, (log,), _room_of_lines(log)))
+    return Events(log)
 
 
 def show(measurements: BytesLike) -> bytes:
-    """The entries of a measurement list, each in the kernel's form.
+    """The entries of a measurement list, each in the kernel's form, as one text.
 
-    Paths stand as they are: they may have line feeds and control bytes. `entries` gives each by itself.
+    Paths are as they are: they may have line feeds and control bytes. `entries` gives each by itself.
+
+    Raises:
+        Refused: The list is damaged.
 
     >>> ima_verify.show(measurements).splitlines()[1][-14:]
     b'51aabe89 /init'
     """
-    size = memoryview(measurements).nbytes
-    return _answers.read_lines(*_answer_of(_library.loaded().ima_verify_show, (measurements,), _room_of_entries(size)), size == 0)
-
-
-def _room_of_entries(size: int) -> int:
-    """Room for the entries of a list of this size: an entry's text is at most twice as long as the entry."""
-    return 2 * size + 1024
+    return b"".join(iter(_library.Pieces("entries", measurements, TEXT).next, b""))
 
 
 def log_extends(log: BytesLike, register: int) -> bool:
     """Whether events of a firmware event log extend this register of a bank, in less time than `registers` takes.
 
+    Raises:
+        Refused: The log is not of its form.
+        Misuse: There is no such register: they are 0 to 23.
+
     >>> ima_verify.log_extends(log, 4), ima_verify.log_extends(log, 10)
     (True, False)
     """
     if not 0 <= operator.index(register) < _answers.REGISTERS:
-        raise ValueError(f"no register: {register!r}")
-    return _answers.read_whether_changed(*_answer_of(_library.loaded().ima_verify_registers_json, (log,), _ROOM), register)
+        raise Misuse(f"no register: {register!r}")
+    return _answers.read_whether_changed(*_library.call("registers", (log,), (_OF_LOG, JSON)), register)
 
 
 def are_apart(log: BytesLike, measurements: BytesLike) -> bool:
     """Whether no event of the log extends register 10, which IMA alone does, and no entry of the list names another.
 
     Otherwise all registers can match though entries were moved from the list into the log, or events from the log into the list. Each part of
-    a list that grows can be asked about by itself. Inputs are refused as by `registers` and `list_registers`.
+    a list that grows can be asked about by itself.
+
+    Raises:
+        Refused: As `registers` and `list_registers` do.
 
     >>> ima_verify.are_apart(log, measurements), ima_verify.are_apart(log, bytes([9]) + measurements[1:])
     (True, False)
@@ -290,32 +326,20 @@ def are_apart(log: BytesLike, measurements: BytesLike) -> bool:
     return not in_log and all(found.register == _LIST_REGISTER for found in of_list)
 
 
-def _room_of_lines(data: BytesLike) -> int:
-    """Room for most entries or events as JSON. (A control byte of a path takes six; then a second call is needed.)"""
-    return 4 * memoryview(data).nbytes + 1024
+def _judged(name: str, inputs: Tuple[BytesLike, ...], expected: Text, require: Required) -> Tuple[int, bytes]:
+    """The answer of a raw function on these inputs, expected registers and required ones."""
+    return _library.call(name, (*inputs, _bytes_of(expected), _required(require)), (JSON,), argument=require)
 
 
-def _report_on(log: BytesLike, measurements: BytesLike, expected: Text, require: Union[Text, _Default]) -> Tuple[int, bytes]:
-    """The answer that has the report on these inputs."""
-    library = _library.loaded()
-    return _answer_on(expected, require, (library.ima_verify_verdict_json, library.ima_verify_required_json), (log, measurements))
-
-
-def _answer_on(
-    expected: Text, require: Union[Text, _Default], functions: Tuple[_Function, _Function], inputs: Tuple[BytesLike, ...]
-) -> Tuple[int, bytes]:
-    """The answer of the first function, or if registers are required of the second, whose last input names them."""
-    inputs = *inputs, _bytes_of(expected)
-    if isinstance(require, _Default):
-        return _answer_of(functions[0], inputs, _ROOM)
-    return _answer_of(functions[1], (*inputs, _bytes_of(require)), _ROOM, require)
-
-
-def _answer_of(function: _Function, inputs: Sequence[BytesLike], room: int, request: Optional[Text] = None) -> Tuple[int, bytes]:
-    """A function's answer, which is no failure: a ValueError says that this request is not of its form."""
-    status, text = _library.ask(function, inputs, room)
-    _answers.raise_failure(status, text, request)
-    return status, text
+def _required(require: Required) -> bytes:
+    """The text of what is required. One that names no register is not taken, also where the library would take it."""
+    if require is NOTHING:
+        return Nothing.NOTHING.value.encode()
+    if not isinstance(require, str):
+        raise TypeError(f"require is a text or ima_verify.NOTHING, and not {require!r}")
+    if require in ("", Nothing.NOTHING.value):
+        raise Misuse(f"not of its form: {require!r}")
+    return require.encode("utf-8", "surrogatepass")
 
 
 def _copy_of(data: BytesLike) -> bytes:

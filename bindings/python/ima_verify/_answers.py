@@ -3,29 +3,17 @@
 import json
 import re
 from contextlib import contextmanager
-from typing import Any, Dict, Iterator, List, NamedTuple, NoReturn, Optional, Tuple, Type, TypeVar, Union
+from typing import Any, Dict, Iterator, List, NamedTuple, Optional, Tuple, Type, TypeVar, Union
 
+from ._errors import Kind, Refused
+from ._library import DIFFERS, DONE, unexpected
 from ._results import (
-    Algorithm, BootAggregate, Entries, Entry, Event, Events, Kind, LibraryError, ListVerdict, LogAlgorithm, Place, PlaceRow, Places,
-    Refused, Register, Report, Row, State, Unconfirmed, Verdict,
+    Algorithm, BootAggregate, Entry, Event, ListVerdict, LogAlgorithm, Place, PlaceRow, Places, Register, Report, Row, State, Unconfirmed,
+    Verdict,
 )
 
-DONE, DIFFERS, REFUSED, OUT_OF_MEMORY = range(4)
 REGISTERS = 24
 UINT16, UINT32, UINT64 = 2**16 - 1, 2**32 - 1, 2**64 - 1
-REQUEST, MEMORY = "command_line", "memory"
-
-# The lines of the faults that are no input's, with their kinds, and the members that tell the place of the others.
-_LINES = {"refused: command line": REQUEST, "failed: memory": MEMORY}
-_PLACES = {"log": "event", "list": "entry", "replay": "entry"}
-_NUMBER = "(0|[1-9][0-9]{0,19})"
-_FAULT = re.compile(
-    f"refused: (?:(log) fault {_NUMBER}(?: at event {_NUMBER})?"
-    f"|(list|replay) fault {_NUMBER} at entry {_NUMBER}"
-    f"|(expected) fault {_NUMBER}(?: at line {_NUMBER})?"
-    f"|(checkpoint) fault {_NUMBER})"
-)
-_REFUSED, _UNCONFIRMED = "refused: ", "unconfirmed: "
 
 # A report of a match as libraries write it, which need not be taken apart: its counts, and its rows as one. (Larger numbers are rare.)
 _COUNT = "(0|[1-9][0-9]{0,17})"
@@ -41,12 +29,12 @@ _REGISTERS = re.compile(f'{{"registers":\\[(?:{_VALUE}(?:,{_VALUE})*)?\\]}}\n'.e
 
 # How a checkpoint begins.
 _CHECKPOINT, _CHECKPOINT_VERSION = b"ima-agent checkpoint ", b"1\n"
+_NUMBER = "(0|[1-9][0-9]{0,19})"
 _COUNTS = re.compile(_CHECKPOINT + _CHECKPOINT_VERSION + f"entries {_NUMBER}\nbytes {_NUMBER}\n".encode())
 MOST_BYTES = 2**63 - 1
 DAMAGED, OTHER_VERSION = 1, 2
 
 Object = Dict[str, Any]
-_Fault = Tuple[str, str, Optional[int], Optional[int]]  # the line, the kind, the number and the place
 _Member = TypeVar("_Member", str, int, bool, List[Any], Object)
 
 
@@ -62,32 +50,28 @@ class Checkpoint(NamedTuple):
 START = Checkpoint(b"", 0, 0)
 
 
-def unexpected(status: int, text: bytes) -> NoReturn:
-    raise LibraryError(f"libima_verify answered status {status} with {len(text)} bytes that begin {text[:200]!r}")
-
-
 @contextmanager
-def _reading(status: int, text: bytes) -> Iterator[None]:
+def _reading(result: int, text: bytes) -> Iterator[None]:
     """Whatever is wrong while this text is read is a LibraryError."""
     try:
         yield
     except (ValueError, KeyError, TypeError, RecursionError):
-        unexpected(status, text)
+        unexpected(result, text)
 
 
-def read_verdict(status: int, text: bytes) -> Verdict:
+def read_verdict(result: int, text: bytes) -> Verdict:
     """The verdict on a whole list that a report states. On no registers it is no match, though the report says that it is."""
-    with _reading(status, text):
-        verdict = _verdict_of(status, text, may_match_nothing=True)
+    with _reading(result, text):
+        verdict = _verdict_of(result, text, may_match_nothing=True)
         _require(verdict.confirmed is None)
         return verdict
 
 
-def read_report(status: int, text: bytes) -> Report:
+def read_report(result: int, text: bytes) -> Report:
     """The verdict on a whole list that a report states, without its rows."""
-    match = _MATCH.fullmatch(text) if status == DONE else None
+    match = _MATCH.fullmatch(text) if result == DONE else None
     if match is None:
-        verdict = read_verdict(status, text)
+        verdict = read_verdict(result, text)
         counts, aggregate = (verdict.events, verdict.locality, verdict.entries), verdict.boot_aggregate
         return Report(*counts, aggregate, verdict.compared, verdict.matches, verdict.json)
     events, locality, entries, rows = match.groups()
@@ -95,14 +79,14 @@ def read_report(status: int, text: bytes) -> Report:
 
 
 def read_more(
-    status: int, text: bytes, state: bytes, start: Checkpoint, size: int, has_front: bool
+    result: int, text: bytes, state: bytes, start: Checkpoint, size: int, has_front: bool
 ) -> Tuple[Verdict, Checkpoint]:
     """The verdict that a report states on a list that has more bytes after a checkpoint, so many, and the next checkpoint.
 
-    Only a match has a next one: of the confirmed front, which the report of a call that asks for it has then, or of the whole list. After any
+    Only a match has a next one: of the confirmed part, which the report of a call that asks for it has then, or of the whole list. After any
     other verdict it is the one before."""
-    with _reading(status, text):
-        verdict = _verdict_of(status, text, may_match_nothing=False)
+    with _reading(result, text):
+        verdict = _verdict_of(result, text, may_match_nothing=False)
         confirmed, end = verdict.confirmed, start.bytes + size
         _require((confirmed is not None) == (has_front and verdict.matches))
         if not verdict.matches:
@@ -121,140 +105,65 @@ def read_state(state: bytes) -> Checkpoint:
     found = _checkpoint_in(state)
     if found is None:
         is_other = state.startswith(_CHECKPOINT) and not state.startswith(_CHECKPOINT + _CHECKPOINT_VERSION)
-        number = OTHER_VERSION if is_other else DAMAGED
-        raise Refused(f"refused: checkpoint fault {number}", Kind.CHECKPOINT, number, None)
+        raise Refused(Kind.CHECKPOINT, OTHER_VERSION if is_other else DAMAGED)
     return found
 
 
-def read_list_verdict(status: int, text: bytes) -> ListVerdict:
+def read_list_verdict(result: int, text: bytes) -> ListVerdict:
     """The verdict on a list alone that a report states."""
-    with _reading(status, text):
-        report = _result_of(text)
+    with _reading(result, text):
+        report = _object_of(text)
         entries, rows = _number(report, "entries"), _rows_of(report)
-        return ListVerdict(entries, rows, _matches(status, report, rows, entries > 0 and bool(rows)), text[:-1].decode())
+        return ListVerdict(entries, rows, _matches(result, report, rows, entries > 0 and bool(rows)), text[:-1].decode())
 
 
-def read_places(status: int, text: bytes) -> Places:
+def read_places(result: int, text: bytes) -> Places:
     """The places that an answer states."""
-    with _reading(status, text):
-        answer = _result_of(text)
+    with _reading(result, text):
+        answer = _object_of(text)
         rows = tuple(map(_place_row_of, _member(answer, "registers", list)))
         located = bool(rows) and all(row.place not in (Place.NOWHERE, Place.ABSENT, Place.MISSING) for row in rows)
-        _require(_member(answer, "located", bool) == located and status == (DONE if located else DIFFERS))
+        _require(_member(answer, "located", bool) == located and result == (DONE if located else DIFFERS))
         return Places(rows, located, text[:-1].decode())
 
 
-def read_registers(status: int, text: bytes) -> Tuple[Register, ...]:
+def read_registers(result: int, text: bytes) -> Tuple[Register, ...]:
     """The registers that an answer states."""
-    with _reading(status, text):
-        _require(status == DONE)
-        return tuple(map(_register_of, _member(_result_of(text), "registers", list)))
+    with _reading(result, text):
+        _require(result == DONE)
+        return tuple(map(_register_of, _member(_object_of(text), "registers", list)))
 
 
-def read_whether_changed(status: int, text: bytes, register: int) -> bool:
+def read_whether_changed(result: int, text: bytes, register: int) -> bool:
     """Whether an answer states this register, of any bank."""
-    if status == DONE and _REGISTERS.fullmatch(text):
+    if result == DONE and _REGISTERS.fullmatch(text):
         return f'"register":{register},'.encode() in text
-    return any(row.register == register for row in read_registers(status, text))
+    return any(row.register == register for row in read_registers(result, text))
 
 
-def read_entries(status: int, text: bytes, is_empty: bool) -> Entries:
-    """The entries that an answer has, which are none only of an empty list, or before a fault."""
-    lines, fault = _lines_of(status, text, is_empty)
-
-    def read(line: bytes, number: int) -> Entry:
-        with _reading(status, line):
-            return _entry_of(_result_of(line), number)
-
-    return Entries(read, lines, 0, fault)
-
-
-def read_events(status: int, text: bytes) -> Events:
-    """The events that an answer has, after the algorithms. Without these there is nothing but a fault."""
-    lines, fault = _lines_of(status, text, False)
-    if fault is not None and not lines:
-        raise fault
-    start = lines.find(b"\n") + 1
-    with _reading(status, text):
-        algorithms = tuple(map(_algorithm_of, _member(_result_of(lines[:start]), "algorithms", list)))
-
-    def read(line: bytes, number: int) -> Event:
-        with _reading(status, line):
-            return _event_of(_result_of(line), number)
-
-    return Events(read, lines[start:], 1, fault, algorithms)
-
-
-def read_lines(status: int, text: bytes, is_empty: bool) -> bytes:
-    """Lines as they are, which are none only if they have to be."""
-    if status != DONE or text[-1:] != (b"" if is_empty else b"\n"):
-        unexpected(status, text)
+def read_lines(result: int, text: bytes) -> bytes:
+    """Lines as they are."""
+    if result != DONE or not text.endswith(b"\n"):
+        unexpected(result, text)
     return text
 
 
-def raise_failure(status: int, text: bytes, request: Optional[object] = None) -> None:
-    """Raises what an answer says, if its status is that of a failure; ValueError if it says that this request is wrong."""
-    if status == REFUSED:
-        with _reading(status, text):
-            line, kind, number, place = _fault_of(text)
-            is_request = request is not None and kind == REQUEST
-            failure = ValueError(f"not of its form: {request!r}") if is_request else _refused_of(line, kind, number, place)
-        raise failure
-    if status == OUT_OF_MEMORY:
-        with _reading(status, text):
-            _require(not text or _fault_of(text[_last_line_of(text):])[1] == MEMORY)
-        raise MemoryError("libima_verify got no memory")
-    if status not in (DONE, DIFFERS):
-        unexpected(status, text)
+def read_entry(line: bytes, number: int) -> Entry:
+    """The entry of a line, which has this number."""
+    with _reading(DONE, line):
+        return _entry_of(_object_of(line), number)
 
 
-def _lines_of(status: int, text: bytes, is_empty: bool) -> Tuple[bytes, Optional[Refused]]:
-    """The lines before the fault, if the status says that the last line is one, and the fault."""
-    if status != REFUSED:
-        raise_failure(status, text)
-        return read_lines(status, text, is_empty), None
-    end = _last_line_of(text)
-    with _reading(status, text):
-        return text[:end], _refused_of(*_fault_of(text[end:]))
+def read_event(line: bytes, number: int) -> Event:
+    """The event of a line, which has this number."""
+    with _reading(DONE, line):
+        return _event_of(_object_of(line), number)
 
 
-def _last_line_of(text: bytes) -> int:
-    """Where the last line starts."""
-    return text.rfind(b"\n", 0, -1) + 1
-
-
-def _fault_of(text: bytes) -> _Fault:
-    """The fault that a line states. The members of one that is JSON say the same as its message, which alone has the line of a text."""
-    if not text.startswith(b"{"):
-        _require(text.endswith(b"\n"))
-        return _fault_said_by(text[:-1].decode())
-    fault = _member(_object_of(text), "fault", dict)
-    return _fault_with(fault, _member(fault, "message", str))
-
-
-def _fault_with(fault: Object, line: str) -> _Fault:
-    """The fault that a line states, where the members of an object say the same."""
-    line, kind, number, place = _fault_said_by(line)
-    numbers = {name: _number(fault, name) for name in ("number", "event", "entry") if name in fault}
-    said = {name: value for name, value in (("number", number), (_PLACES.get(kind), place)) if name and value is not None}
-    _require(_member(fault, "kind", str) == kind and numbers == said)
-    return line, kind, numbers.get("number"), place
-
-
-def _fault_said_by(line: str) -> _Fault:
-    if line in _LINES:
-        return line, _LINES[line], None, None
-    match = _FAULT.fullmatch(line)
-    if match is None:
-        raise ValueError(line)
-    kind, number, *place = (field for field in match.groups() if field is not None)
-    return line, kind, int(number), int(place[0]) if place else None
-
-
-def _refused_of(line: str, kind: str, number: Optional[int], place: Optional[int]) -> Refused:
-    if number is None:
-        raise ValueError(line)
-    return Refused(line, Kind(kind), number, place)
+def read_algorithms(line: bytes) -> Tuple[LogAlgorithm, ...]:
+    """The algorithms of a log's first line."""
+    with _reading(DONE, line):
+        return tuple(map(_algorithm_of, _member(_object_of(line), "algorithms", list)))
 
 
 def _checkpoint_in(text: bytes) -> Optional[Checkpoint]:
@@ -263,18 +172,18 @@ def _checkpoint_in(text: bytes) -> Optional[Checkpoint]:
     return found if found and found.entries <= found.bytes <= MOST_BYTES else None
 
 
-def _verdict_of(status: int, text: bytes, may_match_nothing: bool) -> Verdict:
+def _verdict_of(result: int, text: bytes, may_match_nothing: bool) -> Verdict:
     """The verdict that a report states, where one on no registers may say that it is a match, or may not."""
-    report = _result_of(text)
+    report = _object_of(text)
     aggregate, rows = BootAggregate(report["boot_aggregate"]), _rows_of(report)
     is_good = aggregate is BootAggregate.GOOD and (bool(rows) or may_match_nothing)
-    matches = _matches(status, report, rows, is_good) and bool(rows)
+    matches = _matches(result, report, rows, is_good) and bool(rows)
     events, locality, entries = _number(report, "events"), _number(report, "locality", 255), _number(report, "entries")
     return Verdict(events, locality, entries, aggregate, rows, matches, text[:-1].decode(), *_front_of(report, entries))
 
 
 def _front_of(report: Object, entries: int) -> Tuple[Optional[int], Optional[Unconfirmed]]:
-    """How many of all entries are confirmed, at least the first, and what is told of those after them."""
+    """How many of all entries are confirmed, at least the first, and what is wrong with those after them."""
     if "confirmed" not in report:
         _require("unconfirmed" not in report)
         return None, None
@@ -288,22 +197,19 @@ def _front_of(report: Object, entries: int) -> Tuple[Optional[int], Optional[Unc
 
 
 def _unconfirmed_of(fault: Object) -> Unconfirmed:
-    line = _member(fault, "message", str)
-    _require(line.startswith(_UNCONFIRMED))
-    _, kind, number, entry = _fault_with(fault, _REFUSED + line[len(_UNCONFIRMED):])
-    if number is None or entry is None or kind not in (Kind.LIST, Kind.REPLAY):
-        raise ValueError(line)
-    return Unconfirmed(line, Kind(kind), number, entry)
+    found = Unconfirmed(Kind(_member(fault, "kind", str)), _number(fault, "number", UINT32), _number(fault, "entry"))
+    _require(found.kind in (Kind.LIST, Kind.REPLAY) and _member(fault, "message", str) == found.message)
+    return found
 
 
 def _rows_of(report: Object) -> Tuple[Row, ...]:
     return tuple(map(_row_of, _member(report, "registers", list)))
 
 
-def _matches(status: int, report: Object, rows: Tuple[Row, ...], is_good: bool) -> bool:
-    """Whether a report is a match: of what is good before its rows, and of each of these. Its status and its verdict say the same."""
+def _matches(result: int, report: Object, rows: Tuple[Row, ...], is_good: bool) -> bool:
+    """Whether a report is a match: of what is good before its rows, and of each of these. Its result and its verdict say the same."""
     matches = is_good and all(row.state is State.MATCH for row in rows)
-    _require((status, report["verdict"]) == ((DONE, "match") if matches else (DIFFERS, "differ")))
+    _require((result, report["verdict"]) == ((DONE, "match") if matches else (DIFFERS, "differ")))
     return matches
 
 
@@ -356,19 +262,13 @@ def _algorithm_of(row: Object) -> LogAlgorithm:
     return LogAlgorithm(name, _number(row, "id", UINT16), _number(row, "size", UINT16))
 
 
-def _result_of(line: bytes) -> Object:
-    """The object of a line that states no fault."""
-    value = _object_of(line)
-    _require("fault" not in value)
-    return value
-
-
 def _object_of(line: bytes) -> Object:
-    """The object of a line, which ends with its only line feed."""
+    """The object of a line, which ends with its only line feed, and states no fault."""
     _require(line.find(b"\n") == len(line) - 1)
     value: object = json.loads(line.decode())
     if not isinstance(value, dict):
         raise ValueError(value)
+    _require("fault" not in value)
     return value
 
 

@@ -2,9 +2,9 @@
 
 import enum
 from dataclasses import dataclass
-from typing import Callable, Dict, Iterator, Optional, Tuple, TypeVar, Union
+from typing import Dict, Optional, Tuple, Union
 
-_Item = TypeVar("_Item")
+from ._errors import Kind, spelled
 
 
 class Algorithm(enum.Enum):
@@ -17,7 +17,7 @@ class Algorithm(enum.Enum):
 
     @property
     def digest_size(self) -> int:
-        """The size of a register's value in bytes."""
+        """The size of a register's value, in bytes."""
         return _DIGEST_SIZES[self]
 
 
@@ -53,19 +53,9 @@ class Place(enum.Enum):
     MISSING = "missing"  # it is required, and not among the expected registers
 
 
-class Kind(str, enum.Enum):
-    """What is refused. Each equals its name: `refused.kind == "log"`."""
-
-    LOG = "log"
-    LIST = "list"
-    REPLAY = "replay"  # an entry of the list is not genuine
-    EXPECTED = "expected"
-    CHECKPOINT = "checkpoint"  # a session's state: it is damaged (1), of another version (2), or of another boot (3)
-
-
 @dataclass(frozen=True)
 class Register:
-    """A register and its value."""
+    """A register, by its bank's algorithm and its number from 0 to 23, and its value in bytes."""
 
     algorithm: Algorithm
     register: int
@@ -74,8 +64,11 @@ class Register:
 
 @dataclass(frozen=True)
 class Row:
-    """An expected register, compared, or a required one that is missing. `value` is what the register has instead, if the state is
-    DIFFER, else None."""
+    """An expected register, compared, or a required one that is missing.
+
+    Attributes:
+        value: What the register has instead of the expected value, if the state is DIFFER, otherwise None.
+    """
 
     algorithm: Algorithm
     register: int
@@ -100,26 +93,40 @@ class _Judged:
 
 @dataclass(frozen=True)
 class Unconfirmed:
-    """A fault of a list after its confirmed front, for which the list is not refused.
+    """An error in a list after its confirmed part, for which the list is not refused.
 
-    `line` tells it, as `unconfirmed: replay fault 1 at entry 98`; `kind`, LIST or REPLAY, and `number` are those of the fault, and `entry`
-    is the entry's number."""
+    Attributes:
+        kind: LIST or REPLAY.
+        number: The error's number among those of its kind, as of `Refused`.
+        entry: The number of the entry; entries count from 0.
+    """
 
-    line: str
     kind: Kind
     number: int
     entry: int
 
+    @property
+    def message(self) -> str:
+        """The line that `ima-agent` prints, such as `unconfirmed: replay fault 1 at entry 98`."""
+        return f"unconfirmed: {spelled(self.kind, self.number, self.entry)}"
+
 
 @dataclass(frozen=True)
 class Verdict(_Judged):
-    """The verdict on a log, a list and expected registers; as a condition, it is true exactly if it is a match.
+    """The verdict on a log, a list and expected registers. As a condition, it is true exactly if it is a match.
 
-    `matches` says that the boot aggregate is good, that each expected register has its value, that there is one, and that no required one is
-    missing. It says nothing of registers that have no row. `json` is the report as `ima-agent verify --json` prints it, without the line feed.
-
-    Only a `Session` with `prefix` gives a `confirmed`: then the verdict is a match on the list's first entries, so many of all `entries`,
-    and says nothing of those after them. `unconfirmed` is the first fault of these, if they have one. Both are None of every other verdict."""
+    Attributes:
+        events: How many events the log has.
+        locality: The locality from which the TPM was started.
+        entries: How many entries the list has.
+        boot_aggregate: How the list's first entry compares with the log.
+        rows: The expected registers, compared, and then the required ones that are missing.
+        matches: Whether the boot aggregate is good, a register is expected, each has its value, and no required one is missing. It covers no
+            register without a row.
+        json: The report as `ima-agent verify --json` prints it, without the line feed.
+        confirmed: How many of all entries the match covers, if a `Session` with `prefix` gave it, otherwise None.
+        unconfirmed: The first error in the entries after these, if there is one, otherwise None.
+    """
 
     events: int
     locality: int
@@ -134,9 +141,11 @@ class Verdict(_Judged):
 
 @dataclass(frozen=True)
 class Report:
-    """A verdict as `Verdict` has it, but for the rows, which only `json` tells; as a condition, it is true exactly if it is a match.
+    """A `Verdict` whose rows are in `json` alone. As a condition, it is true exactly if it is a match.
 
-    `compared` says how many expected registers were compared. Without any it is no match."""
+    Attributes:
+        compared: How many expected registers were compared. Without any it is no match.
+    """
 
     events: int
     locality: int
@@ -152,10 +161,14 @@ class Report:
 
 @dataclass(frozen=True)
 class ListVerdict(_Judged):
-    """The verdict on a list without a log, and expected registers; as a condition, it is true exactly if it is a match.
+    """The verdict on a list without a log, and expected registers. As a condition, it is true exactly if it is a match.
 
-    `matches` says that the list has an entry, that each expected register has its value, that there is one, and that no required one is
-    missing. `json` is the report as `ima-agent replay --json` prints it, without the line feed."""
+    Attributes:
+        entries: How many entries the list has.
+        rows: The expected registers, compared, and then the required ones that are missing.
+        matches: Whether the list has an entry, a register is expected, each has its value, and no required one is missing.
+        json: The report as `ima-agent replay --json` prints it, without the line feed.
+    """
 
     entries: int
     rows: Tuple[Row, ...]
@@ -165,8 +178,11 @@ class ListVerdict(_Judged):
 
 @dataclass(frozen=True)
 class PlaceRow:
-    """Where an expected register first has its value, or that a required one is missing. `number` is that of the event or the entry, else
-    None."""
+    """Where an expected register first has its value, or that a required one is missing.
+
+    Attributes:
+        number: The number of the event or the entry, if the place is EVENT or ENTRY, otherwise None.
+    """
 
     algorithm: Algorithm
     register: int
@@ -176,10 +192,13 @@ class PlaceRow:
 
 @dataclass(frozen=True)
 class Places:
-    """Where each expected register first has its value; as a condition, it is true exactly if each value was reached, there is one, and no
-    required register is missing.
+    """Where each expected register first has its value. As a condition, it is true exactly if all are located.
 
-    `json` is what `ima-agent locate --json` prints, without the line feed."""
+    Attributes:
+        rows: The expected registers, and then the required ones that are missing.
+        located: Whether a register is expected, each value was reached, and no required register is missing.
+        json: What `ima-agent locate --json` prints, without the line feed.
+    """
 
     rows: Tuple[PlaceRow, ...]
     located: bool
@@ -189,35 +208,21 @@ class Places:
         return self.located
 
 
-class Refused(Exception):
-    """An input is refused.
-
-    `line` says why, as `refused: replay fault 1 at entry 5`; `kind` and `number` are those of the fault. `place` is the number of
-    the event, the entry or the line, or None if the fault names none. docs/formats.md says what each fault means."""
-
-    def __init__(self, line: str, kind: Kind, number: int, place: Optional[int]):
-        super().__init__(line, kind, number, place)
-        self.line = line
-        self.kind = kind
-        self.number = number
-        self.place = place
-
-    def __str__(self) -> str:
-        return self.line
-
-
-class LibraryError(RuntimeError):
-    """The library answered what its header does not describe, so nothing is known of the inputs."""
-
-
 @dataclass(frozen=True)
 class Entry:
-    """An entry of a measurement list; entries count from 0.
+    """An entry of a measurement list. What an entry does not have is None.
 
-    `template` is its name, as bytes only if it is not UTF-8. A payload that has the fields of its template has `algorithm`, `digest`
-    and `path`, those of the file, and of `ima-sig` also `signature`, which may be empty; any other is `payload`, whole. What an entry has
-    not is None. It is `genuine` if its template digest is that of what it covers, or if it is a `violation`, whose digest may be
-    anything."""
+    Attributes:
+        number: Its number; entries count from 0.
+        register: The number of the register that it extends.
+        template: The name of its template, as bytes only if it is not UTF-8.
+        template_digest: The SHA-1 that the entry states, all zero for a violation.
+        violation: Whether it says that a file was open for writing while it was measured. No register confirms what it says.
+        genuine: Whether the template digest is that of what it covers, or the entry is a violation.
+        algorithm, digest, path: Those of the file, if the payload has the fields of its template.
+        signature: The file's signature, which may be empty, of `ima-sig` with these fields.
+        payload: The whole payload, if it does not have these fields.
+    """
 
     number: int
     register: int
@@ -234,9 +239,16 @@ class Entry:
 
 @dataclass(frozen=True)
 class Event:
-    """An event of a firmware event log; events count from 1.
+    """An event of a firmware event log.
 
-    `type` is the name of the type, or None if it has none. `digests` has those of the log's banks."""
+    Attributes:
+        number: Its number; events count from 1.
+        register: The number of the register that it extends, which need not be one of a TPM.
+        type: The name of its type, or None if the type has none.
+        type_number: The number of its type.
+        digests: Its digest for each bank of the log.
+        data: Its data.
+    """
 
     number: int
     register: int
@@ -248,45 +260,14 @@ class Event:
 
 @dataclass(frozen=True)
 class LogAlgorithm:
-    """An algorithm of a log's header. `name` is None if it is unknown here; `size` is that of its digests, in bytes."""
+    """An algorithm that a log's header declares.
+
+    Attributes:
+        name: Its name, or None if the library does not know it.
+        id: Its number, as the TCG assigns it.
+        size: The size of its digests, in bytes.
+    """
 
     name: Optional[str]
     id: int
     size: int
-
-
-class Listing(Iterator[_Item]):
-    """What an input has, one item after another, and then, if the input is damaged, the `Refused` that says where; after it comes nothing.
-
-    `fault` is this refusal, or None, from the start: look at it if you stop before the end, which tells nothing of what comes later."""
-
-    def __init__(self, read: Callable[[bytes, int], _Item], lines: bytes, first: int, fault: Optional[Refused]):
-        self.fault = fault
-        self._read, self._lines, self._number, self._start = read, lines, first, 0
-        self._is_over = False
-
-    def __next__(self) -> _Item:
-        if self._start == len(self._lines):
-            is_over, self._is_over = self._is_over, True
-            if self.fault is None or is_over:
-                raise StopIteration
-            raise self.fault
-        end = self._lines.index(b"\n", self._start) + 1
-        item = self._read(self._lines[self._start:end], self._number)  # (if this fails, so it does the next time)
-        self._start, self._number = end, self._number + 1
-        return item
-
-
-class Entries(Listing[Entry]):
-    """The entries of a measurement list, or of one that is damaged those before the fault, which is raised then."""
-
-
-class Events(Listing[Event]):
-    """The events of a firmware event log, or of one that is damaged those before the fault, which is raised then.
-
-    `algorithms` are those that the header declares."""
-
-    def __init__(self, read: Callable[[bytes, int], Event], lines: bytes, first: int, fault: Optional[Refused],
-                 algorithms: Tuple[LogAlgorithm, ...]):
-        super().__init__(read, lines, first, fault)
-        self.algorithms = algorithms

@@ -2,7 +2,6 @@
 
 From bindings/python: IMA_VERIFY_LIBRARY=/path/to/libima_verify.so python3 -m unittest discover tests"""
 
-import ctypes
 import os
 import pickle
 import shutil
@@ -16,11 +15,12 @@ from pathlib import Path
 ROOT = Path(__file__).resolve().parents[3]
 sys.path.insert(0, str(ROOT / "bindings/python"))
 
+import fake
 import ima_verify
-from ima_verify import _answers, _library
+from ima_verify import NOTHING, Kind, _answers, _library
 
-LOG, LIST, EXPECTED, ASCII = (
-    (ROOT / "samples/real-boot" / name).read_bytes() for name in ("firmware.log", "ima.list", "expected.txt", "ima.ascii")
+LOG, LIST, EXPECTED, ASCII, REGISTER_LINES = (
+    (ROOT / "samples/real-boot" / name).read_bytes() for name in ("firmware.log", "ima.list", "expected.txt", "ima.ascii", "registers.txt")
 )
 REPORT = (b'{"events":1,"locality":0,"entries":3,"boot_aggregate":"good",'
           b'"registers":[{"bank":"sha256","register":10,"state":"match"}],"verdict":"match"}\n')
@@ -43,83 +43,92 @@ OTHER = (b'{"entry":1,"register":10,"template_hex":"ff0a","template_digest":"' +
 ALGORITHMS = b'{"algorithms":[{"id":18,"size":1},{"name":"sha1","id":4,"size":20}]}\n'
 EVENT = (b'{"event":1,"register":0,"type":"EV_SEPARATOR","type_number":4,"digests":{"sha1":"' + 40 * b"a" + b'"},"data":"00"}\n')
 FAULT = b'{"fault":{"kind":"list","number":1,"entry":2,"message":"refused: list fault 1 at entry 2"}}\n'
-LOG_FAULT = b'{"fault":{"kind":"log","number":1,"event":2,"message":"refused: log fault 1 at event 2"}}\n'
 MEMORY = b'{"fault":{"kind":"memory","message":"failed: memory"}}\n'
-REQUEST = b'{"fault":{"kind":"command_line","message":"refused: command line"}}\n'
-
-
-class Counted:
-    """A function of the library that counts its calls."""
-
-    def __init__(self, function):
-        self.function, self.calls = function, 0
-
-    def __call__(self, *words):
-        self.calls += 1
-        return self.function(*words)
-
-
-def answering(status, text, needed=None):
-    """A function that answers this, whatever it is asked."""
-    @ctypes.CFUNCTYPE(ctypes.c_int32, ctypes.c_void_p, ctypes.c_size_t, ctypes.c_void_p, ctypes.c_size_t,
-                      ctypes.POINTER(ctypes.c_size_t))
-    def function(data, size, out, room, size_of_text):
-        ctypes.memmove(out, text, min(len(text), room))
-        if needed != "unset":
-            size_of_text[0] = len(text) if needed is None else needed
-        return status
-
-    return function
+DONE, DIFFERS, REFUSED, OUT_OF_MEMORY, TOO_SHORT, MORE, MISUSED = range(7)
+NONE = _library.NO_PLACE
 
 
 class Buffers(unittest.TestCase):
     """Texts longer than the buffer."""
 
+    OPTIONS = False, _library.TEXT  # (the registers of a log, as lines)
+
     def test_text_longer_than_the_buffer_takes_a_second_call(self):
-        for room in (1, 2, len(ASCII) // 2, len(ASCII) - 1):
-            counted = Counted(_library.loaded().ima_verify_show)
-            self.assertEqual(_library.ask(counted, (LIST,), room), (0, ASCII))
-            self.assertEqual(counted.calls, 2)
+        size = len(REGISTER_LINES)
+        for room in (1, 2, size // 2, size - 1):
+            with fake.counted("registers") as rooms:
+                self.assertEqual(_library.call("registers", (LOG,), self.OPTIONS, room), (DONE, REGISTER_LINES))
+            self.assertEqual(rooms, [room, size])
+
+    def test_text_that_grows_between_calls_takes_more_of_them(self):
+        texts = iter((b"a\n", b"bb\n", b"cccc\n"))
+        wanted = []
+
+        def answer(call):
+            if not wanted or call.room < len(wanted[-1]):
+                wanted.append(next(texts))
+                return call.give(TOO_SHORT, b"", size=len(wanted[-1]))
+            return call.give(DONE, wanted[-1]) if len(wanted) == 3 else answer_again(call)
+
+        def answer_again(call):
+            wanted.append(next(texts))
+            return call.give(TOO_SHORT, b"", size=len(wanted[-1]))
+
+        with fake.library(registers=answer) as calls:
+            self.assertEqual(_library.call("registers", (b"",), self.OPTIONS, 1), (DONE, b"cccc\n"))
+        self.assertEqual([call.room for call in calls], [1, 2, 3, 5])
 
     def test_text_of_mebibytes_that_does_not_fit_takes_a_second_call(self):
+        text = 200 * ASCII
+
+        def answer(call):
+            return call.give(DONE, text) if call.room >= len(text) else call.give(TOO_SHORT, b"", size=len(text))
+
         for room in (1, len(ASCII), 1 << 20):
-            self.assertEqual(_library.ask(_library.loaded().ima_verify_show, (200 * LIST,), room), (0, 200 * ASCII))
+            with fake.library(registers=answer) as calls:
+                self.assertEqual(_library.call("registers", (b"",), self.OPTIONS, room), (DONE, text))
+            self.assertEqual([call.room for call in calls], [room, len(text)])
 
     def test_text_as_long_as_the_buffer_takes_one_call(self):
-        counted = Counted(_library.loaded().ima_verify_show)
-        self.assertEqual(_library.ask(counted, (LIST,), len(ASCII)), (0, ASCII))
-        self.assertEqual(counted.calls, 1)
+        with fake.counted("registers") as rooms:
+            self.assertEqual(_library.call("registers", (LOG,), self.OPTIONS, len(REGISTER_LINES)), (DONE, REGISTER_LINES))
+        self.assertEqual(len(rooms), 1)
 
     def test_report_longer_than_the_buffer(self):
-        status, text = _library.ask(_library.loaded().ima_verify_verdict_json, (LOG, LIST, EXPECTED), 100)
-        self.assertEqual(_answers.read_verdict(status, text), ima_verify.verify(LOG, LIST, EXPECTED))
+        result, text = _library.call("verdict", (LOG, LIST, EXPECTED, b"none"), (_library.JSON,), 100)
+        self.assertEqual(_answers.read_verdict(result, text), ima_verify.verify(LOG, LIST, EXPECTED, require=NOTHING))
 
     def test_entries_longer_than_the_buffer(self):
         # (a path of control bytes is six times as long as JSON)
-        payload = (26).to_bytes(4, "little") + b"sha1:\0" + bytes(20) + (4001).to_bytes(4, "little") + 4000 * b"\1" + b"\0"
-        entry = (10).to_bytes(4, "little") + bytes(20) + b"\6\0\0\0ima-ng" + len(payload).to_bytes(4, "little") + payload
-        self.assertEqual([found.path for found in ima_verify.entries(3 * entry)], 3 * [4000 * b"\1"])
+        for size in (4000, 40_000):
+            payload = (26).to_bytes(4, "little") + b"sha1:\0" + bytes(20) + (size + 1).to_bytes(4, "little") + size * b"\1" + b"\0"
+            entry = (10).to_bytes(4, "little") + bytes(20) + b"\6\0\0\0ima-ng" + len(payload).to_bytes(4, "little") + payload
+            self.assertEqual([found.path for found in ima_verify.entries(3 * entry)], 3 * [size * b"\1"])
 
     def test_line_of_a_fault_longer_than_the_buffer(self):
-        line = b'{"fault":{"kind":"log","number":1,"event":0,"message":"refused: log fault 1 at event 0"}}\n'
-        self.assertEqual(_library.ask(_library.loaded().ima_verify_registers_json, (b"",), 5), (2, line))
+        with fake.counted("registers") as rooms, self.assertRaisesRegex(ima_verify.Refused, "^refused: log fault 1 at event 0$"):
+            _library.call("registers", (b"",), self.OPTIONS, 5)
+        self.assertEqual(rooms, [5, len(b"refused: log fault 1 at event 0\n")])
 
     def test_first_buffer_is_large_enough(self):
-        # Each entry is the smallest of its template, so its text is the longest for its size; the last has a long payload.
-        smallest = bytes(4) + 20 * b"x" + bytes(8)
-        ima = bytes(4) + 20 * b"x" + b"\3\0\0\0ima" + bytes(20) + b"\0\0\0\0"
-        long = bytes(4) + 20 * b"x" + bytes(4) + (4000).to_bytes(4, "little") + bytes(4000)
-        for data in (b"", b"x", smallest, 900 * smallest, 900 * ima, 9 * long, LIST):
-            counted = Counted(_library.loaded().ima_verify_show)
-            _library.ask(counted, (data,), ima_verify._room_of_entries(len(data)))
-            self.assertEqual(counted.calls, 1)
         every_register = "".join(f"{name} {number} {digits * '1'}\n" for name, digits in
                                  (("sha1", 40), ("sha256", 64), ("sha384", 96), ("sha512", 128)) for number in range(24)).encode()
-        counted = Counted(_library.loaded().ima_verify_verdict_json)
-        status, text = _library.ask(counted, (LOG, LIST, every_register), ima_verify._ROOM)
-        self.assertEqual((status, counted.calls, len(_answers.read_verdict(status, text).rows)), (1, 1, 96))
+        with fake.counted("verdict") as rooms:
+            self.assertEqual(len(ima_verify.verify(LOG, LIST, every_register, require=NOTHING).rows), 96)
+        self.assertEqual(rooms, [_library.ROOM])
         row = '{"bank":"sha512","register":23,"state":"differ","value":"' + 128 * "0" + '"},'
-        self.assertLess(256 + 96 * len(row), ima_verify._ROOM)
+        self.assertLess(256 + 96 * len(row), _library.ROOM)
+
+    def test_entries_have_room_for_a_piece_and_more_only_for_a_long_line(self):
+        smallest = bytes(4) + 20 * b"x" + bytes(8)
+        long = bytes(4) + 20 * b"x" + bytes(4) + (40_000).to_bytes(4, "little") + bytes(40_000)
+        for data, count in ((b"", 1), (smallest, 1), (LIST, 1), (1100 * smallest, 3)):
+            with fake.counted("entries") as rooms:
+                list(ima_verify.entries(data))
+            self.assertEqual(rooms, count * [_library.PIECE])
+        with fake.counted("entries") as rooms:
+            list(ima_verify.entries(smallest + long + smallest + long + smallest))
+        self.assertEqual([room > _library.PIECE for room in rooms], [False, False, True, False, False, True, False])
 
 
 class Answers(unittest.TestCase):
@@ -140,7 +149,7 @@ class Answers(unittest.TestCase):
         self.assertTrue(_answers.read_places(0, PLACES).located)
         self.assertFalse(_answers.read_places(1, NOT_LOCATED).located)
         self.assertEqual(_answers.read_registers(0, REGISTERS)[0].value, 20 * b"\xaa")
-        self.assertEqual(_answers.read_lines(0, LINES + LINES, False), LINES + LINES)
+        self.assertEqual(_answers.read_lines(0, LINES + LINES), LINES + LINES)
 
     def test_reports_are_verdicts_without_rows(self):
         for status, text in (
@@ -265,10 +274,10 @@ class Answers(unittest.TestCase):
             (b'"registers"', b'"register"'), (REGISTERS, b""), (REGISTERS, LINES),
             (REGISTERS, b'{"registers":{}}\n'),
         ))
-        self.check_wrong(_answers.read_registers, 1, REGISTERS)
-        for words in ((0, b"", False), (0, LINES[:-1], False), (1, LINES, False), (0, LINES, True), (0, b"x", True), (1, b"", True)):
+        for result in (1, 5):
+            self.check_wrong(_answers.read_registers, result, REGISTERS)
+        for words in ((0, b""), (0, LINES[:-1]), (1, LINES), (5, LINES), (0, b"x")):
             self.check_wrong(_answers.read_lines, *words)
-        self.assertEqual(_answers.read_lines(0, b"", True), b"")
 
     def test_result_that_states_a_fault_is_none(self):
         for read, status, text in (
@@ -282,77 +291,193 @@ class Answers(unittest.TestCase):
             read(status, text.replace(b"{", b'{"faults":null,', 1))
 
 
+class Inputs(unittest.TestCase):
+    """What crosses to the library, and in which order."""
+
+    def test_inputs_and_what_is_required_cross_as_they_are(self):
+        for called, name, inputs, text in (
+            (ima_verify.verify, "verdict", (b"a", b"b"), REPORT), (ima_verify.report, "verdict", (b"a", b"b"), REPORT),
+            (ima_verify.locate, "locate", (b"a", b"b"), PLACES), (ima_verify.replay, "replay", (b"b",), LIST_REPORT),
+        ):
+            for require, crosses in ((NOTHING, b"none"), ("sha256:0-10", b"sha256:0-10"), ("x", b"x"), ("\u00e4", b"\xc3\xa4"), (" ", b" ")):
+                with fake.answering(name, DONE, text) as calls:
+                    self.assertTrue(called(*inputs, "\u00e9", require=require))
+                (call,) = calls
+                self.assertEqual((call.inputs, call.options, call.room), ([*inputs, b"\xc3\xa9", crosses], (True,), _library.ROOM))
+
+    def test_nothing_else_that_is_required_crosses(self):
+        with fake.library() as calls:
+            for called, inputs in ((ima_verify.verify, (b"a", b"b")), (ima_verify.report, (b"a", b"b")), (ima_verify.locate, (b"a", b"b")),
+                                   (ima_verify.replay, (b"b",))):
+                for wrong in ("", "none"):
+                    self.assertRaises(ima_verify.Misuse, called, *inputs, b"", require=wrong)
+                for wrong in (None, b"", b"none", b"sha256:0", 0, ()):
+                    self.assertRaises(TypeError, called, *inputs, b"", require=wrong)
+        self.assertEqual(calls, [])
+
+    def test_other_functions_are_asked_for_their_forms(self):
+        for called, name, inputs, options, text in (
+            (lambda: ima_verify.registers(b"a"), "registers", [b"a"], (False, True), REGISTERS),
+            (lambda: ima_verify.list_registers(b"a"), "registers", [b"a"], (True, True), REGISTERS),
+            (lambda: ima_verify.log_extends(b"a", 4), "registers", [b"a"], (False, True), REGISTERS),
+            (lambda: ima_verify.expected("a", "0-10"), "expected", [b"a", b"0-10"], (False,), LINES),
+            (lambda: ima_verify.expected(b"a"), "expected", [b"a", b""], (False,), LINES),
+        ):
+            with fake.answering(name, DONE, text) as calls:
+                self.assertTrue(called())
+            (call,) = calls
+            self.assertEqual((call.inputs, call.options), (inputs, options))
+        for called, name, form in ((ima_verify.show, "entries", (False,)), (ima_verify.entries, "entries", (True,)),
+                                   (ima_verify.events, "events", ())):
+            with fake.answering(name, REFUSED, b"", fake.fault_of(Kind.LIST, 1, 0)) as calls:
+                self.assertRaises(ima_verify.Refused, lambda: list(called(b"a")))
+            (call,) = calls
+            self.assertEqual((call.inputs, call.options[2:], call.position), ([b"a"], form, (0, 0)))
+
+
 class Listings(unittest.TestCase):
-    """What a library may answer of entries and events, and what not."""
+    """What a library may answer of entries and events, and what not. An input has a byte for each of its lines, and some pieces of these."""
+
+    def given(self, name, pieces, fault=None):
+        """A library that gives these pieces of lines, one at each call, and then the fault, or with the last piece the end."""
+        def answer(call):
+            (data,), (offset, number) = call.inputs, call.position
+            at = counts.index(offset)
+            if at == len(pieces):
+                return call.give(REFUSED if fault else DONE, b"fault\n" if fault else b"", fault or fake.NO_FAULT)
+            call.move_to(counts[at + 1], number + 1)
+            return call.give(DONE if not fault and counts[at + 1] == len(data) else MORE, pieces[at])
+
+        counts = [0]
+        for piece in pieces:
+            counts.append(counts[-1] + piece.count(b"\n"))
+        return fake.library(**{name: answer}), counts[-1] + bool(fault)
+
+    def read(self, name, pieces, fault=None):
+        """What comes of these pieces, and then of the fault."""
+        library, size = self.given(name, pieces, fault)
+        with library:
+            return list(getattr(ima_verify, name)(size * b"x"))
+
+    def entries(self, text, fault=None):
+        return self.read("entries", [text] if text else [], fault)
+
+    def events(self, text, fault=None):
+        return self.read("events", [text] if text else [], fault)
 
     def test_entries_are_read(self):
-        first, second = _answers.read_entries(0, ENTRY + OTHER, False)
         sha1 = ima_verify.Algorithm.SHA1
-        self.assertEqual(first, ima_verify.Entry(0, 10, "ima-sig", 20 * b"\x11", False, True, sha1, 20 * b"\xaa", b"/a", b""))
-        self.assertEqual(second, ima_verify.Entry(1, 10, b"\xff\n", bytes(20), True, True, payload=b"\0"))
-        self.assertEqual(list(_answers.read_entries(0, b"", True)), [])
+        first = ima_verify.Entry(0, 10, "ima-sig", 20 * b"\x11", False, True, sha1, 20 * b"\xaa", b"/a", b"")
+        second = ima_verify.Entry(1, 10, b"\xff\n", bytes(20), True, True, payload=b"\0")
+        self.assertEqual(self.read("entries", [ENTRY + OTHER]), [first, second])
+        self.assertEqual(self.read("entries", [ENTRY, OTHER]), [first, second])
+        self.assertEqual(self.read("entries", []), [])
 
     def test_events_are_read(self):
-        events = _answers.read_events(0, ALGORITHMS + EVENT)
         log_algorithm = ima_verify.LogAlgorithm
-        self.assertEqual(events.algorithms, (log_algorithm(None, 18, 1), log_algorithm("sha1", 4, 20)))
-        digests = {ima_verify.Algorithm.SHA1: 20 * b"\xaa"}
-        self.assertEqual(list(events), [ima_verify.Event(1, 0, "EV_SEPARATOR", 4, digests, b"\0")])
-        self.assertEqual(list(_answers.read_events(0, ALGORITHMS)), [])
-        (nameless,) = _answers.read_events(0, ALGORITHMS + EVENT.replace(b'"type":"EV_SEPARATOR",', b""))
+        event = ima_verify.Event(1, 0, "EV_SEPARATOR", 4, {ima_verify.Algorithm.SHA1: 20 * b"\xaa"}, b"\0")
+        for pieces in ([ALGORITHMS + EVENT], [ALGORITHMS, EVENT]):
+            library, size = self.given("events", pieces)
+            with library:
+                events = ima_verify.events(size * b"x")
+                self.assertEqual(events.algorithms, (log_algorithm(None, 18, 1), log_algorithm("sha1", 4, 20)))
+                self.assertEqual(list(events), [event])
+        self.assertEqual(self.events(ALGORITHMS), [])
+        (nameless,) = self.events(ALGORITHMS + EVENT.replace(b'"type":"EV_SEPARATOR",', b""))
         self.assertIsNone(nameless.type)
 
-    def check_faulty(self, listing, count):
-        self.assertEqual((listing.fault.number, listing.fault.place), (1, 2))
-        for _ in range(count):
-            next(listing)
-        with self.assertRaises(ima_verify.Refused) as caught:
-            next(listing)
-        self.assertIs(caught.exception, listing.fault)
-        for _ in range(2):
-            self.assertRaises(StopIteration, next, listing)
-        self.assertEqual((list(listing), listing.fault.number), ([], 1))
-
-    def test_what_stands_before_a_fault_comes_first(self):
-        self.check_faulty(_answers.read_entries(2, ENTRY + OTHER + FAULT, False), 2)
-        self.check_faulty(_answers.read_entries(2, FAULT, False), 0)
-        self.check_faulty(_answers.read_events(2, ALGORITHMS + EVENT + LOG_FAULT), 1)
-        self.check_faulty(_answers.read_events(2, ALGORITHMS + LOG_FAULT), 0)
-        with self.assertRaisesRegex(ima_verify.Refused, "^refused: log fault 1 at event 2$"):
-            _answers.read_events(2, LOG_FAULT)
-
-    def test_memory_that_ran_out_is_no_listing(self):
-        for text in (MEMORY, ENTRY + MEMORY, b"failed: memory\n"):
-            self.assertRaises(MemoryError, _answers.read_entries, 3, text, False)
-            self.assertRaises(MemoryError, _answers.read_events, 3, text)
-
-    def check_wrong(self, read, *words):
-        """Nothing is read, nor is it if one tries once more."""
-        def drained(listing):
-            with self.assertRaises(ima_verify.LibraryError):
+    def check_faulty(self, name, pieces, fault, count):
+        library, size = self.given(name, pieces, fault)
+        with library:
+            listing = getattr(ima_verify, name)(size * b"x")
+            for _ in range(count):
                 next(listing)
-            return list(listing)
+            with self.assertRaises(ima_verify.Refused) as caught:
+                next(listing)
+            found = caught.exception
+            self.assertEqual((fake.NUMBERS[found.kind], found.number, found.place), fault)
+            for _ in range(2):
+                self.assertRaises(StopIteration, next, listing)
+            self.assertEqual(list(listing), [])
 
-        with self.assertRaises(ima_verify.LibraryError, msg=repr(words)):
-            drained(read(*words))
+    def test_what_comes_before_a_fault_is_given_first(self):
+        in_list, in_log = fake.fault_of(Kind.LIST, 1, 2), fake.fault_of(Kind.LOG, 1, 2)
+        self.check_faulty("entries", [ENTRY + OTHER], in_list, 2)
+        self.check_faulty("entries", [ENTRY, OTHER], in_list, 2)
+        self.check_faulty("entries", [], in_list, 0)
+        self.check_faulty("events", [ALGORITHMS + EVENT], in_log, 1)
+        self.check_faulty("events", [ALGORITHMS], in_log, 0)
+        with self.assertRaisesRegex(ima_verify.Refused, "^refused: log fault 1 at event 2$"):
+            self.events(b"", in_log)
+
+    def test_piece_is_asked_for_when_it_is_needed(self):
+        library, size = self.given("entries", [ENTRY, OTHER])
+        with library as calls:
+            listing = ima_verify.entries(size * b"x")
+            for count in (0, 1, 2):
+                self.assertEqual([call.room for call in calls], count * [_library.PIECE])
+                next(listing, None)
+            self.assertEqual((len(calls), list(listing)), (2, []))
+
+    def test_memory_that_ran_out_may_be_there_the_next_time(self):
+        answers = [OUT_OF_MEMORY, DONE, OUT_OF_MEMORY, DONE]
+
+        def answer(call):
+            if answers.pop(0) == OUT_OF_MEMORY:
+                call.move_to(7, 7)
+                return call.give(OUT_OF_MEMORY, MEMORY, (_library.MEMORY, 0, NONE))
+            offset, number = call.position
+            call.move_to(offset + 1, number + 1)
+            return call.give(DONE if offset else MORE, OTHER if offset else ENTRY)
+
+        with fake.library(entries=answer):
+            listing = ima_verify.entries(b"xx")
+            for number in range(2):
+                self.assertRaises(ima_verify.OutOfMemory, next, listing)
+                self.assertEqual(next(listing).number, number)
+            self.assertEqual(list(listing), [])
+        with fake.answering("events", OUT_OF_MEMORY, MEMORY, (_library.MEMORY, 0, NONE)):
+            self.assertRaises(MemoryError, ima_verify.events, b"x")
+
+    def check_wrong(self, name, pieces, fault=None):
+        """After what is wrong nothing is read, nor is it if one tries once more."""
+        library, size = self.given(name, pieces, fault)
+        with library, self.assertRaises(ima_verify.LibraryError, msg=repr(pieces)):
+            listing = getattr(ima_verify, name)(size * b"x")
+            with self.assertRaises(ima_verify.LibraryError):
+                list(listing)
+            list(listing)
 
     def test_wrong_answers_are_no_entries(self):
-        for words in (
-            (0, b"", False), (0, ENTRY, True), (0, ENTRY[:-1], False), (0, b"\n", False), (0, FAULT, False), (0, b"{}\n", False),
-            (0, b"\n" + ENTRY, False), (1, ENTRY, False), (1, b"", True), (2, ENTRY, False), (2, b"", False), (2, FAULT[:-1], False),
-            (2, FAULT + b"\n", False), (2, MEMORY, False), (2, REQUEST, False), (2, ENTRY + b"{}\n", False),
-            (4, ENTRY, False), (-1, ENTRY, False),
-        ):
-            self.check_wrong(_answers.read_entries, *words)
-        for text in (ENTRY + ENTRY, OTHER, ENTRY + FAULT, ENTRY + OTHER[:-1], ENTRY + b"\n", ENTRY + b"null\n"):
-            with self.assertRaises(ima_verify.LibraryError):
-                list(_answers.read_entries(0, text, False))
+        for text in (ENTRY[:-1], b"\n", FAULT, b"{}\n", b"\n" + ENTRY, ENTRY + ENTRY, OTHER, ENTRY + FAULT, ENTRY + OTHER[:-1], ENTRY + b"\n",
+                     ENTRY + b"null\n"):
+            self.check_wrong("entries", [text])
+            self.check_wrong("entries", [text], fake.fault_of(Kind.LIST, 1, 2))
+        self.check_wrong("entries", [ENTRY, ENTRY])
+        self.check_wrong("entries", [ENTRY, b"{}\n"], fake.fault_of(Kind.LIST, 1, 2))
+
+    def test_pieces_that_cannot_be_are_errors(self):
+        for name, text in (("entries", ENTRY), ("events", ALGORITHMS)):
+            for data, result, given, offset in (
+                (b"xx", DONE, b"", 2), (b"xx", DONE, b"", 0), (b"xx", DONE, text, 1), (b"xx", DONE, text, 0), (b"xx", DONE, text, 3),
+                (b"xx", MORE, text, 2), (b"xx", MORE, text, 0), (b"xx", MORE, b"", 1), (b"xx", MORE, text[:-1], 1), (b"xx", DONE, text[:-1], 2),
+                (b"", DONE, text, 0), (b"", MORE, b"", 0), (b"", DONE, b"\n", 0), (b"", DONE, b"x", 0), (b"xx", DIFFERS, text, 2),
+                (b"", DIFFERS, b"", 0), (b"xx", MISUSED, text, 2), (b"xx", -1, text, 2), (b"xx", MORE, text, 1 << 40),
+            ):
+                def answer(call):
+                    call.move_to(offset, 1)
+                    return call.give(result, given)
+
+                with fake.library(**{name: answer}):
+                    for called in (getattr(ima_verify, name), ima_verify.show)[:1 + (name == "entries")]:
+                        with self.assertRaises(ima_verify.LibraryError, msg=f"{name} {data} {result} {given} {offset}"):
+                            list(called(data))
 
     def test_wrong_lines_are_no_entries(self):
         for member in (b'"entry":0,', b'"register":10,', b'"template":"ima-sig",', b'"violation":false,', b'"genuine":true,',
                        b'"algorithm":"sha1",', b'"path":"/a",', b',"signature":""'):
             self.assertIn(member, ENTRY)
-            self.check_wrong(_answers.read_entries, 0, ENTRY.replace(member, b""), False)
+            self.check_wrong("entries", [ENTRY.replace(member, b"")])
         for old, new in (
             (b'"entry":0', b'"entry":1'), (b":10,", b":24,"), (b"false", b"0"),
             (b"true", b"null"), (b"sha1", b"md5"), (b"aa", b"a"), (b"11", b"", ), (b'"/a"', b'"\\ud800"'), (b'"/a"', b'"/a\xff"'),
@@ -360,11 +485,11 @@ class Listings(unittest.TestCase):
             (b'"template":"ima-sig"', b'"template":null'),
         ):
             self.assertIn(old, ENTRY)
-            self.check_wrong(_answers.read_entries, 0, ENTRY.replace(old, new, 1), False)
+            self.check_wrong("entries", [ENTRY.replace(old, new, 1)])
         other = OTHER.replace(b'"entry":1', b'"entry":0')
-        self.assertEqual(len(list(_answers.read_entries(0, other, False))), 1)
+        self.assertEqual(len(self.entries(other)), 1)
         for old, new in ((b',"payload":"00"', b""), (b'"ff0a"', b'"ff0"'), (b'"template_hex"', b'"name"')):
-            self.check_wrong(_answers.read_entries, 0, other.replace(old, new, 1), False)
+            self.check_wrong("entries", [other.replace(old, new, 1)])
 
     def test_entry_that_contradicts_itself_is_none(self):
         violation = OTHER.replace(b'"entry":1', b'"entry":0')
@@ -374,138 +499,149 @@ class Listings(unittest.TestCase):
             (ENTRY, b'"violation":false', b'"violation":true'), (ENTRY, 40 * b"1", 40 * b"0"),
         ):
             self.assertIn(old, text)
-            self.check_wrong(_answers.read_entries, 0, text.replace(old, new, 1), False)
-        (not_genuine,) = _answers.read_entries(0, ENTRY.replace(b'"genuine":true', b'"genuine":false'), False)
+            self.check_wrong("entries", [text.replace(old, new, 1)])
+        (not_genuine,) = self.entries(ENTRY.replace(b'"genuine":true', b'"genuine":false'))
         self.assertEqual((not_genuine.genuine, not_genuine.violation), (False, False))
 
     def test_line_that_states_a_fault_is_no_item(self):
         for fault in (b'"fault":null', FAULT[1:-2]):
-            self.check_wrong(_answers.read_entries, 0, ENTRY.replace(b"{", b"{" + fault + b",", 1), False)
-            self.check_wrong(_answers.read_events, 0, ALGORITHMS.replace(b"{", b"{" + fault + b",", 1) + EVENT)
-            self.check_wrong(_answers.read_events, 0, ALGORITHMS + EVENT.replace(b"{", b"{" + fault + b",", 1))
+            self.check_wrong("entries", [ENTRY.replace(b"{", b"{" + fault + b",", 1)])
+            self.check_wrong("events", [ALGORITHMS.replace(b"{", b"{" + fault + b",", 1) + EVENT])
+            self.check_wrong("events", [ALGORITHMS + EVENT.replace(b"{", b"{" + fault + b",", 1)])
 
     def test_wrong_answers_are_no_events(self):
-        for words in ((0, b""), (0, EVENT), (0, ALGORITHMS[:-1]), (0, LOG_FAULT), (1, ALGORITHMS), (2, ALGORITHMS), (2, b""),
-                      (2, LOG_FAULT[:-1]), (2, EVENT + LOG_FAULT), (5, ALGORITHMS)):
-            self.check_wrong(_answers.read_events, *words)
+        for text in (EVENT, ALGORITHMS[:-1], FAULT, b"\n"):
+            self.check_wrong("events", [text])
+            self.check_wrong("events", [text], fake.fault_of(Kind.LOG, 1, 2))
         for old, new in ((b'"algorithms"', b'"banks"'), (b'"size":20', b'"size":"20"'), (b'"id":4', b'"id":65536'), (b'"id":18,', b""),
                          (b'"sha1"', b"1"), (b"[", b"[1,")):
-            self.check_wrong(_answers.read_events, 0, ALGORITHMS.replace(old, new, 1) + EVENT)
+            self.check_wrong("events", [ALGORITHMS.replace(old, new, 1) + EVENT])
         for old, new in (
             (b'"event":1', b'"event":0'), (b'"event":1', b'"event":2'), (b'"event":1,', b""), (b'"register":0', b'"register":4294967296'),
             (b'"EV_SEPARATOR"', b"4"), (b'"type_number":4,', b""), (b'"digests":', b'"digest":'), (b'"sha1"', b'"sm3"'), (b"aa", b"a"),
             (b'"aa', b'"'), (b',"data":"00"', b""), (b'"data":"00"', b'"data":"0"'), (b"}\n", b"\n"), (b"}\n", b"}"),
         ):
             self.assertIn(old, EVENT)
-            self.check_wrong(_answers.read_events, 0, ALGORITHMS + EVENT.replace(old, new, 1))
-        for text in (EVENT + EVENT, EVENT + LOG_FAULT, EVENT + ALGORITHMS):
-            with self.assertRaises(ima_verify.LibraryError):
-                list(_answers.read_events(0, ALGORITHMS + text))
+            self.check_wrong("events", [ALGORITHMS + EVENT.replace(old, new, 1)])
+        for text in (EVENT + EVENT, EVENT + FAULT, EVENT + ALGORITHMS):
+            self.check_wrong("events", [ALGORITHMS + text])
 
 
 class Failures(unittest.TestCase):
     """What a library may answer in place of a result, and what not."""
 
-    def check_wrong(self, *words):
-        with self.assertRaises(ima_verify.LibraryError, msg=repr(words)):
-            _answers.raise_failure(*words)
+    def ask(self, result, fault=fake.NO_FAULT, argument=None, text=REPORT, size=None):
+        with fake.answering("registers", result, text, fault, size):
+            return _library.call("registers", (b"",), (False, _library.JSON), argument=argument)
 
-    def test_refusals_are_read(self):
-        for text, kind, number, place in (
-            (b'{"fault":{"kind":"log","number":2,"message":"refused: log fault 2"}}\n', "log", 2, None), (LOG_FAULT, "log", 1, 2),
-            (FAULT, "list", 1, 2), (FAULT.replace(b"list", b"replay"), "replay", 1, 2), (FAULT.replace(b'{"kind"', b'{"x":0,"kind"'), "list", 1, 2),
-            (b'{"fault":{"kind":"expected","number":1,"message":"refused: expected fault 1 at line 2"}}\n', "expected", 1, 2),
-            (b'{"fault":{"kind":"expected","number":6,"message":"refused: expected fault 6"}}\n', "expected", 6, None),
+    def check_wrong(self, *words, **given):
+        with self.assertRaises(ima_verify.LibraryError, msg=f"{words} {given}"):
+            self.ask(*words, **given)
+
+    def test_refusals_are_told(self):
+        for kind, number, place, message in (
+            (Kind.LOG, 2, NONE, "refused: log fault 2"), (Kind.LOG, 1, 2, "refused: log fault 1 at event 2"),
+            (Kind.LIST, 1, 2, "refused: list fault 1 at entry 2"), (Kind.REPLAY, 1, 2, "refused: replay fault 1 at entry 2"),
+            (Kind.EXPECTED, 1, 2, "refused: expected fault 1 at line 2"), (Kind.EXPECTED, 6, NONE, "refused: expected fault 6"),
+            (Kind.CHECKPOINT, 3, NONE, "refused: checkpoint fault 3"), (Kind.LIST, 1, 0, "refused: list fault 1 at entry 0"),
+            (Kind.LIST, 2**32 - 1, 2**64 - 2, "refused: list fault 4294967295 at entry 18446744073709551614"),
         ):
-            with self.assertRaises(ima_verify.Refused) as caught:
-                _answers.raise_failure(2, text)
-            refused = caught.exception
-            self.assertEqual((refused.kind, refused.number, refused.place), (kind, number, place))
-            self.assertIn(f'"{refused.line}"', text.decode())
+            for text in (FAULT, b"", b"anything"):  # (what the line says is not looked at)
+                with self.assertRaises(ima_verify.Refused) as caught:
+                    self.ask(REFUSED, fake.fault_of(kind, number, place), text=text)
+                found = caught.exception
+                self.assertEqual((found.kind, found.number, found.place), (kind, number, None if place == NONE else place))
+                self.assertEqual((found.message, str(found), found.kind), (message, message, kind.value))
+
+    def test_message_is_the_line_of_the_library(self):
+        """Of each kind of input, by the real library."""
+        for name, inputs in (
+            ("registers", (b"",)), ("registers", (bytes(32),)), ("registers", (LOG[:-1],)), ("verdict", (LOG, LIST[:-1], EXPECTED, b"none")),
+            ("verdict", (LOG, LIST.replace(b"/bin/helper", b"/bin/helpex"), EXPECTED, b"none")), ("verdict", (LOG, LIST, b"x", b"none")),
+            ("expected", (b"", b"")), ("expected", (b"sha256:\n  0 : x\n", b"")),
+        ):
+            options, line = (False, False) if name == "registers" else (False,), []
+            answered = _library.answered
+
+            def noted(*words):
+                result, told, out = answered(*words)
+                line.append(bytes(out[:told.size]).decode())
+                return result, told, out
+
+            with unittest.mock.patch.object(_library, "answered", noted), self.assertRaises(ima_verify.Refused) as caught:
+                _library.call(name, inputs, options)
+            self.assertEqual([f"{caught.exception}\n"], line)
 
     def test_wrong_refusals_are_no_refusals(self):
-        for text in (
-            b"", FAULT[:-1], FAULT + b"\n", FAULT + FAULT, ENTRY + FAULT, REPORT, MEMORY, REQUEST, b"{}\n",
-            b'{"fault":{}}\n', b'{"fault":1}\n',
-            b'{"fault":{"message":1}}\n', FAULT.replace(b"fault 1", b"fault 01"), FAULT.replace(b'"message"', b'"line"'),
-            b'{"fault":{"kind":"job","number":7,"message":"refused: job 0 book fault 7"}}\n',
-        ):
-            self.check_wrong(2, text)
-        for status in (-1, 4, 5, 1 << 30):
-            self.check_wrong(status, REPORT)
-            self.check_wrong(status, FAULT)
+        for fault in (fake.NO_FAULT, (8, 1, 2), (99, 1, NONE), (_library.MEMORY, 0, NONE), (_library.ARGUMENT, 0, NONE),
+                      fake.fault_of(Kind.LIST, 0, 2), fake.fault_of(Kind.LOG, 0), fake.fault_of(Kind.CHECKPOINT, 3, 3),
+                      fake.fault_of(Kind.CHECKPOINT, 0)):
+            self.check_wrong(REFUSED, fault)
+        for result in (-1, TOO_SHORT, MISUSED, 7, 1 << 30):
+            self.check_wrong(result)
+            self.check_wrong(result, fake.fault_of(Kind.LIST, 1, 2))
 
-    def test_fault_whose_members_contradict_is_none(self):
-        for fault in (FAULT, LOG_FAULT):
-            place = b"entry" if fault is FAULT else b"event"
-            for old, new in (
-                (b'"kind":"l', b'"kind":"x'), (b'"kind":"l', b'"kind":"replay","x":"'), (b'"kind":"', b'"kinds":"'),
-                (b'"number":1', b'"number":2'), (b'"number":1', b'"number":"1"'), (b'"number":1', b'"number":true'),
-                (b'"number":1', b'"number":null'), (b'"number":1', b'"number":1.0'), (b'"number":1,', b""),
-                (b'"%b":2' % place, b'"%b":3' % place), (b'"%b":2,' % place, b""), (b'"%b":2' % place, b'"event":2,"entry":2'),
-                (b'"message":"refused: l', b'"message":"refused: replay fault 1 at entry 2","x":"'),
-                (b" fault 1 at", b" fault 2 at"), (b' 2"}', b' 3"}'),
-            ):
-                self.assertIn(old, fault)
-                text = fault.replace(old, new, 1)
-                self.check_wrong(2, text)
-                for read, before in ((_answers.read_entries, ENTRY), (_answers.read_events, ALGORITHMS)):
-                    more = (False,) if before is ENTRY else ()
-                    self.assertRaises(ima_verify.LibraryError, read, 2, before + text, *more)
-        nameless = b'{"fault":{"kind":"log","number":2,"message":"refused: log fault 2"}}\n'
-        at_a_line = b'{"fault":{"kind":"expected","number":1,"message":"refused: expected fault 1 at line 2"}}\n'
-        for text in (nameless, at_a_line):
-            self.check_wrong(2, text.replace(b'"message"', b'"event":0,"message"'))
-            self.check_wrong(2, text.replace(b'"message"', b'"entry":2,"message"'))
-        for old, new in ((b"command_line", b"list"), (b'"message"', b'"number":1,"message"'), (b"command_line", b"memory")):
-            self.check_wrong(2, REQUEST.replace(old, new, 1), "x")
-
-    def test_fault_is_of_the_status(self):
-        for text in (MEMORY, MEMORY.replace(b"failed: memory", b"refused: command line"), b"failed: memory\n"):
-            self.check_wrong(2, text)
-            self.check_wrong(2, text, "x")
-        for text in (FAULT, LOG_FAULT, REQUEST, REPORT, ENTRY, MEMORY[:-1], MEMORY.replace(b'"memory"', b'"list"'),
-                     MEMORY.replace(b'"message"', b'"number":1,"message"'), b"refused: log fault 2\n"):
-            self.check_wrong(3, text)
-            self.assertRaises(ima_verify.LibraryError, _answers.read_entries, 3, text, False)
-            self.assertRaises(ima_verify.LibraryError, _answers.read_events, 3, text)
-        for status in (0, 1):
+    def test_fault_is_of_the_result(self):
+        memory, in_list, argument = (_library.MEMORY, 0, NONE), fake.fault_of(Kind.LIST, 1, 2), (_library.ARGUMENT, 0, NONE)
+        for fault in (memory, in_list, argument, (99, 0, NONE)):
+            for result in (DONE, DIFFERS, MORE):
+                self.check_wrong(result, fault)
+                self.check_wrong(result, fault, "x")
+        for fault in (in_list, argument, fake.NO_FAULT):
+            self.check_wrong(OUT_OF_MEMORY, fault)
+            self.check_wrong(OUT_OF_MEMORY, fault, "x")
+        self.check_wrong(REFUSED, memory, "x")
+        for result in (0, 1):
             for text in (FAULT, MEMORY):
-                self.assertRaises(ima_verify.LibraryError, _answers.read_verdict, status, text)
+                self.assertRaises(ima_verify.LibraryError, _answers.read_verdict, result, text)
 
-    def test_wrong_refusals_of_texts_are_no_refusals(self):
-        for text in (b"", b"refused: log fault 1 at event 0", b"refused: log fault 1 at entry 0\n", b"refused: list fault 1\n",
-                     b"refused: replay fault 1 at entry 5\n\n", b"refused: expected fault 1 at entry 5\n", b"refused: job 1\n",
-                     b"refused: command line\n", b"refused: log fault  1\n", b"failed: memory\n", b"refused: log fault \xb2\n"):
-            with self.assertRaises(ima_verify.LibraryError, msg=repr(text)):
-                _answers.raise_failure(2, text)
-        self.assertRaises(ima_verify.Refused, _answers.raise_failure, 2, b"refused: expected fault 1 at line 5\n")
-
-    def test_wrong_request_is_a_value_error_only_where_there_is_one(self):
-        self.assertRaisesRegex(ValueError, "^not of its form: 'x'$", _answers.raise_failure, 2, REQUEST, "x")
-        self.assertRaisesRegex(ValueError, "^not of its form: 'x'$", _answers.raise_failure, 2, b"refused: command line\n", "x")
-        self.check_wrong(2, REQUEST[:-1], "x")
-        self.check_wrong(5, REQUEST, "x")
+    def test_wrong_argument_is_a_misuse_only_where_there_is_one(self):
+        fault = _library.ARGUMENT, 0, NONE
+        with self.assertRaisesRegex(ima_verify.Misuse, "^not of its form: 'x'$") as caught:
+            self.ask(REFUSED, fault, "x")
+        self.assertIsInstance(caught.exception, ValueError)
+        for argument in (None, NOTHING):
+            self.check_wrong(REFUSED, fault, argument)
+        self.check_wrong(MISUSED, fault, "x")
 
     def test_no_memory_is_a_memory_error(self):
         for text in (MEMORY, b"failed: memory\n", b""):
-            self.assertRaises(MemoryError, _answers.raise_failure, 3, text)
-            self.assertRaises(MemoryError, _answers.raise_failure, 3, text)
+            with self.assertRaises(ima_verify.OutOfMemory) as caught:
+                self.ask(OUT_OF_MEMORY, (_library.MEMORY, 0, NONE), text=text)
+            self.assertIsInstance(caught.exception, MemoryError)
 
     def test_sizes_that_cannot_be_are_errors(self):
-        for status, text, needed in (
-            (0, ASCII, len(ASCII)), (4, b"", 50), (4, b"", 100), (4, b"", 101), (4, b"", "unset"), (0, b"", "unset"),
-            (2, b"", "unset"), (4, b"", 1 << 63), (4, b"", (1 << 64) - 2),
+        for result, text, size in (
+            (0, b"", _library.ROOM + 1), (4, b"", 50), (4, b"", _library.ROOM), (4, b"", _library.ROOM + 1), (4, b"", fake.UNSET),
+            (0, b"", fake.UNSET), (2, b"", fake.UNSET), (4, b"", 1 << 63), (4, b"", (1 << 64) - 2),
         ):
-            with self.assertRaises(ima_verify.LibraryError, msg=f"{status} {needed}"):
-                _library.ask(answering(status, text, needed), (LOG,), 100)
+            self.check_wrong(result, text=text, size=size)
 
     def test_size_beyond_all_memory_is_a_memory_error(self):
-        self.assertRaises(MemoryError, _library.ask, answering(4, b"", 1 << 62), (LOG,), 100)
+        self.assertRaises(MemoryError, self.ask, TOO_SHORT, size=1 << 62)
+
+
+class Errors(unittest.TestCase):
+    """What the package raises."""
+
+    def test_all_errors_have_one_base(self):
+        for error, other in ((ima_verify.Refused, Exception), (ima_verify.OutOfMemory, MemoryError), (ima_verify.Misuse, ValueError),
+                             (ima_verify.LoadError, ImportError), (ima_verify.VersionError, ima_verify.LoadError),
+                             (ima_verify.LibraryError, RuntimeError)):
+            self.assertTrue(issubclass(error, ima_verify.Error) and issubclass(error, other))
+        self.assertFalse(issubclass(ima_verify.Refused, ValueError))
+        exported = {name for name in ima_verify.__all__ if isinstance(getattr(ima_verify, name), type)}
+        errors = {name for name in exported if issubclass(getattr(ima_verify, name), BaseException)}
+        self.assertEqual(errors, {"Error", "Refused", "OutOfMemory", "Misuse", "LoadError", "VersionError", "LibraryError"})
 
     def test_refusal_can_be_pickled(self):
-        refused = pickle.loads(pickle.dumps(ima_verify.Refused("refused: log fault 2", ima_verify.Kind.LOG, 2, None)))
-        self.assertEqual((refused.line, refused.kind, refused.number, refused.place), ("refused: log fault 2", "log", 2, None))
+        for place in (None, 0, 5):
+            refused = pickle.loads(pickle.dumps(ima_verify.Refused(Kind.LOG, 2, place)))
+            self.assertEqual((refused.kind, refused.number, refused.place), (Kind.LOG, 2, place))
+        self.assertEqual(pickle.loads(pickle.dumps(ima_verify.Refused(Kind.LOG, 2))).message, "refused: log fault 2")
+
+    def test_package_has_the_version_of_the_tree(self):
+        self.assertEqual(ima_verify.__version__, (ROOT / "VERSION").read_text().strip())
 
 
 class Loading(unittest.TestCase):
@@ -538,10 +674,11 @@ class Loading(unittest.TestCase):
     def test_library_of_an_earlier_version(self):
         later = ima_verify.version() + 1
         with unittest.mock.patch.object(_library, "VERSION", later):
-            self.assertRaisesRegex(ImportError, f"has version {later - 1} of the interface, and {later} or later", _library.load)
+            message = f"has version {later - 1} of the interface, and {later} or later"
+            self.assertRaisesRegex(ima_verify.VersionError, message, _library.load)
 
     def test_library_is_loaded_at_the_first_call(self):
-        program = ("import ima_verify; session = ima_verify.Session(b'', b''); print('imported')\n"
+        program = ("import ima_verify; session = ima_verify.Session(b'', b'', require='sha256:0-10'); print('imported')\n"
                    "try: session.more(b'')\n"
                    "except ImportError: print('not loaded')")
         environment = {**os.environ, "PYTHONPATH": str(ROOT / "bindings/python"), "IMA_VERIFY_LIBRARY": "/nowhere/libima_verify.so"}
@@ -551,13 +688,19 @@ class Loading(unittest.TestCase):
     def test_library_that_is_not_there(self):
         ended = self.calling("/nowhere/libima_verify.so")
         self.assertNotEqual(ended.returncode, 0)
-        self.assertIn(b"ImportError: /nowhere/libima_verify.so is not there, or not the library", ended.stderr)
+        self.assertIn(b"LoadError: /nowhere/libima_verify.so is not there, or not the library", ended.stderr)
 
     def test_library_without_the_functions(self):
         maps = Path("/proc/self/maps").read_text().splitlines()
         ended = self.calling(next(line.split()[-1] for line in maps if ".so" in line and "libima_verify" not in line))
         self.assertNotEqual(ended.returncode, 0)
         self.assertIn(b"is not there, or not the library", ended.stderr)
+
+    def test_library_of_another_version_lacks_functions(self):
+        """Earlier interfaces had no raw functions."""
+        with unittest.mock.patch.dict(_library.FUNCTIONS, {"of_another_version": (1, ())}):
+            with self.assertRaisesRegex(ima_verify.LoadError, "ima_verify_raw_of_another_version"):
+                _library.load()
 
 
 if __name__ == "__main__":

@@ -3,10 +3,13 @@
 From bindings/python: IMA_VERIFY_LIBRARY=/path/to/libima_verify.so python3 -m unittest discover tests"""
 
 import array
+import ctypes
+import dataclasses
 import hashlib
 import re
 import sys
 import threading
+import tracemalloc
 import unittest
 from itertools import zip_longest
 from pathlib import Path
@@ -16,7 +19,8 @@ sys.path[:0] = [str(ROOT / "bindings/python"), str(ROOT / "tools/bench")]
 
 import ima_verify
 import inputs
-from ima_verify import Algorithm, BootAggregate, Entry, Event, Kind, Place, PlaceRow, Register, Row, State
+from ima_verify import NOTHING, Algorithm, BootAggregate, Entry, Event, Kind, Place, PlaceRow, Register, Row, State
+from ima_verify import _library
 from reference.log import EV_NO_ACTION, read_log
 from reference.log import Event as LogEvent
 from reference.measurement_list import Entry as ListEntry
@@ -52,7 +56,7 @@ class Sample(unittest.TestCase):
     """One boot, whose registers were read from the TPM after the list."""
 
     def test_verdict_on_the_sample_is_a_match(self):
-        verdict = ima_verify.verify(LOG, LIST, EXPECTED)
+        verdict = ima_verify.verify(LOG, LIST, EXPECTED, require=NOTHING)
         rows = tuple(Row(row.algorithm, row.register, State.MATCH) for row in registers_in(EXPECTED))
         lines = ",".join(f'{{"bank":"sha256","register":{number},"state":"match"}}' for number in range(24))
         line = f'{{"events":24,"locality":0,"entries":99,"boot_aggregate":"good","registers":[{lines}],"verdict":"match"}}'
@@ -63,16 +67,16 @@ class Sample(unittest.TestCase):
     def test_report_is_the_verdict_without_its_rows(self):
         ten = b"".join(EXPECTED.splitlines(True)[:10])
         for inputs, given, compared in (
-            ((LOG, LIST, EXPECTED), {}, 24), ((LOG, LONGER, EXPECTED), {}, 24), ((LOG, LIST, ten), {"require": "sha256:0-10"}, 10),
-            ((LOG, LIST, b""), {}, 0),
+            ((LOG, LIST, EXPECTED), NOTHING, 24), ((LOG, LONGER, EXPECTED), NOTHING, 24), ((LOG, LIST, ten), "sha256:0-10", 10),
+            ((LOG, LIST, b""), NOTHING, 0),
         ):
-            report, verdict = ima_verify.report(*inputs, **given), ima_verify.verify(*inputs, **given)
+            report, verdict = ima_verify.report(*inputs, require=given), ima_verify.verify(*inputs, require=given)
             for name in ("events", "locality", "entries", "boot_aggregate", "compared", "matches", "json"):
                 self.assertEqual(getattr(report, name), getattr(verdict, name))
             self.assertEqual((report.compared, bool(report)), (compared, bool(verdict)))
         with self.assertRaisesRegex(ima_verify.Refused, "^refused: replay fault 1 at entry 5$"):
-            ima_verify.report(LOG, CHANGED, EXPECTED)
-        self.assertRaises(ValueError, ima_verify.report, LOG, LIST, EXPECTED, require="")
+            ima_verify.report(LOG, CHANGED, EXPECTED, require=NOTHING)
+        self.assertRaises(ima_verify.Misuse, ima_verify.report, LOG, LIST, EXPECTED, require="")
 
     def test_log_extends_what_its_events_extend(self):
         extended = {register.register for register in registers_in(REGISTERS)}
@@ -87,7 +91,7 @@ class Sample(unittest.TestCase):
         for wrong in (10.0, "10", b"10", None):
             self.assertRaises(TypeError, ima_verify.log_extends, LOG, wrong)
         for wrong in (-1, 24):
-            self.assertRaises(ValueError, ima_verify.log_extends, LOG, wrong)
+            self.assertRaises(ima_verify.Misuse, ima_verify.log_extends, LOG, wrong)
 
     def test_log_of_any_one_bank_may_extend_register_10(self):
         for bank in ALGORITHMS:
@@ -104,21 +108,21 @@ class Sample(unittest.TestCase):
         self.assertEqual(ima_verify.show(LIST), ASCII)
 
     def test_list_that_went_on_differs_in_register_10(self):
-        verdict = ima_verify.verify(LOG, LONGER, EXPECTED)
+        verdict = ima_verify.verify(LOG, LONGER, EXPECTED, require=NOTHING)
         differing = [row for row in verdict.rows if row.state is not State.MATCH]
         self.assertEqual(differing, [Row(Algorithm.SHA256, 10, State.DIFFER, AFTER_LONGER)])
         self.assertEqual((verdict.entries, verdict.boot_aggregate, verdict.matches), (100, BootAggregate.GOOD, False))
         self.assertFalse(verdict)
 
     def test_list_that_went_on_is_located_before_its_end(self):
-        places = ima_verify.locate(LOG, LONGER, EXPECTED)
+        places = ima_verify.locate(LOG, LONGER, EXPECTED, require=NOTHING)
         self.assertEqual([row for row in places.rows if row.register == 10], [PlaceRow(Algorithm.SHA256, 10, Place.ENTRY, 98)])
         self.assertTrue(places.located and places)
         self.assertEqual(len(places.rows), 24)
 
     def test_expected_registers_may_be_absent_or_reached_nowhere(self):
         text = f"sha1 10 {ZERO[Algorithm.SHA1]}\nsha256 10 {64 * '1'}\nsha256 8 {ZERO[Algorithm.SHA256]}"
-        verdict, places = ima_verify.verify(LOG, LONGER, text), ima_verify.locate(LOG, LONGER, text)
+        verdict, places = ima_verify.verify(LOG, LONGER, text, require=NOTHING), ima_verify.locate(LOG, LONGER, text, require=NOTHING)
         absent, differing, matching = verdict.rows
         self.assertEqual(absent, Row(Algorithm.SHA1, 10, State.ABSENT))
         self.assertEqual(differing, Row(Algorithm.SHA256, 10, State.DIFFER, AFTER_LONGER))
@@ -129,7 +133,30 @@ class Sample(unittest.TestCase):
 
     def test_version_is_that_of_the_header(self):
         header = (ROOT / "bindings/c/ima_verify.h").read_text()
-        self.assertGreaterEqual(ima_verify.version(), int(header.split("#define IMA_VERIFY_VERSION ")[1].split()[0]))
+        version, package_version = (re.search(rf"^#define IMA_VERIFY_{name} (.*)$", header, re.MULTILINE)[1]
+                                    for name in ("VERSION", "PACKAGE_VERSION"))
+        self.assertEqual(_library.VERSION, int(version))
+        self.assertGreaterEqual(ima_verify.version(), int(version))
+        self.assertEqual(f'"{ima_verify.__version__}"', package_version)
+
+    def test_functions_are_those_of_the_header(self):
+        kinds = {"const uint8_t*": ctypes.c_void_p, "uint8_t*": ctypes.c_void_p, "size_t": ctypes.c_size_t, "bool": ctypes.c_bool,
+                 "size_t*": ctypes.POINTER(ctypes.c_size_t), "struct ima_verify_told*": ctypes.POINTER(_library.Told)}
+        header = (ROOT / "bindings/c/ima_verify.h").read_text()
+        declared = re.findall(r"^int32_t ima_verify_raw_(\w+)\(([^)]*)\);", header, re.MULTILINE)
+        self.assertEqual([name for name, _ in declared], list(_library.FUNCTIONS))
+        for name, arguments in declared:
+            types = [re.sub(r" ?(\*?)\w+$", r"\1", " ".join(argument.split())) for argument in arguments.split(",")]
+            self.assertEqual([kinds[kind] for kind in types], list(_library.types_of(name)))
+        members = re.search(r"struct ima_verify_told \{(.*?)\}", header, re.DOTALL)[1]
+        self.assertEqual(re.findall(r"(\w+);", members), [name for name, _ in _library.Told._fields_])
+
+    def test_numbers_are_those_of_the_header(self):
+        numbers = {name: int(number) for name, number in re.findall(r"^    IMA_VERIFY_(\w+) = (\d+),?$",
+                                                                    (ROOT / "bindings/c/ima_verify.h").read_text(), re.MULTILINE)}
+        for name in ("DONE", "DIFFERS", "REFUSED", "OUT_OF_MEMORY", "TOO_SHORT", "MORE", "NO_FAULT", "ARGUMENT", "MEMORY"):
+            self.assertEqual(getattr(_library, name), numbers[name])
+        self.assertEqual({number: kind.name for number, kind in _library.KINDS.items()}, {numbers[kind.name]: kind.name for kind in Kind})
 
 
 class Apart(unittest.TestCase):
@@ -168,17 +195,20 @@ class Apart(unittest.TestCase):
                 ima_verify.are_apart(log, listed)
 
 
+FUNCTIONS = ima_verify.verify, ima_verify.report, ima_verify.locate
+
+
 class Required(unittest.TestCase):
     """Registers that a verdict must cover."""
 
-    WRONG = ("", "sha256", "sha256:24", "sha256:10-0", "sha256:0-10,", "sha256: 0", "none", "0-10", "sha3:0", "\u00e4", "\ud800", b"\xff")
+    WRONG = ("", "sha256", "sha256:24", "sha256:10-0", "sha256:0-10,", "sha256: 0", "none", "None", "none ", "0-10", "sha3:0", "\u00e4", "\ud800")
 
     def test_all_registers_are_expected(self):
-        for require in ("sha256:0-10", "sha256:0-23", "sha256:10,sha256:0-7", b"sha256:4", bytearray(b"sha256:0-23")):
+        for require in ("sha256:0-10", "sha256:0-23", "sha256:10,sha256:0-7", "sha256:4"):
             verdict, places = (function(LOG, LIST, EXPECTED, require=require) for function in (ima_verify.verify, ima_verify.locate))
             self.assertEqual((verdict.matches, verdict.compared, verdict.entries), (True, 24, 99))
-            self.assertEqual(verdict.rows, ima_verify.verify(LOG, LIST, EXPECTED).rows)
-            self.assertEqual(places, ima_verify.locate(LOG, LIST, EXPECTED))
+            self.assertEqual(verdict.rows, ima_verify.verify(LOG, LIST, EXPECTED, require=NOTHING).rows)
+            self.assertEqual(places, ima_verify.locate(LOG, LIST, EXPECTED, require=NOTHING))
 
     def test_required_register_that_is_not_expected_is_missing(self):
         *lines, last = EXPECTED.splitlines(True)
@@ -191,7 +221,7 @@ class Required(unittest.TestCase):
             missing = [(row.algorithm, row.register) for row in result.rows
                        if kinds.MISSING in (getattr(row, "state", None), getattr(row, "place", None))]
             self.assertEqual(missing, [(Algorithm.SHA1, 10), (Algorithm.SHA256, 23)])
-            self.assertEqual(result.rows[:23], function(LOG, LIST, text).rows)
+            self.assertEqual(result.rows[:23], function(LOG, LIST, text, require=NOTHING).rows)
         self.assertEqual(ima_verify.verify(LOG, LIST, text, require="sha256:0-23").compared, 23)
 
     def test_nothing_expected_never_matches(self):
@@ -206,37 +236,45 @@ class Required(unittest.TestCase):
         verdict = ima_verify.verify(LOG, LONGER, EXPECTED, require="sha256:10")
         self.assertEqual((verdict.matches, verdict.rows[10].state, verdict.compared), (False, State.DIFFER, 24))
 
-    def test_wrong_requirement_is_a_value_error(self):
+    def test_wrong_requirement_is_a_misuse(self):
         for require in self.WRONG:
-            for function in (ima_verify.verify, ima_verify.locate):
-                with self.assertRaisesRegex(ValueError, f"^not of its form: {re.escape(repr(require))}$"):
+            for function in FUNCTIONS:
+                with self.assertRaisesRegex(ima_verify.Misuse, f"^not of its form: {re.escape(repr(require))}$") as caught:
                     function(b"", b"", b"", require=require)
+                self.assertIsInstance(caught.exception, ValueError)
 
     def test_inputs_are_refused_as_without_a_requirement(self):
         for given in ((LOG, CHANGED, EXPECTED), (LOG[:-1], LIST, EXPECTED), (LOG, LIST[:-1], EXPECTED), (LOG, LIST, b"x")):
-            for function in (ima_verify.verify, ima_verify.locate):
+            for function in FUNCTIONS:
                 with self.assertRaises(ima_verify.Refused) as wanted:
-                    function(*given)
+                    function(*given, require=NOTHING)
                 with self.assertRaises(ima_verify.Refused) as found:
                     function(*given, require="sha256:0-10")
                 self.assertEqual(found.exception.args, wanted.exception.args)
 
-    def test_requirement_is_text(self):
-        for wrong in (None, 5, 0, False, ["sha256:10"]):
-            for function in (ima_verify.verify, ima_verify.locate):
-                self.assertRaises(TypeError, function, LOG, LIST, EXPECTED, require=wrong)
-        self.assertRaises(TypeError, ima_verify.verify, LOG, LIST, EXPECTED, "sha256:10")
+    def test_requirement_is_given_and_a_text(self):
+        for wrong in (None, 5, 0, False, ["sha256:10"], b"", b"sha256:10", b"none", bytearray(b"sha256:0-23"), ima_verify.Nothing, Ellipsis):
+            for function in FUNCTIONS:
+                self.assertRaisesRegex(TypeError, "^require is a text or ima_verify.NOTHING", function, LOG, LIST, EXPECTED, require=wrong)
+        for function in FUNCTIONS:
+            self.assertRaises(TypeError, function, LOG, LIST, EXPECTED)
+            self.assertRaises(TypeError, function, LOG, LIST, EXPECTED, "sha256:10")
+            self.assertRaises(TypeError, function, LOG, LIST, EXPECTED, NOTHING)
+
+    def test_nothing_has_a_name(self):
+        self.assertEqual(repr(NOTHING), "ima_verify.NOTHING")
+        self.assertIs(ima_verify.Nothing.NOTHING, NOTHING)
 
 
 class NothingRequired(unittest.TestCase):
-    """Without `require` all expected registers count, and no others."""
+    """If nothing is required, all expected registers count, and no others."""
 
     BANKS = "".join(f"{bank.value} {number} {ZERO[bank]}\r\n" for bank in Algorithm for number in range(24))
 
     def test_registers_that_are_expected_have_rows(self):
         turned = b"\n\n" + b"".join(EXPECTED.splitlines(True)[::-1])
         for text in (EXPECTED, EXPECTED.splitlines(True)[4], turned, self.BANKS, memoryview(EXPECTED)):
-            verdict, places = ima_verify.verify(LOG, LIST, text), ima_verify.locate(LOG, LIST, text)
+            verdict, places = ima_verify.verify(LOG, LIST, text, require=NOTHING), ima_verify.locate(LOG, LIST, text, require=NOTHING)
             lines = [line.split() for line in (text.encode() if isinstance(text, str) else bytes(text)).splitlines() if line]
             wanted = [(bank.decode(), int(number)) for bank, number, _ in lines]
             self.assertEqual([(row.algorithm.value, row.register) for row in verdict.rows], wanted)
@@ -246,7 +284,7 @@ class NothingRequired(unittest.TestCase):
     def test_texts_of_another_form_are_refused(self):
         for text, place in (("sha256 10", 1), (" sha256 10 " + 64 * "0", 1), (EXPECTED + b"x", 25), ("sha256 10 0\n" * 100, 1)):
             with self.assertRaises(ima_verify.Refused) as caught:
-                ima_verify.verify(LOG, LIST, text)
+                ima_verify.verify(LOG, LIST, text, require=NOTHING)
             self.assertEqual((caught.exception.kind, caught.exception.place), (Kind.EXPECTED, place))
 
 
@@ -259,8 +297,8 @@ class ListAlone(unittest.TestCase):
         row = Row(Algorithm.SHA256, 10, State.MATCH)
         line = '{"entries":99,"registers":[{"bank":"sha256","register":10,"state":"match"}],"verdict":"match"}'
         wanted = ima_verify.ListVerdict(99, (row,), True, line)
-        for listed, expected, require in ((LIST, self.TENTH, "sha256:10"), (bytearray(LIST), self.TENTH.decode(), b"sha256:10")):
-            verdict = ima_verify.replay(listed, expected, require=require)
+        for listed, expected in ((LIST, self.TENTH), (bytearray(LIST), self.TENTH.decode())):
+            verdict = ima_verify.replay(listed, expected, require="sha256:10")
             self.assertEqual((verdict, bool(verdict), verdict.compared), (wanted, True, 1))
 
     def test_registers_after_the_list_alone(self):
@@ -303,11 +341,18 @@ class ListAlone(unittest.TestCase):
     def test_requirement_is_given_and_of_its_form(self):
         self.assertRaises(TypeError, ima_verify.replay, LIST, self.TENTH)
         self.assertRaises(TypeError, ima_verify.replay, LIST, self.TENTH, "sha256:10")
-        for wrong in (None, 5, 0, False, ["sha256:10"]):
+        for wrong in (None, 5, 0, False, ["sha256:10"], b"sha256:10"):
             self.assertRaises(TypeError, ima_verify.replay, LIST, self.TENTH, require=wrong)
         for wrong in Required.WRONG:
             text = f"^not of its form: {re.escape(repr(wrong))}$"
-            self.assertRaisesRegex(ValueError, text, ima_verify.replay, b"", b"", require=wrong)
+            self.assertRaisesRegex(ima_verify.Misuse, text, ima_verify.replay, b"", b"", require=wrong)
+
+    def test_nothing_may_be_required(self):
+        verdict = ima_verify.replay(LIST, self.TENTH, require=NOTHING)
+        self.assertEqual((verdict.rows, verdict.matches), ((Row(Algorithm.SHA256, 10, State.MATCH),), True))
+        for empty in (b"", "\n"):
+            verdict = ima_verify.replay(LIST, empty, require=NOTHING)
+            self.assertEqual((verdict.rows, verdict.matches, verdict.compared, verdict.entries), ((), False, 0, 99))
 
     def test_inputs_are_refused(self):
         for listed, expected, line in (
@@ -317,7 +362,7 @@ class ListAlone(unittest.TestCase):
         ):
             with self.assertRaises(ima_verify.Refused) as caught:
                 ima_verify.replay(listed, expected, require="sha256:10")
-            self.assertEqual(caught.exception.line, line)
+            self.assertEqual(caught.exception.message, line)
 
 
 class ExpectedRegisters(unittest.TestCase):
@@ -330,7 +375,7 @@ class ExpectedRegisters(unittest.TestCase):
     def test_registers_in_a_range(self):
         lines = EXPECTED.splitlines(True)
         self.assertEqual(ima_verify.expected(PRINTED, "0-10"), b"".join(lines[:11]))
-        self.assertEqual(ima_verify.expected(PRINTED, b"10"), lines[10])
+        self.assertEqual(ima_verify.expected(PRINTED, registers="10"), lines[10])
 
     def test_they_are_verified(self):
         text = ima_verify.expected(PRINTED, registers="0-10")
@@ -353,13 +398,13 @@ class ExpectedRegisters(unittest.TestCase):
             with self.assertRaises(ima_verify.Refused) as caught:
                 ima_verify.expected(text, registers)
             found = caught.exception
-            self.assertEqual((found.line, found.number, found.place), (f"refused: expected fault {number}", number, None))
+            self.assertEqual((found.message, found.number, found.place), (f"refused: expected fault {number}", number, None))
 
-    def test_wrong_range_is_a_value_error(self):
+    def test_wrong_range_is_a_misuse(self):
         for wrong in ("24", "10-0", "0-", "-", " ", "sha256:0", "\u00e4"):
             text = f"^not of its form: {re.escape(repr(wrong))}$"
-            self.assertRaisesRegex(ValueError, text, ima_verify.expected, PRINTED, wrong)
-        for wrong in (10, 0, False):
+            self.assertRaisesRegex(ima_verify.Misuse, text, ima_verify.expected, PRINTED, wrong)
+        for wrong in (10, 0, False, b"10"):
             self.assertRaises(TypeError, ima_verify.expected, PRINTED, wrong)
         self.assertRaises(TypeError, ima_verify.expected, None)
 
@@ -476,24 +521,120 @@ class Entries(unittest.TestCase):
             (LIST[:-LAST_ENTRY_SIZE] + number(24) + LIST[4 - LAST_ENTRY_SIZE:], 98, "refused: list fault 2 at entry 98"),
             (LIST + entry(b"ima", bytes(20) + with_length(256 * b"x")), 99, "refused: list fault 3 at entry 99"),
         ):
-            listed = ima_verify.entries(data)
-            self.assertEqual(listed.fault.line, line)
-            found = []
+            listed, found = ima_verify.entries(data), []
             with self.assertRaises(ima_verify.Refused) as caught:
                 for item in listed:
                     found.append(item)
-            self.assertEqual((caught.exception, len(found)), (listed.fault, count))
+            self.assertEqual((caught.exception.message, len(found)), (line, count))
             self.assertEqual(found, list(ima_verify.entries(LIST))[:count])
+            self.assertEqual(list(listed), [])
 
-    def test_fault_is_known_to_those_who_stop(self):
+    def test_one_who_stops_does_not_come_to_the_fault(self):
         whole, damaged = ima_verify.entries(LIST), ima_verify.entries(LIST[:-1])
-        self.assertEqual(next(whole), next(damaged))
-        self.assertEqual((whole.fault, damaged.fault.place), (None, 98))
+        self.assertEqual([next(whole) for _ in range(98)], [next(damaged) for _ in range(98)])
+        self.assertEqual([found.number for found in whole], [98])
+        self.assertRaises(ima_verify.Refused, next, damaged)
+        for listed in (whole, damaged):
+            self.assertRaises(StopIteration, next, listed)
 
     def test_list_without_entries_has_none(self):
         for empty in (b"", bytearray(), memoryview(b"")):
-            listed = ima_verify.entries(empty)
-            self.assertEqual((list(listed), listed.fault), ([], None))
+            self.assertEqual(list(ima_verify.entries(empty)), [])
+
+
+class Streams(unittest.TestCase):
+    """Entries and events of inputs whose text is much longer than a piece."""
+
+    MANY = 150
+    HEADER_SIZE = 65
+
+    def peak_of(self, iterator):
+        """How many items come, and how many bytes Python has at most while they do."""
+        tracemalloc.start()
+        try:
+            return sum(1 for _ in iterator), tracemalloc.get_traced_memory()[1]
+        finally:
+            tracemalloc.stop()
+
+    def test_input_is_let_go_after_its_last_piece(self):
+        listed = bytearray(LIST)  # (its text is one piece)
+        found = ima_verify.entries(listed)
+        next(found)
+        listed.extend(b"x")
+        self.assertEqual(len(list(found)), 98)
+
+    def test_no_more_than_a_piece_is_kept(self):
+        listed = self.MANY * LIST  # (as JSON more than 4 MB)
+        count, most = self.peak_of(ima_verify.entries(listed))
+        self.assertEqual(count, 99 * self.MANY)
+        self.assertLess(most, 6 * _library.PIECE)
+        log = LOG + self.MANY * LOG[self.HEADER_SIZE:]  # (more than 2 MB)
+        count, most = self.peak_of(ima_verify.events(log))
+        self.assertEqual(count, 24 * (1 + self.MANY))
+        self.assertLess(most, 6 * _library.PIECE)
+
+    def test_entries_of_all_pieces_are_those_of_the_list(self):
+        once = list(ima_verify.entries(LIST))
+        for number, found in enumerate(ima_verify.entries(self.MANY * LIST)):
+            self.assertEqual(found, dataclasses.replace(once[number % 99], number=number))
+        self.assertEqual(number, 99 * self.MANY - 1)
+        self.assertEqual(ima_verify.show(self.MANY * LIST), self.MANY * ASCII)
+
+    def test_events_of_all_pieces_are_those_of_the_log(self):
+        once = list(ima_verify.events(LOG))
+        for number, found in enumerate(ima_verify.events(LOG + self.MANY * LOG[self.HEADER_SIZE:])):
+            self.assertEqual(found, dataclasses.replace(once[number % 24], number=number + 1))
+        self.assertEqual(number, 24 * (1 + self.MANY) - 1)
+
+    def test_damage_in_any_piece_is_raised_after_what_comes_before(self):
+        for times in (1, 10, self.MANY):
+            for data, read, count in ((times * LIST + b"x", ima_verify.entries, 99 * times),
+                                      (LOG + times * LOG[self.HEADER_SIZE:] + b"x", ima_verify.events, 24 * (1 + times))):
+                found = []
+                with self.assertRaises(ima_verify.Refused) as caught:
+                    found.extend(item.number for item in read(data))
+                first = 0 if read is ima_verify.entries else 1
+                self.assertEqual(caught.exception.place, count + first)
+
+    def test_line_longer_than_a_piece(self):
+        for size in (_library.PIECE // 2, _library.PIECE, 1 << 20):
+            payload = size * b"\x5a"
+            long = entry(b"x", payload)
+            found = list(ima_verify.entries(LIST + long + LIST + long))
+            self.assertEqual([item.number for item in found if item.template == "x"], [99, 199])
+            self.assertEqual([found[99].payload, found[199].payload, len(found)], [payload, payload, 200])
+            self.assertEqual(ima_verify.show(LIST + long + LIST), ASCII + ima_verify.show(long) + ASCII)
+            events = ima_verify.events(LOG + number(1) + number(13) + number(1) + b"\x0b\0" + bytes(32) + with_length(payload))
+            self.assertEqual([event.data for event in events][24:], [payload])
+
+    def test_memory_of_an_input_stays_while_it_is_gone_through(self):
+        listed = bytearray(10 * LIST)
+        found = ima_verify.entries(listed)
+        first = next(found)
+        self.assertRaises(BufferError, listed.extend, b"x")
+        self.assertEqual([first, *found], list(ima_verify.entries(10 * LIST)))
+        listed.extend(b"x")  # (at the end nothing is kept)
+        damaged = ima_verify.entries(listed)
+        for _ in range(2):
+            try:
+                list(damaged)
+            except ima_verify.Refused:
+                pass
+        listed.extend(b"x")
+        self.assertEqual(len(listed), 10 * len(LIST) + 2)
+
+    def test_many_are_gone_through_at_once(self):
+        """Each has a position of its own."""
+        listed = 20 * LIST
+        for pair in zip_longest(ima_verify.entries(listed), ima_verify.entries(listed)):
+            self.assertEqual(*pair)
+        wanted, right = list(ima_verify.entries(listed)), []
+        threads = [threading.Thread(target=lambda: right.append(list(ima_verify.entries(listed)) == wanted)) for _ in range(4)]
+        for thread in threads:
+            thread.start()
+        for thread in threads:
+            thread.join()
+        self.assertEqual(right, 4 * [True])
 
 
 class LogEvents(unittest.TestCase):
@@ -555,17 +696,18 @@ class Refusals(unittest.TestCase):
         with self.assertRaises(ima_verify.Refused) as caught:
             called()
         refused = caught.exception
-        self.assertEqual((refused.line, refused.kind, refused.number, refused.place), (line, kind, number, place))
+        self.assertEqual((refused.message, refused.kind, refused.number, refused.place), (line, kind, number, place))
         self.assertEqual(str(refused), line)
+        self.assertIsInstance(refused, ima_verify.Error)
 
     def test_changed_entry_is_not_genuine(self):
         self.assertNotEqual(CHANGED, LIST)
-        for function in (ima_verify.verify, ima_verify.locate):
-            self.check(lambda: function(LOG, CHANGED, EXPECTED), "refused: replay fault 1 at entry 5", Kind.REPLAY, 1, 5)
+        for function in FUNCTIONS:
+            self.check(lambda: function(LOG, CHANGED, EXPECTED, require=NOTHING), "refused: replay fault 1 at entry 5", Kind.REPLAY, 1, 5)
 
     def test_log_that_ends_in_its_header(self):
         line = "refused: log fault 1 at event 0"
-        self.check(lambda: ima_verify.verify(LOG[:31], LIST, EXPECTED), line, Kind.LOG, 1, 0)
+        self.check(lambda: ima_verify.verify(LOG[:31], LIST, EXPECTED, require=NOTHING), line, Kind.LOG, 1, 0)
         self.check(lambda: ima_verify.registers(LOG[:31]), line, "log", 1, 0)
 
     def test_log_that_ends_in_its_last_event(self):
@@ -577,19 +719,19 @@ class Refusals(unittest.TestCase):
     def test_list_that_ends_in_its_last_entry(self):
         line = "refused: list fault 1 at entry 98"
         self.check(lambda: ima_verify.show(LIST[:-1]), line, Kind.LIST, 1, 98)
-        self.check(lambda: ima_verify.locate(LOG, LIST[:-1], EXPECTED), line, Kind.LIST, 1, 98)
+        self.check(lambda: ima_verify.locate(LOG, LIST[:-1], EXPECTED, require=NOTHING), line, Kind.LIST, 1, 98)
 
     def test_expected_registers_of_another_form(self):
         text = EXPECTED + b"sha256 24 " + 64 * b"0"
-        self.check(lambda: ima_verify.verify(LOG, LIST, text), "refused: expected fault 1 at line 25", Kind.EXPECTED, 1, 25)
+        self.check(lambda: ima_verify.verify(LOG, LIST, text, require=NOTHING), "refused: expected fault 1 at line 25", Kind.EXPECTED, 1, 25)
 
     def test_expected_registers_with_a_line_twice(self):
         text = EXPECTED.decode() + EXPECTED.decode().splitlines()[3]
-        self.check(lambda: ima_verify.locate(LOG, LIST, text), "refused: expected fault 2 at line 25", Kind.EXPECTED, 2, 25)
+        self.check(lambda: ima_verify.locate(LOG, LIST, text, require=NOTHING), "refused: expected fault 2 at line 25", Kind.EXPECTED, 2, 25)
 
     def test_expected_text_may_have_any_characters(self):
         for text in ("\n\u00e4", "\n\udc80", "\n\0", "\n\ud800"):
-            self.check(lambda: ima_verify.verify(LOG, LIST, text), "refused: expected fault 1 at line 2", Kind.EXPECTED, 1, 2)
+            self.check(lambda: ima_verify.verify(LOG, LIST, text, require=NOTHING), "refused: expected fault 1 at line 2", Kind.EXPECTED, 1, 2)
 
 
 class EmptyInputs(unittest.TestCase):
@@ -600,18 +742,18 @@ class EmptyInputs(unittest.TestCase):
             with self.assertRaisesRegex(ima_verify.Refused, "^refused: log fault 1 at event 0$"):
                 ima_verify.registers(empty)
             with self.assertRaisesRegex(ima_verify.Refused, "^refused: log fault 1 at event 0$"):
-                ima_verify.verify(empty, empty, empty)
+                ima_verify.verify(empty, empty, empty, require=NOTHING)
 
     def test_empty_list_has_no_boot_aggregate(self):
         for empty in (b"", bytearray()):
             self.assertEqual(ima_verify.show(empty), b"")
-            verdict = ima_verify.verify(LOG, empty, empty)
+            verdict = ima_verify.verify(LOG, empty, empty, require=NOTHING)
             self.assertEqual((verdict.entries, verdict.boot_aggregate, verdict.compared), (0, BootAggregate.MISSING, 0))
             self.assertFalse(verdict.matches)
 
     def test_nothing_expected_and_nothing_required_is_no_match(self):
         for empty in (b"", "", bytearray(), "\n", b"\r\n\n"):
-            verdict, places = ima_verify.verify(LOG, LIST, empty), ima_verify.locate(LOG, LIST, empty)
+            verdict, places = ima_verify.verify(LOG, LIST, empty, require=NOTHING), ima_verify.locate(LOG, LIST, empty, require=NOTHING)
             self.assertEqual((verdict.compared, verdict.matches, verdict.boot_aggregate), (0, False, BootAggregate.GOOD))
             self.assertEqual((verdict.rows, verdict.entries), ((), 99))
             self.assertEqual((places.rows, places.located), ((), False))
@@ -623,15 +765,15 @@ class BytesLike(unittest.TestCase):
     """Inputs of every type that has bytes."""
 
     def test_all_types_of_bytes_give_the_same(self):
-        wanted = ima_verify.verify(LOG, LONGER, EXPECTED)
+        wanted = ima_verify.verify(LOG, LONGER, EXPECTED, require=NOTHING)
         padded = bytearray(b"x" + LONGER + b"x")
         forms = (bytearray(LONGER), memoryview(LONGER), memoryview(bytearray(LONGER)), memoryview(padded)[1:-1],
                  memoryview(bytes(padded))[1:-1], memoryview(LONGER[::-1])[::-1], memoryview(bytearray(LONGER[::-1]))[::-1])
         for form in forms:
-            self.assertEqual(ima_verify.verify(LOG, form, EXPECTED), wanted)
+            self.assertEqual(ima_verify.verify(LOG, form, EXPECTED, require=NOTHING), wanted)
             self.assertEqual(ima_verify.show(form), ima_verify.show(LONGER))
-        self.assertEqual(ima_verify.verify(bytearray(LOG), LONGER, EXPECTED.decode()), wanted)
-        self.assertEqual(ima_verify.verify(memoryview(LOG), LONGER, memoryview(EXPECTED)), wanted)
+        self.assertEqual(ima_verify.verify(bytearray(LOG), LONGER, EXPECTED.decode(), require=NOTHING), wanted)
+        self.assertEqual(ima_verify.verify(memoryview(LOG), LONGER, memoryview(EXPECTED), require=NOTHING), wanted)
 
     def test_items_of_several_bytes_are_taken_as_bytes(self):
         words = array.array("I", 9 * [0])
@@ -651,7 +793,7 @@ class BytesLike(unittest.TestCase):
     def test_input_can_grow_after_a_call(self):
         grown = bytearray(CHANGED)
         try:
-            ima_verify.verify(LOG, grown, EXPECTED)
+            ima_verify.verify(LOG, grown, EXPECTED, require=NOTHING)
         except ima_verify.Refused:
             grown += b"x"
         self.assertEqual(len(grown), len(CHANGED) + 1)
@@ -660,9 +802,10 @@ class BytesLike(unittest.TestCase):
         for wrong in (None, 5, LOG.decode("latin-1"), [10, 0]):
             for called in (lambda: ima_verify.registers(wrong), lambda: ima_verify.show(wrong), lambda: ima_verify.entries(wrong),
                            lambda: ima_verify.events(wrong),
-                           lambda: ima_verify.verify(wrong, LIST, EXPECTED), lambda: ima_verify.locate(LOG, wrong, EXPECTED)):
+                           lambda: ima_verify.verify(wrong, LIST, EXPECTED, require=NOTHING),
+                           lambda: ima_verify.locate(LOG, wrong, EXPECTED, require=NOTHING)):
                 self.assertRaises(TypeError, called)
-        self.assertRaises(TypeError, lambda: ima_verify.verify(LOG, LIST, None))
+        self.assertRaises(TypeError, lambda: ima_verify.verify(LOG, LIST, None, require=NOTHING))
 
 
 class MadeInputs(unittest.TestCase):
@@ -675,7 +818,7 @@ class MadeInputs(unittest.TestCase):
         self.given = self.log.spelling(), list_spelling(self.entries), inputs.expected_text(self.expected)
 
     def test_each_register_is_located(self):
-        places = ima_verify.locate(*self.given)
+        places = ima_verify.locate(*self.given, require=NOTHING)
         found = [(row.place.value, row.number) for row in places.rows]
         *lines, last = locate(self.log, self.entries, self.expected)[0].splitlines()
         words = [line.split()[2:] for line in lines]
@@ -683,7 +826,7 @@ class MadeInputs(unittest.TestCase):
         self.assertEqual((places.located, last), (True, "located"))
 
     def test_each_register_matches(self):
-        verdict = ima_verify.verify(*self.given)
+        verdict = ima_verify.verify(*self.given, require=NOTHING)
         self.assertEqual((verdict.events, verdict.locality, verdict.entries, verdict.matches), (40, 3, 2001, True))
 
     def test_entries_are_shown(self):
@@ -701,8 +844,8 @@ class Threads(unittest.TestCase):
     ROUNDS = 60
 
     def test_calls_at_once_give_what_they_give_alone(self):
-        verdict, longer = ima_verify.verify(LOG, LIST, EXPECTED), ima_verify.verify(LOG, LONGER, EXPECTED)
-        places = ima_verify.locate(LOG, LONGER, EXPECTED)
+        verdict, longer = ima_verify.verify(LOG, LIST, EXPECTED, require=NOTHING), ima_verify.verify(LOG, LONGER, EXPECTED, require=NOTHING)
+        places = ima_verify.locate(LOG, LONGER, EXPECTED, require=NOTHING)
         start, wrong, rounds = threading.Barrier(self.THREADS), [], []
 
         def run():
@@ -710,16 +853,16 @@ class Threads(unittest.TestCase):
             done = 0
             for _ in range(self.ROUNDS):
                 right = (
-                    ima_verify.verify(LOG, LIST, EXPECTED) == verdict
-                    and ima_verify.verify(LOG, bytearray(LONGER), EXPECTED) == longer
-                    and ima_verify.locate(LOG, LONGER, EXPECTED) == places
+                    ima_verify.verify(LOG, LIST, EXPECTED, require=NOTHING) == verdict
+                    and ima_verify.verify(LOG, bytearray(LONGER), EXPECTED, require=NOTHING) == longer
+                    and ima_verify.locate(LOG, LONGER, EXPECTED, require=NOTHING) == places
                     and ima_verify.registers(LOG) == registers_in(REGISTERS)
                     and ima_verify.show(LIST) == ASCII
                 )
                 try:
-                    ima_verify.verify(LOG, CHANGED, EXPECTED)
+                    ima_verify.verify(LOG, CHANGED, EXPECTED, require=NOTHING)
                 except ima_verify.Refused as refused:
-                    right = right and refused.line == "refused: replay fault 1 at entry 5"
+                    right = right and refused.message == "refused: replay fault 1 at entry 5"
                     done += 1
                 wrong.extend([] if right else ["wrong"])
             rounds.append(done)
@@ -738,7 +881,7 @@ class Threads(unittest.TestCase):
 
         def run():
             began.set()
-            ima_verify.verify(log, measurements, "")
+            ima_verify.verify(log, measurements, "", require=NOTHING)
             ended.set()
 
         def runs_meanwhile():

@@ -4,7 +4,6 @@ From bindings/python: IMA_VERIFY_LIBRARY=/path/to/libima_verify.so python3 -m un
 
 import contextlib
 import copy
-import ctypes
 import hashlib
 import io
 import pickle
@@ -17,9 +16,10 @@ from pathlib import Path
 ROOT = Path(__file__).resolve().parents[3]
 sys.path[:0] = [str(ROOT / "bindings/python"), str(ROOT / "tools/bench")]
 
+import fake
 import ima_verify
 import inputs
-from ima_verify import Algorithm, BootAggregate, Kind, Row, Session, State, Unconfirmed, _answers, _library
+from ima_verify import NOTHING, Algorithm, BootAggregate, Kind, Row, Session, State, Unconfirmed, _answers, _library
 from reference.checkpoint import before_a_list
 from reference.log import read_log
 from reference.measurement_list import list_spelling, read_list
@@ -43,9 +43,8 @@ FRONT = REPORT.replace(b'"entries":3,', b'"entries":5,"confirmed":3,')
 TOLD = (b'"confirmed":3,"unconfirmed":{"kind":"replay","number":1,"entry":4,"message":"unconfirmed: replay fault 1 at entry 4"},')
 FRONT_WITH_FAULT = FRONT.replace(b'"confirmed":3,', TOLD)
 FRONT_OF_CUT_LIST = FRONT.replace(b'"confirmed":3,', TOLD.replace(b"replay", b"list").replace(b'"entry":4', b'"entry":5').replace(b"y 4", b"y 5"))
-START = _answers.START
-MEMORY = b'{"fault":{"kind":"memory","message":"failed: memory"}}\n'
 FAULT = b'{"fault":{"kind":"checkpoint","number":3,"message":"refused: checkpoint fault 3"}}\n'
+NONE = _library.NO_PLACE
 
 
 def register_after(number, entries):
@@ -86,16 +85,16 @@ class Refusing(unittest.TestCase):
         with self.assertRaises(ima_verify.Refused) as caught:
             session.more(data)
         found = caught.exception
-        self.assertEqual((found.kind, found.number, found.place, found.line), (kind, number, place, line))
+        self.assertEqual((found.kind, found.number, found.place, found.message), (kind, number, place, line))
         self.assertEqual((session.state, session.offset), before)
 
     def check_no_state(self, state, number):
         """No session goes on from this state, whether that is known at once or only by the library."""
         with self.assertRaises(ima_verify.Refused) as caught:
-            Session(LOG, EXPECTED, state=state).more(LIST)
+            Session(LOG, EXPECTED, require=NOTHING, state=state).more(LIST)
         found = caught.exception
         wanted = Kind.CHECKPOINT, number, None, f"refused: checkpoint fault {number}"
-        self.assertEqual((found.kind, found.number, found.place, found.line), wanted)
+        self.assertEqual((found.kind, found.number, found.place, found.message), wanted)
 
 
 class Growing(Refusing):
@@ -105,15 +104,15 @@ class Growing(Refusing):
         self.assertEqual((ENDS[-1], tenth_after(99)), (len(LIST), EXPECTED))
 
     def test_list_in_two_parts_is_as_the_whole(self):
-        whole = ima_verify.verify(LOG, LIST, EXPECTED)
+        whole = ima_verify.verify(LOG, LIST, EXPECTED, require=NOTHING)
         for cut in CUTS:
-            session = Session(LOG, tenth_after(cut))
+            session = Session(LOG, tenth_after(cut), require=NOTHING)
             self.assertEqual((session.state, session.offset), (None, 0))
             first = session.more(LIST[:ENDS[cut]])
             self.assertEqual((first.entries, first.matches, bool(first)), (cut, cut > 0, cut > 0))
-            self.assertEqual(first, ima_verify.verify(LOG, LIST[:ENDS[cut]], tenth_after(cut)))
+            self.assertEqual(first, ima_verify.verify(LOG, LIST[:ENDS[cut]], tenth_after(cut), require=NOTHING))
             self.assertEqual((session.state, session.offset), (state_after(cut), ENDS[cut]) if cut else (None, 0))
-            later = Session(LOG, EXPECTED, state=session.state)
+            later = Session(LOG, EXPECTED, require=NOTHING, state=session.state)
             self.assertEqual(later.more(LIST[ENDS[cut]:]), whole)
             self.assertEqual((later.state, later.offset), (state_after(99), len(LIST)))
             self.assertEqual((whole.confirmed, whole.unconfirmed), (None, None))
@@ -133,7 +132,7 @@ class Growing(Refusing):
         for prefix in (False, True):
             state = None
             for start, end in zip(CUTS, CUTS[1:]):
-                session = Session(LOG, tenth_after(end), prefix=prefix, state=state)
+                session = Session(LOG, tenth_after(end), require=NOTHING, prefix=prefix, state=state)
                 self.assertTrue(session.more(LIST[ENDS[start]:ENDS[end]]))
                 state = session.state
                 self.assertEqual(state, state_after(end))
@@ -142,49 +141,49 @@ class Growing(Refusing):
         for cut in CUTS:
             for prefix in (False, True):
                 state = state_after(cut) if cut else None
-                session = Session(LOG, EXPECTED, prefix=prefix, state=state)
+                session = Session(LOG, EXPECTED, require=NOTHING, prefix=prefix, state=state)
                 for end in range(cut, 99, 7):
                     self.assertFalse(session.more(LIST[ENDS[cut]:ENDS[end]]))
                     self.assertEqual((session.state, session.offset), (state, ENDS[cut]))
                 self.assertTrue(session.more(LIST[ENDS[cut]:]))
                 self.assertEqual((session.state, session.offset), (state_after(99), len(LIST)))
             self.assertEqual(session.more(LIST[ENDS[98]:]).confirmed, 99)
-            session = Session(LOG, EXPECTED, state=session.state)
+            session = Session(LOG, EXPECTED, require=NOTHING, state=session.state)
             self.assertFalse(session.more(LIST[ENDS[98]:]))
             self.assertEqual((session.state, session.offset), (state_after(99), len(LIST)))
 
     def test_another_session_goes_on_from_the_state(self):
         for cut in CUTS:
             for form in (bytes, bytearray, memoryview):
-                session = Session(LOG, tenth_after(98), state=form(state_after(cut)))
+                session = Session(LOG, tenth_after(98), require=NOTHING, state=form(state_after(cut)))
                 self.assertEqual((session.offset, session.state), (ENDS[cut], state_after(cut)))
                 verdict = session.more(LIST[ENDS[cut]:])
                 self.assertEqual((verdict.entries, verdict.rows[10].state), (99, State.DIFFER))
-                later = Session(LOG, EXPECTED.decode(), state=session.state, require=b"sha256:0-23")
+                later = Session(LOG, EXPECTED.decode(), state=session.state, require="sha256:0-23")
                 self.assertEqual(later.more(LIST[ENDS[cut]:]), ima_verify.verify(LOG, LIST, EXPECTED, require="sha256:0-23"))
 
     def test_nothing_new_gives_the_verdict_again(self):
         for cut in CUTS:
-            session = Session(LOG, tenth_after(cut), state=state_after(cut))
+            session = Session(LOG, tenth_after(cut), require=NOTHING, state=state_after(cut))
             verdict = session.more(b"")
             self.assertEqual((verdict.entries, verdict.matches), (cut, cut > 0))
             self.assertEqual(session.state, state_after(cut))
 
     def test_part_of_a_list_never_matches_without_the_state(self):
         for cut in CUTS[1:]:
-            verdict = Session(LOG, EXPECTED, state=None).more(LIST[ENDS[cut]:])
+            verdict = Session(LOG, EXPECTED, require=NOTHING, state=None).more(LIST[ENDS[cut]:])
             self.assertEqual((verdict.matches, verdict.boot_aggregate), (False, BootAggregate.MISSING))
-            front = Session(LOG, EXPECTED, prefix=True).more(LIST[ENDS[cut]:])
+            front = Session(LOG, EXPECTED, require=NOTHING, prefix=True).more(LIST[ENDS[cut]:])
             self.assertEqual((front.matches, front.confirmed), (False, None))
 
     def test_what_came_before_is_not_taken_twice(self):
         for cut in CUTS[1:]:
-            verdict = Session(LOG, EXPECTED, state=state_after(cut)).more(LIST)
+            verdict = Session(LOG, EXPECTED, require=NOTHING, state=state_after(cut)).more(LIST)
             self.assertEqual((verdict.matches, verdict.entries), (False, cut + 99))
 
     def test_refusals_leave_the_session_as_it_was(self):
         for cut in CUTS[:-1]:
-            session = Session(LOG, EXPECTED, state=state_after(cut) if cut else None)
+            session = Session(LOG, EXPECTED, require=NOTHING, state=state_after(cut) if cut else None)
             self.check_refused(session, LIST[ENDS[cut]:-1], Kind.LIST, 1, 98, "refused: list fault 1 at entry 98")
             data = changed(98)[ENDS[cut]:]
             self.check_refused(session, data, Kind.REPLAY, 1, 98, "refused: replay fault 1 at entry 98")
@@ -193,43 +192,44 @@ class Growing(Refusing):
 
     def test_inputs_of_the_session_are_refused_as_by_verify(self):
         line = "refused: log fault 1 at event 24"
-        self.check_refused(Session(LOG[:-1], EXPECTED), LIST, Kind.LOG, 1, 24, line)
-        self.check_refused(Session(LOG, EXPECTED + b"x"), LIST, Kind.EXPECTED, 1, 25, "refused: expected fault 1 at line 25")
+        self.check_refused(Session(LOG[:-1], EXPECTED, require=NOTHING), LIST, Kind.LOG, 1, 24, line)
+        self.check_refused(Session(LOG, EXPECTED + b"x", require=NOTHING), LIST, Kind.EXPECTED, 1, 25, "refused: expected fault 1 at line 25")
 
     def test_inputs_are_copied(self):
         log, expected, state = bytearray(LOG), bytearray(EXPECTED), bytearray(state_after(50))
-        session = Session(log, expected, state=state)
+        session = Session(log, expected, require=NOTHING, state=state)
         log[:], expected[:], state[:] = b"", b"x", b""
         self.assertTrue(session.more(LIST[ENDS[50]:]))
 
     def test_other_types_are_no_inputs(self):
         for wrong in (None, 5, [10, 0], "x"):
-            self.assertRaises(TypeError, Session, wrong, EXPECTED)
-            self.assertRaises(TypeError, Session(LOG, EXPECTED).more, wrong)
+            self.assertRaises(TypeError, Session, wrong, EXPECTED, require=NOTHING)
+            self.assertRaises(TypeError, Session(LOG, EXPECTED, require=NOTHING).more, wrong)
             if wrong is not None:
-                self.assertRaises(TypeError, Session, LOG, EXPECTED, state=wrong)
+                self.assertRaises(TypeError, Session, LOG, EXPECTED, require=NOTHING, state=wrong)
         for wrong in (None, 5):
-            self.assertRaises(TypeError, Session, LOG, wrong)
+            self.assertRaises(TypeError, Session, LOG, wrong, require=NOTHING)
         for wrong in (None, 0, 1, "", "yes", b"x"):
-            self.assertRaises(TypeError, Session, LOG, EXPECTED, prefix=wrong)
+            self.assertRaises(TypeError, Session, LOG, EXPECTED, require=NOTHING, prefix=wrong)
 
     def test_session_is_copied_and_pickled_with_its_state(self):
-        session = Session(LOG, tenth_after(50), require="sha256:10", prefix=True)
-        session.more(LIST[:ENDS[60]])
-        for again in (copy.copy(session), copy.deepcopy(session), pickle.loads(pickle.dumps(session))):
-            self.assertEqual((again.state, again.offset), (state_after(50), ENDS[50]))
-            verdict = again.more(LIST[ENDS[50]:])
-            self.assertEqual((verdict.confirmed, verdict.entries), (50, 99))
+        for require in ("sha256:10", NOTHING):
+            session = Session(LOG, tenth_after(50), require=require, prefix=True)
+            session.more(LIST[:ENDS[60]])
+            for again in (copy.copy(session), copy.deepcopy(session), pickle.loads(pickle.dumps(session))):
+                self.assertEqual((again.state, again.offset), (state_after(50), ENDS[50]))
+                verdict = again.more(LIST[ENDS[50]:])
+                self.assertEqual((verdict.confirmed, verdict.entries), (50, 99))
         self.assertEqual(session.offset, ENDS[50])
 
     def test_sessions_at_once_give_what_they_give_alone(self):
-        wanted, right = [ima_verify.verify(LOG, LIST[:ENDS[cut]], tenth_after(cut)) for cut in CUTS], []
+        wanted, right = [ima_verify.verify(LOG, LIST[:ENDS[cut]], tenth_after(cut), require=NOTHING) for cut in CUTS], []
 
         def run():
             for _ in range(10):
                 verdicts, state = [], None
                 for start, end in zip((0, *CUTS), CUTS):
-                    session = Session(LOG, tenth_after(end), state=state)
+                    session = Session(LOG, tenth_after(end), require=NOTHING, state=state)
                     verdicts.append(session.more(LIST[ENDS[start]:ENDS[end]]))
                     state = session.state
                 right.append(verdicts == wanted)
@@ -266,26 +266,29 @@ class Required(Refusing):
                 self.assertTrue(Session(LOG, TEN, require="sha256:0-9", **given).more(LIST[ENDS[cut]:]))
 
     def test_requirement_is_given_and_of_its_form(self):
-        for wrong in ("", b"", bytearray(), memoryview(b""), "sha256", "sha256:24", "sha256:10-0", "sha256:0-10,", " ", "None", "none ", "\u00e4",
-                      "\ud800", b"\xff"):
+        for wrong in ("sha256", "sha256:24", "sha256:10-0", "sha256:0-10,", " ", "None", "none ", "\u00e4", "\ud800"):
             for log, expected, data in ((b"", "x", b"x"), (LOG, EXPECTED, LIST)):
                 session = Session(log, expected, require=wrong)
-                with self.assertRaises(ValueError) as caught:
+                with self.assertRaises(ima_verify.Misuse) as caught:
                     session.more(data)
                 self.assertEqual((str(caught.exception), session.state), (f"not of its form: {wrong!r}", None))
-        for wrong in (None, 5, 0, False, ["sha256:10"]):
+        for wrong in ("", "none"):
+            with self.assertRaisesRegex(ima_verify.Misuse, f"^not of its form: {wrong!r}$"):
+                Session(LOG, EXPECTED, require=wrong)
+        for wrong in (None, 5, 0, False, ["sha256:10"], b"", b"none", b"sha256:10", bytearray(), memoryview(b"")):
             self.assertRaises(TypeError, Session, LOG, EXPECTED, require=wrong)
+        self.assertRaises(TypeError, Session, LOG, EXPECTED)
+        self.assertRaises(TypeError, Session, LOG, EXPECTED, "sha256:10")
 
-    def test_nothing_is_required_by_default_and_by_its_word(self):
-        for given in ({}, {"require": "none"}, {"require": b"none"}):
-            for prefix in (False, True):
-                session = Session(LOG, TEN, prefix=prefix, **given)
-                self.assertEqual((bool(session.more(LIST)), session.offset), (True, ENDS[1] if prefix else len(LIST)))
+    def test_nothing_is_required_by_its_name(self):
+        for prefix in (False, True):
+            session = Session(LOG, TEN, require=NOTHING, prefix=prefix)
+            self.assertEqual((bool(session.more(LIST)), session.offset), (True, ENDS[1] if prefix else len(LIST)))
 
     def test_verdict_on_no_registers_is_no_match(self):
         for prefix in (False, True):
             for state in (None, state_after(50)):
-                session = Session(LOG, "", prefix=prefix, state=state)
+                session = Session(LOG, "", require=NOTHING, prefix=prefix, state=state)
                 verdict = session.more(LIST[session.offset:])
                 self.assertEqual((verdict.matches, verdict.confirmed, verdict.rows, bool(verdict)), (False, None, (), False))
                 self.assertEqual((verdict.boot_aggregate, verdict.json[-19:]), (BootAggregate.GOOD, '"verdict":"differ"}'))
@@ -308,13 +311,13 @@ class Front(Refusing):
     def test_front_is_the_shortest(self):
         # (without register 10 nothing speaks for more than the boot aggregate)
         without = b"".join(EXPECTED.splitlines(True)[:10])
-        session = Session(LOG, without, prefix=True)
+        session = Session(LOG, without, require=NOTHING, prefix=True)
         self.check_front(session.more(LIST), 99, 1)
 
     def test_session_goes_on_from_the_front(self):
-        session = Session(LOG, tenth_after(97), prefix=True)
+        session = Session(LOG, tenth_after(97), require=NOTHING, prefix=True)
         self.check_front(session.more(LIST), 99, 97)
-        later = Session(LOG, EXPECTED, prefix=True, state=session.state)
+        later = Session(LOG, EXPECTED, require=NOTHING, prefix=True, state=session.state)
         self.check_front(later.more(LONGER[session.offset:]), 100, 99)
         self.assertEqual(later.offset, len(LIST))
         self.check_front(later.more(LONGER[later.offset:]), 100, 99)
@@ -326,17 +329,18 @@ class Front(Refusing):
             (changed(98), 99, Kind.REPLAY, 1, 98), (changed(97), 99, Kind.REPLAY, 1, 97), (LIST[:-1], 98, Kind.LIST, 1, 98),
             (changed(97) + b"x", 99, Kind.LIST, 1, 99), (LIST + (24).to_bytes(4, "little"), 99, Kind.LIST, 2, 99),
         ):
-            fault = Unconfirmed(f"unconfirmed: {kind.value} fault {number} at entry {place}", kind, number, place)
+            fault = Unconfirmed(kind, number, place)
+            self.assertEqual(fault.message, f"unconfirmed: {kind.value} fault {number} at entry {place}")
             for cut in (0, 1, 50, 97):
                 session = Session(LOG, data, require="sha256:10", prefix=True, state=state_after(cut) if cut else None)
                 self.check_front(session.more(listed[ENDS[cut]:]), entries, 97, fault)
                 self.assertEqual((session.offset, session.state), (ENDS[97], state_after(97)))
-            line = fault.line.replace("unconfirmed", "refused")
+            line = fault.message.replace("unconfirmed", "refused")
             self.check_refused(Session(LOG, data, require="sha256:10"), listed, kind, number, place, line)
 
     def test_list_without_a_front_is_as_without_prefix(self):
         for prefix in (False, True):
-            session = Session(LOG, f"sha256 10 {64 * '1'}", prefix=prefix)
+            session = Session(LOG, f"sha256 10 {64 * '1'}", require=NOTHING, prefix=prefix)
             self.check_refused(session, changed(5), Kind.REPLAY, 1, 5, "refused: replay fault 1 at entry 5")
             self.check_refused(session, LIST[:-1], Kind.LIST, 1, 98, "refused: list fault 1 at entry 98")
             verdict = session.more(LIST)
@@ -344,13 +348,13 @@ class Front(Refusing):
             self.assertIsNone(session.state)
 
     def test_front_never_has_fewer_entries_than_the_state(self):
-        session = Session(LOG, tenth_after(50), prefix=True, state=state_after(97))
+        session = Session(LOG, tenth_after(50), require=NOTHING, prefix=True, state=state_after(97))
         self.assertEqual((bool(session.more(LIST[ENDS[97]:])), session.offset), (False, ENDS[97]))
 
     def test_fault_within_the_front_is_refused(self):
         for place in (0, 5, 96):
             line = f"refused: replay fault 1 at entry {place}"
-            self.check_refused(Session(LOG, tenth_after(97), prefix=True), changed(place), Kind.REPLAY, 1, place, line)
+            self.check_refused(Session(LOG, tenth_after(97), require=NOTHING, prefix=True), changed(place), Kind.REPLAY, 1, place, line)
 
 
 class Page(unittest.TestCase):
@@ -413,73 +417,77 @@ class States(Refusing):
 
     def test_state_of_another_boot_is_refused(self):
         self.check_no_state(state_after(99, OTHER_LOG), 3)
-        session = Session(OTHER_LOG, EXPECTED, state=state_after(99))
+        session = Session(OTHER_LOG, EXPECTED, require=NOTHING, state=state_after(99))
         self.check_refused(session, b"", Kind.CHECKPOINT, 3, None, "refused: checkpoint fault 3")
 
     def test_state_of_another_list_gives_no_match(self):
         foreign = state_after(59, entries=[*ENTRIES[:50], *ENTRIES[51:]])
         for cut in (50, 51, 59, 60):
             for prefix in (False, True):
-                session = Session(LOG, EXPECTED, prefix=prefix, state=foreign)
+                session = Session(LOG, EXPECTED, require=NOTHING, prefix=prefix, state=foreign)
                 self.assertFalse(session.more(LIST[ENDS[cut]:]))
 
     def test_state_of_no_entries_is_one(self):
         state = state_after(0)
         self.assertIn(b"\nentries 0\nbytes 0\nboot_aggregate none\n", state)
-        self.assertTrue(Session(LOG, EXPECTED, state=state).more(LIST))
+        self.assertTrue(Session(LOG, EXPECTED, require=NOTHING, state=state).more(LIST))
 
 
 class Buffers(unittest.TestCase):
-    """A report and a state, of which each may be longer than its buffer."""
+    """A report, which may be longer than its buffer, and a state, which never is."""
 
     INPUTS = LOG, b"", LIST, EXPECTED, b"sha256:10"
 
-    def ask(self, rooms, switches=(False,), inputs=INPUTS):
-        function, sizes = _library.loaded().ima_verify_more_json, []
+    def ask(self, room, inputs=INPUTS):
+        """The answer of the library where this buffer is the first for the report, and the sizes of the buffers."""
+        call, sizes = _library.call, []
 
-        def called(*words):
-            sizes.append((words[-5], words[-2]))
-            return function(*words)
+        def called(*words, **given):
+            with fake.counted("more") as rooms:
+                try:
+                    return call(*words, room=room, **given)
+                finally:
+                    sizes.extend(rooms)
 
-        return *_library.ask_for_texts(called, inputs, switches, rooms), sizes
+        with unittest.mock.patch.object(_library, "call", called):
+            return _library.call_more(inputs, False, None), sizes
 
-    def test_second_call_has_room_for_both(self):
+    def test_second_call_has_room_for_the_report_and_gives_the_state(self):
         state, report = state_after(99), ima_verify.verify(LOG, LIST, EXPECTED, require="sha256:10").json.encode() + b"\n"
-        for rooms in ((1, 1), (1, 40_000), (40_000, 1), (len(state) - 1, len(report)), (len(state), len(report) - 1)):
-            wanted = [rooms, (max(len(state), rooms[0]), max(len(report), rooms[1]))]
-            self.assertEqual(self.ask(rooms), (0, [state, report], wanted))
-        for rooms in ((len(state), len(report)), (40_000, 40_000)):
-            self.assertEqual(self.ask(rooms), (0, [state, report], [rooms]))
+        for room in (1, len(report) - 1):
+            self.assertEqual(self.ask(room), ((0, report, state), [room, len(report)]))
+        for room in (len(report), 40_000):
+            self.assertEqual(self.ask(room), ((0, report, state), [room]))
 
     def test_refusal_longer_than_its_buffer(self):
-        line = b'{"fault":{"kind":"checkpoint","number":1,"message":"refused: checkpoint fault 1"}}\n'
-        status, texts, sizes = self.ask((5, 5), inputs=(LOG, b"x", *self.INPUTS[2:]))
-        self.assertEqual((status, texts, sizes), (2, [b"", line], [(5, 5), (5, len(line))]))
+        with self.assertRaisesRegex(ima_verify.Refused, "^refused: checkpoint fault 1$"):
+            self.ask(5, (LOG, b"x", *self.INPUTS[2:]))
+
+    def test_state_that_has_no_room_is_an_error(self):
+        for room in (1, len(state_after(99)) - 1):
+            with unittest.mock.patch.object(_library, "CHECKPOINT_ROOM", room):
+                self.assertRaises(ima_verify.LibraryError, self.ask, 40_000)
+        with unittest.mock.patch.object(_library, "CHECKPOINT_ROOM", len(state_after(99))):
+            self.assertEqual(self.ask(40_000)[0][2], state_after(99))
 
     def test_first_buffers_are_large_enough(self):
         four = inputs.made_log(ALGORITHMS, 24).spelling()
         every_register = "".join(f"{bank.value} {number} {2 * bank.digest_size * '1'}\n" for bank in Algorithm for number in range(24)).encode()
-        _, (state, report), sizes = self.ask((ima_verify._ROOM, ima_verify._ROOM), inputs=(four, b"", LIST, every_register, b"none"))
+        (_, report, state), sizes = self.ask(_library.ROOM, (four, b"", LIST, every_register, b"none"))
         self.assertEqual((len(sizes), state), (1, b""))
         self.assertGreater(len(report), 10_000)
         longest = state_after(99, four)
-        self.assertLess(len(longest), ima_verify._ROOM)
+        self.assertLess(len(longest), _library.CHECKPOINT_ROOM)
         self.assertGreater(len(longest), 4 * len(state_after(99)))
 
 
-def answering(status, state, text, needed=None, asked=None):
-    """A function in place of the library's that gives this, whatever it is asked. What it requires is noted."""
-    def function(*words):
-        if asked is not None:
-            asked.append(words[8])
-        for data, (out, room, size), told in zip((state, text), (words[-6:-3], words[-3:]), needed or (len(state), len(text))):
-            buffer = (ctypes.c_char * room).from_address(ctypes.addressof(out._obj))
-            buffer[:min(len(data), room)] = data[:room]
-            if told is not None:
-                size._obj.value = told
-        return status
+def answering(result, state, text, sizes=(None, None), fault=fake.NO_FAULT):
+    """A library that gives a session this, whatever it is asked. The sizes of the state and the text may be others."""
+    def answer(call):
+        call.give_state(state, sizes[0])
+        return call.give(result, text, fault, sizes[1])
 
-    return unittest.mock.patch.object(_library.loaded(), "ima_verify_more_json", function)
+    return fake.library(more=answer)
 
 
 class Answers(unittest.TestCase):
@@ -487,18 +495,19 @@ class Answers(unittest.TestCase):
 
     def check_right(self, status, text, has_front, *wanted):
         with answering(status, b"" if status else STATE, text):
-            session = Session(b"", b"", prefix=has_front)
+            session = Session(b"", b"", require=NOTHING, prefix=has_front)
             verdict = session.more(300 * b"x")
         self.assertEqual((verdict.matches, verdict.entries, verdict.confirmed, verdict.unconfirmed), wanted)
         self.assertEqual((session.state, session.offset), (None, 0) if status else (STATE, 300))
 
-    def check_wrong(self, status, text, has_front=False, state=None, size=300, needed=None, error=ima_verify.LibraryError):
+    def check_wrong(self, status, text, has_front=False, state=None, size=300, needed=(None, None), error=ima_verify.LibraryError,
+                    fault=fake.NO_FAULT):
         """There is no verdict, and the session stays as it was, also if it has been used."""
         if state is None:
             state = b"" if status else STATE  # (as it has to be)
         for earlier in (None, STATE):
-            with answering(status, state, text, needed):
-                session = Session(b"", b"", prefix=has_front, state=earlier)
+            with answering(status, state, text, needed, fault):
+                session = Session(b"", b"", require=NOTHING, prefix=has_front, state=earlier)
                 with self.assertRaises(error, msg=f"{status} {text!r} {state!r}"):
                     session.more((size - (300 if earlier else 0)) * b"x")
             self.assertEqual((session.state, session.offset), (earlier, 300 if earlier else 0))
@@ -508,9 +517,10 @@ class Answers(unittest.TestCase):
         self.check_right(1, DIFFERING, False, False, 3, None, None)
         self.check_right(1, DIFFERING, True, False, 3, None, None)
         self.check_right(0, FRONT, True, True, 5, 3, None)
-        fault = Unconfirmed("unconfirmed: replay fault 1 at entry 4", Kind.REPLAY, 1, 4)
+        fault = Unconfirmed(Kind.REPLAY, 1, 4)
+        self.assertEqual(fault.message, "unconfirmed: replay fault 1 at entry 4")
         self.check_right(0, FRONT_WITH_FAULT, True, True, 5, 3, fault)
-        fault = Unconfirmed("unconfirmed: list fault 1 at entry 5", Kind.LIST, 1, 5)
+        fault = Unconfirmed(Kind.LIST, 1, 5)
         self.check_right(0, FRONT_OF_CUT_LIST, True, True, 5, 3, fault)
 
     def test_front_that_cannot_be_is_none(self):
@@ -581,21 +591,21 @@ class Answers(unittest.TestCase):
             (FRONT.replace(b'"confirmed":3', b'"confirmed":0'), STATE.replace(b"entries 3", b"entries 0"), 300),
         ):
             with answering(0, state, text):
-                session = Session(b"", b"", prefix=text is not REPORT)
+                session = Session(b"", b"", require=NOTHING, prefix=text is not REPORT)
                 self.assertRaises(ima_verify.LibraryError, session.more, size * b"x")
             self.assertIsNone(session.state)
         less = STATE.replace(b"bytes 300", b"bytes 299")
         self.check_wrong(0, REPORT, state=less)
         with answering(0, less, FRONT):  # (the front's end may be anywhere)
-            session = Session(b"", b"", prefix=True)
+            session = Session(b"", b"", require=NOTHING, prefix=True)
             self.assertEqual((session.more(300 * b"x").confirmed, session.offset), (3, 299))
-            self.assertRaises(ima_verify.LibraryError, Session(b"", b"", prefix=True, state=STATE).more, b"")
+            self.assertRaises(ima_verify.LibraryError, Session(b"", b"", require=NOTHING, prefix=True, state=STATE).more, b"")
 
     def test_report_on_fewer_entries_than_the_state_has_is_none(self):
         later = STATE.replace(b"entries 3", b"entries 4").replace(b"300", b"400")
         for status, text, has_front in ((0, REPORT, False), (1, DIFFERING, False), (0, FRONT, True)):
             with answering(status, b"" if status else STATE.replace(b"300", b"400"), text):
-                session = Session(b"", b"", prefix=has_front, state=later)
+                session = Session(b"", b"", require=NOTHING, prefix=has_front, state=later)
                 self.assertRaises(ima_verify.LibraryError, session.more, b"")
             self.assertEqual(session.state, later)
 
@@ -610,47 +620,50 @@ class Answers(unittest.TestCase):
             self.check_right(1, differing, has_front, False, 3, None, None)
 
     def test_what_is_required_crosses_as_it_is(self):
-        asked, wanted = [], []
-        for given, crosses in (({}, b"none"), ({"require": ""}, b""), ({"require": b""}, b""), ({"require": "none"}, b"none"),
-                               ({"require": "sha256:0-10"}, b"sha256:0-10"), ({"require": bytearray(b"x")}, b"x")):
+        for given, crosses in ((NOTHING, b"none"), ("sha256:0-10", b"sha256:0-10"), ("x", b"x"), ("\u00e4", b"\xc3\xa4"), (" ", b" ")):
             for state in (None, STATE):
-                with answering(0, STATE.replace(b"300", b"600"), REPORT, asked=asked):
-                    session = Session(b"", b"", state=state, **given)
+                with answering(0, STATE.replace(b"300", b"600"), REPORT) as calls:
+                    session = Session(b"", b"", require=given, state=state)
                     for _ in range(2):
                         session.more((600 - session.offset) * b"x")
-                wanted += 2 * [crosses]
-        self.assertEqual(asked, wanted)
+                self.assertEqual([call.inputs[4] for call in calls], 2 * [crosses])
+
+    def test_inputs_cross_in_order(self):
+        for prefix in (False, True):
+            with answering(1, b"", DIFFERING) as calls:
+                Session(b"a", b"d", require="e", prefix=prefix, state=STATE).more(b"c")
+            (call,) = calls
+            self.assertEqual((call.inputs, call.options[:2]), ([b"a", STATE, b"c", b"d", b"e"], (prefix, True)))
 
     def test_wrong_answers_are_no_verdicts(self):
         for status, text in ((0, b""), (0, b"\n"), (0, b"{}\n"), (0, REPORT[:-1]), (1, REPORT), (0, DIFFERING), (2, REPORT), (3, REPORT), (4, REPORT),
-                             (5, REPORT), (-1, REPORT), (0, FAULT), (0, MEMORY), (2, MEMORY), (3, FAULT), (2, FAULT[:-1]),
-                             (2, b'{"fault":{"kind":"command_line","message":"refused: command line"}}\n')):  # (nothing was required)
+                             (5, REPORT), (6, REPORT), (-1, REPORT), (0, FAULT), (2, FAULT), (3, FAULT)):
             self.check_wrong(status, text)
+        for status in (0, 1, 4, 5, 6):
+            self.check_wrong(status, REPORT if status != 1 else DIFFERING, fault=fake.fault_of(Kind.CHECKPOINT, 3))
+        self.check_wrong(2, FAULT, fault=(_library.ARGUMENT, 0, NONE))  # (nothing was required)
         for size in range(len(REPORT)):
             self.check_wrong(0, REPORT[:size])
 
     def test_failures_leave_the_session_as_it_was(self):
-        self.check_wrong(2, FAULT, state=b"", error=ima_verify.Refused)
-        for text in (MEMORY, b"failed: memory\n", b""):
-            self.check_wrong(3, text, state=b"", error=MemoryError)
-        for needed in ((None, None), (None, len(REPORT)), (len(STATE), None), (1 << 20, len(REPORT)), (len(STATE), 1 << 20)):
+        self.check_wrong(2, FAULT, state=b"", error=ima_verify.Refused, fault=fake.fault_of(Kind.CHECKPOINT, 3))
+        self.check_wrong(3, b"failed: memory\n", state=b"", error=ima_verify.OutOfMemory, fault=(_library.MEMORY, 0, NONE))
+        for needed in ((fake.UNSET, None), (None, fake.UNSET), (_library.CHECKPOINT_ROOM + 1, None), (None, 1 << 20)):
             self.check_wrong(0, REPORT, needed=needed)
             self.check_wrong(4, REPORT, needed=needed)
-        self.check_wrong(4, REPORT, needed=(1 << 62, 1), error=MemoryError)
-        for needed in ((1 << 63, 1), (1, 1 << 63), ((1 << 64) - 2, 1)):
+        self.check_wrong(4, REPORT, needed=(1, 1 << 62), error=MemoryError)
+        for needed in ((1 << 63, 1), (1, 1 << 63), (1, (1 << 64) - 2)):
             self.check_wrong(4, REPORT, needed=needed)
 
     def test_refusals_of_states_are_read(self):
         for number in (1, 2, 3):
-            with self.assertRaises(ima_verify.Refused) as caught:
-                _answers.raise_failure(2, FAULT.replace(b"3", b"%d" % number))
+            with answering(2, b"", FAULT, fault=fake.fault_of(Kind.CHECKPOINT, number)), self.assertRaises(ima_verify.Refused) as caught:
+                Session(b"", b"", require=NOTHING, state=STATE).more(b"")
             refused = caught.exception
             self.assertEqual((refused.kind, refused.number, refused.place), ("checkpoint", number, None))
-            self.assertEqual((refused.kind, refused.line), (Kind.CHECKPOINT, f"refused: checkpoint fault {number}"))
-        for old, new in ((b'"number":3', b'"number":1'), (b'"number":3,', b""), (b'"kind":"checkpoint"', b'"kind":"log"'), (b"fault 3", b"fault 03"),
-                         (b'"number":3', b'"number":3,"entry":3'), (b'fault 3"', b'fault 3 at entry 3"')):
-            with self.assertRaises(ima_verify.LibraryError):
-                _answers.raise_failure(2, FAULT.replace(old, new, 1))
+            self.assertEqual((refused.kind, refused.message), (Kind.CHECKPOINT, f"refused: checkpoint fault {number}"))
+        for kind, number, place in ((6, 0, NONE), (6, 3, 3), (0, 0, NONE), (7, 0, NONE), (9, 3, NONE)):
+            self.check_wrong(2, FAULT, fault=(kind, number, place))
 
 
 if __name__ == "__main__":

@@ -1,52 +1,73 @@
-//! Reads the library's answers. What is not as `docs/formats.md` has it is an `Unexpected`.
+//! Reads the library's answers. What is not as `docs/formats.md` says is an `Unexpected`.
 
-use crate::library::{DIFFERS, DONE, OUT_OF_MEMORY, REFUSED};
-use crate::{Algorithm, BootAggregate, Content, Entries, Entry, Error, Event, Events, File, Kind, ListVerdict, LogAlgorithm};
+use crate::library::{Told, DIFFERS, DONE, MORE, OUT_OF_MEMORY, REFUSED};
+use crate::{Algorithm, BootAggregate, Content, Entry, Error, Event, File, Kind, ListVerdict, LogAlgorithm};
 use crate::{Place, PlaceRow, Places, Register, Row, State, Unconfirmed, Verdict};
+use ima_verify_sys as c;
 use serde::de::{DeserializeOwned, Error as _};
 use serde::{Deserialize, Deserializer};
 use std::collections::BTreeMap;
 
 const REGISTERS: u8 = 24;
 
-/// An answer of the library.
+/// What the library gives to a call: a result, what it reports of an error, a next checkpoint, and a text.
 #[derive(Debug)]
 pub(crate) struct Answer {
-    pub(crate) status: i32,
+    pub(crate) result: i32,
+    pub(crate) told: Told,
+    pub(crate) next: Vec<u8>,
     pub(crate) text: Vec<u8>,
 }
 
 impl Answer {
-    /// The verdict on a whole list. On no registers it is no match, though the report says that it is.
+    /// The answer, or the error that it reports.
+    pub(crate) fn accepted(self) -> Result<Self, Error> {
+        match (self.result, self.told.fault_kind) {
+            (DONE | DIFFERS | MORE, c::IMA_VERIFY_NO_FAULT) => Ok(self),
+            (REFUSED, kind) => Err(self.refusal(kind).unwrap_or_else(|| self.unexpected())),
+            (OUT_OF_MEMORY, c::IMA_VERIFY_MEMORY) => Err(Error::OutOfMemory),
+            _ => Err(self.unexpected()),
+        }
+    }
+
+    fn refusal(&self, kind: u32) -> Option<Error> {
+        let kind = match kind {
+            c::IMA_VERIFY_ARGUMENT => Kind::Argument,
+            c::IMA_VERIFY_LOG => Kind::Log,
+            c::IMA_VERIFY_LIST => Kind::List,
+            c::IMA_VERIFY_REPLAY => Kind::Replay,
+            c::IMA_VERIFY_EXPECTED => Kind::Expected,
+            c::IMA_VERIFY_CHECKPOINT => Kind::Checkpoint,
+            _ => return None,
+        };
+        let place = Some(self.told.fault_place).filter(|place| *place != c::IMA_VERIFY_NO_PLACE);
+        Some(Error::Refused { line: fault_line(&self.text)?, kind, number: self.told.fault_number.into(), place })
+    }
+
+    /// The verdict on a whole list. On no PCRs it is no match, though the report says that it is.
     pub(crate) fn verdict(self) -> Result<Verdict, Error> {
         self.read(|answer| answer.report(true).filter(|verdict| verdict.confirmed.is_none()))
     }
 
-    /// The verdict on a list that has so many bytes after a checkpoint, and the next checkpoint. Only a match has one: of the confirmed front,
-    /// which the report of a call that asks for it has then, or of the whole list. After any other verdict there is none.
-    pub(crate) fn more(
-        self,
-        state: Vec<u8>,
-        from: &Checkpoint,
-        size: u64,
-        has_front: bool,
-    ) -> Result<(Verdict, Option<Checkpoint>), Error> {
+    /// The verdict on a list that has so many bytes after a checkpoint, and the next checkpoint. Only a match has one: of the
+    /// confirmed part, if the call asks for it, or of the whole list.
+    pub(crate) fn more(self, from: &Checkpoint, size: u64, prefix: bool) -> Result<(Verdict, Option<Checkpoint>), Error> {
         self.read(|answer| {
             let verdict = answer.report(false)?;
             let (end, confirmed) = (from.bytes.checked_add(size)?, verdict.confirmed);
-            (confirmed.is_some() == (has_front && verdict.matches)).then_some(())?;
+            (confirmed.is_some() == (prefix && verdict.matches)).then_some(())?;
             let entries = confirmed.unwrap_or(verdict.entries);
             if !verdict.matches {
-                return (state.is_empty() && from.entries <= entries).then_some((verdict, None));
+                return (answer.next.is_empty() && from.entries <= entries).then_some((verdict, None));
             }
-            let reached = Checkpoint::of(state)?;
+            let reached = Checkpoint::of(answer.next.clone())?;
             let is_right_end =
                 if confirmed.is_some() { (from.bytes..=end).contains(&reached.bytes) } else { reached.bytes == end };
             (is_right_end && from.entries <= entries && entries == reached.entries).then_some((verdict, Some(reached)))
         })
     }
 
-    /// The verdict of a report, where one on no registers may say that it is a match, or may not.
+    /// The verdict of a report, where one on no PCRs may say that it is a match, or may not.
     fn report(&self, may_match_nothing: bool) -> Option<Verdict> {
         let Report { events, locality, boot_aggregate, confirmed, unconfirmed, rest } = object(&self.text)?;
         let has_rows = !rest.registers.is_empty();
@@ -55,13 +76,13 @@ impl Answer {
         let (entries, rows, json) = (rest.entries, rest.registers, self.line()?);
         confirmed.map_or(unconfirmed.is_none(), |confirmed| (1..=entries).contains(&confirmed)).then_some(())?;
         let unconfirmed = match unconfirmed {
-            Some(fault) => Some(unconfirmed_fault(fault, confirmed?, entries)?),
+            Some(fault) => Some(fault.unconfirmed(confirmed?, entries)?),
             None => None,
         };
         Some(Verdict { events, locality, entries, boot_aggregate, rows, matches, json, confirmed, unconfirmed })
     }
 
-    /// The verdict on a list alone.
+    /// The verdict on a list alone. On no PCRs it is no match.
     pub(crate) fn list_verdict(self) -> Result<ListVerdict, Error> {
         self.read(|answer| {
             let report: ListReport = object(&answer.text)?;
@@ -83,88 +104,17 @@ impl Answer {
         self.read(|answer| {
             let Registers { registers, .. } = object(&answer.text)?;
             let fit = registers.iter().all(|register| register.value.len() == register.algorithm.digest_size());
-            (answer.status == DONE && fit).then_some(registers)
+            (answer.result == DONE && fit).then_some(registers)
         })
     }
 
-    /// The entries, which are none only of an empty list, or before a fault.
-    pub(crate) fn entries(self, is_empty: bool) -> Result<Entries, Error> {
-        let (end, fault) = self.end_and_fault(is_empty)?;
-        Ok(Entries(Lines { text: self.text, status: self.status, start: 0, end, number: 0, fault, is_over: false }))
-    }
-
-    /// The events, after the algorithms. Without these there is nothing but a fault.
-    pub(crate) fn events(self) -> Result<Events, Error> {
-        let (end, fault) = self.end_and_fault(false)?;
-        if let (0, Some(fault)) = (end, &fault) {
-            return Err(fault.clone());
-        }
-        let start = self.text.iter().position(|byte| *byte == b'\n').map_or(0, |at| at + 1);
-        let Some(Algorithms { algorithms, .. }) = object(&self.text[..start]) else { return Err(self.unexpected()) };
-        let lines = Lines { text: self.text, status: self.status, start, end, number: 1, fault, is_over: false };
-        Ok(Events { lines, algorithms })
-    }
-
-    /// Where the lines before the fault end, if the status says that the last line is one, and the fault.
-    fn end_and_fault(&self, is_empty: bool) -> Result<(usize, Option<Error>), Error> {
-        if self.status != REFUSED {
-            return if self.is_lines(is_empty) { Ok((self.text.len(), None)) } else { Err(self.unexpected()) };
-        }
-        let end = self.last_line();
-        match fault_in(&self.text[end..]) {
-            Some(fault @ Error::Refused { .. }) => Ok((end, Some(fault))),
-            _ => Err(self.unexpected()),
-        }
-    }
-
-    /// Where the last line starts.
-    fn last_line(&self) -> usize {
-        let before = self.text.strip_suffix(b"\n").unwrap_or_default();
-        before.iter().rposition(|byte| *byte == b'\n').map_or(0, |at| at + 1)
-    }
-
-    /// Whether the answer is lines, which are none only if they have to be.
-    fn is_lines(&self, is_empty: bool) -> bool {
-        self.status == DONE && self.text.last() == if is_empty { None } else { Some(&b'\n') }
-    }
-
-    /// Lines as they are.
-    pub(crate) fn lines(mut self, is_empty: bool) -> Result<Vec<u8>, Error> {
-        if !self.is_lines(is_empty) {
+    /// The lines of expected PCRs, with no more memory than they need.
+    pub(crate) fn lines(mut self) -> Result<Vec<u8>, Error> {
+        if self.result != DONE || !self.text.ends_with(b"\n") {
             return Err(self.unexpected());
         }
         self.text.shrink_to_fit();
         Ok(self.text)
-    }
-
-    /// The answer, unless it is a refusal. Of a call that requests registers, that may be malformed.
-    pub(crate) fn accepted(self, requests: bool) -> Result<Self, Error> {
-        if self.status != REFUSED {
-            return Ok(self);
-        }
-        Err(match fault_in(&self.text) {
-            Some(fault @ Error::Refused { .. }) => fault,
-            Some(Error::Malformed) if requests => Error::Malformed,
-            _ => self.unexpected(),
-        })
-    }
-
-    /// The answer, if it is a result or a refusal.
-    pub(crate) fn of_inputs(self) -> Result<Self, Error> {
-        match self.status {
-            DONE | DIFFERS | REFUSED => Ok(self),
-            _ => Err(self.failure()),
-        }
-    }
-
-    /// The error of an answer whose status is that of no result and no refusal.
-    fn failure(&self) -> Error {
-        let is_memory = || self.text.is_empty() || fault_in(&self.text[self.last_line()..]) == Some(Error::OutOfMemory);
-        if self.status == OUT_OF_MEMORY && is_memory() {
-            Error::OutOfMemory
-        } else {
-            self.unexpected()
-        }
     }
 
     fn read<T>(self, read: impl FnOnce(&Self) -> Option<T>) -> Result<T, Error> {
@@ -179,12 +129,13 @@ impl Answer {
         Some(std::str::from_utf8(&self.text).ok()?.strip_suffix('\n')?.to_owned())
     }
 
-    /// Whether the status says that all values are as expected, as they are or are not.
+    /// Whether the result says that all values are as expected, as they are or are not.
     fn says(&self, all: bool) -> bool {
-        self.status == if all { DONE } else { DIFFERS }
+        self.result == if all { DONE } else { DIFFERS }
     }
 
-    /// Whether a report is a match: of what is good before its rows, and of each of these. Its status and its verdict say the same.
+    /// Whether a report is a match: what comes before its rows is good, and each row matches. Its result and its verdict say
+    /// the same.
     fn matches(&self, report: &ListReport, is_good: bool) -> Option<bool> {
         let rows = &report.registers;
         let matches = is_good && rows.iter().all(|row| row.state == State::Match);
@@ -197,50 +148,7 @@ impl Answer {
     }
 
     pub(crate) fn unexpected(&self) -> Error {
-        Error::Unexpected { status: self.status, needed: self.text.len(), text: self.text.clone() }
-    }
-}
-
-/// The lines of an answer, and then the fault, if there is one. Nothing comes after the first error.
-#[derive(Debug, Clone)]
-pub(crate) struct Lines {
-    text: Vec<u8>,
-    status: i32,
-    start: usize,
-    end: usize,
-    number: u64,
-    fault: Option<Error>,
-    is_over: bool,
-}
-
-impl Lines {
-    pub(crate) fn fault(&self) -> Option<&Error> {
-        self.fault.as_ref()
-    }
-
-    fn next<L: DeserializeOwned, T>(&mut self, read: impl FnOnce(L, u64) -> Option<T>) -> Option<Result<T, Error>> {
-        if self.is_over {
-            return None;
-        }
-        let rest = &self.text[self.start..self.end];
-        let Some(length) = rest.iter().position(|byte| *byte == b'\n').map(|at| at + 1) else {
-            self.is_over = true;
-            return self.fault.clone().map(Err);
-        };
-        let line = &rest[..length];
-        let item = object(line).and_then(|value| read(value, self.number));
-        let item = item.ok_or_else(|| Error::Unexpected { status: self.status, needed: line.len(), text: line.to_vec() });
-        self.is_over = item.is_err();
-        (self.start, self.number) = (self.start + length, self.number + 1);
-        Some(item)
-    }
-
-    pub(crate) fn next_entry(&mut self) -> Option<Result<Entry, Error>> {
-        self.next(entry)
-    }
-
-    pub(crate) fn next_event(&mut self) -> Option<Result<Event, Error>> {
-        self.next(event)
+        Error::Unexpected { result: self.result, size: self.text.len(), text: self.text.clone() }
     }
 }
 
@@ -265,7 +173,7 @@ impl Checkpoint {
         (lines.next().is_some() && entries <= bytes && bytes <= Self::MOST_BYTES).then_some(Self { text, entries, bytes })
     }
 
-    /// The same, or the refusal.
+    /// The checkpoint, or the error of a text that does not begin as one.
     pub(crate) fn of_state(text: &[u8]) -> Result<Self, Error> {
         let is_other = text.starts_with(Self::NAME) && !text.starts_with(Self::FIRST_LINE);
         let number = if is_other { 2 } else { 1 };
@@ -293,7 +201,7 @@ struct Report {
     #[serde(default, deserialize_with = "told")]
     confirmed: Option<u64>,
     #[serde(default, deserialize_with = "told")]
-    unconfirmed: Option<Fault>,
+    unconfirmed: Option<AfterConfirmed>,
     #[serde(flatten)]
     rest: ListReport,
 }
@@ -335,7 +243,7 @@ struct Registers {
 }
 
 #[derive(Deserialize)]
-struct Algorithms {
+pub(crate) struct AlgorithmsLine {
     algorithms: Vec<LogAlgorithm>,
     #[serde(default, rename = "fault")]
     _fault: NoFault,
@@ -343,20 +251,25 @@ struct Algorithms {
 
 #[derive(Deserialize)]
 struct FaultLine {
-    fault: Fault,
+    fault: Message,
 }
 
 #[derive(Deserialize)]
-struct Fault {
+struct Message {
+    message: String,
+}
+
+/// An error in a list after its confirmed part.
+#[derive(Deserialize)]
+struct AfterConfirmed {
     kind: String,
-    number: Option<u64>,
-    event: Option<u64>,
-    entry: Option<u64>,
+    number: u64,
+    entry: u64,
     message: String,
 }
 
 #[derive(Deserialize)]
-struct EntryLine {
+pub(crate) struct EntryLine {
     entry: u64,
     #[serde(deserialize_with = "register")]
     register: u8,
@@ -376,7 +289,7 @@ struct EntryLine {
 }
 
 #[derive(Deserialize)]
-struct EventLine {
+pub(crate) struct EventLine {
     event: u64,
     register: u32,
     #[serde(rename = "type")]
@@ -409,7 +322,7 @@ pub(crate) fn register<'de, D: Deserializer<'de>>(from: D) -> Result<u8, D::Erro
 }
 
 /// The object of a line, which ends with its only line feed.
-fn object<T: DeserializeOwned>(line: &[u8]) -> Option<T> {
+pub(crate) fn object<T: DeserializeOwned>(line: &[u8]) -> Option<T> {
     let text = line.strip_suffix(b"\n")?;
     if !text.starts_with(b"{") || text.contains(&b'\n') {
         return None;
@@ -417,7 +330,11 @@ fn object<T: DeserializeOwned>(line: &[u8]) -> Option<T> {
     serde_json::from_slice(text).ok()
 }
 
-fn entry(line: EntryLine, number: u64) -> Option<Entry> {
+pub(crate) fn algorithms(line: AlgorithmsLine, _: u64) -> Option<Vec<LogAlgorithm>> {
+    Some(line.algorithms)
+}
+
+pub(crate) fn entry(line: EntryLine, number: u64) -> Option<Entry> {
     let template = name(line.template, line.template_hex)?;
     let content = match (line.payload, line.algorithm) {
         (Some(Bytes(payload)), _) => Content::Payload(payload),
@@ -440,7 +357,7 @@ fn entry(line: EntryLine, number: u64) -> Option<Entry> {
     Some(Entry { number, register, template, template_digest, violation, genuine, content })
 }
 
-fn event(line: EventLine, number: u64) -> Option<Event> {
+pub(crate) fn event(line: EventLine, number: u64) -> Option<Event> {
     (line.event == number).then_some(())?;
     let digests = line.digests.into_iter().map(|(algorithm, bytes)| Some((algorithm, digest(bytes, algorithm)?)));
     let (register, name, type_number, data) = (line.register, line.name, line.type_number, line.data.0);
@@ -451,67 +368,33 @@ fn digest(Bytes(bytes): Bytes, algorithm: Algorithm) -> Option<Vec<u8>> {
     (bytes.len() == algorithm.digest_size()).then_some(bytes)
 }
 
-/// A name, which stands in hexadecimal if it is not UTF-8.
+/// A name, which is in hexadecimal if it is not UTF-8.
 fn name(text: Option<String>, bytes: Option<Bytes>) -> Option<Vec<u8>> {
     text.map(String::into_bytes).or(bytes.map(|Bytes(bytes)| bytes))
 }
 
-/// The error that the line of a fault states. The members of one that is JSON say the same as its message.
-fn fault_in(text: &[u8]) -> Option<Error> {
-    if !text.starts_with(b"{") {
-        return fault_said_by(std::str::from_utf8(text).ok()?.strip_suffix('\n')?);
+/// The line that a refusal's text is, or that its JSON has.
+fn fault_line(text: &[u8]) -> Option<String> {
+    let line = if text.starts_with(b"{") {
+        object::<FaultLine>(text)?.fault.message
+    } else {
+        std::str::from_utf8(text).ok()?.strip_suffix('\n').filter(|line| !line.contains('\n'))?.to_owned()
+    };
+    line.starts_with("refused: ").then_some(line)
+}
+
+impl AfterConfirmed {
+    /// The error in a list with so many entries, of which so many are confirmed: it is after these.
+    fn unconfirmed(self, confirmed: u64, entries: u64) -> Option<Unconfirmed> {
+        let Self { kind: name, number, entry, message: line } = self;
+        let (kind, is_after) = match name.as_str() {
+            "list" => (Kind::List, entry == entries),
+            "replay" => (Kind::Replay, (confirmed..entries).contains(&entry)),
+            _ => return None,
+        };
+        let says = line == format!("unconfirmed: {name} fault {number} at entry {entry}");
+        (is_after && says).then_some(Unconfirmed { line, kind, number, entry })
     }
-    let fault = object::<FaultLine>(text)?.fault;
-    fault_with(&fault, &fault.message)
-}
-
-/// The fault of a list with so many entries, of which so many are confirmed: it is after these.
-fn unconfirmed_fault(fault: Fault, confirmed: u64, entries: u64) -> Option<Unconfirmed> {
-    let line = fault.message.strip_prefix("unconfirmed: ")?;
-    let Error::Refused { kind, number, place, .. } = fault_with(&fault, &format!("refused: {line}"))? else { return None };
-    let is_after = match kind {
-        Kind::List => place == Some(entries),
-        Kind::Replay => place.map_or(false, |entry| (confirmed..entries).contains(&entry)),
-        _ => false,
-    };
-    is_after.then_some(Unconfirmed { line: fault.message, kind, number, entry: place? })
-}
-
-/// The error that a line states, where the members of a fault say the same, but that the line alone has the line of a text.
-fn fault_with(members: &Fault, line: &str) -> Option<Error> {
-    let Fault { ref kind, number, event, entry, .. } = *members;
-    let fault = fault_said_by(line)?;
-    let said = match fault {
-        Error::Refused { kind: Kind::Log, number, place, .. } => ("log", Some(number), place, None),
-        Error::Refused { kind: Kind::List, number, place, .. } => ("list", Some(number), None, place),
-        Error::Refused { kind: Kind::Replay, number, place, .. } => ("replay", Some(number), None, place),
-        Error::Refused { kind: Kind::Expected, number, .. } => ("expected", Some(number), None, None),
-        Error::Refused { kind: Kind::Checkpoint, number, .. } => ("checkpoint", Some(number), None, None),
-        Error::Malformed => ("command_line", None, None, None),
-        _ => ("memory", None, None, None),
-    };
-    (said == (kind.as_str(), number, event, entry)).then_some(fault)
-}
-
-/// The error that the line of a fault states as text.
-fn fault_said_by(line: &str) -> Option<Error> {
-    let (kind, digits, place) = match line.split(' ').collect::<Vec<_>>()[..] {
-        ["refused:", "command", "line"] => return Some(Error::Malformed),
-        ["failed:", "memory"] => return Some(Error::OutOfMemory),
-        ["refused:", "log", "fault", digits] => (Kind::Log, digits, None),
-        ["refused:", "log", "fault", digits, "at", "event", place] => (Kind::Log, digits, Some(place)),
-        ["refused:", "list", "fault", digits, "at", "entry", place] => (Kind::List, digits, Some(place)),
-        ["refused:", "replay", "fault", digits, "at", "entry", place] => (Kind::Replay, digits, Some(place)),
-        ["refused:", "expected", "fault", digits] => (Kind::Expected, digits, None),
-        ["refused:", "expected", "fault", digits, "at", "line", place] => (Kind::Expected, digits, Some(place)),
-        ["refused:", "checkpoint", "fault", digits] => (Kind::Checkpoint, digits, None),
-        _ => return None,
-    };
-    let place = match place {
-        Some(place) => Some(number_in(place)?),
-        None => None,
-    };
-    Some(Error::Refused { line: line.to_owned(), kind, number: number_in(digits)?, place })
 }
 
 /// A number in decimal, without leading zeros.

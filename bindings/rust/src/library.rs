@@ -5,54 +5,45 @@ use crate::Error;
 use ima_verify_sys as c;
 
 pub(crate) use c::{
-    IMA_VERIFY_DIFFERS as DIFFERS, IMA_VERIFY_DONE as DONE, IMA_VERIFY_OUT_OF_MEMORY as OUT_OF_MEMORY,
-    IMA_VERIFY_REFUSED as REFUSED, IMA_VERIFY_TOO_SHORT as TOO_SHORT,
+    ima_verify_told as Told, IMA_VERIFY_DIFFERS as DIFFERS, IMA_VERIFY_DONE as DONE, IMA_VERIFY_MORE as MORE,
+    IMA_VERIFY_OUT_OF_MEMORY as OUT_OF_MEMORY, IMA_VERIFY_REFUSED as REFUSED, IMA_VERIFY_TOO_SHORT as TOO_SHORT,
 };
 
-/// Room for what is not made of each entry or event: four banks have 96 registers, and no row of these has more than 256 bytes. (A
-/// checkpoint has each register twice, in at most 140 bytes.)
-pub(crate) const ROOM: usize = 32 * 1024;
+/// The first buffer for a text. (Four banks have 96 PCRs, and no row has more than 256 bytes; a checkpoint has less than 20000.)
+pub(crate) const ROOM: usize = 64 * 1024;
 
-/// Room for the entries of a list of this size: an entry's text is at most twice as long as the entry.
-pub(crate) fn room_of_entries(size: usize) -> usize {
-    size.saturating_mul(2).saturating_add(1024)
-}
-
-/// Room for most entries or events as JSON. (A control byte of a path takes six; then a second call is needed.)
-pub(crate) fn room_of_lines(size: usize) -> usize {
-    size.saturating_mul(4).saturating_add(1024)
-}
+/// What is reported before a call: a size that no text has.
+const NOTHING_TOLD: Told =
+    Told { size: usize::MAX, fault_kind: c::IMA_VERIFY_NO_FAULT, fault_number: 0, fault_place: c::IMA_VERIFY_NO_PLACE };
 
 pub(crate) fn version() -> u32 {
     // SAFETY: the function takes nothing and only returns a number.
     unsafe { c::ima_verify_version() }
 }
 
-/// The calls: each gives the status, and how long the text is.
+/// The calls: each gives the result, and what is reported of the text.
 macro_rules! calls {
-    ($($name:ident = $function:ident($($input:ident),*);)*) => {
-        $(pub(crate) fn $name($($input: &[u8],)* out: &mut [u8]) -> (i32, usize) {
-            let mut needed = usize::MAX;
-            // SAFETY: the pointers are those of slices that live through the call, so they are not null, and the sizes are theirs; `out` and
-            // `needed` are borrowed for writing, so they overlap nothing else. The library keeps nothing, and any thread may call it.
-            let status = unsafe { c::$function($($input.as_ptr(), $input.len(),)* out.as_mut_ptr(), out.len(), &mut needed) };
-            (status, needed)
+    ($($name:ident = $function:ident($($input:ident),*; $($flag:expr),*);)*) => {
+        $(pub(crate) fn $name($($input: &[u8],)* out: &mut [u8]) -> (i32, Told) {
+            let mut told = NOTHING_TOLD;
+            // SAFETY: the pointers are those of slices that live through the call, so they are not null, and the sizes are
+            // theirs; `out` and `told` are borrowed for writing, so they overlap nothing else. The library keeps nothing, and
+            // any thread may call it.
+            let result = unsafe {
+                c::$function($($input.as_ptr(), $input.len(),)* $($flag,)* out.as_mut_ptr(), out.len(), &mut told)
+            };
+            (result, told)
         })*
     };
 }
 
 calls! {
-    verify = ima_verify_verdict_json(log, list, expected);
-    verify_required = ima_verify_required_json(log, list, expected, require);
-    locate = ima_verify_locate_json(log, list, expected);
-    locate_required = ima_verify_locate_required_json(log, list, expected, require);
-    replay = ima_verify_replay_required_json(list, expected, require);
-    list_registers = ima_verify_replay_json(list);
-    registers = ima_verify_registers_json(log);
-    events = ima_verify_events_json(log);
-    entries = ima_verify_entries_json(list);
-    expected = ima_verify_expected(printed, registers);
-    show = ima_verify_show(list);
+    verdict = ima_verify_raw_verdict(log, list, expected, require; true);
+    locate = ima_verify_raw_locate(log, list, expected, require; true);
+    replay = ima_verify_raw_replay(list, expected, require; true);
+    expected = ima_verify_raw_expected(printed, registers; false);
+    log_registers = ima_verify_raw_registers(log; false, true);
+    list_registers = ima_verify_raw_registers(list; true, true);
 }
 
 /// The inputs of a session's call.
@@ -65,67 +56,91 @@ pub(crate) struct More<'a> {
     pub(crate) prefix: bool,
 }
 
-/// The call of a session: it gives the status, and how long the next state and the text are.
+/// The call of a session: it also gives the size of the next state.
 #[rustfmt::skip]
-pub(crate) fn verify_more(inputs: &More, [next, out]: &mut [Vec<u8>; 2]) -> (i32, [usize; 2]) {
+pub(crate) fn verify_more(inputs: &More, next: &mut [u8], out: &mut [u8]) -> (i32, usize, Told) {
     let &More { log, state, data, expected, require, prefix } = inputs;
-    let (mut next_needed, mut needed) = (usize::MAX, usize::MAX);
-    // SAFETY: as of the calls above; `next` and `out` are two buffers, and their sizes two variables.
-    let status = unsafe {
-        c::ima_verify_more_json(
+    let (mut next_size, mut told) = (usize::MAX, NOTHING_TOLD);
+    // SAFETY: as of the calls above; `next` and `out` are two buffers, and `next_size` is a variable of its own.
+    let result = unsafe {
+        c::ima_verify_raw_more(
             log.as_ptr(), log.len(), state.as_ptr(), state.len(), data.as_ptr(), data.len(),
-            expected.as_ptr(), expected.len(), require.as_ptr(), require.len(), prefix,
-            next.as_mut_ptr(), next.len(), &mut next_needed, out.as_mut_ptr(), out.len(), &mut needed,
+            expected.as_ptr(), expected.len(), require.as_ptr(), require.len(), prefix, true,
+            next.as_mut_ptr(), next.len(), &mut next_size, out.as_mut_ptr(), out.len(), &mut told,
         )
     };
-    (status, [next_needed, needed])
+    (result, next_size, told)
 }
 
-/// Calls the library with room for a text of this size, and once more if that is too short. The answer is a result or a refusal.
-pub(crate) fn ask(room: usize, mut call: impl FnMut(&mut [u8]) -> (i32, usize)) -> Result<Answer, Error> {
-    let (status, [text]) = ask_for_texts([room], |[out]| {
-        let (status, needed) = call(out);
-        (status, [needed])
-    })?;
-    Answer { status, text }.of_inputs()
+/// Where the lines of entries or events continue.
+#[derive(Debug, Clone, Copy, Default)]
+pub(crate) struct Position {
+    offset: usize,
+    number: usize,
 }
 
-/// Calls the library with room for texts of these sizes, and once more if one is too short. It gives the status and the texts.
-pub(crate) fn ask_for_texts<const N: usize>(
-    rooms: [usize; N],
-    mut call: impl FnMut(&mut [Vec<u8>; N]) -> (i32, [usize; N]),
-) -> Result<(i32, [Vec<u8>; N]), Error> {
+pub(crate) fn entries(list: &[u8], at: &mut Position, json: bool, out: &mut [u8]) -> (i32, Told) {
+    let mut told = NOTHING_TOLD;
+    // SAFETY: as of the calls above; the numbers of the position are borrowed for writing, too. They are those that the
+    // library set for this list, or zeros.
+    let result = unsafe {
+        let (offset, number) = (&mut at.offset, &mut at.number);
+        c::ima_verify_raw_entries(list.as_ptr(), list.len(), offset, number, json, out.as_mut_ptr(), out.len(), &mut told)
+    };
+    (result, told)
+}
+
+pub(crate) fn events(log: &[u8], at: &mut Position, out: &mut [u8]) -> (i32, Told) {
+    let mut told = NOTHING_TOLD;
+    // SAFETY: as of `entries`.
+    let result = unsafe {
+        let (offset, number) = (&mut at.offset, &mut at.number);
+        c::ima_verify_raw_events(log.as_ptr(), log.len(), offset, number, out.as_mut_ptr(), out.len(), &mut told)
+    };
+    (result, told)
+}
+
+/// Calls the library with a buffer for a text, and with a longer one while that is too short. The answer has no error.
+pub(crate) fn ask(text: Vec<u8>, mut call: impl FnMut(&mut [u8]) -> (i32, Told)) -> Result<Answer, Error> {
+    ask_for_both(Vec::new(), text, |_, out| {
+        let (result, told) = call(out);
+        (result, 0, told)
+    })
+}
+
+/// Calls the library with buffers for a next checkpoint, whose size the call gives, and for a text.
+pub(crate) fn ask_for_both(
+    mut next: Vec<u8>,
+    mut text: Vec<u8>,
+    mut call: impl FnMut(&mut [u8], &mut [u8]) -> (i32, usize, Told),
+) -> Result<Answer, Error> {
     if version() < c::IMA_VERIFY_VERSION {
         return Err(Error::Version(version()));
     }
-    let mut outs = buffers(rooms)?;
-    let (mut status, mut needed) = call(&mut outs);
-    let is_more = needed.iter().zip(rooms).any(|(needed, room)| *needed > room);
-    if status == TOO_SHORT && is_more && !needed.contains(&usize::MAX) {
-        for (size, room) in needed.iter_mut().zip(rooms) {
-            *size = room.max(*size);
+    loop {
+        let (result, next_size, told) = call(&mut next, &mut text);
+        if result == TOO_SHORT && (lengthen(&mut next, next_size)? | lengthen(&mut text, told.size)?) {
+            continue;
         }
-        outs = buffers(needed)?;
-        (status, needed) = call(&mut outs);
-    }
-    for (out, needed) in outs.iter_mut().zip(needed) {
-        if needed > out.len() {
-            return Err(Error::Unexpected { status, needed, text: Vec::new() });
+        if next_size > next.len() || told.size > text.len() {
+            return Err(Error::Unexpected { result, size: told.size, text: Vec::new() });
         }
-        out.truncate(needed);
+        next.truncate(next_size);
+        text.truncate(told.size);
+        return Answer { result, told, next, text }.accepted();
     }
-    Ok((status, outs))
 }
 
-fn buffers<const N: usize>(rooms: [usize; N]) -> Result<[Vec<u8>; N], Error> {
-    let mut outs = rooms.map(|_| Vec::new());
-    for (out, room) in outs.iter_mut().zip(rooms) {
-        *out = zeros(room)?;
+/// Makes a buffer long enough for a text of this size, and says whether it was too short.
+fn lengthen(buffer: &mut Vec<u8>, size: usize) -> Result<bool, Error> {
+    let is_longer = size > buffer.len() && size != usize::MAX;
+    if is_longer {
+        *buffer = zeros(size)?;
     }
-    Ok(outs)
+    Ok(is_longer)
 }
 
-fn zeros(size: usize) -> Result<Vec<u8>, Error> {
+pub(crate) fn zeros(size: usize) -> Result<Vec<u8>, Error> {
     let mut bytes = Vec::new();
     bytes.try_reserve_exact(size).map_err(|_| Error::OutOfMemory)?;
     bytes.resize(size, 0);

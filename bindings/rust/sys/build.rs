@@ -1,4 +1,4 @@
-//! Finds libima_verify: in the folder that the environment variable IMA_VERIFY_DIR names, else by `pkg-config --libs ima_verify`.
+//! Finds libima_verify: in the folder that the environment variable IMA_VERIFY_DIR names, otherwise by `pkg-config --libs ima_verify`.
 
 use std::env;
 use std::process::{exit, Command};

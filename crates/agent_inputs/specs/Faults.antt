@@ -1,10 +1,11 @@
 -- How the faults of the parts become faults of the program. Out of memory is one fault, wherever it happens. All of this is this
 -- project's choice.
-use Rattle.std.specs.Prelude.{◌≡◌, ℕ, ◌⊎◌, List}
+use Rattle.std.specs.Prelude.{◌≡◌, ℕ, ◌⊎◌, List, Some}
 use Rattle.command_line.specs.declared.fault.WordsFault.{WordsFault}
 use Rattle.command_line.specs.declared.fault.WordsFault.TheVariants as words
 use Rattle.boot_log.specs.declared.fault.LogFault.{LogFault}
 use Rattle.boot_log.specs.declared.fault.LogFault.TheVariants as logs
+use Rattle.boot_log.specs.Reading.{log_fault}
 use Rattle.ima_list.specs.declared.fault.ListFault.{ListFault}
 use Rattle.ima_list.specs.declared.fault.ListFault.TheVariants as lists
 use Rattle.measure_book.specs.declared.fault.BookFault.{BookFault}
@@ -34,6 +35,12 @@ fault_of_words words.Memory = runs.Memory
 abbrev pub fault_of_log : LogFault → RunFault
 fault_of_log logs.Memory = runs.Memory
 fault_of_log fault = runs.Log fault
+
+-- The bytes are no log, and the fault is their first.
+pub record HasLogFault (content : List ℕ) (fault : RunFault) : Type 0 where
+  pub first : LogFault
+  pub first_is : log_fault content ≡ Some first
+  pub says : fault ≡ fault_of_log first
 
 abbrev pub fault_of_list : ListFault → RunFault
 fault_of_list lists.Memory = runs.Memory

@@ -3,7 +3,7 @@
 use crate::commands::FILES;
 use crate::devices::{PieceFiles, words_of};
 use byte_streams::VecSink;
-use ima_agent::{Failure, Progress, run_with_progress};
+use ima_agent::{Failure, FileProgress, Progress, run_with_progress};
 use std::alloc::Global;
 use std::sync::Wait;
 use std::sync::atomic::{AtomicU32, Ordering};
@@ -19,7 +19,7 @@ struct Notes {
     ends: AtomicU32,
 }
 
-impl Progress for Notes {
+impl FileProgress for Notes {
     fn done(&self, files: u32, all: u32) {
         self.calls.fetch_add(1, Ordering::SeqCst);
         if all == 5 {
@@ -31,7 +31,9 @@ impl Progress for Notes {
     fn ended(&self) {
         self.ends.fetch_add(1, Ordering::SeqCst);
     }
+}
 
+impl Progress for Notes {
     fn explain(&self, _alloc: Global, _failure: Failure<'_>) {}
 }
 

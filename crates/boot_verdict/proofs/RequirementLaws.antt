@@ -276,7 +276,7 @@ required_matched algs events entries expected text ranges alg register is meets 
     let each = (and_parts (is_good verdict.aggregate) (list_all is_match verdict.rows) both.0).1 in
     rows_matched verdict.rows text ranges alg register is each both.1 named
 
--- The same of a verdict on a list alone.
+-- Each register that a requirement names has a row that is a match, where the verdict on a list alone meets it.
 pub required_list_matched : (entries : List ListEntry) (expected : List Expected) (text : List ℕ) (ranges : List BankRange) (alg : Alg)
     (register : ℕ) → IsRequirementText text ranges → required_list_matches ranges (list_verdict_on entries expected) ≡ true
     → names ranges alg register ≡ true → HasMatch (list_verdict_on entries expected).rows alg register

@@ -36,6 +36,6 @@ pub record AreAfter (start : Banks) (steps : List Step) (now : Banks) : Type 0 w
 abbrev pub After : Type 0 → Type 1
 After Following = Following → ℕ → List Step → Following → Type 0
 
--- The same of banks.
+-- The banks that follow a boot.
 abbrev pub BanksAfter : After Banks
 BanksAfter start events steps now = AreAfter start steps now

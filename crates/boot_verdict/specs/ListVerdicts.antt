@@ -55,7 +55,7 @@ pub record IsListVerdict (list : List ℕ) (expected : List Expected) (verdict :
   pub genuine : AreGenuine entries
   pub verdict_is : verdict ≡ list_verdict_on entries expected
 
--- The same for all bytes that a source had left, at most `limit`.
+-- All bytes that a source had left, at most `limit`, are such a list, and this is the verdict on it.
 pub record IsListVerdictFrom (old new : Option (List ℕ)) (limit : ℕ) (expected : List Expected) (verdict : ListVerdict) : Type 0 where
   pub list : List ℕ
   pub came : CameWhole old new limit list

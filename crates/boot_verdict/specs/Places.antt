@@ -82,7 +82,7 @@ pub record AreLocated (log list : List ℕ) (expected : List Expected) (located 
   pub genuine : AreGenuine entries
   pub located_are : located ≡ located_on (algs_in table) events entries expected
 
--- The same for all bytes that a source had left, at most `limit`.
+-- The log, and all bytes that a source had left, at most `limit`, have these places.
 pub record AreLocatedFrom (log : List ℕ) (old new : Option (List ℕ)) (limit : ℕ) (expected : List Expected) (located : List Located) : Type 0 where
   pub list : List ℕ
   pub came : CameWhole old new limit list

@@ -1,5 +1,5 @@
 -- The lines of registers. All of this is this project's choice.
-use Rattle.std.specs.Prelude.{ℕ, Bool, true, not, List, [], ◌++◌, codes, decimal, bytes_eq, flat_map, if◌then◌else◌, Option, Some, None}
+use Rattle.std.specs.Prelude.{ℕ, Bool, true, not, List, [], ◌++◌, codes, decimal, bytes_eq, flat_map, map, if◌then◌else◌, Option, Some, None}
 use Rattle.std.specs.List.{range_with_len}
 use Rattle.hex.specs.Hex.{encode_lower}
 use Rattle.pcr_banks.specs.declared.alg.Alg.{Alg}
@@ -30,10 +30,10 @@ register_change now start alg register = change_line alg register (value_at star
 unfoldable pub all_registers : List ℕ
 all_registers = range_with_len 0 register_count
 
--- The lines of a bank, by ascending register.
-abbrev pub bank_text : Banks → Banks → Alg → List ℕ
-bank_text now start alg = flat_map (register_change now start alg) all_registers
+-- The registers of all banks: by bank in the order of algorithms, then by number.
+unfoldable pub every_register : List (Alg × ℕ)
+every_register = flat_map (λ alg. map (λ register. (alg, register)) all_registers) all_algs
 
--- The lines of all banks, in the order of algorithms.
+-- The lines of all registers that differ.
 abbrev pub registers_text : Banks → Banks → List ℕ
-registers_text now start = flat_map (bank_text now start) all_algs
+registers_text now start = flat_map (λ register. register_change now start register.0 register.1) every_register

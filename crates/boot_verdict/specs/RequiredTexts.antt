@@ -1,12 +1,12 @@
 -- The texts of a report and of places where registers are required. All of this is this project's choice.
 use Rattle.std.specs.Prelude.{ℕ, if◌then◌else◌, List, [], ◌++◌, length, codes, decimal, flat_map}
 use Rattle.pcr_banks.specs.declared.alg.Alg.{Alg}
-use Rattle.pcr_banks.specs.Hashing.{all_algs, name_of}
+use Rattle.pcr_banks.specs.Hashing.{name_of}
 use Rattle.boot_verdict.specs.declared.expected.Expected.{Expected}
 use Rattle.boot_verdict.specs.declared.places.Located.{Located}
 use Rattle.boot_verdict.specs.declared.requirement.BankRange.{BankRange}
 use Rattle.boot_verdict.specs.PlaceTexts.{found_text, located_text}
-use Rattle.boot_verdict.specs.RegisterTexts.{all_registers}
+use Rattle.boot_verdict.specs.RegisterTexts.{every_register}
 use Rattle.boot_verdict.specs.ReportTexts.{aggregate_text, counts_text, row_text, verdict_text}
 use Rattle.boot_verdict.specs.Requirements.{expected_of_located, expected_of_rows, is_missing, required_found, required_matches}
 use Rattle.boot_verdict.specs.Verdicts.{Verdict}
@@ -15,17 +15,13 @@ use Rattle.boot_verdict.specs.Verdicts.{Verdict}
 abbrev pub missing_line : Alg → ℕ → List ℕ
 missing_line alg register = name_of alg ++ (codes " " ++ (decimal register ++ codes " missing\n"))
 
--- The same if it is missing; else nothing.
+-- The line if the register is missing; else nothing.
 abbrev pub line_if_missing : List BankRange → List Expected → Alg → ℕ → List ℕ
 line_if_missing ranges expected alg register = if is_missing ranges expected alg register then missing_line alg register else []
 
--- The lines of a bank, by ascending register.
-abbrev pub missing_in : List BankRange → List Expected → Alg → List ℕ
-missing_in ranges expected alg = flat_map (line_if_missing ranges expected alg) all_registers
-
--- The lines of all banks, in the order of algorithms.
+-- The lines of all registers that are missing.
 abbrev pub missing_text : List BankRange → List Expected → List ℕ
-missing_text ranges expected = flat_map (missing_in ranges expected) all_algs
+missing_text ranges expected = flat_map (λ register. line_if_missing ranges expected register.0 register.1) every_register
 
 -- The line of how many registers were compared.
 abbrev pub compared_text : ℕ → List ℕ

@@ -44,7 +44,7 @@ abbrev pub pcr_after_log : AlgSet → List LogEvent → Alg → ℕ → Option (
 pcr_after_log algs events alg register =
     if has_alg algs alg && nat_lt register register_count then Some (firmware_value events alg register) else None
 
--- The same after the log's events and then the list's entries.
+-- The value after the log's events and then the list's entries.
 abbrev pub pcr_after_log_and_list : AlgSet → List LogEvent → List ListEntry → Alg → ℕ → Option (List ℕ)
 pcr_after_log_and_list algs events entries alg register =
     option_map (λ value. extended_by_all alg value (digests_of entries alg register)) (pcr_after_log algs events alg register)

@@ -61,7 +61,7 @@ pub fn met_requirement_is_matched()
         → HasMatch (verdict_on algs events entries expected).rows alg register }
 {}
 
-/// The same of the verdict on a list alone.
+/// A verdict on a list alone that meets a requirement has a `match` for each register that the requirement names.
 pub fn met_requirement_of_a_list_is_matched()
     ensures { (entries : List ListEntry) (expected : List Expected) (text : List ℕ) (ranges : List BankRange) (alg : Alg)
         (register : ℕ) → IsRequirementText text ranges → required_list_matches ranges (list_verdict_on entries expected) ≡ true

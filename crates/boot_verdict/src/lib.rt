@@ -2,6 +2,7 @@
 //! registers first have their expected values; and the texts of events, registers, reports and places.
 #![tactic(auto)]
 
+mod all_registers;
 mod checkpoint;
 mod expected;
 pub mod laws;
@@ -21,6 +22,7 @@ mod steps;
 mod texts;
 mod verifier;
 
+pub use all_registers::{ALL_REGISTERS, register_numbered};
 pub use checkpoint::Checkpoint;
 pub use expected::{ExpectFault, Expected, read_expected, register_on};
 pub use lines::{after_prefix, split_once};
@@ -32,11 +34,11 @@ pub use printed::read_printed;
 pub use register_range::RegisterRange;
 pub use replaying::{list_start, replay_from};
 pub use report::{Aggregate, Report, Row, State};
-pub use requirement::{BankRange, Requirement, RequirementFault};
+pub use requirement::{BankRange, HasExpected, Requirement, RequirementFault};
 pub use steps::{Follow, Step};
 pub use texts::{
-    EventData, digits_of, write_change, write_counts, write_events, write_expected,
-    write_list_report, write_outcome, write_places, write_registers, write_report,
+    EventData, aggregate_word, algorithm_with, digits_of, write_change, write_counts, write_events,
+    write_expected, write_list_report, write_outcome, write_places, write_registers, write_report,
     write_required_list_report, write_required_outcome, write_required_places,
     write_required_report,
 };

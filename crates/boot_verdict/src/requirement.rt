@@ -107,13 +107,6 @@ impl Requirement {
         Ok(Requirement { ranges })
     }
 
-    /// Whether the register is required, but is not among these.
-    pub fn is_missing(&self, expected: &[Expected], alg: Alg, register: u32) -> bool
-        ensures { result ≡ is_missing self.now expected.now alg register }
-    {
-        self.lacks(expected, alg, register)
-    }
-
     /// Whether each required register is among these.
     pub fn is_met(&self, expected: &[Expected]) -> bool
         ensures { result ≡ is_complete self.now expected.now }
@@ -129,7 +122,7 @@ impl Requirement {
     }
 
     /// Whether the register is required, but has none of these rows.
-    pub(crate) fn lacks<T: HasExpected>(&self, rows: &[T], alg: Alg, register: u32) -> bool
+    pub fn is_missing<T: HasExpected>(&self, rows: &[T], alg: Alg, register: u32) -> bool
         ensures { result ≡ is_missing self.now (map T.expected_of rows.now) alg register }
     {
         self.names(alg, register) && !states(rows, alg, register)
@@ -142,16 +135,16 @@ impl Requirement {
         Alg::ALL.iter().all(|alg| self.is_met_in(rows, *alg))
     }
 
-    // The same of the registers of one bank.
+    // Whether each required register of the bank has one of these rows.
     fn is_met_in<T: HasExpected>(&self, rows: &[T], alg: Alg) -> bool
         ensures { result ≡ is_complete_in self.now (map T.expected_of rows.now) alg }
     {
-        (0..REGISTERS).all(|register| !self.lacks(rows, alg, register))
+        (0..REGISTERS).all(|register| !self.is_missing(rows, alg, register))
     }
 }
 
 /// An expected register, or a row that has one.
-pub(crate) trait HasExpected {
+pub trait HasExpected {
     ghost expected_of: { Self → Expected };
 
     /// The expected register.

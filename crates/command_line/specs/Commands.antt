@@ -1,6 +1,6 @@
 -- The commands as they are defined for clap, and how a plan follows from clap's matches. What arguments match is clap's own
 -- definition (`subcommand_of`). All of this is this project's choice.
-use Rattle.std.specs.Prelude.{◌≡◌, ℕ, Bool, false, true, List, [], ◌∷◌, codes, map, option_map, unwrap_or, Option, None, Some, String, string_bytes}
+use Rattle.std.specs.Prelude.{◌≡◌, ℕ, false, true, List, [], ◌∷◌, codes, map, option_map, unwrap_or, Option, None, Some, String, string_bytes}
 use Rattle.std.specs.Global.{Global}
 use Rattle.std.specs.List.{fold}
 use Rattle.std.specs.Str.Parse.{IsNumeral, digits_value, without_leading_plus}
@@ -11,10 +11,6 @@ use Rattle.clap.specs.declared.builder.ArgAction.TheVariants.{Append, SetTrue, V
 use Rattle.clap.specs.declared.builder.ValueParser.{ValueParser}
 use Rattle.pcr_banks.specs.Hashing.{name_of}
 use Rattle.ima_list.specs.Templates.{template_name}
-use Rattle.command_line.specs.declared.json_plan.JsonPlan.{JsonPlan}
-use Rattle.command_line.specs.declared.json_plan.JsonPlan.TheVariants as jsons
-use Rattle.command_line.specs.declared.json_plan.JsonPrint.{JsonPrint}
-use Rattle.command_line.specs.declared.json_plan.JsonPrint.TheVariants as json_prints
 use Rattle.command_line.specs.declared.plan.DataShown.{DataShown}
 use Rattle.command_line.specs.declared.plan.DataShown.TheVariants.{Size, Bytes}
 use Rattle.command_line.specs.declared.plan.Extent.{Extent}
@@ -23,12 +19,18 @@ use Rattle.command_line.specs.declared.plan.Form.{Form}
 use Rattle.command_line.specs.declared.plan.Form.TheVariants as forms
 use Rattle.command_line.specs.declared.plan.Judged.{Judged}
 use Rattle.command_line.specs.declared.plan.Judged.TheVariants as judged
+use Rattle.command_line.specs.declared.plan.Measurement.{Measurement}
 use Rattle.command_line.specs.declared.plan.NameEnd.{NameEnd}
 use Rattle.command_line.specs.declared.plan.NameEnd.TheVariants.{LineFeed, Nul}
+use Rattle.command_line.specs.declared.plan.Names.{Names}
 use Rattle.command_line.specs.declared.plan.Plan.{Plan}
-use Rattle.command_line.specs.declared.plan.Plan.TheVariants.{Registers, Measure, MeasureListed, Verify, Judge, Expected, RegistersAfter, Events, Show, Replay, Json, Help, Version}
 use Rattle.command_line.specs.declared.plan.Print.{Print}
 use Rattle.command_line.specs.declared.plan.Print.TheVariants as prints
+use Rattle.command_line.specs.declared.plan.Question.{Question}
+use Rattle.command_line.specs.declared.plan.Question.TheVariants as questions
+use Rattle.command_line.specs.declared.plan.Task.{Task}
+use Rattle.command_line.specs.declared.plan.Task.TheVariants as tasks
+use Rattle.command_line.specs.Tasks.{IsOneOf, task_of}
 
 -- ---- the commands
 
@@ -146,17 +148,6 @@ print_name prints.Ascii = codes "ascii"
 print_name prints.Binary = codes "binary"
 print_name prints.Registers = codes "registers"
 
--- What `--print` calls what a measurement prints as JSON.
-abbrev pub json_print_name : JsonPrint → Text
-json_print_name json_prints.Entries = codes "ascii"
-json_print_name json_prints.Registers = codes "registers"
-
--- How the result of the plan is shown.
-abbrev pub form_of : Plan → Form
-form_of (Judge judge) = judge.form
-form_of (Json plan) = forms.Json
-form_of plan = forms.Text
-
 -- The value that clap gives `--json`: `true` if it is present, else `false`.
 abbrev pub form_value : Form → Text
 form_value forms.Text = codes "false"
@@ -184,26 +175,34 @@ pub record HasNumber (id : Text) (rows : List Row) (number : ℕ) : Type 0 where
   pub numeral : IsNumeral 10 (without_leading_plus text)
   pub number_is : digits_value 10 (without_leading_plus text) ≡ number
 
--- The matches have these options and names of a measurement.
-pub record HasMeasure (rows : List Row) (alg template print log : Text) (workers limit : ℕ) (files : List Text) : Type 0 where
-  pub alg_is : first_of (codes "alg") rows ≡ Some alg
-  pub template_is : first_of (codes "template") rows ≡ Some template
-  pub workers_is : HasNumber (codes "workers") rows workers
-  pub limit_is : HasNumber (codes "limit") rows limit
-  pub print_is : first_of (codes "print") rows ≡ Some print
-  pub log_is : first_of (codes "LOG") rows ≡ Some log
-  pub files_is : unwrap_or (all_of (codes "FILE") rows) [] ≡ files
+-- The text of further names has this name, and this ends each in it; or neither `--files-from` nor `--null` is present.
+abbrev pub AreFurtherNames : List Row → Option Names → Type 0
+AreFurtherNames rows None = (all_of (codes "files-from") rows ≡ None) × (first_of (codes "null") rows ≡ Some (null_value LineFeed))
+AreFurtherNames rows (Some names) =
+    (first_of (codes "files-from") rows ≡ Some (string_bytes names.text))
+    × (first_of (codes "null") rows ≡ Some (null_value names.ends))
+
+-- The matches have the options and names of this measurement.
+pub record HasMeasure (rows : List Row) (asked : Measurement) : Type 0 where
+  pub alg_is : first_of (codes "alg") rows ≡ Some (name_of asked.alg)
+  pub template_is : first_of (codes "template") rows ≡ Some (template_name asked.template)
+  pub workers_is : HasNumber (codes "workers") rows asked.workers
+  pub limit_is : HasNumber (codes "limit") rows asked.limit
+  pub print_is : first_of (codes "print") rows ≡ Some (print_name asked.print)
+  pub log_is : first_of (codes "LOG") rows ≡ Some (string_bytes asked.log)
+  pub files_are : unwrap_or (all_of (codes "FILE") rows) [] ≡ map string_bytes asked.files.items
+  pub names_are : AreFurtherNames rows asked.names
+
+-- The argument of this name has this first value, or it is not present.
+abbrev pub IsGivenAs : Text → List Row → Option (String Global) → Type 0
+IsGivenAs id rows None = all_of id rows ≡ None
+IsGivenAs id rows (Some text) = first_of id rows ≡ Some (string_bytes text)
 
 -- The matches have these names, as `verify` and `locate` take them.
 pub record HasEvidence (rows : List Row) (log list expected : Text) : Type 0 where
   pub log_is : first_of (codes "LOG") rows ≡ Some log
   pub list_is : first_of (codes "LIST") rows ≡ Some list
   pub expected_is : first_of (codes "EXPECTED") rows ≡ Some expected
-
--- The argument of this name has this first value, or it is not present.
-abbrev pub IsGivenAs : Text → List Row → Option (String Global) → Type 0
-IsGivenAs id rows None = all_of id rows ≡ None
-IsGivenAs id rows (Some text) = first_of id rows ≡ Some (string_bytes text)
 
 -- The matches have these options of a list that grows: `--prefix` as the extent, and `--resume` and `--save`.
 pub record HasGrowth (rows : List Row) (extent : Extent) (resume save : Option (String Global)) : Type 0 where
@@ -219,75 +218,40 @@ HasJudged rows (judged.Places log) list expected = HasEvidence rows (string_byte
 HasJudged rows judged.ListVerdict list expected =
     (first_of (codes "LIST") rows ≡ Some list) × (first_of (codes "EXPECTED") rows ≡ Some expected)
 
--- Nothing more is asked for than `Verify` requests.
-abbrev pub is_plain_verdict : Judged → Option (String Global) → Form → Bool
-is_plain_verdict (judged.Verdict log Whole None None) None forms.Text = true
-is_plain_verdict judged required form = false
-
--- The plan with `--json` has the options and names of these matches. `Measure` requires that neither `--files-from` nor `--null` is
--- present, and `Replay` that neither EXPECTED nor `--require` is. `Events` has the data with `--data` and without.
-abbrev pub HasJsonValues : List Row → JsonPlan → Type 0
-HasJsonValues rows (jsons.Measure alg template workers limit print log files) =
-    HasMeasure rows (name_of alg) (template_name template) (json_print_name print) (string_bytes log) workers limit (map string_bytes files.items)
-    × (all_of (codes "files-from") rows ≡ None)
-    × (first_of (codes "null") rows ≡ Some (null_value LineFeed))
-HasJsonValues rows (jsons.MeasureListed alg template workers limit print log files names ends) =
-    HasMeasure rows (name_of alg) (template_name template) (json_print_name print) (string_bytes log) workers limit (map string_bytes files.items)
-    × (first_of (codes "files-from") rows ≡ Some (string_bytes names))
-    × (first_of (codes "null") rows ≡ Some (null_value ends))
-HasJsonValues rows (jsons.Expected printed registers) =
-    (first_of (codes "PCRREAD") rows ≡ Some (string_bytes printed))
-    × IsGivenAs (codes "registers") rows registers
-HasJsonValues rows (jsons.RegistersAfter log) = first_of (codes "LOG") rows ≡ Some (string_bytes log)
-HasJsonValues rows (jsons.Events log) = first_of (codes "LOG") rows ≡ Some (string_bytes log)
-HasJsonValues rows (jsons.Show list) = first_of (codes "LIST") rows ≡ Some (string_bytes list)
-HasJsonValues rows (jsons.Replay list) =
+-- The matches have the options and names of this question. `ListRegisters` requires that neither EXPECTED nor `--require` is present.
+abbrev pub HasQuestion : List Row → Question → Type 0
+HasQuestion rows (questions.LogRegisters log) = first_of (codes "LOG") rows ≡ Some (string_bytes log)
+HasQuestion rows (questions.ListRegisters list) =
     (first_of (codes "LIST") rows ≡ Some (string_bytes list))
     × (all_of (codes "EXPECTED") rows ≡ None)
     × (all_of (codes "require") rows ≡ None)
-
--- The plan has the options and names of these matches. `Measure` requires that neither `--files-from` nor `--null` is present, `Verify`
--- that none of `--require`, `--prefix`, `--resume` and `--save` is, and `Replay` that neither EXPECTED nor `--require` is.
-abbrev pub HasValues : List Row → Plan → Type 0
-HasValues rows Registers = ⊥
-HasValues rows (Measure alg template workers limit print log files) =
-    HasMeasure rows (name_of alg) (template_name template) (print_name print) (string_bytes log) workers limit (map string_bytes files.items)
-    × (all_of (codes "files-from") rows ≡ None)
-    × (first_of (codes "null") rows ≡ Some (null_value LineFeed))
-HasValues rows (MeasureListed alg template workers limit print log files names ends) =
-    HasMeasure rows (name_of alg) (template_name template) (print_name print) (string_bytes log) workers limit (map string_bytes files.items)
-    × (first_of (codes "files-from") rows ≡ Some (string_bytes names))
-    × (first_of (codes "null") rows ≡ Some (null_value ends))
-HasValues rows (Verify log list expected) =
-    HasEvidence rows (string_bytes log) (string_bytes list) (string_bytes expected)
-    × (all_of (codes "require") rows ≡ None)
-    × HasGrowth rows Whole None None
-HasValues rows (Judge judge) =
+HasQuestion rows (questions.Judge judge) =
     HasJudged rows judge.judged (string_bytes judge.list) (string_bytes judge.expected)
     × IsGivenAs (codes "require") rows judge.required
-    × (is_plain_verdict judge.judged judge.required judge.form ≡ false)
-HasValues rows (Expected printed registers) =
+HasQuestion rows (questions.Expected printed registers) =
     (first_of (codes "PCRREAD") rows ≡ Some (string_bytes printed))
     × IsGivenAs (codes "registers") rows registers
-HasValues rows (RegistersAfter log) = first_of (codes "LOG") rows ≡ Some (string_bytes log)
-HasValues rows (Events log shown) =
+
+-- The matches have the options and names of this task, which is that of some command.
+abbrev pub HasValues : List Row → Task → Type 0
+HasValues rows tasks.Registers = ⊥
+HasValues rows (tasks.Answer question) = HasQuestion rows question
+HasValues rows (tasks.Measure asked) = HasMeasure rows asked
+HasValues rows (tasks.Events log shown) =
     (first_of (codes "LOG") rows ≡ Some (string_bytes log))
     × (first_of (codes "data") rows ≡ Some (data_value shown))
-HasValues rows (Show list) = first_of (codes "LIST") rows ≡ Some (string_bytes list)
-HasValues rows (Replay list) =
-    (first_of (codes "LIST") rows ≡ Some (string_bytes list))
-    × (all_of (codes "EXPECTED") rows ≡ None)
-    × (all_of (codes "require") rows ≡ None)
-HasValues rows (Json plan) = HasJsonValues rows plan
-HasValues rows (Help text) = ⊥
-HasValues rows Version = ⊥
+HasValues rows (tasks.Entries list) = first_of (codes "LIST") rows ≡ Some (string_bytes list)
+HasValues rows (tasks.Help text) = ⊥
+HasValues rows tasks.Version = ⊥
 
--- The same of the matches of a command, which was found. With `--json` the result is shown as JSON, and without it as text.
+-- The matches of a command, which was found, have the options and names of the plan's task. With `--json` the result is shown as JSON, and
+-- without it as text.
 pub record HasValuesIn (found : Option (Text × List Row)) (plan : Plan) : Type 0 where
   pub rows : List Row
   pub rows_are : option_map (λ command. command.1) found ≡ Some rows
-  pub form_is : first_of (codes "json") rows ≡ Some (form_value (form_of plan))
-  pub values : HasValues rows plan
+  pub form_is : first_of (codes "json") rows ≡ Some (form_value (task_of plan).1)
+  pub values : HasValues rows (task_of plan).0
+  pub one : IsOneOf plan
 
 -- By its own definition clap does not take the arguments. (Of `measure` and `replay`, some of whose options go only with others, that says
 -- nothing.)

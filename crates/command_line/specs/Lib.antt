@@ -1,3 +1,4 @@
+pub mod Tasks
 pub mod Plans
 pub mod Commands
 pub mod parts

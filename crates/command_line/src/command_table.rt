@@ -1,6 +1,6 @@
 //! The commands and their arguments, as rows of a table, with the texts of the help.
 
-use crate::fault_tables::with_fault_tables;
+use crate::help_texts::{REQUIRED_REGISTERS, expected_help, require_help};
 use clap::builder::ValueParser;
 
 /// A command.
@@ -15,7 +15,7 @@ pub(crate) struct CommandRow<'a> {
     pub(crate) arguments: &'a [ArgumentRow<'a>],
 }
 
-/// Which command's end the help has. The texts are in `help_end_of`, and not in the rows: a static that is lent stands in the borrow
+/// Which command's end the help has. The texts are in `help_end_of` (`help_texts.rt`), and not in the rows: a static that is lent stands in the borrow
 /// checker's part of a proof with all its texts, and these are long.
 #[derive(Clone, Copy)]
 pub(crate) enum HelpEnd {
@@ -87,70 +87,6 @@ pub(crate) enum Values<'a> {
     /// Those that this parser of `clap` takes.
     Parsed(ValueParser<'a>),
 }
-
-/// The end of the help: an example, if there is one, the tables of the faults that may be answered, and the exit statuses.
-macro_rules! help_end {
-    ($($example:literal;)? $($table:ident)+) => {
-        with_fault_tables!(
-            $("Example:\n  " $example "\n\n")?;
-            $($table)+;
-            "\
-Exit status:
-  0  done; for verify: the expected registers and the boot aggregate match;
-     for replay with EXPECTED: the expected registers match
-  1  for verify: an expected register or the boot aggregate does not match;
-     with --prefix, --save or --resume: no register is expected;
-     for replay with EXPECTED: an expected register does not match;
-     for locate: a register's value was not reached, or none is expected;
-     for each of these: EXPECTED lacks a register that --require names
-  2  the arguments or an input were refused
-  3  out of memory, an input could not be read, or the output failed;
-     for verify: the checkpoint of --save could not be written;
-     for measure: an error of the program itself"
-        )
-    };
-}
-
-/// The help of EXPECTED, and what else is to be said of it.
-macro_rules! expected_help {
-    ($($more:literal)?) => {
-        concat!(
-            "\
-Expected registers, at most 64 MiB, one per line, for example `sha256 4 3d45..`:
-algorithm, register in decimal and value in hexadecimal, separated by single
-spaces. `ima-agent expected` writes such lines"
-            $(, ". ", $more)?
-        )
-    };
-}
-
-/// The help of --require, and what else is to be said of it.
-macro_rules! require_help {
-    ($more:literal) => {
-        concat!(
-            "\
-Registers that EXPECTED has to name, for example sha256:0-10 or
-sha256:0-7,sha1:10. Each that it lacks is a row `missing`, and the
-",
-            $more
-        )
-    };
-}
-
-/// What the help calls the value of --require.
-const REQUIRED_REGISTERS: &str = "BANK:A-B[,BANK:C-D..]";
-
-/// What the program does.
-pub(crate) const PROGRAM_ABOUT: &str = "\
-Replays firmware event logs and IMA measurement lists, measures files, and compares registers.
-
-Without a command: reads a firmware event log in hexadecimal from standard input, at most 64 MiB,
-and prints the registers that differ from their reset values.
-
-`--help` after a command shows its arguments and an example.";
-
-/// The end of the program's help.
-pub(crate) const PROGRAM_END: &str = help_end!(log);
 
 /// The greatest number of workers.
 pub(crate) const MOST_WORKERS: usize = 8;
@@ -406,22 +342,3 @@ registers are printed that differ from their reset values"
         ],
     },
 ];
-
-/// The text of the end of a command's help.
-pub(crate) fn help_end_of<'a>(end: HelpEnd) -> &'a str {
-    match end {
-        HelpEnd::Measure =>
-            help_end!("ima-agent measure --print registers firmware.log /bin/sh /bin/ls"; log book gather),
-        HelpEnd::Verify =>
-            help_end!("ima-agent verify --require sha256:0-10 firmware.log ima.list expected.txt"; log list replay expected checkpoint),
-        HelpEnd::Locate =>
-            help_end!("ima-agent locate firmware.log ima.list expected.txt"; log list replay expected),
-        HelpEnd::Expected =>
-            help_end!("ima-agent expected --registers 0-10 pcrread.txt > expected.txt"; expected),
-        HelpEnd::Registers => help_end!("ima-agent registers firmware.log"; log),
-        HelpEnd::Events => help_end!("ima-agent events --data firmware.log"; log),
-        HelpEnd::Show => help_end!("ima-agent show ima.list"; list),
-        HelpEnd::Replay =>
-            help_end!("ima-agent replay --require sha256:10 ima.list expected.txt"; list replay expected),
-    }
-}

@@ -7,9 +7,8 @@ ghost use Rattle.command_line.specs.parts.Commands.{IsArgument, IsCommand, app_o
 ghost use Rattle.command_line.specs.declared.commands.KnownNames.{KnownNames};
 ghost use Rattle.command_line.specs.Commands.{Parsers, commands, flag, flag_beside, omittable, optional, program_app, bare_program, repeated, required, version_flag, without_default, without_default_beside};
 
-use crate::command_table::{
-    ArgumentRow, COMMANDS, CommandRow, Form, PROGRAM_ABOUT, PROGRAM_END, Values, help_end_of,
-};
+use crate::command_table::{ArgumentRow, COMMANDS, CommandRow, Form, Values};
+use crate::help_texts::{PROGRAM_ABOUT, PROGRAM_END, help_end_of};
 use clap::builder::ValueParser;
 use clap::{Arg, ArgAction, Command};
 use std::alloc::{AllocError, Global};
@@ -232,7 +231,7 @@ fn option<'a>(alloc: Global, id: &'a str, help: &'a str, value: &'a str) -> Arg<
     Arg::new(alloc, id).help(help).long(id).value_name(value)
 }
 
-// The same, and it requires this argument.
+// An option without a default value that requires this argument.
 fn option_beside<'a>(
     alloc: Global,
     id: &'a str,

@@ -5,13 +5,14 @@ mod command_table;
 mod commands;
 mod fault;
 mod fault_tables;
-mod json_plan;
-mod json_words;
+mod help_texts;
 mod plan;
 mod values;
 mod words;
 
 pub use fault::WordsFault;
-pub use json_plan::{JsonPlan, JsonPrint};
-pub use plan::{DataShown, Extent, Form, Judge, Judged, NameEnd, Plan, Print};
+pub use plan::{
+    DataShown, Extent, Form, Judge, Judged, Measurement, NameEnd, Names, Plan, Print, Question,
+    Task,
+};
 pub use words::{read_words, refusal_of, words_after_name};

@@ -1,6 +1,8 @@
 //! What the program's arguments request.
 
-use crate::json_plan::JsonPlan;
+ghost use Rattle.std.specs.Prelude.{◌≡◌};
+ghost use Rattle.command_line.specs.Tasks.{task_of};
+
 use ima_list::Template;
 use pcr_banks::Alg;
 
@@ -47,7 +49,7 @@ pub enum Extent {
 pub enum Form {
     /// As lines of text.
     Text,
-    /// As a line of JSON.
+    /// As JSON: one line, or a line for each entry or event.
     Json,
 }
 
@@ -74,7 +76,7 @@ pub enum Judged {
     ListVerdict,
 }
 
-/// What is asked of a list and expected registers, and how the result is shown.
+/// What is asked of a list and expected registers.
 #[derive(Drop)]
 pub struct Judge {
     /// What is judged.
@@ -85,11 +87,90 @@ pub struct Judge {
     pub expected: String,
     /// The text of the registers that have to be among them, as `sha256:0-10`, if there is one. It is any text here.
     pub required: Option<String>,
-    /// How the result is shown.
-    pub form: Form,
 }
 
-/// What the program's arguments request.
+/// A text that names further files.
+#[derive(Drop)]
+pub struct Names {
+    /// The name of the text.
+    pub text: String,
+    /// What ends each name in it.
+    pub ends: NameEnd,
+}
+
+/// What is measured, and how.
+#[derive(Drop)]
+pub struct Measurement {
+    /// The algorithm of the files' digests.
+    pub alg: Alg,
+    /// The template of the entries.
+    pub template: Template,
+    /// How many workers hash at once, 1 to 8.
+    pub workers: usize,
+    /// The maximum number of records, at least 1.
+    pub limit: u32,
+    /// What to print.
+    pub print: Print,
+    /// The name of the firmware event log, binary.
+    pub log: String,
+    /// The names of the files that are named by arguments, fewer than 2^32.
+    pub files: Vec<String>,
+    /// The text that names further files, if there is one.
+    pub names: Option<Names>,
+}
+
+/// What is asked of a log, of a list or of a text of registers.
+#[derive(Drop)]
+pub enum Question {
+    /// The registers after a firmware event log.
+    LogRegisters {
+        /// The name of the log, binary.
+        log: String,
+    },
+    /// The registers that a list alone makes.
+    ListRegisters {
+        /// The name of the measurement list, binary.
+        list: String,
+    },
+    /// What a list is worth.
+    Judge(Judge),
+    /// The expected registers that `tpm2_pcrread` or `tpm2_checkquote` printed.
+    Expected {
+        /// The name of the text that one of them printed.
+        printed: String,
+        /// The text of the range of registers to show, as `0-10`; none for all of them. It is any text here.
+        registers: Option<String>,
+    },
+}
+
+/// What is to be done.
+#[derive(Drop)]
+pub enum Task {
+    /// Show the registers after a firmware event log, which is read in hexadecimal from standard input.
+    Registers,
+    /// Answer a question.
+    Answer(Question),
+    /// Measure files into the registers of a log.
+    Measure(Measurement),
+    /// Show the events of a firmware event log.
+    Events {
+        /// The name of the firmware event log, binary.
+        log: String,
+        /// What to show of their data. In JSON all of it is shown in either case.
+        data: DataShown,
+    },
+    /// Show the entries of a list.
+    Entries {
+        /// The name of the measurement list, binary.
+        list: String,
+    },
+    /// Show this help.
+    Help(String),
+    /// Show the version.
+    Version,
+}
+
+/// What the program's arguments request. Each but the last is a task that is shown as text, which [`Plan::into_task`] gives.
 #[derive(Drop)]
 pub enum Plan {
     /// Show the registers after a firmware event log, which is read in hexadecimal from standard input.
@@ -111,27 +192,6 @@ pub enum Plan {
         /// The names of the files, fewer than 2^32.
         files: Vec<String>,
     },
-    /// Measure files into the registers of a log: those named here, then those that a text names.
-    MeasureListed {
-        /// The algorithm of the files' digests.
-        alg: Alg,
-        /// The template of the entries.
-        template: Template,
-        /// How many workers hash at once, 1 to 8.
-        workers: usize,
-        /// The maximum number of records, at least 1.
-        limit: u32,
-        /// What to print.
-        print: Print,
-        /// The name of the firmware event log, binary.
-        log: String,
-        /// The names of the files named here, fewer than 2^32.
-        files: Vec<String>,
-        /// The name of the text with further names.
-        names: String,
-        /// What ends each name in that text.
-        ends: NameEnd,
-    },
     /// Replay a log and a list, and compare the registers with expected ones.
     Verify {
         /// The name of the firmware event log, binary.
@@ -141,41 +201,67 @@ pub enum Plan {
         /// The name of the text of expected registers.
         expected: String,
     },
-    /// Judge a list, in any other way.
-    Judge(Judge),
-    /// Write the text of expected registers from what `tpm2_pcrread` or `tpm2_checkquote` printed.
-    Expected {
-        /// The name of the text that one of them printed.
-        printed: String,
-        /// The text of the range of registers to write, as `0-10`; none for all of them. It is any text here.
-        registers: Option<String>,
-    },
-    /// Show the registers after a firmware event log.
-    RegistersAfter {
-        /// The name of the firmware event log, binary.
-        log: String,
-    },
-    /// Show the events of a firmware event log.
-    Events {
-        /// The name of the firmware event log, binary.
-        log: String,
-        /// What to show of their data.
-        data: DataShown,
-    },
     /// Show the entries of a list as text.
     Show {
         /// The name of the measurement list, binary.
         list: String,
     },
-    /// Replay a list alone, and show the registers it gives.
-    Replay {
-        /// The name of the measurement list, binary.
-        list: String,
-    },
-    /// Do what this plan says, and print the result as JSON.
-    Json(JsonPlan),
     /// Show this help.
     Help(String),
-    /// Show the version.
-    Version,
+    /// Do any other task, and show the result in this form.
+    Task(Task, Form),
+}
+
+impl Plan {
+    /// What is to be done, and in which form the result is shown.
+    pub fn into_task(self) -> (Task, Form)
+        ensures { result ≡ task_of self }
+    {
+        match self {
+            Plan::Registers => (Task::Registers, Form::Text),
+            Plan::Measure {
+                alg,
+                template,
+                workers,
+                limit,
+                print,
+                log,
+                files,
+            } => (
+                Task::Measure(Measurement {
+                    alg,
+                    template,
+                    workers,
+                    limit,
+                    print,
+                    log,
+                    files,
+                    names: None,
+                }),
+                Form::Text,
+            ),
+            Plan::Verify {
+                log,
+                list,
+                expected,
+            } => {
+                let judged = Judged::Verdict {
+                    log,
+                    extent: Extent::Whole,
+                    resume: None,
+                    save: None,
+                };
+                let judge = Judge {
+                    judged,
+                    list,
+                    expected,
+                    required: None,
+                };
+                (Task::Answer(Question::Judge(judge)), Form::Text)
+            }
+            Plan::Show { list } => (Task::Entries { list }, Form::Text),
+            Plan::Help(text) => (Task::Help(text), Form::Text),
+            Plan::Task(task, form) => (task, form),
+        }
+    }
 }

@@ -2,43 +2,36 @@
 
 ghost use Rattle.std.specs.Prelude.{◌≡◌, ◌<◌, ◌≤◌, ◌^◌, [], Some, codes, map, string_bytes, unwrap_or, vec_len, IfOk};
 ghost use Rattle.clap.specs.Words.{all_of, first_of, found_of, rows_of};
-ghost use Rattle.command_line.specs.Commands.{HasEvidence, HasGrowth, HasMeasure, HasNumber, IsGivenAs, data_value, extent_value, form_value, null_value, print_name};
-ghost use Rattle.command_line.specs.parts.Plans.{AreFurtherNames};
+ghost use Rattle.command_line.specs.Commands.{AreFurtherNames, HasEvidence, HasGrowth, HasMeasure, HasNumber, IsGivenAs, data_value, extent_value, form_value, null_value, print_name};
+ghost use Rattle.command_line.specs.Tasks.{HasForm, IsWithinLimits};
 ghost use Rattle.pcr_banks.specs.Hashing.{name_of};
 ghost use Rattle.ima_list.specs.Templates.{template_name};
 
 use crate::command_table::MOST_WORKERS;
 use crate::fault::WordsFault;
-use crate::plan::{DataShown, Extent, Form, NameEnd, Print};
+use crate::plan::{DataShown, Extent, Form, Measurement, NameEnd, Names, Print};
 use clap::ArgMatches;
 use ima_list::Template;
 use pcr_banks::Alg;
 use std::alloc::{AllocError, Global};
 
-/// What `measure` takes with and without `--files-from`.
-#[derive(Drop)]
-pub(crate) struct Measurement {
-    pub(crate) alg: Alg,
-    pub(crate) template: Template,
-    pub(crate) workers: usize,
-    pub(crate) limit: u32,
-    pub(crate) print: Print,
-    pub(crate) log: String,
-    pub(crate) files: Vec<String>,
-}
-
-/// The options and names of `measure`, except `--files-from` and `--null`.
-pub(crate) fn measurement_of(alloc: Global, matches: &ArgMatches) -> Result<Measurement, WordsFault>
-    ensures values { IfOk result (λ asked. HasMeasure (rows_of (found_of matches.now)) (name_of asked.alg) (template_name asked.template) (print_name asked.print) (string_bytes asked.log) asked.workers asked.limit (map string_bytes asked.files.items)) }
-    ensures within { IfOk result (λ asked. (1 ≤ asked.workers) × (asked.workers ≤ 8) × (1 ≤ asked.limit) × (vec_len asked.files < 2 ^ 32)) }
+/// The options and names of `measure`. Refuses the binary list as JSON.
+pub(crate) fn measurement_of(
+    alloc: Global,
+    matches: &ArgMatches,
+    form: Form,
+) -> Result<Measurement, WordsFault>
+    ensures values { IfOk result (HasMeasure (rows_of (found_of matches.now))) }
+    ensures within { IfOk result (IsWithinLimits form) }
 {
     let alg = alg_of(matches)?;
     let template = template_of(matches)?;
     let workers = workers_of(matches)?;
     let limit = limit_of(matches)?;
-    let print = print_of(matches)?;
+    let print = print_of(matches, form)?;
     let log = name_of(alloc, matches, "LOG")?;
     let files = files_within(alloc, matches)?;
+    let names = further_names_of(alloc, matches)?;
     Ok(Measurement {
         alg,
         template,
@@ -47,21 +40,19 @@ pub(crate) fn measurement_of(alloc: Global, matches: &ArgMatches) -> Result<Meas
         print,
         log,
         files,
+        names,
     })
 }
 
-/// The name of the text of further names and what ends each there, if there is one. Refuses `--null` without `--files-from`.
-pub(crate) fn further_names_of(
-    alloc: Global,
-    matches: &ArgMatches,
-) -> Result<Option<(String, NameEnd)>, WordsFault>
+// The text of further names, if there is one. Refuses `--null` without `--files-from`.
+fn further_names_of(alloc: Global, matches: &ArgMatches) -> Result<Option<Names>, WordsFault>
     ensures { IfOk result (AreFurtherNames (rows_of (found_of matches.now))) }
 {
     match (
         text_if_given(alloc, matches, "files-from")?,
         ends_of(matches)?,
     ) {
-        (Some(names), ends) => Ok(Some((names, ends))),
+        (Some(text), ends) => Ok(Some(Names { text, ends })),
         (None, NameEnd::LineFeed) => Ok(None),
         (None, NameEnd::Nul) => Err(WordsFault::Usage),
     }
@@ -131,8 +122,8 @@ fn print_named(name: &str) -> Result<Print, WordsFault>
     }
 }
 
-/// What ends each name in the text of `--files-from`. `clap` gives `--null` the value `true` if it is present, else `false`.
-pub(crate) fn ends_of(matches: &ArgMatches) -> Result<NameEnd, WordsFault>
+// What ends each name in the text of `--files-from`. `clap` gives `--null` the value `true` if it is present, else `false`.
+fn ends_of(matches: &ArgMatches) -> Result<NameEnd, WordsFault>
     ensures { IfOk result (λ ends. first_of (codes "null") (rows_of (found_of matches.now)) ≡ Some (null_value ends)) }
 {
     match text_of(matches, "null")? {
@@ -178,11 +169,15 @@ fn template_of(matches: &ArgMatches) -> Result<Template, WordsFault>
     Template::from_name(text_of(matches, "template")?.as_bytes()).ok_or(WordsFault::Usage)
 }
 
-// What is printed.
-fn print_of(matches: &ArgMatches) -> Result<Print, WordsFault>
-    ensures { IfOk result (λ print. first_of (codes "print") (rows_of (found_of matches.now)) ≡ Some (print_name print)) }
+// What is printed. There is no JSON of the binary list.
+fn print_of(matches: &ArgMatches, form: Form) -> Result<Print, WordsFault>
+    ensures print { IfOk result (λ print. first_of (codes "print") (rows_of (found_of matches.now)) ≡ Some (print_name print)) }
+    ensures shown { IfOk result (HasForm form) }
 {
-    print_named(text_of(matches, "print")?)
+    match (print_named(text_of(matches, "print")?)?, form) {
+        (Print::Binary, Form::Json) => Err(WordsFault::Usage),
+        (print, _) => Ok(print),
+    }
 }
 
 // The number of workers, 1 to 8.

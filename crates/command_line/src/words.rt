@@ -4,22 +4,23 @@ ghost use Rattle.std.specs.Prelude.{◌≡◌, ◌⊎◌, List, [], None, Ok, co
 ghost use Rattle.clap.specs.Values.{kind_of};
 ghost use Rattle.clap.specs.Words.{Row, found_of, rows_of, subcommand_rows_of};
 ghost use Rattle.command_line.specs.parts.Commands.{IsCommand};
-ghost use Rattle.command_line.specs.parts.Plans.{IsPlanIn};
-ghost use Rattle.command_line.specs.Commands.{AreNotTaken, HasEvidence, HasGrowth, HasValuesIn, IsGivenAs, IsMatched, Parsers, commands};
+ghost use Rattle.command_line.specs.parts.Plans.{IsPlanIn, IsTaskOf};
+ghost use Rattle.command_line.specs.Commands.{AreNotTaken, HasEvidence, HasGrowth, HasMeasure, HasValuesIn, IsGivenAs, IsMatched, Parsers, commands};
 ghost use Rattle.std.specs.Vec.Iter.{into_iter_items};
 ghost use Rattle.command_line.specs.Plans.{BeginsWithVersion, HasHelpWord, IsAskedBy, IsHelp, IsOfCommand, IsWithinRanges, asks_help};
+ghost use Rattle.command_line.specs.Tasks.{IsWithinLimits};
 ghost use Rattle.std.specs.List.{list_any};
 ghost use Rattle.command_line.specs.declared.plan.Form.TheVariants.{Text};
-ghost use Rattle.command_line.specs.declared.plan.Plan.TheVariants.{Registers, Version};
+ghost use Rattle.command_line.specs.declared.plan.Plan.TheVariants as plans;
+ghost use Rattle.command_line.specs.declared.plan.Task.TheVariants as tasks;
+ghost use Rattle.command_line.specs.declared.plan.Task.TheVariants.{Version};
 
 use crate::commands::{KnownNames, VERSION, all_commands};
 use crate::fault::WordsFault;
-use crate::json_plan::JsonPlan;
-use crate::json_words::json_plan_of;
-use crate::plan::{Extent, Form, Judge, Judged, Plan};
+use crate::plan::{Extent, Form, Judge, Judged, Measurement, Plan, Question, Task};
 use crate::values::{
-    Evidence, Growth, data_of, evidence_of, form_of, further_names_of, growth_of, measurement_of,
-    name_of, text_if_given,
+    Evidence, Growth, data_of, evidence_of, form_of, growth_of, measurement_of, name_of,
+    text_if_given,
 };
 use clap::error::ErrorKind;
 use clap::{ArgMatches, Command, Error};
@@ -41,13 +42,13 @@ pub fn read_words(alloc: Global, words: &[String]) -> Result<Plan, WordsFault>
     // taken, and one of them requests help; or the first is `--version`.
     ensures asked { IfOk result (λ plan. IsAskedBy words.now plan × IsWithinRanges plan) }
     // Without arguments the plan is `Registers`, whatever memory there is.
-    ensures none { words.now ≡ [] → result ≡ Ok Registers }
-    // The same of `--version`, whatever follows it.
-    ensures version { BeginsWithVersion words.now → result ≡ Ok Version }
+    ensures none { words.now ≡ [] → result ≡ Ok plans.Registers }
+    // After `--version` the plan is to show the version, whatever follows it.
+    ensures version { BeginsWithVersion words.now → result ≡ Ok (plans.Task Version Text) }
 {
     match words.first() {
         None => Ok(Plan::Registers),
-        Some(word) if word.as_str() == VERSION => Ok(Plan::Version),
+        Some(word) if word.as_str() == VERSION => Ok(Plan::Task(Task::Version, Form::Text)),
         Some(command) => plan_in(alloc, words, command),
     }
 }
@@ -71,7 +72,7 @@ pub fn refusal_of(alloc: Global, words: &[String]) -> Result<Option<String>, All
     refusal_by(alloc, words, all_commands(alloc, known)?)
 }
 
-// The same, by this definition of all commands.
+// What `clap` says of them, by this definition of all commands.
 fn refusal_by<'a>(
     alloc: Global,
     words: &'a [String],
@@ -122,7 +123,7 @@ fn plan_in(alloc: Global, words: &[String], command: &str) -> Result<Plan, Words
     plan_by(alloc, words, command, all_commands(alloc, known)?)
 }
 
-// The same, by this definition of all commands.
+// The plan or the help, by this definition of all commands.
 fn plan_by<'a>(
     alloc: Global,
     words: &'a [String],
@@ -157,12 +158,28 @@ fn plan_in_form(
 ) -> Result<Plan, WordsFault>
     ensures { IfOk result (IsPlanIn form command.now (rows_of (found_of matches.now))) }
 {
-    match (command, form) {
-        ("verify", form) => verify_of(alloc, matches, form),
-        ("locate", form) => locate_of(alloc, matches, form),
-        ("replay", form) => replay_of(alloc, matches, form),
-        (command, Form::Text) => text_plan_of(alloc, command, matches),
-        (command, Form::Json) => Ok(Plan::Json(json_plan_of(alloc, command, matches)?)),
+    match command {
+        "verify" => verify_of(alloc, matches, form),
+        "measure" => measure_of(alloc, matches, form),
+        "show" => show_of(alloc, matches, form),
+        "events" => Ok(Plan::Task(events_of(alloc, matches)?, form)),
+        _ => {
+            let question = question_of(alloc, command, matches)?;
+            Ok(Plan::Task(Task::Answer(question), form))
+        }
+    }
+}
+
+// What a command of this name asks, other than `verify`.
+fn question_of(alloc: Global, command: &str, matches: &ArgMatches) -> Result<Question, WordsFault>
+    ensures { IfOk result (λ question. IsTaskOf command.now (rows_of (found_of matches.now)) (tasks.Answer question)) }
+{
+    match command {
+        "locate" => locate_of(alloc, matches),
+        "expected" => expected_of(alloc, matches),
+        "registers" => registers_of(alloc, matches),
+        "replay" => replay_of(alloc, matches),
+        _ => Err(WordsFault::Usage),
     }
 }
 
@@ -193,24 +210,27 @@ fn verdict_on(evidence: Evidence, growth: Growth, form: Form) -> Plan
             list,
             expected,
         },
-        (extent, resume, save, required, form) => Plan::Judge(Judge {
-            judged: Judged::Verdict {
+        (extent, resume, save, required, form) => {
+            let judged = Judged::Verdict {
                 log,
                 extent,
                 resume,
                 save,
-            },
-            list,
-            expected,
-            required,
-            form,
-        }),
+            };
+            let judge = Judge {
+                judged,
+                list,
+                expected,
+                required,
+            };
+            Plan::Task(Task::Answer(Question::Judge(judge)), form)
+        }
     }
 }
 
-// The plan of `locate`.
-fn locate_of(alloc: Global, matches: &ArgMatches, form: Form) -> Result<Plan, WordsFault>
-    ensures { IfOk result (IsPlanIn form (codes "locate") (rows_of (found_of matches.now))) }
+// What `locate` asks.
+fn locate_of(alloc: Global, matches: &ArgMatches) -> Result<Question, WordsFault>
+    ensures { IfOk result (λ question. IsTaskOf (codes "locate") (rows_of (found_of matches.now)) (tasks.Answer question)) }
 {
     let Evidence {
         log,
@@ -218,115 +238,117 @@ fn locate_of(alloc: Global, matches: &ArgMatches, form: Form) -> Result<Plan, Wo
         expected,
         required,
     } = evidence_of(alloc, matches)?;
-    Ok(Plan::Judge(Judge {
+    Ok(Question::Judge(Judge {
         judged: Judged::Places { log },
         list,
         expected,
         required,
-        form,
     }))
 }
 
-// The plan of `replay`. Refuses `--require` without EXPECTED.
-fn replay_of(alloc: Global, matches: &ArgMatches, form: Form) -> Result<Plan, WordsFault>
-    ensures { IfOk result (IsPlanIn form (codes "replay") (rows_of (found_of matches.now))) }
+// What `replay` asks. Refuses `--require` without EXPECTED.
+fn replay_of(alloc: Global, matches: &ArgMatches) -> Result<Question, WordsFault>
+    ensures { IfOk result (λ question. IsTaskOf (codes "replay") (rows_of (found_of matches.now)) (tasks.Answer question)) }
 {
     let list = name_of(alloc, matches, "LIST")?;
     let expected = text_if_given(alloc, matches, "EXPECTED")?;
     let required = text_if_given(alloc, matches, "require")?;
-    match (expected, required, form) {
-        (Some(expected), required, form) => Ok(Plan::Judge(Judge {
+    match (expected, required) {
+        (Some(expected), required) => Ok(Question::Judge(Judge {
             judged: Judged::ListVerdict,
             list,
             expected,
             required,
-            form,
         })),
-        (None, None, Form::Text) => Ok(Plan::Replay { list }),
-        (None, None, Form::Json) => Ok(Plan::Json(JsonPlan::Replay { list })),
-        (None, Some(_), _) => Err(WordsFault::Usage),
+        (None, None) => Ok(Question::ListRegisters { list }),
+        (None, Some(_)) => Err(WordsFault::Usage),
     }
 }
 
-// The plan of the command of this name, without `--json`.
-fn text_plan_of(alloc: Global, command: &str, matches: &ArgMatches) -> Result<Plan, WordsFault>
-    ensures { IfOk result (IsPlanIn Text command.now (rows_of (found_of matches.now))) }
+// The plan of `measure`: `Measure`, if the result is text and no text names further files.
+fn measure_of(alloc: Global, matches: &ArgMatches, form: Form) -> Result<Plan, WordsFault>
+    ensures { IfOk result (IsPlanIn form (codes "measure") (rows_of (found_of matches.now))) }
 {
-    match command {
-        "measure" => measure_of(alloc, matches),
-        "expected" => expected_of(alloc, matches),
-        "registers" => registers_of(alloc, matches),
-        "events" => events_of(alloc, matches),
-        "show" => show_of(alloc, matches),
-        _ => Err(WordsFault::Usage),
+    Ok(measured(measurement_of(alloc, matches, form)?, form))
+}
+
+// The plan of this measurement.
+fn measured(asked: Measurement, form: Form) -> Plan
+    ensures { (rows : List Row) → HasMeasure rows asked → IsWithinLimits form asked → IsPlanIn form (codes "measure") rows result }
+{
+    let Measurement {
+        alg,
+        template,
+        workers,
+        limit,
+        print,
+        log,
+        files,
+        names,
+    } = asked;
+    match (names, form) {
+        (None, Form::Text) => Plan::Measure {
+            alg,
+            template,
+            workers,
+            limit,
+            print,
+            log,
+            files,
+        },
+        (names, form) => {
+            let measurement = Measurement {
+                alg,
+                template,
+                workers,
+                limit,
+                print,
+                log,
+                files,
+                names,
+            };
+            Plan::Task(Task::Measure(measurement), form)
+        }
     }
 }
 
-// The plan of `measure`.
-fn measure_of(alloc: Global, matches: &ArgMatches) -> Result<Plan, WordsFault>
-    ensures { IfOk result (IsPlanIn Text (codes "measure") (rows_of (found_of matches.now))) }
+// What `expected` asks.
+fn expected_of(alloc: Global, matches: &ArgMatches) -> Result<Question, WordsFault>
+    ensures { IfOk result (λ question. IsTaskOf (codes "expected") (rows_of (found_of matches.now)) (tasks.Answer question)) }
 {
-    let asked = measurement_of(alloc, matches)?;
-    match further_names_of(alloc, matches)? {
-        Some((names, ends)) => Ok(Plan::MeasureListed {
-            alg: asked.alg,
-            template: asked.template,
-            workers: asked.workers,
-            limit: asked.limit,
-            print: asked.print,
-            log: asked.log,
-            files: asked.files,
-            names,
-            ends,
-        }),
-        None => Ok(Plan::Measure {
-            alg: asked.alg,
-            template: asked.template,
-            workers: asked.workers,
-            limit: asked.limit,
-            print: asked.print,
-            log: asked.log,
-            files: asked.files,
-        }),
-    }
-}
-
-// The plan of `expected`.
-fn expected_of(alloc: Global, matches: &ArgMatches) -> Result<Plan, WordsFault>
-    ensures { IfOk result (IsPlanIn Text (codes "expected") (rows_of (found_of matches.now))) }
-{
-    Ok(Plan::Expected {
+    Ok(Question::Expected {
         printed: name_of(alloc, matches, "PCRREAD")?,
         registers: text_if_given(alloc, matches, "registers")?,
     })
 }
 
-// The plan of `registers`.
-fn registers_of(alloc: Global, matches: &ArgMatches) -> Result<Plan, WordsFault>
-    ensures { IfOk result (IsPlanIn Text (codes "registers") (rows_of (found_of matches.now))) }
+// What `registers` asks.
+fn registers_of(alloc: Global, matches: &ArgMatches) -> Result<Question, WordsFault>
+    ensures { IfOk result (λ question. IsTaskOf (codes "registers") (rows_of (found_of matches.now)) (tasks.Answer question)) }
 {
-    Ok(Plan::RegistersAfter {
-        log: name_of(alloc, matches, "LOG")?,
-    })
+    let log = name_of(alloc, matches, "LOG")?;
+    Ok(Question::LogRegisters { log })
 }
 
-// The plan of `events`.
-fn events_of(alloc: Global, matches: &ArgMatches) -> Result<Plan, WordsFault>
-    ensures { IfOk result (IsPlanIn Text (codes "events") (rows_of (found_of matches.now))) }
+// What `events` does.
+fn events_of(alloc: Global, matches: &ArgMatches) -> Result<Task, WordsFault>
+    ensures { IfOk result (IsTaskOf (codes "events") (rows_of (found_of matches.now))) }
 {
-    Ok(Plan::Events {
+    Ok(Task::Events {
         log: name_of(alloc, matches, "LOG")?,
         data: data_of(matches)?,
     })
 }
 
-// The plan of `show`.
-fn show_of(alloc: Global, matches: &ArgMatches) -> Result<Plan, WordsFault>
-    ensures { IfOk result (IsPlanIn Text (codes "show") (rows_of (found_of matches.now))) }
+// The plan of `show`: `Show`, if the result is text.
+fn show_of(alloc: Global, matches: &ArgMatches, form: Form) -> Result<Plan, WordsFault>
+    ensures { IfOk result (IsPlanIn form (codes "show") (rows_of (found_of matches.now))) }
 {
-    Ok(Plan::Show {
-        list: name_of(alloc, matches, "LIST")?,
-    })
+    let list = name_of(alloc, matches, "LIST")?;
+    match form {
+        Form::Text => Ok(Plan::Show { list }),
+        Form::Json => Ok(Plan::Task(Task::Entries { list }, form)),
+    }
 }
 
 // Whether some argument requests help.

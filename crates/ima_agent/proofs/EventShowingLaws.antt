@@ -1,5 +1,5 @@
 -- A log whose events are written as they are lent: what was written is what the program is asked for.
-use Rattle.std.proofs.Common.{◌≡◌, ℕ, List, [], false, Some, Result, Ok, Err, refl, append-nil, inl, inr}
+use Rattle.std.proofs.Common.{◌≡◌, ℕ, List, [], Some, Result, Ok, Err, refl, append-nil, inl, inr}
 use Rattle.std.specs.Prelude.{String, string_bytes}
 use Rattle.std.specs.Global.{Global}
 use Rattle.byte_streams.specs.declared.streams.Failed.{Failed}
@@ -9,7 +9,8 @@ use Rattle.boot_log.specs.declared.header.Row.{Row}
 use Rattle.boot_log.specs.Spelling.{IsLog, LogEvent}
 use Rattle.boot_verdict.specs.EventTexts.{events_text}
 use Rattle.command_line.specs.declared.plan.DataShown.{DataShown}
-use Rattle.command_line.specs.declared.plan.Plan.TheVariants as plans
+use Rattle.command_line.specs.declared.plan.Form.TheVariants.{Text}
+use Rattle.command_line.specs.declared.plan.Task.TheVariants as tasks
 use Rattle.agent_inputs.specs.declared.fault.RunFault.{RunFault}
 use Rattle.ima_agent.specs.declared.streaming.StreamFault.{StreamFault}
 use Rattle.ima_agent.specs.declared.streaming.StreamFault.TheVariants as streams
@@ -20,7 +21,7 @@ use Rattle.ima_agent.specs.Streaming.{Streams}
 use Rattle.ima_agent.specs.parts.Streaming.{ShowsPlainEventsIn, ShowsPlainEventsOf}
 use Rattle.ima_agent.proofs.StreamingLaws.{streams_so}
 
-abbrev failed_with : RunFault → Result (Unit {0}) StreamFault
+abbrev failed_with : RunFault → Result ℕ StreamFault
 failed_with fault = Err (streams.Run fault)
 
 -- ---- the log in some bytes
@@ -28,7 +29,7 @@ failed_with fault = Err (streams.Run fault)
 module _ (log : List ℕ) (requested : DataShown) where
   pub all_written : (table : List Row) (events : List LogEvent) (old new : SinkState) → IsLog log table events
       → Sends {A = Unit {0}} {E = Failed} old new (Ok tt) (events_text (data_of requested) table events)
-      → Streams false (ShowsPlainEventsIn log requested) old new (Ok tt)
+      → Streams Text (ShowsPlainEventsIn log requested) old new (Ok 0)
   all_written table events old new is sends = record {
     text = events_text (data_of requested) table events;
     sends = sends;
@@ -37,7 +38,7 @@ module _ (log : List ℕ) (requested : DataShown) where
 
   pub sink_fails : (table : List Row) (events : List LogEvent) (old new : SinkState) (failed : Failed) → IsLog log table events
       → Sends {A = Unit {0}} {E = Failed} old new (Err failed) (events_text (data_of requested) table events)
-      → Streams false (ShowsPlainEventsIn log requested) old new (Err (streams.Sink failed))
+      → Streams Text (ShowsPlainEventsIn log requested) old new (Err (streams.Sink failed))
   sink_fails table events old new failed is sends =
       let text = events_text (data_of requested) table events in
       record {
@@ -47,29 +48,29 @@ module _ (log : List ℕ) (requested : DataShown) where
       }
 
   pub no_log : (sink : SinkState) (fault : RunFault) → IsNoLogFor log fault
-      → Streams false (ShowsPlainEventsIn log requested) sink sink (failed_with fault)
+      → Streams Text (ShowsPlainEventsIn log requested) sink sink (failed_with fault)
   no_log sink fault is =
       record { text = []; sends = Sends-none sink tt; goes_on = λ last status failure. inr (fault, is, failure) }
 
 -- ---- the log in a file
 
 module _ (inputs : Inputs) (name : List ℕ) (requested : DataShown) where
-  pub loaded_written : (log : List ℕ) (old new : SinkState) (result : Result (Unit {0}) StreamFault) → Holds inputs (Some name) log
-      → Streams false (ShowsPlainEventsIn log requested) old new result → Streams false (ShowsPlainEventsOf inputs name requested) old new result
+  pub loaded_written : (log : List ℕ) (old new : SinkState) (result : Result ℕ StreamFault) → Holds inputs (Some name) log
+      → Streams Text (ShowsPlainEventsIn log requested) old new result → Streams Text (ShowsPlainEventsOf inputs name requested) old new result
   loaded_written log old new result held sent =
       streams_so (ShowsPlainEventsIn log requested) (ShowsPlainEventsOf inputs name requested) old new result
       (λ text status shown. inl (log, held, shown)) sent
 
   pub not_loaded : (sink : SinkState) (fault : RunFault) → IsInputFault inputs (Some name) fault
-      → Streams false (ShowsPlainEventsOf inputs name requested) sink sink (failed_with fault)
+      → Streams Text (ShowsPlainEventsOf inputs name requested) sink sink (failed_with fault)
   not_loaded sink fault is =
       record { text = []; sends = Sends-none sink tt; goes_on = λ last status failure. inr (fault, is, failure) }
 
--- ---- the outcome of a plan
+-- ---- the outcome of a task
 
 pub plain_outcome : (inputs : Inputs) (log : String Global) (requested : DataShown) (old new : Saved) → new ≡ old → (text : List ℕ)
     (status : ℕ) → ShowsPlainEventsOf inputs (string_bytes log) requested text status
-    → IsOutcome inputs (plans.Events log requested) old new text status
+    → IsOutcome inputs (tasks.Events log requested) Text old new text status
 plain_outcome inputs log requested old new kept text status (inl (bytes, held, inl (shown, is))) = inl (((bytes, held, shown), is), kept)
 plain_outcome inputs log requested old new kept text status (inl (bytes, held, inr (fault, is, failure))) =
     inr (inl (fault, inr (bytes, held, is), failure, kept))

@@ -1,11 +1,8 @@
-pub mod MeasuringLaws
 pub mod FaultLaws
-pub mod InputLaws
 pub mod ShowingLaws
-pub mod ReplayingLaws
-pub mod ExpectingLaws
 pub mod EscapingLaws
 pub mod EntryLineLaws
 pub mod EventShowingLaws
 pub mod EventStreamingLaws
 pub mod StreamingLaws
+pub mod OutcomeLaws

@@ -1,6 +1,6 @@
 -- The lines of a list whose entries are read in place.
-use Rattle.std.proofs.Common.{◌≡◌, ℕ, Bool, true, false, eqb, ◌+◌, ◌<◌, ◌≤◌, List, [], ◌∷◌, ◌++◌, length, Ok, Err, refl, sym, ap, subst, ◌∙◌, arith, inl, inr, Result}
-use Rattle.std.specs.Prelude.{IfErr, flat_map}
+use Rattle.std.proofs.Common.{◌≡◌, ℕ, Bool, true, false, eqb, ◌+◌, ◌<◌, ◌≤◌, List, [], ◌∷◌, ◌++◌, length, Ok, Err, refl, sym, ap, subst, ◌∙◌, arith, inl, inr}
+use Rattle.std.specs.Prelude.{flat_map}
 use Rattle.hex.specs.Hex.{decode_of}
 use Rattle.std.proofs.lemmas.Bool.{eqb-true}
 use Rattle.std.proofs.lemmas.List.{length-append, append-nil}
@@ -11,9 +11,12 @@ use Rattle.ima_list.specs.Lines.{line_of}
 use Rattle.ima_list.specs.Spelling.{BeginsWith, IsReading}
 use Rattle.agent_inputs.specs.Faults.{fault_of_list}
 use Rattle.agent_inputs.specs.declared.fault.RunFault.{RunFault}
+use Rattle.agent_inputs.specs.Loading.{untold}
+use Rattle.judging.specs.Asking.{LogRegistersOf}
+use Rattle.judging.specs.Inputs.{BytesOf}
+use Rattle.rendering.specs.Outputs.{IsRefusalOn}
 use Rattle.ima_agent.specs.Hexadecimal.{without_white_space}
-use Rattle.ima_agent.specs.parts.Showing.{HasAdded, IsKept}
-use Rattle.ima_agent.specs.Showing.{IsNoListFor, IsNoLogFor, IsRefusedFor, ShowsList}
+use Rattle.ima_agent.specs.Showing.{IsNoListFor, IsRefusedFor, ShowsList}
 
 -- The text has the lines of the entries so far, and `rest` is left of the list.
 pub record HasShown (list text rest : List ℕ) (number : ℕ) : Type 0 where
@@ -55,34 +58,6 @@ pub shows_none : (list text rest : List ℕ) (number : ℕ) (fault : ListFault) 
 shows_none list text rest number fault shown some read =
     inl (record { first = fault; reading = read list shown.entries shown.begins (sym shown.count) some; says = refl })
 
--- ---- lines that are kept while they fit
-
-pub added : (room : ℕ) (lines last old new : List ℕ) (size : ℕ) → IsKept room lines old size → new ≡ old ++ last
-    → HasAdded room lines last new size
-added room lines last old new size (inl kept) more = inl (more ∙ ap (λ (t : List ℕ). t ++ last) kept.0, kept.1)
-added room lines last old new size (inr kept) more = inr (more ∙ ap (λ (t : List ℕ). t ++ last) kept.0, kept.1, kept.2)
-
--- The lines so far, of which all are kept, or all are counted.
-pub record HasCounted (room : ℕ) (list text rest : List ℕ) (size number : ℕ) : Type 0 where
-  pub lines : List ℕ
-  pub shown : HasShown list lines rest number
-  pub kept : IsKept room lines text size
-
-pub counted_none : (room : ℕ) (list : List ℕ) → HasCounted room list [] list 0 0
-counted_none room list = record { lines = []; shown = shown_none list; kept = inl (refl, refl, omega arith) }
-
-pub counted_more : (room : ℕ) (list text more rest after : List ℕ) (size next number : ℕ) (entry : ListEntry)
-    → HasCounted room list text rest size number
-    → ((list : List ℕ) (before : List ListEntry) → BeginsWith list before rest → BeginsWith list (before ++ entry ∷ []) after)
-    → length after < length rest
-    → ((lines : List ℕ) → IsKept room lines text size → IsKept room (lines ++ line_of entry) more next)
-    → HasCounted room list more after next (number + 1)
-counted_more room list text more rest after size next number entry counted read shorter keeps = record {
-  lines = counted.lines ++ line_of entry;
-  shown = shown_more list counted.lines rest (counted.lines ++ line_of entry) after number entry counted.shown read refl shorter;
-  kept = keeps counted.lines counted.kept;
-}
-
 -- ---- what is left
 
 pub none_left : (is_empty : Bool) (rest : List ℕ) → is_empty ≡ eqb (length rest) 0 → is_empty ≡ true → rest ≡ []
@@ -96,9 +71,7 @@ some_left is_empty (byte ∷ rest) tells empty = omega arith
 
 -- ---- a log in hexadecimal
 
--- Bytes that are no log are not shown, nor is the text that spells them.
-pub refused_text : {A : Type 0} (text bytes : List ℕ) (result : Result A RunFault) → decode_of (without_white_space text) ≡ Ok bytes
-    → IfErr result (IsNoLogFor bytes) → IfErr result (IsRefusedFor text)
-refused_text text bytes (Ok value) decoded none = tt
-refused_text text bytes (Err fault) decoded (inl no-log) = inr (inl (record { bytes = bytes; decoded = decoded; no_log = no-log }))
-refused_text text bytes (Err fault) decoded (inr memory) = inr (inr memory)
+-- If there is no answer to what is asked of bytes, there is none of the text that spells them.
+pub refused_text : (text bytes : List ℕ) (fault : RunFault) → decode_of (without_white_space text) ≡ Ok bytes
+    → IsRefusalOn untold (LogRegistersOf (BytesOf bytes)) fault → IsRefusedFor text fault
+refused_text text bytes fault decoded refusal = inr (inl (record { bytes = bytes; decoded = decoded; refusal = refusal }))

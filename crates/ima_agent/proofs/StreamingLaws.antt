@@ -1,12 +1,11 @@
 -- Outputs that are written while their input is read: what was sent of a list is what the program is asked for.
-use Rattle.std.proofs.Common.{◌≡◌, ◌⊎◌, ℕ, ◌<◌, Bool, true, List, [], ◌++◌, length, Option, None, Some, Result, Ok, Err, refl, sym, ap, subst, ◌∙◌, append_assoc, append-nil, arith, inl, inr, codes, string_bytes}
+use Rattle.std.proofs.Common.{◌≡◌, ◌⊎◌, ℕ, ◌<◌, List, [], ◌++◌, length, Option, None, Some, Result, Ok, Err, refl, sym, ap, subst, ◌∙◌, append_assoc, append-nil, arith, inl, inr, codes, string_bytes}
 use Rattle.std.specs.Prelude.{IfSome, IsTrue, String}
 use Rattle.std.specs.Global.{Global}
 use Rattle.std.specs.Io.KnownBytes.{IsAtEnd}
 use Rattle.std.proofs.lemmas.List.{length-append}
-use Rattle.byte_streams.specs.declared.streams.Failed.{Failed}
 use Rattle.byte_streams.specs.Streams.{Sends, SinkState, SourceState}
-use Rattle.byte_streams.proofs.SinkLaws.{Sends-none, Sends-then}
+use Rattle.byte_streams.proofs.SinkLaws.{Sends-none}
 use Rattle.ima_list.specs.declared.fault.ListFault.{ListFault}
 use Rattle.ima_list.specs.declared.fault.ListFault.TheVariants as lists
 use Rattle.ima_list.specs.ListEntry.{ListEntry}
@@ -19,8 +18,9 @@ use Rattle.json_texts.specs.FaultJson.{fault_json}
 use Rattle.json_texts.specs.ItemLines.{entry_lines}
 use Rattle.json_texts.specs.JsonValues.{line_of}
 use Rattle.json_texts.specs.SentEntries.{AreAllIn, SendsEntries}
-use Rattle.command_line.specs.declared.json_plan.JsonPlan.TheVariants as jsons
-use Rattle.command_line.specs.declared.plan.Plan.TheVariants.{Json}
+use Rattle.command_line.specs.declared.plan.Form.{Form}
+use Rattle.command_line.specs.declared.plan.Form.TheVariants.{Json}
+use Rattle.command_line.specs.declared.plan.Task.TheVariants as tasks
 use Rattle.agent_inputs.specs.declared.fault.RunFault.{RunFault}
 use Rattle.agent_inputs.specs.declared.fault.RunFault.TheVariants as runs
 use Rattle.ima_agent.specs.declared.streaming.StreamFault.{StreamFault}
@@ -28,12 +28,11 @@ use Rattle.ima_agent.specs.declared.streaming.StreamFault.TheVariants as streams
 use Rattle.ima_agent.specs.JsonFaults.{IsFailure, ToldAsJson}
 use Rattle.ima_agent.specs.JsonShowing.{EndsAfterEntries, ShowsEntriesOf}
 use Rattle.agent_inputs.specs.Loading.{HasFailed, Holds, Inputs, IsNotRead, IsTooLong, Saved, input_limit}
-use Rattle.ima_agent.specs.Program.{Answers, IsOutcome}
+use Rattle.ima_agent.specs.Program.{IsOutcome}
 use Rattle.ima_agent.specs.Streaming.{Streams}
 use Rattle.ima_agent.specs.parts.Streaming.{IsStreamResultOf, SendsEntriesOf}
 use Rattle.ima_agent.proofs.EntryLineLaws.{fault_count}
-use Rattle.judging.proofs.InputLaws.{HasAll, held_whole}
-use Rattle.ima_agent.proofs.InputLaws.{held_more, longer}
+use Rattle.judging.proofs.InputLaws.{HasAll, held_more, held_whole}
 
 -- ---- sinks
 
@@ -45,21 +44,6 @@ sent_ok old new value other text sends = record { ok = sends.ok; part = sends.pa
 sent_err : {A B E F : Type 0} (old new : SinkState) (fault : E) (other : F) (text : List ℕ) → Sends {A = A} {E = E} old new (Err fault) text
     → Sends {A = B} {E = F} old new (Err other) text
 sent_err old new fault other text sends = record { ok = tt; part = sends.part; telling = sends.telling; counts = sends.counts }
-
--- A sink that failed in a text did not take more.
-pub sent_less : {A B E F : Type 0} (old new : SinkState) (fault : E) (other : F) (text more : List ℕ)
-    → Sends {A = A} {E = E} old new (Err fault) text → Sends {A = B} {E = F} old new (Err other) (text ++ more)
-sent_less old new fault other text more sends = record {
-  ok = tt;
-  part = record {
-    front = sends.part.front;
-    rest = sends.part.rest ++ more;
-    whole = ap (λ (t : List ℕ). t ++ more) sends.part.whole ∙ append_assoc sends.part.front sends.part.rest more;
-    taken = sends.part.taken;
-  };
-  telling = sends.telling;
-  counts = sends.counts;
-}
 
 -- ---- the line of `Memory`, of which there is always one
 
@@ -76,8 +60,8 @@ too_much : (told old new : Option (List ℕ)) (limit : ℕ) (list over : List �
     → length list ≡ limit → 0 < length over → IfSome told (λ all. limit < length all)
 too_much None old new limit list over has came size some = tt
 too_much (Some all) old new limit list over has came size some =
-    let more = longer (Some all) old new limit list over has came some in
-    omega (arith, size, more.1, ap length more.2, length-append list more.0)
+    let more = held_more (Some all) old new limit list over has came in
+    omega (arith, size, some, more.2, sym (ap length more.1), length-append list more.0)
 
 -- The entries are all of the bytes that came.
 abbrev AreAll : List ℕ → List ListEntry → List ℕ → Type 0
@@ -97,7 +81,7 @@ module _ (inputs : Inputs) (name : List ℕ) where
   -- The line of a fault of the input, or of memory, follows the lines of entries.
   fails_after : (came more : List ℕ) (es : List ListEntry) (rest : List ℕ) (fault : RunFault) → Holds inputs (Some name) (came ++ more)
       → BeginsWith came es rest → EndsAfterEntries inputs name came es rest fault → (last : List ℕ) (status : ℕ)
-      → IsFailure true fault last status → ShowsEntriesOf inputs name (entry_lines es ++ last) status
+      → IsFailure Json fault last status → ShowsEntriesOf inputs name (entry_lines es ++ last) status
   fails_after came more es rest fault held begins ends last status (inl told) = inr (record {
     came = came;
     more = more;
@@ -125,7 +109,7 @@ module _ (inputs : Inputs) (name : List ℕ) where
 
   -- The input was not opened.
   pub not_opened : (sink : SinkState) (fault : RunFault) → IsReading [] (Ok []) → IsNotRead name fault ⊎ (fault ≡ runs.Memory)
-      → IsTrue (inputs.may_fail (Some name)) → Streams true (ShowsEntriesOf inputs name) sink sink (Err (streams.Run fault))
+      → IsTrue (inputs.may_fail (Some name)) → Streams Json (ShowsEntriesOf inputs name) sink sink (Err (streams.Run fault))
   not_opened sink fault nothing cause may =
       let any = held_any (inputs.held (Some name)) in
       let ends : EndsAfterEntries inputs name [] [] [] fault = elim cause [
@@ -141,7 +125,7 @@ module _ (inputs : Inputs) (name : List ℕ) where
   -- The line of the list's fault, or of memory, follows those of the entries before it.
   damaged : (bytes : List ℕ) (es : List ListEntry) (rest : List ℕ) (first : ListFault) → Holds inputs (Some name) bytes
       → BeginsWith bytes es rest → IsReading bytes (Err first) → list_fault_entry first ≡ Some (length es)
-      → (last : List ℕ) (status : ℕ) → IsFailure true (runs.List first) last status → ShowsEntriesOf inputs name (entry_lines es ++ last) status
+      → (last : List ℕ) (status : ℕ) → IsFailure Json (runs.List first) last status → ShowsEntriesOf inputs name (entry_lines es ++ last) status
   damaged bytes es rest first held begins reading names last status (inl told) =
       let count = fault_count reading.rest (length reading.entries) (length es) first reading.fault_is names in
       inl (
@@ -175,7 +159,7 @@ module _ (inputs : Inputs) (name : List ℕ) where
     came_of : (list over : List ℕ) → CameFrom old.remaining new.remaining input_limit list over → Came list
     came_of list over came =
         let more = held_more (inputs.held (Some name)) old.remaining new.remaining input_limit list over has came in
-        record { more = more.more; held = subst (λ (all : List ℕ). Holds inputs (Some name) all) more.parts more.held }
+        record { more = more.0; held = more.1 }
 
     more_begins : (list more : List ℕ) (es : List ListEntry) (rest : List ℕ) → BeginsWith list es rest
         → BeginsWith (list ++ more) es (rest ++ more)
@@ -194,7 +178,7 @@ module _ (inputs : Inputs) (name : List ℕ) where
     lasting : (first : ListFault) (sends : SendsEntries old.remaining new.remaining input_limit sink_old sink_new (Err (entries.List first)))
         → FailsFor sends.list first → list_fault_entry first ≡ Some (length sends.entries)
         → Sends {A = Unit {0}} {E = EntriesFault} sink_old sink_new (Ok tt) (entry_lines sends.entries)
-        → Streams true (ShowsEntriesOf inputs name) sink_old sink_new (Err (streams.Run (runs.List first)))
+        → Streams Json (ShowsEntriesOf inputs name) sink_old sink_new (Err (streams.Run (runs.List first)))
     lasting first sends fails names sent =
         let came = came_of sends.list sends.over sends.came in
         record {
@@ -208,7 +192,7 @@ module _ (inputs : Inputs) (name : List ℕ) where
     breaks_off : (list over : List ℕ) (es : List ListEntry) (rest : List ℕ) (fault : RunFault)
         → CameFrom old.remaining new.remaining input_limit list over → BeginsWith list es rest
         → Sends {A = Unit {0}} {E = EntriesFault} sink_old sink_new (Ok tt) (entry_lines es)
-        → EndsAfterEntries inputs name list es rest fault → Streams true (ShowsEntriesOf inputs name) sink_old sink_new (Err (streams.Run fault))
+        → EndsAfterEntries inputs name list es rest fault → Streams Json (ShowsEntriesOf inputs name) sink_old sink_new (Err (streams.Run fault))
     breaks_off list over es rest fault from begins sent ends =
         let came = came_of list over from in
         record {
@@ -231,9 +215,9 @@ module _ (inputs : Inputs) (name : List ℕ) where
     long_ends list over es rest fault from size some all (inr memory) = inr (inr (memory, all.0.begins))
 
     -- What was sent of the entries is what is asked for.
-    shown : (first : Result (Unit {0}) EntriesFault) (result : Result (Unit {0}) StreamFault)
+    shown : (first : Result (Unit {0}) EntriesFault) (result : Result ℕ StreamFault)
         → SendsEntries old.remaining new.remaining input_limit sink_old sink_new first → IsStreamResultOf name first result
-        → (first ≡ Err entries.Source → HasFailed old new) → Streams true (ShowsEntriesOf inputs name) sink_old sink_new result
+        → (first ≡ Err entries.Source → HasFailed old new) → Streams Json (ShowsEntriesOf inputs name) sink_old sink_new result
     shown (Ok tt) result sends is failed = rw is (record {
       text = entry_lines sends.entries;
       sends = sent_ok sink_old sink_new tt tt (entry_lines sends.entries) sends.sends;
@@ -280,16 +264,14 @@ module _ (inputs : Inputs) (name : List ℕ) where
         rw (is, says) (breaks_off sends.list sends.over sends.entries sends.rest runs.Memory sends.came sends.begins sends.sends
         (inr (inr (refl, sends.begins))))
 
-    pub entries_shown : (result : Result (Unit {0}) StreamFault) → SendsEntriesOf name old new sink_old sink_new result
-        → Streams true (ShowsEntriesOf inputs name) sink_old sink_new result
+    pub entries_shown : (result : Result ℕ StreamFault) → SendsEntriesOf name old new sink_old sink_new result
+        → Streams Json (ShowsEntriesOf inputs name) sink_old sink_new result
     entries_shown result of = shown of.first result of.sends of.result_is of.failed
 
--- ---- the outcome of a plan
-
 -- What is asked for in one way is asked for in another.
-pub streams_so : {json : Bool} (P Q : List ℕ → ℕ → Type 0) (old new : SinkState) (result : Result (Unit {0}) StreamFault)
-    → ((text : List ℕ) (status : ℕ) → P text status → Q text status) → Streams json P old new result → Streams json Q old new result
-streams_so P Q old new (Ok tt) so sent = record { text = sent.text; sends = sent.sends; goes_on = so sent.text 0 sent.goes_on }
+pub streams_so : {form : Form} (P Q : List ℕ → ℕ → Type 0) (old new : SinkState) (result : Result ℕ StreamFault)
+    → ((text : List ℕ) (status : ℕ) → P text status → Q text status) → Streams form P old new result → Streams form Q old new result
+streams_so P Q old new (Ok status) so sent = record { text = sent.text; sends = sent.sends; goes_on = so sent.text status sent.goes_on }
 streams_so P Q old new (Err (streams.Sink failed)) so sent =
     record {
       text = sent.text;
@@ -304,40 +286,6 @@ streams_so P Q old new (Err (streams.Run fault)) so sent =
     }
 
 pub entries_outcome : (inputs : Inputs) (list : String Global) (old new : Saved) → new ≡ old → (text : List ℕ) (status : ℕ)
-    → ShowsEntriesOf inputs (string_bytes list) text status → IsOutcome inputs (Json (jsons.Show list)) old new text status
+    → ShowsEntriesOf inputs (string_bytes list) text status → IsOutcome inputs (tasks.Entries list) Json old new text status
 entries_outcome inputs list old new kept text status (inl shows) = inl (shows, kept)
 entries_outcome inputs list old new kept text status (inr fails) = inr (inr (fails, kept))
-
--- ---- the answer to what was sent
-
-pub answers_done : {json : Bool} (P : List ℕ → ℕ → Type 0) (old new : SinkState) → Streams json P old new (Ok tt) → Answers P 0 old new
-answers_done P old new sent = record {
-  text = sent.text;
-  status = 0;
-  sent = Ok tt;
-  output = sent.goes_on;
-  sends = sent.sends;
-  answer_is = refl;
-}
-
-pub answers_cut : {json : Bool} (P : List ℕ → ℕ → Type 0) (old new : SinkState) (failed : Failed) → Streams json P old new (Err (streams.Sink failed))
-    → Answers P 3 old new
-answers_cut P old new failed sent = record {
-  text = sent.text ++ sent.goes_on.0;
-  status = sent.goes_on.1;
-  sent = Err failed;
-  output = sent.goes_on.2;
-  sends = sent_less old new failed failed sent.text sent.goes_on.0 sent.sends;
-  answer_is = refl;
-}
-
-pub answers_failed : {json : Bool} (P : List ℕ → ℕ → Type 0) (old mid new : SinkState) (fault : RunFault) (answer : ℕ)
-    → Streams json P old mid (Err (streams.Run fault)) → Answers (IsFailure json fault) answer mid new → Answers P answer old new
-answers_failed P old mid new fault answer sent told = record {
-  text = sent.text ++ told.text;
-  status = told.status;
-  sent = told.sent;
-  output = sent.goes_on told.text told.status told.output;
-  sends = Sends-then old mid new tt told.sent sent.text told.text sent.sends told.sends;
-  answer_is = told.answer_is;
-}

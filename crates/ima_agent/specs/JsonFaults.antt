@@ -1,5 +1,5 @@
 -- The line of a fault with `--json`. All of this is this project's choice.
-use Rattle.std.specs.Prelude.{◌≡◌, ℕ, ◌⊎◌, Bool, true, false, List, ◌++◌, codes, Option, Some, None, option_map}
+use Rattle.std.specs.Prelude.{◌≡◌, ℕ, ◌⊎◌, List, ◌++◌, codes, Option, Some, None, option_map}
 use Rattle.boot_log.specs.declared.fault.LogFault.{LogFault}
 use Rattle.boot_log.specs.declared.fault.LogFault.TheVariants as logs
 use Rattle.boot_log.specs.Faults.{log_fault_number, log_fault_event}
@@ -21,6 +21,8 @@ use Rattle.json_texts.specs.JsonValues.{line_of}
 use Rattle.agent_inputs.specs.declared.fault.RunFault.{RunFault}
 use Rattle.agent_inputs.specs.declared.fault.RunFault.TheVariants as runs
 use Rattle.agent_inputs.specs.Faults.{not_resumed_number}
+use Rattle.command_line.specs.declared.plan.Form.{Form}
+use Rattle.command_line.specs.declared.plan.Form.TheVariants as forms
 use Rattle.ima_agent.specs.FaultTexts.{fault_line, fault_status}
 
 -- ---- what the line tells beside its message
@@ -93,12 +95,12 @@ pub record IsFaultAsJson (fault : RunFault) (text : List ℕ) : Type 0 where
   pub message_is : message ++ codes "\n" ≡ fault_line fault
   pub text_is : text ≡ line_of (fault_json (fault_head fault).kind (fault_head fault).number (fault_head fault).place message)
 
--- The same, with the status after the fault.
+-- It is, and this is the status after the fault.
 abbrev pub ToldAsJson : RunFault → List ℕ → ℕ → Type 0
 ToldAsJson fault text status = IsFaultAsJson fault text × (status ≡ fault_status fault)
 
--- What is written for a fault, and the status: its plain line; with `--json` the line of JSON, or that of `Memory` if memory runs out
--- for it.
-abbrev pub IsFailure : Bool → RunFault → List ℕ → ℕ → Type 0
-IsFailure false fault text status = (text ≡ fault_line fault) × (status ≡ fault_status fault)
-IsFailure true fault text status = ToldAsJson fault text status ⊎ ToldAsJson runs.Memory text status
+-- What is written for a fault in this form, and the status: its plain line; or the line of JSON, or that of `Memory` if memory runs out for
+-- it.
+abbrev pub IsFailure : Form → RunFault → List ℕ → ℕ → Type 0
+IsFailure forms.Text fault text status = (text ≡ fault_line fault) × (status ≡ fault_status fault)
+IsFailure forms.Json fault text status = ToldAsJson fault text status ⊎ ToldAsJson runs.Memory text status

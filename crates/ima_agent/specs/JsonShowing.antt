@@ -1,6 +1,5 @@
--- The registers and the events of a log, and the entries of a list, as the program shows them with `--json`. All of this is this project's choice.
+-- The events of a log and the entries of a list, as the program shows them with `--json`. All of this is this project's choice.
 use Rattle.std.specs.Prelude.{◌≡◌, ℕ, ◌⊎◌, List, ◌++◌, length, Some, Ok, Err}
-use Rattle.pcr_banks.specs.declared.banks.Banks.{Banks}
 use Rattle.ima_list.specs.declared.fault.ListFault.{ListFault}
 use Rattle.ima_list.specs.ListEntry.{ListEntry}
 use Rattle.ima_list.specs.Spelling.{BeginsWith, IsLongest, IsReading}
@@ -12,21 +11,10 @@ use Rattle.boot_log.specs.Spelling.{LogEvent, IsLog}
 use Rattle.boot_log.specs.Spelling as spelled
 pub use Rattle.json_texts.specs.ItemLines.{entry_lines, event_lines, numbered_lines}
 pub use Rattle.json_texts.specs.SentEvents.{log_lines}
-use Rattle.json_texts.specs.JsonValues.{line_of}
-use Rattle.json_texts.specs.RegisterJson.{registers_json}
 use Rattle.agent_inputs.specs.declared.fault.RunFault.{RunFault}
 use Rattle.agent_inputs.specs.declared.fault.RunFault.TheVariants as runs
 use Rattle.ima_agent.specs.JsonFaults.{ToldAsJson}
 use Rattle.agent_inputs.specs.Loading.{Holds, HoldsTooMuch, Inputs, IsInputFault, IsReadFailure, IsTooLong, OfInput, input_limit}
-use Rattle.ima_agent.specs.Showing.{AreRegistersAfter}
-
--- The bytes are a firmware event log, and what is shown is the line of the registers that differ from their reset values after its
--- events.
-pub record ShowsJsonRegisters (log shown : List ℕ) : Type 0 where
-  pub start : Banks
-  pub now : Banks
-  pub registers : AreRegistersAfter log start now
-  pub text_is : shown ≡ line_of (registers_json now start)
 
 -- The bytes are a firmware event log, and what is shown are its lines.
 pub record ShowsAllEvents (log shown : List ℕ) (status : ℕ) : Type 0 where

@@ -1,15 +1,9 @@
 pub mod Hexadecimal
-pub mod Names
 pub mod FaultTexts
 pub mod Escaping
 pub mod Showing
-pub mod Replaying
-pub mod Expecting
-pub mod Measuring
-pub mod JsonPlans
 pub mod JsonFaults
 pub mod JsonShowing
-pub mod JsonOutputs
 pub mod Streaming
 pub mod Version
 pub mod Requests

@@ -5,10 +5,8 @@ ghost use Rattle.std.specs.List.{list_all};
 ghost use Rattle.ima_agent.specs.Escaping.{is_shown};
 
 use crate::escaping::{escaped_each, shown_line, shown_lines};
-use crate::json_plans::plain_of;
-use crate::words::read_words;
 use agent_inputs::RunFault;
-use command_line::{Judge, Judged, Plan, refusal_of};
+use command_line::{Judge, Judged, Measurement, Question, Task, refusal_of};
 use measure_book::BookFault;
 use std::alloc::{AllocError, Global};
 use std::fs::File;
@@ -19,11 +17,21 @@ use std::rt::Files as FileSystem;
 /// What standard input is called.
 const STANDARD_INPUT: &str = "standard input";
 
+/// What is wrong with arguments that are within all other limits.
+const TOO_MANY_FILES: &str = "error: 2^32 files or more";
+
 /// What came of a run that failed.
 #[derive(Clone, Copy)]
 pub enum Failure<'a> {
-    /// The line of a fault.
+    /// The line of a fault of a task.
     Fault {
+        /// The fault.
+        fault: &'a RunFault,
+        /// What was to be done.
+        task: &'a Task,
+    },
+    /// The line of a fault: the arguments are refused.
+    Refused {
         /// The fault.
         fault: &'a RunFault,
         /// The program's arguments, without its name.
@@ -50,7 +58,8 @@ pub fn explanation<R: FileSystem + io::Input>(
     ensures { IfOk result (λ text. list_all is_shown (string_bytes text) ≡ true) }
 {
     match failure {
-        Failure::Fault { fault, words } => of_fault(rt, alloc, fault, words),
+        Failure::Fault { fault, task } => of_fault(rt, alloc, fault, task),
+        Failure::Refused { fault, words } => of_refusal(alloc, fault, words),
         Failure::Words { cause } => of_words(alloc, cause),
         Failure::Output => shown_line(alloc, "the output could not be written"),
     }
@@ -66,61 +75,58 @@ fn of_words(alloc: Global, cause: &io::Error) -> Result<String, AllocError>
     }
 }
 
-// Why a run with these arguments has this fault.
+// Why this task has this fault.
 fn of_fault<R: FileSystem + io::Input>(
     rt: &R,
     alloc: Global,
     fault: &RunFault,
-    words: &[String],
+    task: &Task,
 ) -> Result<String, AllocError>
     ensures { IfOk result (λ text. list_all is_shown (string_bytes text) ≡ true) }
 {
     match fault {
         RunFault::Memory => Err(AllocError),
-        RunFault::Usage => of_usage(alloc, words),
-        RunFault::Read(name) => of_unread(rt, alloc, name, words),
-        RunFault::TooLong(_) if words.is_empty() => of_long_input(alloc),
-        _ => of_input(alloc, fault, words),
+        RunFault::Usage => of_value_in(alloc, task),
+        RunFault::Read(name) => of_unread(rt, alloc, name, task),
+        RunFault::TooLong(_) if matches!(task, Task::Registers) => of_long_input(alloc),
+        _ => of_content(alloc, input_of(task, fault), fault),
     }
 }
 
 // Why these arguments are refused. They are escaped before `clap` has them, so each line feed that comes of it is its own.
-fn of_usage(alloc: Global, words: &[String]) -> Result<String, AllocError>
+fn of_refusal(alloc: Global, fault: &RunFault, words: &[String]) -> Result<String, AllocError>
     ensures { IfOk result (λ text. list_all is_shown (string_bytes text) ≡ true) }
 {
+    if matches!(fault, RunFault::Memory) {
+        return Err(AllocError);
+    }
     let words = escaped_each(alloc, words)?;
     match refusal_of(alloc, &words)? {
         Some(text) => shown_lines(alloc, &text),
-        None => of_argument(alloc, &words),
+        None => shown_line(alloc, TOO_MANY_FILES),
     }
 }
 
-// Why these arguments are refused, which `clap` takes.
-fn of_argument(alloc: Global, words: &[String]) -> Result<String, AllocError>
+// Which value of the arguments is refused that `clap` takes.
+fn of_value_in(alloc: Global, task: &Task) -> Result<String, AllocError>
     ensures { IfOk result (λ text. list_all is_shown (string_bytes text) ≡ true) }
 {
-    let plan = plan_of(alloc, words)?;
-    let told = of_plan(alloc, &plan);
-    drop(plan);
-    told
-}
-
-// Why what arguments request is refused, which `clap` takes.
-fn of_plan(alloc: Global, plan: &Plan) -> Result<String, AllocError>
-    ensures { IfOk result (λ text. list_all is_shown (string_bytes text) ≡ true) }
-{
-    match plan {
-        Plan::Judge(
-            Judge {
-                required: Some(required),
+    match task {
+        Task::Answer(
+            Question::Judge(
+                Judge {
+                    required: Some(required),
+                    ..
+                },
+            ),
+        ) => of_value(alloc, required, "--require <BANK:A-B[,BANK:C-D..]>"),
+        Task::Answer(
+            Question::Expected {
+                registers: Some(registers),
                 ..
             },
-        ) => of_value(alloc, required, "--require <BANK:A-B[,BANK:C-D..]>"),
-        Plan::Expected {
-            registers: Some(registers),
-            ..
-        } => of_value(alloc, registers, "--registers <A-B>"),
-        _ => shown_line(alloc, "error: 2^32 files or more"),
+        ) => of_value(alloc, registers, "--registers <A-B>"),
+        _ => shown_line(alloc, TOO_MANY_FILES),
     }
 }
 
@@ -140,25 +146,16 @@ fn of_long_input(alloc: Global) -> Result<String, AllocError>
     shown_line(alloc, &format!(in alloc; "{fault}")?)
 }
 
-// What these arguments request, without `--json`. They were read before, so that it fails only for want of memory.
-fn plan_of(alloc: Global, words: &[String]) -> Result<Plan, AllocError> {
-    match read_words(alloc, words) {
-        Ok(Plan::Json(plan)) => Ok(plain_of(plan)),
-        Ok(plan) => Ok(plan),
-        Err(_) => Err(AllocError),
-    }
-}
-
 // Why the input of this name, or else standard input, could not be read.
 fn of_unread<R: FileSystem + io::Input>(
     rt: &R,
     alloc: Global,
     name: &str,
-    words: &[String],
+    task: &Task,
 ) -> Result<String, AllocError>
     ensures { IfOk result (λ text. list_all is_shown (string_bytes text) ≡ true) }
 {
-    if words.is_empty() {
+    if matches!(task, Task::Registers) {
         of_cause(alloc, STANDARD_INPUT, read_cause(&mut rt.reader()))
     } else {
         of_cause(alloc, name, open_cause(rt, name))
@@ -199,16 +196,6 @@ fn read_cause<R: Read>(reader: &mut R) -> Option<io::Error> {
     reader.read(&mut byte).err()
 }
 
-// Which input of these arguments has the fault, and what is wrong with it.
-fn of_input(alloc: Global, fault: &RunFault, words: &[String]) -> Result<String, AllocError>
-    ensures { IfOk result (λ text. list_all is_shown (string_bytes text) ≡ true) }
-{
-    let plan = plan_of(alloc, words)?;
-    let told = of_content(alloc, input_of(&plan, fault), fault);
-    drop(plan);
-    told
-}
-
 // What is wrong with this input, or with none that is known.
 fn of_content(alloc: Global, input: Option<&str>, fault: &RunFault) -> Result<String, AllocError>
     ensures { IfOk result (λ text. list_all is_shown (string_bytes text) ≡ true) }
@@ -220,76 +207,75 @@ fn of_content(alloc: Global, input: Option<&str>, fault: &RunFault) -> Result<St
 }
 
 // The input that has the fault, unless the fault names it itself or is of none.
-fn input_of<'a>(plan: &'a Plan, fault: &RunFault) -> Option<&'a str> {
+fn input_of<'a>(task: &'a Task, fault: &RunFault) -> Option<&'a str> {
     match fault {
         RunFault::NotHex => Some(STANDARD_INPUT),
-        RunFault::Log(_) | RunFault::Book(BookFault::NoBank) => log_of(plan),
-        RunFault::List(_) | RunFault::Replay(_) => list_of(plan),
-        RunFault::Expect(_) => expected_of(plan),
-        RunFault::Checkpoint(_) => checkpoint_of(plan),
-        RunFault::Outcome { job, .. } => file_of(plan, *job),
+        RunFault::Log(_) | RunFault::Book(BookFault::NoBank) => log_of(task),
+        RunFault::List(_) | RunFault::Replay(_) => list_of(task),
+        RunFault::Expect(_) => expected_of(task),
+        RunFault::Checkpoint(_) => checkpoint_of(task),
+        RunFault::Outcome { job, .. } => file_of(task, *job),
         _ => None,
     }
 }
 
-// The log of a plan.
-fn log_of(plan: &Plan) -> Option<&str> {
-    match plan {
-        Plan::Registers => Some(STANDARD_INPUT),
-        Plan::Measure { log, .. }
-        | Plan::MeasureListed { log, .. }
-        | Plan::Verify { log, .. }
-        | Plan::Judge(
-            Judge {
-                judged: Judged::Verdict { log, .. } | Judged::Places { log },
-                ..
-            },
+// The log of a task.
+fn log_of(task: &Task) -> Option<&str> {
+    match task {
+        Task::Registers => Some(STANDARD_INPUT),
+        Task::Measure(Measurement { log, .. })
+        | Task::Answer(Question::LogRegisters { log })
+        | Task::Answer(
+            Question::Judge(
+                Judge {
+                    judged: Judged::Verdict { log, .. } | Judged::Places { log },
+                    ..
+                },
+            ),
         )
-        | Plan::RegistersAfter { log }
-        | Plan::Events { log, .. } => Some(log.as_str()),
+        | Task::Events { log, .. } => Some(log.as_str()),
         _ => None,
     }
 }
 
-// The measurement list of a plan.
-fn list_of(plan: &Plan) -> Option<&str> {
-    match plan {
-        Plan::Verify { list, .. }
-        | Plan::Judge(Judge { list, .. })
-        | Plan::Show { list }
-        | Plan::Replay { list } => Some(list.as_str()),
+// The measurement list of a task.
+fn list_of(task: &Task) -> Option<&str> {
+    match task {
+        Task::Answer(Question::Judge(Judge { list, .. }))
+        | Task::Answer(Question::ListRegisters { list })
+        | Task::Entries { list } => Some(list.as_str()),
         _ => None,
     }
 }
 
-// The text of expected registers of a plan, or that from which it makes them.
-fn expected_of(plan: &Plan) -> Option<&str> {
-    match plan {
-        Plan::Verify { expected, .. } | Plan::Judge(Judge { expected, .. }) => {
-            Some(expected.as_str())
-        }
-        Plan::Expected { printed, .. } => Some(printed.as_str()),
+// The text of expected registers of a task, or that from which it makes them.
+fn expected_of(task: &Task) -> Option<&str> {
+    match task {
+        Task::Answer(Question::Judge(Judge { expected, .. })) => Some(expected.as_str()),
+        Task::Answer(Question::Expected { printed, .. }) => Some(printed.as_str()),
         _ => None,
     }
 }
 
-// The checkpoint that a plan goes on from.
-fn checkpoint_of(plan: &Plan) -> Option<&str> {
-    match plan {
-        Plan::Judge(
-            Judge {
-                judged: Judged::Verdict { resume, .. },
-                ..
-            },
+// The checkpoint that a task goes on from.
+fn checkpoint_of(task: &Task) -> Option<&str> {
+    match task {
+        Task::Answer(
+            Question::Judge(
+                Judge {
+                    judged: Judged::Verdict { resume, .. },
+                    ..
+                },
+            ),
         ) => resume.as_deref(),
         _ => None,
     }
 }
 
 // The file of this number, if the arguments name it.
-fn file_of(plan: &Plan, job: u32) -> Option<&str> {
-    match plan {
-        Plan::Measure { files, .. } | Plan::MeasureListed { files, .. } => {
+fn file_of(task: &Task, job: u32) -> Option<&str> {
+    match task {
+        Task::Measure(Measurement { files, .. }) => {
             let name = files.get(job as usize)?;
             Some(name.as_str())
         }

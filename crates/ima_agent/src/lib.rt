@@ -3,21 +3,14 @@
 #![tactic(auto)]
 
 mod escaping;
-mod expecting;
 mod explaining;
 mod hexadecimal;
-mod json_outputs;
-mod json_plans;
-mod listing;
-mod measuring;
-mod named_files;
-mod names;
 mod program;
 mod progress;
-mod replaying;
 mod requests;
 mod showing;
 mod streaming;
+mod streams;
 mod texts;
 mod version;
 mod words;
@@ -34,17 +27,14 @@ pub use boot_verdict::{
     write_required_places, write_required_report,
 };
 pub use command_line::{
-    DataShown, Extent, Form, JsonPlan, JsonPrint, Judge, Judged, NameEnd, Plan, Print,
-    words_after_name,
+    DataShown, Extent, Form, Judge, Judged, Measurement, NameEnd, Names, Plan, Print, Question,
+    Task, words_after_name,
 };
 pub use escaping::escaped;
-pub use expecting::expected_on;
 pub use explaining::{Failure, explanation};
-pub use json_outputs::{FittedOutput, json_entries_within, json_events_on, json_registers_on};
+pub use measuring::FileProgress;
 pub use program::{exit_code, run, run_with_progress};
 pub use progress::{NoProgress, Progress, SystemProgress};
 pub use rendering::Output;
-pub use replaying::json_replay_on;
-pub use showing::{Fitted, entries_within, registers_on};
 pub use texts::{json_fault_line, json_memory_line, status_of, write_fault};
 pub use words::read_words;

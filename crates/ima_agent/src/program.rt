@@ -1,38 +1,36 @@
 //! Runs the program.
 
-ghost use Rattle.std.specs.Prelude.{◌≡◌, true, IfOk, IfErr, MatchResult, OnErr};
+ghost use Rattle.std.specs.Prelude.{◌≡◌, IfOk, IfErr, OnErr};
 ghost use Rattle.std.specs.Process.{exit_status};
+ghost use Rattle.command_line.specs.Plans.{IsWithinRanges};
+ghost use Rattle.command_line.specs.Tasks.{IsWithin, IsWithinLimits, task_of};
+ghost use Rattle.command_line.specs.declared.plan.Form.TheVariants.{Json};
+ghost use Rattle.command_line.specs.declared.plan.Task.TheVariants as tasks;
 ghost use Rattle.ima_agent.specs.FaultTexts.{fault_line, fault_status};
 ghost use Rattle.ima_agent.specs.JsonFaults.{IsFailure, IsFaultAsJson, ToldAsJson};
-ghost use Rattle.command_line.specs.declared.plan.Plan.TheVariants.{Help};
-ghost use Rattle.command_line.specs.Plans.{IsWithinRanges};
-ghost use Rattle.ima_agent.specs.Program.{Answers, IsFaultOf, IsOutcome, IsOutput, IsOutputFor, IsOutputOf, Shows, is_json, status_after};
-ghost use Rattle.ima_agent.specs.parts.Program.{IsStreamed, IsWhole, IsNoHelp, ShowsText};
+ghost use Rattle.ima_agent.specs.Program.{Answers, IsFaultOf, IsOutcome, IsOutput, IsOutputFor, IsOutputOf, status_after};
+ghost use Rattle.ima_agent.specs.Streaming.{Streams};
+ghost use Rattle.ima_agent.specs.Version.{version_text};
+ghost use Rattle.agent_inputs.specs.declared.fault.RunFault.TheVariants as runs;
 
-use crate::expecting::expected_from;
 use crate::explaining::Failure;
-use crate::json_outputs::json_for;
-use crate::measuring::measured_for;
 use crate::progress::{NoProgress, Progress};
-use crate::replaying::replayed;
-use crate::requests::{request_of, request_to_verify, save_of};
-use crate::showing::{registers_after, shown_list, shown_registers};
-use crate::streaming::{StreamFault, is_streamed, streamed_for};
+use crate::requests::{request_of, save_of};
+use crate::showing::{entries_for, events_for, shown_registers};
+use crate::streaming::{DONE, StreamFault, sent_output, sent_text};
 use crate::texts::{json_fault_line, json_memory_line, status_of, write_fault};
 use crate::version::version_text;
 use crate::words::read_words;
 use agent_inputs::{AgentFiles, RunFault};
 use byte_streams::{Failed, Sink, send};
-use command_line::{Form, Plan};
-use rendering::{Output, output_for};
+use command_line::{Form, Measurement, Plan, Question, Task};
+use measuring::measured;
+use rendering::{Output, output_for, printed};
 use std::alloc::{AllocError, Global};
 use std::io;
 use std::process::ExitCode;
 use std::sync::Wait;
 use std::thread::Threads;
-
-// The exit status of success.
-const DONE: u8 = 0;
 
 // The exit status if the sink failed.
 const FAILED: u8 = 3;
@@ -110,10 +108,16 @@ pub fn run_with_progress<R: Threads + Wait + Sync, F: AgentFiles, S: Sink, P: Pr
     ensures { Answers (IsOutput (F.told files.old) words.now (F.saved files.old) (F.saved files.new)) result (S.state sink.old) (S.state sink.new) }
 {
     match read_words(alloc, words) {
-        Ok(plan) => run_plan(rt, alloc, plan, words, files, sink, progress),
+        Ok(plan) => run_plan(rt, alloc, plan, files, sink, progress),
         Err(fault) => {
             let status = failed(&fault, sink);
-            explain_fault(alloc, &fault, words, progress);
+            progress.explain(
+                alloc,
+                Failure::Refused {
+                    fault: &fault,
+                    words,
+                },
+            );
             status
         }
     }
@@ -124,99 +128,119 @@ fn run_plan<R: Threads + Wait + Sync, F: AgentFiles, S: Sink, P: Progress>(
     rt: &R,
     alloc: Global,
     plan: Plan,
-    words: &[String],
     files: &mut F,
     sink: &mut S,
     progress: &P,
 ) -> u8
     requires within { IsWithinRanges plan }
-    ensures { Answers (IsOutcome (F.told files.old) plan (F.saved files.old) (F.saved files.new)) result (S.state sink.old) (S.state sink.new) }
+    ensures { Answers (IsOutcome (F.told files.old) (task_of plan).0 (task_of plan).1 (F.saved files.old) (F.saved files.new)) result
+        (S.state sink.old) (S.state sink.new) }
 {
-    if is_streamed(&plan) {
-        let status = run_streamed(alloc, &plan, words, files, sink, progress);
-        drop(plan);
-        status
-    } else {
-        run_whole(rt, alloc, plan, words, files, sink, progress)
-    }
+    let (task, form) = plan.into_task();
+    let status = run_task(rt, alloc, &task, form, files, sink, progress);
+    drop(task);
+    status
 }
 
-// The same of a plan whose output is written while its input is read.
-fn run_streamed<F: AgentFiles, S: Sink, P: Progress>(
+// Does this task, whose result is shown in this form, and returns the exit status.
+fn run_task<R: Threads + Wait + Sync, F: AgentFiles, S: Sink, P: Progress>(
+    rt: &R,
     alloc: Global,
-    plan: &Plan,
-    words: &[String],
+    task: &Task,
+    form: Form,
     files: &mut F,
     sink: &mut S,
     progress: &P,
 ) -> u8
-    requires { IsStreamed plan.now }
-    ensures { Answers (IsOutcome (F.told files.old) plan.now (F.saved files.old) (F.saved files.new)) result (S.state sink.old) (S.state sink.new) }
+    requires within { IsWithin form task.now }
+    ensures { Answers (IsOutcome (F.told files.old) task.now form (F.saved files.old) (F.saved files.new)) result (S.state sink.old) (S.state sink.new) }
 {
-    match streamed_for(alloc, plan, files, sink) {
-        Ok(()) => DONE,
+    match perform(rt, alloc, task, form, files, sink, progress) {
+        Ok(status) => status,
         Err(StreamFault::Sink(Failed)) => {
             progress.explain(alloc, Failure::Output);
             FAILED
         }
         Err(StreamFault::Run(fault)) => {
-            let status = failed_as(alloc, is_json(plan), &fault, sink);
-            explain_fault(alloc, &fault, words, progress);
+            let status = failed_as(alloc, form, &fault, sink);
+            progress.explain(
+                alloc,
+                Failure::Fault {
+                    fault: &fault,
+                    task,
+                },
+            );
             status
         }
     }
 }
 
-// The same of a plan whose output is prepared whole.
-fn run_whole<R: Threads + Wait + Sync, F: AgentFiles, S: Sink, P: Progress>(
+// Does this task, and sends its output in this form; at a fault of the run what comes before the fault's line.
+fn perform<R: Threads + Wait + Sync, F: AgentFiles, S: Sink, P: Progress>(
     rt: &R,
     alloc: Global,
-    plan: Plan,
-    words: &[String],
+    task: &Task,
+    form: Form,
     files: &mut F,
     sink: &mut S,
     progress: &P,
-) -> u8
-    requires whole { IsWhole plan }
-    requires within { IsWithinRanges plan }
-    ensures { Answers (IsOutcome (F.told files.old) plan (F.saved files.old) (F.saved files.new)) result (S.state sink.old) (S.state sink.new) }
+) -> Result<u8, StreamFault>
+    requires within { IsWithin form task.now }
+    ensures { Streams form (IsOutcome (F.told files.old) task.now form (F.saved files.old) (F.saved files.new)) (S.state sink.old) (S.state sink.new) result }
 {
-    let json = is_json(&plan);
-    match whole_for(rt, alloc, plan, files, progress) {
-        Ok(output) => {
-            let sent = send(&output.text, sink);
-            explain_unsent(alloc, &sent, progress);
-            status_after(sent, output.status)
+    match task {
+        Task::Registers => sent_output(shown_registers(alloc, files, form), sink),
+        Task::Answer(question) => sent_output(answer_to(alloc, question, form, files), sink),
+        Task::Measure(asked) => {
+            sent_output(measured_for(rt, alloc, asked, form, files, progress), sink)
         }
-        Err(fault) => {
-            let status = failed_as(alloc, json, &fault, sink);
-            explain_fault(alloc, &fault, words, progress);
-            status
-        }
+        Task::Events { log, data } => events_for(alloc, files, log, *data, form, sink),
+        Task::Entries { list } => entries_for(alloc, files, list, form, sink),
+        Task::Help(text) => sent_text(text.as_bytes(), DONE, sink),
+        Task::Version => sent_output(shown_version(alloc), sink),
     }
 }
 
-// Whether the plan has its result printed as JSON.
-fn is_json(plan: &Plan) -> bool
-    ensures { result ≡ is_json plan.now }
+// The output of the answer to a question.
+fn answer_to<F: AgentFiles>(
+    alloc: Global,
+    question: &Question,
+    form: Form,
+    files: &mut F,
+) -> Result<Output, RunFault>
+    ensures shown { IfOk result (λ output. IsOutputFor (F.told files.old) (tasks.Answer question.now) form (F.saved files.old) (F.saved files.new)
+        output.text.items output.status) }
+    ensures kept { OnErr result (F.saved files.new ≡ F.saved files.old) }
+    ensures fault { IfErr result (IsFaultOf (F.told files.old) (tasks.Answer question.now) form) }
 {
-    match plan {
-        Plan::Judge(judge) => judge.form == Form::Json,
-        Plan::Json(_) => true,
-        _ => false,
-    }
+    output_for(alloc, files, request_of(question), save_of(question), form)
 }
 
-// Tells why the run with these arguments failed.
-fn explain_fault<P: Progress>(alloc: Global, fault: &RunFault, words: &[String], progress: &P) {
-    progress.explain(alloc, Failure::Fault { fault, words });
+// The output of a measurement.
+fn measured_for<R: Threads + Wait + Sync, F: AgentFiles, P: Progress>(
+    rt: &R,
+    alloc: Global,
+    asked: &Measurement,
+    form: Form,
+    files: &mut F,
+    progress: &P,
+) -> Result<Output, RunFault>
+    requires { IsWithinLimits form asked.now }
+    ensures shown { IfOk result (λ output. IsOutputFor (F.told files.old) (tasks.Measure asked.now) form (F.saved files.old) (F.saved files.new)
+        output.text.items output.status) }
+    ensures kept { OnErr result (F.saved files.new ≡ F.saved files.old) }
+    ensures fault { IfErr result (IsFaultOf (F.told files.old) (tasks.Measure asked.now) form) }
+{
+    let given = measured(rt, alloc, files, asked, progress)?;
+    Ok(printed(alloc, &given, asked.print, form)?)
 }
 
-// Tells that the output was not written, if it was not.
-fn explain_unsent<P: Progress>(alloc: Global, sent: &Result<(), Failed>, progress: &P) {
-    if sent.is_err() {
-        progress.explain(alloc, Failure::Output);
-    }
+// The output of the version.
+fn shown_version(alloc: Global) -> Result<Output, RunFault>
+    ensures text { IfOk result (λ output. (output.text.items ≡ version_text) × (output.status ≡ 0)) }
+    ensures fault { IfErr result (λ fault. fault ≡ runs.Memory) }
+{
+    Ok(Output::done(version_text(alloc)?))
 }
 
 // Writes the line of the fault, and returns its status, or that of a sink that failed.
@@ -226,21 +250,20 @@ fn failed<S: Sink>(fault: &RunFault, sink: &mut S) -> u8
     status_after(write_fault(fault, sink), status_of(fault))
 }
 
-// The same of a fault of a plan, which may be with `--json`.
-fn failed_as<S: Sink>(alloc: Global, json: bool, fault: &RunFault, sink: &mut S) -> u8
-    ensures { Answers (IsFailure json fault.now) result (S.state sink.old) (S.state sink.new) }
+// Writes the line of the fault in this form, and returns its status, or that of a sink that failed.
+fn failed_as<S: Sink>(alloc: Global, form: Form, fault: &RunFault, sink: &mut S) -> u8
+    ensures { Answers (IsFailure form fault.now) result (S.state sink.old) (S.state sink.new) }
 {
-    if json {
-        failed_as_json(alloc, fault, sink)
-    } else {
-        failed(fault, sink)
+    match form {
+        Form::Text => failed(fault, sink),
+        Form::Json => failed_as_json(alloc, fault, sink),
     }
 }
 
 // Writes the fault as a line of JSON, or `Memory` if that ran out for the line, and returns the status of what was written, or that of a
 // sink that failed.
 fn failed_as_json<S: Sink>(alloc: Global, fault: &RunFault, sink: &mut S) -> u8
-    ensures { Answers (IsFailure true fault.now) result (S.state sink.old) (S.state sink.new) }
+    ensures { Answers (IsFailure Json fault.now) result (S.state sink.old) (S.state sink.new) }
 {
     match json_fault_line(alloc, fault) {
         Ok(line) => sent_as_json(&line, fault, sink),
@@ -263,103 +286,5 @@ fn status_after(sent: Result<(), Failed>, status: u8) -> u8
     match sent {
         Ok(()) => status,
         Err(Failed) => FAILED,
-    }
-}
-
-// The whole output for this plan.
-fn whole_for<R: Threads + Wait + Sync, F: AgentFiles, P: Progress>(
-    rt: &R,
-    alloc: Global,
-    plan: Plan,
-    files: &mut F,
-    progress: &P,
-) -> Result<Output, RunFault>
-    requires whole { IsWhole plan }
-    requires within { IsWithinRanges plan }
-    ensures shown { IfOk result (λ output. IsOutputFor (F.told files.old) plan (F.saved files.old) (F.saved files.new)
-        output.text.items output.status) }
-    ensures kept { OnErr result (F.saved files.new ≡ F.saved files.old) }
-    ensures fault { IfErr result (IsFaultOf (F.told files.old) plan) }
-{
-    match help_of(plan) {
-        Ok(text) => Ok(Output::done(text.into_bytes())),
-        Err(plan) => {
-            let output = shown_for(rt, alloc, &plan, files, progress);
-            drop(plan);
-            output
-        }
-    }
-}
-
-// The text of the help, or the plan, which is then not to show that.
-fn help_of(plan: Plan) -> Result<String, Plan>
-    ensures { MatchResult result (λ text. plan ≡ Help text) (λ rest. (rest ≡ plan) × IsNoHelp plan) }
-{
-    match plan {
-        Plan::Help(text) => Ok(text),
-        rest => Err(rest),
-    }
-}
-
-// The whole output for this plan, which is not to show the help.
-fn shown_for<R: Threads + Wait + Sync, F: AgentFiles, P: Progress>(
-    rt: &R,
-    alloc: Global,
-    plan: &Plan,
-    files: &mut F,
-    progress: &P,
-) -> Result<Output, RunFault>
-    requires inputs { IsNoHelp plan.now }
-    requires whole { IsWhole plan.now }
-    requires within { IsWithinRanges plan.now }
-    ensures shown { IfOk result (λ output. IsOutputFor (F.told files.old) plan.now (F.saved files.old) (F.saved files.new)
-        output.text.items output.status) }
-    ensures kept { OnErr result (F.saved files.new ≡ F.saved files.old) }
-    ensures fault { IfErr result (IsFaultOf (F.told files.old) plan.now) }
-{
-    match plan {
-        Plan::Verify {
-            log,
-            list,
-            expected,
-        } => {
-            let request = request_to_verify(log, list, expected);
-            output_for(alloc, files, request, None, Form::Text)
-        }
-        Plan::Judge(judge) => {
-            output_for(alloc, files, request_of(judge), save_of(judge), judge.form)
-        }
-        Plan::Json(plan) => Ok(Output::done(json_for(rt, alloc, plan, files, progress)?)),
-        _ => Ok(Output::done(text_for(rt, alloc, plan, files, progress)?)),
-    }
-}
-
-// The text that this plan shows, with status 0.
-fn text_for<R: Threads + Wait + Sync, F: AgentFiles, P: Progress>(
-    rt: &R,
-    alloc: Global,
-    plan: &Plan,
-    files: &mut F,
-    progress: &P,
-) -> Result<Vec<u8>, RunFault>
-    requires text { ShowsText plan.now }
-    requires within { IsWithinRanges plan.now }
-    ensures shown { IfOk result (λ shown. Shows (F.told files.old) plan.now shown.items 0) }
-    ensures fault { IfErr result (IsFaultOf (F.told files.old) plan.now) }
-    ensures saved { F.saved files.new ≡ F.saved files.old }
-{
-    match plan {
-        Plan::Registers => shown_registers(alloc, files),
-        Plan::Measure { .. } | Plan::MeasureListed { .. } => {
-            measured_for(rt, alloc, files, plan, progress)
-        }
-        Plan::Expected { printed, registers } => {
-            expected_from(alloc, files, printed, registers.as_deref(), Form::Text)
-        }
-        Plan::RegistersAfter { log } => registers_after(alloc, files, log),
-        Plan::Replay { list } => replayed(alloc, files, list, Form::Text),
-        Plan::Show { list } => shown_list(alloc, files, list),
-        Plan::Version => Ok(version_text(alloc)?),
-        _ => unreachable!(),
     }
 }

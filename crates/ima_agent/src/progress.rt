@@ -1,20 +1,15 @@
 //! What is told beside the output: the progress of a measurement, and why a run failed.
 
 use crate::explaining::{Failure, explanation};
+use measuring::FileProgress;
 use std::alloc::Global;
 use std::io;
 use std::rt::{Clock, Files as FileSystem};
 use std::sync::atomic::{AtomicU64, Ordering};
 use std::time::Instant;
 
-/// Receives the progress of a measurement, from several threads, and why the run failed.
-pub trait Progress: Sync {
-    /// `files` of `all` files are done. Called by several threads at once, so a smaller number may come after a greater one.
-    fn done(&self, files: u32, all: u32);
-
-    /// The measurement has ended.
-    fn ended(&self);
-
+/// Receives the progress of a measurement, and why the run failed.
+pub trait Progress: FileProgress {
     /// The run failed. The fault's line, if there is one, was sent before.
     fn explain(&self, alloc: Global, failure: Failure<'_>);
 }
@@ -23,11 +18,13 @@ pub trait Progress: Sync {
 #[derive(Clone, Copy)]
 pub struct NoProgress;
 
-impl Progress for NoProgress {
+impl FileProgress for NoProgress {
     fn done(&self, _files: u32, _all: u32) {}
 
     fn ended(&self) {}
+}
 
+impl Progress for NoProgress {
     fn explain(&self, _alloc: Global, _failure: Failure<'_>) {}
 }
 
@@ -85,7 +82,7 @@ impl<'a, R: Eprint + Clock> SystemProgress<'a, R> {
     }
 }
 
-impl<R: Eprint + Clock + FileSystem + io::Input + Sync> Progress for SystemProgress<'_, R> {
+impl<R: Eprint + Clock + Sync> FileProgress for SystemProgress<'_, R> {
     fn done(&self, files: u32, all: u32) {
         if self.takes_turn() {
             // A shorter line may follow a longer one.
@@ -98,7 +95,9 @@ impl<R: Eprint + Clock + FileSystem + io::Input + Sync> Progress for SystemProgr
             let _ = eprint!(self.runtime; "\r\x1b[K");
         }
     }
+}
 
+impl<R: Eprint + Clock + FileSystem + io::Input + Sync> Progress for SystemProgress<'_, R> {
     fn explain(&self, alloc: Global, failure: Failure<'_>) {
         if !self.is_terminal {
             return;

@@ -1,37 +1,39 @@
-//! What plans ask of logs and lists.
+//! What questions ask of logs and lists.
 
 ghost use Rattle.std.specs.Prelude.{◌≡◌, option_map};
-ghost use Rattle.judging.specs.Asking.{asked_of, judgement_of, requires_of};
-ghost use Rattle.ima_agent.specs.Requests.{asked_by, asked_to_verify, judgement_by, requires_by, save_by};
+ghost use Rattle.judging.specs.Asking.{asked_of, compared_of, judgement_of, requires_of};
+ghost use Rattle.ima_agent.specs.Requests.{asked_by, compared_by, judgement_by, requires_by, save_by};
 
-use command_line::{Extent, Judge, Judged};
-use judging::{Input, Request, Required, Wanted};
+use command_line::{Extent, Judge, Judged, Question};
+use judging::{Comparison, Input, Request, Required, Wanted};
 
-/// What `Plan::Verify` with these names asks.
-pub(crate) fn request_to_verify<'a>(
-    log: &'a String,
-    list: &'a String,
-    expected: &'a String,
-) -> Request<'a>
-    ensures { asked_of result ≡ asked_to_verify log.now list.now expected.now }
+/// What a question asks.
+pub(crate) fn request_of(question: &Question) -> Request<'_>
+    ensures { asked_of result ≡ asked_by question.now }
 {
-    Request {
-        wanted: Wanted::Verdict {
+    match question {
+        Question::LogRegisters { log } => Request::LogRegisters {
             log: Input::File(log),
-            extent: Extent::Whole,
-            resume: None,
         },
-        list: Input::File(list),
-        expected: Input::File(expected),
-        required: Required::Nothing,
+        Question::ListRegisters { list } => Request::ListRegisters {
+            list: Input::File(list),
+        },
+        Question::Judge(judge) => Request::Comparison(comparison_of(judge)),
+        Question::Expected { printed, registers } => Request::Expected {
+            printed: Input::File(printed),
+            range: match registers {
+                None => None,
+                Some(range) => Some(range.as_bytes()),
+            },
+        },
     }
 }
 
-/// What a plan asks that judges in any other way.
-pub(crate) fn request_of(judge: &Judge) -> Request<'_>
-    ensures { asked_of result ≡ asked_by judge.now }
+// What is compared.
+fn comparison_of(judge: &Judge) -> Comparison<'_>
+    ensures { compared_of result ≡ compared_by judge.now }
 {
-    Request {
+    Comparison {
         wanted: wanted_of(&judge.judged),
         list: Input::File(&judge.list),
         expected: Input::File(&judge.expected),
@@ -85,11 +87,16 @@ fn required_of(judge: &Judge) -> Required<'_>
 }
 
 /// The name under which the checkpoint is saved, if it is.
-pub(crate) fn save_of(judge: &Judge) -> Option<&str>
-    ensures { option_map (λ name. name.now) result ≡ save_by judge.now.judged }
+pub(crate) fn save_of(question: &Question) -> Option<&str>
+    ensures { option_map (λ name. name.now) result ≡ save_by question.now }
 {
-    match &judge.judged {
-        Judged::Verdict { save, .. } => save.as_deref(),
-        Judged::Places { .. } | Judged::ListVerdict => None,
+    match question {
+        Question::Judge(
+            Judge {
+                judged: Judged::Verdict { save, .. },
+                ..
+            },
+        ) => save.as_deref(),
+        _ => None,
     }
 }

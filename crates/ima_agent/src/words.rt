@@ -2,7 +2,9 @@
 
 ghost use Rattle.std.specs.Prelude.{◌≡◌, [], Ok, IfOk, IfErr};
 ghost use Rattle.command_line.specs.Plans.{BeginsWithVersion, IsAskedBy, IsWithinRanges};
-ghost use Rattle.command_line.specs.declared.plan.Plan.TheVariants.{Registers, Version};
+ghost use Rattle.command_line.specs.declared.plan.Form.TheVariants.{Text};
+ghost use Rattle.command_line.specs.declared.plan.Plan.TheVariants as plans;
+ghost use Rattle.command_line.specs.declared.plan.Task.TheVariants.{Version};
 ghost use Rattle.agent_inputs.specs.Faults.{IsWordsFault};
 
 use agent_inputs::RunFault;
@@ -19,9 +21,9 @@ pub fn read_words(alloc: Global, words: &[String]) -> Result<Plan, RunFault>
     ensures asked { IfOk result (λ plan. IsAskedBy words.now plan × IsWithinRanges plan) }
     ensures refused { IfErr result IsWordsFault }
     // Without arguments the plan is `Registers`, whatever memory there is.
-    ensures none { words.now ≡ [] → result ≡ Ok Registers }
-    // The same of `--version`, whatever follows it.
-    ensures version { BeginsWithVersion words.now → result ≡ Ok Version }
+    ensures none { words.now ≡ [] → result ≡ Ok plans.Registers }
+    // After `--version` the plan is `Version`, whatever follows it.
+    ensures version { BeginsWithVersion words.now → result ≡ Ok (plans.Task Version Text) }
 {
     Ok(command_line::read_words(alloc, words)?)
 }

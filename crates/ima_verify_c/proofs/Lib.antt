@@ -1,1 +1,2 @@
-pub mod GivingLaws
+mod GivingLaws
+mod LineLaws

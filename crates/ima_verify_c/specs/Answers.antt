@@ -1,170 +1,89 @@
 -- What a caller in C finds after a call. All of this is this project's choice.
-use Rattle.std.specs.Prelude.{◌≡◌, ℕ, ℤ, pos, ◌<◌, ◌≤◌, ◌⊎◌, if◌then◌else◌, Bool, List, [], ◌∷◌, ◌++◌, bytes_eq, codes, length, drop, Option, None, Some}
+use Rattle.std.specs.Prelude.{◌≡◌, ℕ, ℤ, pos, ◌<◌, ◌≤◌, ◌⊎◌, List, [], ◌++◌, length, drop, Option, None, Some}
 use Rattle.agent_inputs.specs.declared.fault.RunFault.{RunFault}
 use Rattle.agent_inputs.specs.declared.fault.RunFault.TheVariants.{Memory}
 use Rattle.agent_inputs.specs.Loading.{untold}
-use Rattle.command_line.specs.declared.plan.Extent.{Extent}
-use Rattle.command_line.specs.declared.plan.Extent.TheVariants.{Front, Whole}
 use Rattle.command_line.specs.declared.plan.Form.{Form}
 use Rattle.command_line.specs.declared.plan.Form.TheVariants.{Json, Text}
-use Rattle.judging.specs.Asking.{Any, Asked, ListVerdictOf, PlacesOf, Requires, These, VerdictOf}
-use Rattle.judging.specs.Inputs.{BytesOf, Where}
+use Rattle.judging.specs.Asking.{Asked}
 use Rattle.rendering.specs.Outputs.{GivesAnswer, IsRefusalOn}
-use Rattle.ima_agent.specs.Expecting.{IsNotExpectedOn, ShowsExpected, range_text}
 use Rattle.ima_agent.specs.FaultTexts.{fault_line, fault_status}
 use Rattle.ima_agent.specs.JsonFaults.{ToldAsJson}
-use Rattle.ima_agent.specs.JsonShowing.{ShowsEntries, ShowsJsonEvents, ShowsJsonRegisters}
-use Rattle.ima_agent.specs.Replaying.{IsNoReplayOn, ShowsReplay}
-use Rattle.ima_agent.specs.Showing.{IsNoListFor, IsNoLogFor, ShowsList, ShowsRegistersAfter}
+use Rattle.ima_verify_c.specs.declared.told.Told.{Told}
+use Rattle.ima_verify_c.specs.Told.{told_of}
 
-abbrev pub interface_version : ℕ
-interface_version = 2
-
--- What a call returns if the buffer is too short.
+-- What a call returns if there is too little room.
 abbrev pub too_short : ℤ
 too_short = pos 4
 
--- ---- what stands in the buffer
+-- ---- what stands in the caller's room
 
--- The text was given: if it fits, it is at the front of the buffer, the rest of which is as it was, and the call returns the status;
--- if it does not, the buffer is as it was. In both cases the caller is told the size of the text.
-pub record IsGiven (text : List ℕ) (status : ℕ) (answer : ℤ) (needed : ℕ) (old new : List ℕ) : Type 0 where
-  pub size : needed ≡ length text
-  pub answer_if : length text ≤ length old → answer ≡ pos status
-  pub buffer_if : length text ≤ length old → new ≡ text ++ drop (length text) old
-  pub answer_else : length old < length text → answer ≡ too_short
-  pub buffer_else : length old < length text → new ≡ old
+-- The text has no room: the call returns that, tells the size and no fault, and wrote nothing.
+pub record IsTooShort (size : ℕ) (answer : ℤ) (told : Told) (old new : List ℕ) : Type 0 where
+  pub answer_is : answer ≡ too_short
+  pub told_is : told ≡ told_of size None
+  pub same : new ≡ old
 
--- A text with a status that is an answer to what was asked was given.
-pub record Answers (IsAnswer : List ℕ → ℕ → Type 0) (answer : ℤ) (needed : ℕ) (old new : List ℕ) : Type 0 where
+-- The text stands at the front of the room, the rest of which is as it was. The call returns the status, and tells the size of the text and its
+-- fault, if it is the line of one.
+pub record IsWritten (text : List ℕ) (status : ℕ) (fault : Option RunFault) (answer : ℤ) (told : Told) (old new : List ℕ) : Type 0 where
+  pub answer_is : answer ≡ pos status
+  pub told_is : told ≡ told_of (length text) fault
+  pub written : new ≡ text ++ drop (length text) old
+
+-- The text was given: written if it fits.
+pub record IsGiven (text : List ℕ) (status : ℕ) (fault : Option RunFault) (answer : ℤ) (told : Told) (old new : List ℕ) : Type 0 where
+  pub fits : length text ≤ length old → IsWritten text status fault answer told old new
+  pub short : length old < length text → IsTooShort (length text) answer told old new
+
+-- A text with a status and a fault that are an answer to what was asked was given.
+pub record Answers (IsAnswer : List ℕ → ℕ → Option RunFault → Type 0) (answer : ℤ) (told : Told) (old new : List ℕ) : Type 0 where
   pub text : List ℕ
   pub status : ℕ
-  pub is_answer : IsAnswer text status
-  pub given : IsGiven text status answer needed old new
+  pub fault : Option RunFault
+  pub is_answer : IsAnswer text status fault
+  pub given : IsGiven text status fault answer told old new
 
--- A text and the text of a checkpoint were given, each for a buffer of its own: if both fit, each is at the front of its buffer, the rest of
--- which is as it was, and the call returns the status; else both buffers are as they were. In any case the caller is told both sizes.
-pub record AreGiven (text : List ℕ) (status : ℕ) (state : List ℕ) (answer : ℤ) (needed : ℕ) (old new : List ℕ) (next_needed : ℕ) (next_old next_new : List ℕ)
-    : Type 0 where
-  pub size : needed ≡ length text
-  pub next_size : next_needed ≡ length state
-  pub answer_if : length text ≤ length old → length state ≤ length next_old → answer ≡ pos status
-  pub buffer_if : length text ≤ length old → length state ≤ length next_old → new ≡ text ++ drop (length text) old
-  pub next_if : length text ≤ length old → length state ≤ length next_old → next_new ≡ state ++ drop (length state) next_old
-  pub answer_else : (length old < length text) ⊎ (length next_old < length state) → answer ≡ too_short
-  pub buffer_else : (length old < length text) ⊎ (length next_old < length state) → new ≡ old
-  pub next_else : (length old < length text) ⊎ (length next_old < length state) → next_new ≡ next_old
+-- A text and that of a checkpoint were given, each in a room of its own: both are written if both fit, else neither is. Both sizes are told.
+pub record AreGiven (text : List ℕ) (status : ℕ) (fault : Option RunFault) (state : List ℕ) (answer : ℤ) (told : Told) (old new : List ℕ)
+    (next_size : ℕ) (next_old next_new : List ℕ) : Type 0 where
+  pub next_size_is : next_size ≡ length state
+  pub fits : length text ≤ length old → length state ≤ length next_old
+      → IsWritten text status fault answer told old new × (next_new ≡ state ++ drop (length state) next_old)
+  pub short : (length old < length text) ⊎ (length next_old < length state)
+      → IsTooShort (length text) answer told old new × (next_new ≡ next_old)
 
--- A text with a status and the text of a checkpoint that are an answer to what was asked were given.
-pub record AnswersMore (IsAnswer : List ℕ → ℕ → List ℕ → Type 0) (answer : ℤ) (needed : ℕ) (old new : List ℕ) (next_needed : ℕ)
-    (next_old next_new : List ℕ) : Type 0 where
+pub record AnswersMore (IsAnswer : List ℕ → ℕ → Option RunFault → List ℕ → Type 0) (answer : ℤ) (told : Told) (old new : List ℕ)
+    (next_size : ℕ) (next_old next_new : List ℕ) : Type 0 where
   pub text : List ℕ
   pub status : ℕ
+  pub fault : Option RunFault
   pub state : List ℕ
-  pub is_answer : IsAnswer text status state
-  pub given : AreGiven text status state answer needed old new next_needed next_old next_new
+  pub is_answer : IsAnswer text status fault state
+  pub given : AreGiven text status fault state answer told old new next_size next_old next_new
 
 -- ---- answers
 
--- The text is the line of a fault that has this cause, and the status is that of the fault: 2 if an input is refused, or 3 if memory
--- ran out.
-pub record IsRefusal (HasCause : RunFault → Type 0) (text : List ℕ) (status : ℕ) : Type 0 where
-  pub fault : RunFault
-  pub cause : HasCause fault
-  pub text_is : text ≡ fault_line fault
-  pub status_is : status ≡ fault_status fault
+-- The text is the line of the fault in this form, and the status is that of the fault: 2 if an input is refused, or 3 if memory ran out.
+abbrev pub IsLineOf : Form → RunFault → List ℕ → ℕ → Type 0
+IsLineOf Text fault text status = (text ≡ fault_line fault) × (status ≡ fault_status fault)
+IsLineOf Json fault text status = ToldAsJson fault text status
 
--- The expected registers that this text, which tpm2-tools printed, states within the range that the text `registers` spells, or all
--- if that is empty; or why there are none.
-abbrev pub IsExpectedAnswer : List ℕ → List ℕ → List ℕ → ℕ → Type 0
-IsExpectedAnswer printed registers text status =
-    (ShowsExpected (range_text registers) printed text × (status ≡ 0)) ⊎ IsRefusal (IsNotExpectedOn printed registers) text status
+-- It is that of a fault with this cause, which is told.
+abbrev pub IsRefusal : (RunFault → Type 0) → Form → List ℕ → ℕ → Option RunFault → Type 0
+IsRefusal HasCause form text status fault = (cause : RunFault) × (fault ≡ Some cause) × HasCause cause × IsLineOf form cause text status
 
--- The registers after this log; or why there are none.
-abbrev pub IsRegistersAnswer : List ℕ → List ℕ → ℕ → Type 0
-IsRegistersAnswer log text status = (ShowsRegistersAfter log text × (status ≡ 0)) ⊎ IsRefusal (IsNoLogFor log) text status
-
--- The lines of this list's entries; or why there are none.
-abbrev pub IsEntriesAnswer : List ℕ → List ℕ → ℕ → Type 0
-IsEntriesAnswer list text status = (ShowsList list text × (status ≡ 0)) ⊎ IsRefusal (IsNoListFor list) text status
-
--- ---- answers as lines of JSON
-
--- The text is the line of JSON of a fault that has this cause, and the status is that of the fault.
-pub record IsJsonRefusal (HasCause : RunFault → Type 0) (text : List ℕ) (status : ℕ) : Type 0 where
-  pub fault : RunFault
-  pub cause : HasCause fault
-  pub told : ToldAsJson fault text status
-
--- The registers after this log; or why there are none.
-abbrev pub IsJsonRegistersAnswer : List ℕ → List ℕ → ℕ → Type 0
-IsJsonRegistersAnswer log text status = (ShowsJsonRegisters log text × (status ≡ 0)) ⊎ IsJsonRefusal (IsNoLogFor log) text status
-
--- The registers after this list alone; or why there are none.
-abbrev pub IsJsonReplayAnswer : List ℕ → List ℕ → ℕ → Type 0
-IsJsonReplayAnswer list text status = (ShowsReplay Json list text × (status ≡ 0)) ⊎ IsJsonRefusal (IsNoReplayOn list) text status
-
--- What can be read of these bytes as a log, with its status; or that memory ran out.
-abbrev pub IsJsonEventsAnswer : List ℕ → List ℕ → ℕ → Type 0
-IsJsonEventsAnswer log text status = ShowsJsonEvents log text status ⊎ ToldAsJson Memory text status
-
--- What can be read of these bytes as a list, with its status; or that memory ran out.
-abbrev pub IsJsonEntriesAnswer : List ℕ → List ℕ → ℕ → Type 0
-IsJsonEntriesAnswer list text status = ShowsEntries list text status ⊎ ToldAsJson Memory text status
-
--- ---- answers to what is asked of a log and a list
-
--- The line of a fault that has this cause, in this form.
-abbrev pub IsRefusalIn : Form → (RunFault → Type 0) → List ℕ → ℕ → Type 0
-IsRefusalIn Text HasCause text status = IsRefusal HasCause text status
-IsRefusalIn Json HasCause text status = IsJsonRefusal HasCause text status
+-- Why there is no answer to what is asked, or memory ran out for what is to be given.
+abbrev pub HasNoAnswerOn : Asked → RunFault → Type 0
+HasNoAnswerOn asked fault = IsRefusalOn untold asked fault ⊎ (fault ≡ Memory)
 
 -- The answer to what is asked, in this form, with its status, and the text of the checkpoint of what it is on, which has no bytes unless all
 -- is well; or why there is no answer, and no text of a checkpoint.
-abbrev pub IsAnswerAndNext : Asked → Form → List ℕ → ℕ → List ℕ → Type 0
-IsAnswerAndNext asked form text status state =
-    GivesAnswer untold asked form text status state ⊎ (IsRefusalIn form (IsRefusalOn untold asked) text status × (state ≡ []))
+abbrev pub IsAnswerAndNext : Asked → Form → List ℕ → ℕ → Option RunFault → List ℕ → Type 0
+IsAnswerAndNext asked form text status fault state =
+    ((fault ≡ None) × GivesAnswer untold asked form text status state)
+    ⊎ (IsRefusal (HasNoAnswerOn asked) form text status fault × (state ≡ []))
 
--- The same without the checkpoint.
-abbrev pub IsAnswerTo : Asked → Form → List ℕ → ℕ → Type 0
-IsAnswerTo asked form text status = (state : List ℕ) × IsAnswerAndNext asked form text status state
-
--- What is asked of these bytes: the verdict on a log and a list; where the registers have their values; and the verdict on a list alone.
-abbrev pub asked_of_verdict : List ℕ → List ℕ → List ℕ → Requires → Asked
-asked_of_verdict log list expected required = record {
-  judgement = VerdictOf (BytesOf log) Whole None;
-  list = BytesOf list;
-  expected = BytesOf expected;
-  required = required;
-}
-
-abbrev pub asked_of_places : List ℕ → List ℕ → List ℕ → Requires → Asked
-asked_of_places log list expected required =
-    record { judgement = PlacesOf (BytesOf log); list = BytesOf list; expected = BytesOf expected; required = required }
-
-abbrev pub asked_of_list : List ℕ → List ℕ → Requires → Asked
-asked_of_list list expected required =
-    record { judgement = ListVerdictOf; list = BytesOf list; expected = BytesOf expected; required = required }
-
--- What has to be among the expected registers of a list that grows: some register, if the text is this word; else those that it spells.
--- Without bytes it spells none, and is refused.
-abbrev pub required_by : List ℕ → Requires
-required_by text = if bytes_eq text (codes "none") then Any else These text
-
--- Where the checkpoint is to go on from: these bytes, if there are any.
-abbrev pub state_place : List ℕ → Option Where
-state_place [] = None
-state_place (first ∷ rest) = Some (BytesOf (first ∷ rest))
-
--- The part of a list that is asked for: the confirmed front, or all of it.
-abbrev pub extent_for : Bool → Extent
-extent_for prefix = if prefix then Front else Whole
-
--- What is asked of a list that grows.
-abbrev pub asked_of_more : List ℕ → List ℕ → List ℕ → List ℕ → List ℕ → Bool → Asked
-asked_of_more log state more expected require prefix = record {
-  judgement = VerdictOf (BytesOf log) (extent_for prefix) (state_place state);
-  list = BytesOf more;
-  expected = BytesOf expected;
-  required = required_by require;
-}
+-- The answer, whatever checkpoint there is.
+abbrev pub IsAnswerTo : Asked → Form → List ℕ → ℕ → Option RunFault → Type 0
+IsAnswerTo asked form text status fault = (state : List ℕ) × IsAnswerAndNext asked form text status fault state

@@ -1,2 +1,4 @@
+pub mod Told
+pub mod Asked
 pub mod Answers
-pub mod parts
+pub mod Lines

@@ -1,44 +1,49 @@
-//! Gives an answer to the caller: a text in the caller's buffer, its size, and a number.
+//! Gives an answer to the caller: a text in the caller's room, what is told of it, and a number.
 
-ghost use Rattle.std.specs.Prelude.{◌≡◌, ℕ, List, length, true, IfOk, IfErr};
-ghost use Rattle.ima_agent.specs.FaultTexts.{fault_line};
-ghost use Rattle.ima_agent.specs.JsonFaults.{IsFailure};
-ghost use Rattle.ima_agent.specs.Showing.{IsFitted};
-ghost use Rattle.ima_verify_c.specs.Answers.{Answers, AnswersMore, AreGiven, IsAnswerAndNext, IsAnswerTo, IsGiven};
+ghost use Rattle.std.specs.Prelude.{◌≡◌, ℕ, ◌≤◌, ◌⊎◌, None, List, length, option_map, IfOk};
+ghost use Rattle.agent_inputs.specs.declared.fault.RunFault.TheVariants.{Memory};
+ghost use Rattle.ima_agent.specs.FaultTexts.{fault_line, fault_status};
 ghost use Rattle.judging.specs.Asking.{asked_of};
-ghost use Rattle.ima_verify_c.specs.parts.Givings.{IsFaultIn, IsFaultText, IsJsonOf, IsTextOf};
+ghost use Rattle.pieces.specs.declared.piece.Position.{Position as APosition};
+ghost use Rattle.ima_verify_c.specs.Answers.{Answers, AnswersMore, AreGiven, IsAnswerAndNext, IsAnswerTo, IsGiven, IsLineOf, IsRefusal};
+ghost use Rattle.ima_verify_c.specs.Lines.{GivesPiece, IsMisused};
 
+use crate::told::Told;
 use byte_streams::{Failed, VecSink};
-use ima_agent::{
-    Fitted, FittedOutput, Form, Output, RunFault, json_fault_line, json_memory_line, status_of,
-    write_fault,
-};
+use ima_agent::{Form, RunFault, json_fault_line, json_memory_line, status_of, write_fault};
 use judging::Request;
+use pieces::{End, Piece, Position};
 use rendering::{Given, output_on};
 use std::alloc::{AllocError, Global};
 
 /// What a call returns if memory ran out.
 const OUT_OF_MEMORY: u8 = 3;
 
-/// What a call returns if the buffer is too short.
+/// What a call returns if there is too little room.
 const TOO_SHORT: i32 = 4;
+
+/// What a call returns if there are more lines.
+const MORE: u8 = 5;
+
+/// What a call returns if a position is none.
+const MISUSED: i32 = 6;
 
 /// The line of a fault, if even that cannot be kept in memory.
 const MEMORY_LINE: &[u8] = b"failed: memory\n";
 
 /// Gives the answer to what is asked of bytes in memory, or the line of a fault, in this form.
-pub(crate) fn give_answer(
+pub(crate) fn give(
     alloc: Global,
     asked: Request<'_>,
     form: Form,
     out: &mut [u8],
-    needed: &mut usize,
+    told: &mut Told,
 ) -> i32
-    ensures { Answers (IsAnswerTo (asked_of asked.entry) form) result needed.new out.old out.new }
+    ensures { Answers (IsAnswerTo (asked_of asked.entry) form) result told.new out.old out.new }
 {
     match output_on(alloc, asked, form) {
-        Ok(given) => put(&given.output.text, given.output.status, out, needed),
-        Err(fault) => give_fault_in(alloc, form, &fault, out, needed),
+        Ok(given) => put(&given.output.text, given.output.status, None, out, told),
+        Err(fault) => give_fault(alloc, form, &fault, out, told),
     }
 }
 
@@ -48,122 +53,93 @@ pub(crate) fn give_both(
     asked: Request<'_>,
     form: Form,
     next: &mut [u8],
-    next_needed: &mut usize,
+    next_size: &mut usize,
     out: &mut [u8],
-    needed: &mut usize,
+    told: &mut Told,
 ) -> i32
-    ensures { AnswersMore (IsAnswerAndNext (asked_of asked.entry) form) result needed.new out.old out.new next_needed.new next.old next.new }
+    ensures { AnswersMore (IsAnswerAndNext (asked_of asked.entry) form) result told.new out.old out.new next_size.new next.old next.new }
 {
     match output_on(alloc, asked, form) {
-        Ok(given) => put_both(&given, next, next_needed, out, needed),
+        Ok(given) => put_both(&given, next, next_size, out, told),
         Err(fault) => {
-            *next_needed = 0;
-            give_fault_in(alloc, form, &fault, out, needed)
+            *next_size = 0;
+            give_fault(alloc, form, &fault, out, told)
         }
     }
 }
 
-// Gives the line of a fault in this form; that of `Memory`, if there is no memory for it.
-fn give_fault_in(
+/// Gives a piece of lines, and sets the position to where the next begin.
+pub(crate) fn give_piece(
+    piece: &Piece,
+    offset: &mut usize,
+    number: &mut usize,
+    out: &mut [u8],
+    told: &mut Told,
+) -> i32
+    requires { length piece.now.text.items ≤ length out.now }
+    ensures { GivesPiece piece.now (record { offset = offset.old; number = number.old }) (record { offset = offset.new; number = number.new })
+        result told.new out.old out.new }
+{
+    let status = match piece.end {
+        End::Last => 0,
+        End::More => MORE,
+        End::Longer(size) => {
+            *told = Told::of(size, None);
+            return TOO_SHORT;
+        }
+    };
+    *offset = piece.next.offset;
+    *number = piece.next.number;
+    put(&piece.text, status, None, out, told)
+}
+
+/// Gives nothing, since the position is none.
+pub(crate) fn give_misused(told: &mut Told) -> i32
+    ensures { (position : APosition) (out : List ℕ) → IsMisused position position result told.new out out }
+{
+    *told = Told::of(0, None);
+    MISUSED
+}
+
+/// Gives the line of a fault in this form; that of `Memory`, if there is no memory for it.
+pub(crate) fn give_fault(
     alloc: Global,
     form: Form,
     fault: &RunFault,
     out: &mut [u8],
-    needed: &mut usize,
+    told: &mut Told,
 ) -> i32
-    ensures { Answers (IsFaultIn form fault.now) result needed.new out.old out.new }
+    ensures { Answers (IsRefusal (λ cause. (cause ≡ fault.now) ⊎ (cause ≡ Memory)) form) result told.new out.old out.new }
+{
+    match line_in(alloc, form, fault) {
+        Ok(line) => put(&line, status_of(fault), Some(fault), out, told),
+        Err(AllocError) => {
+            let fault = RunFault::Memory;
+            put(memory_line(form), OUT_OF_MEMORY, Some(&fault), out, told)
+        }
+    }
+}
+
+// The line of a fault, in this form.
+fn line_in(alloc: Global, form: Form, fault: &RunFault) -> Result<Vec<u8>, AllocError>
+    ensures { IfOk result (λ line. IsLineOf form fault.now line.items (fault_status fault.now)) }
 {
     match form {
-        Form::Text => give_fault(alloc, fault, out, needed),
-        Form::Json => give_json_fault(alloc, fault, out, needed),
+        Form::Text => line_of(alloc, fault),
+        Form::Json => json_fault_line(alloc, fault),
     }
 }
 
-/// Gives a text, or the line of a fault.
-pub(crate) fn give_text(
-    alloc: Global,
-    asked: Result<Vec<u8>, RunFault>,
-    out: &mut [u8],
-    needed: &mut usize,
-) -> i32
-    ensures { Answers (IsTextOf asked) result needed.new out.old out.new }
+// That of `Memory`, which takes no memory.
+fn memory_line(form: Form) -> &'static [u8]
+    ensures { IsLineOf form Memory result.now 3 }
 {
-    match asked {
-        Ok(text) => put(&text, 0, out, needed),
-        Err(fault) => give_fault(alloc, &fault, out, needed),
+    match form {
+        Form::Text => MEMORY_LINE,
+        Form::Json => json_memory_line(),
     }
 }
 
-/// Gives a text for which the caller's buffer is the room, or its size, or the line of a fault.
-pub(crate) fn give_fitted(
-    alloc: Global,
-    asked: Result<Fitted, RunFault>,
-    out: &mut [u8],
-    needed: &mut usize,
-) -> i32
-    ensures given { IfOk asked (λ fitted. (text : List ℕ) → IsFitted (length out.old) text fitted
-        → IsGiven text 0 result needed.new out.old out.new) }
-    ensures fault { IfErr asked (λ fault. Answers (IsFaultText fault) result needed.new out.old out.new) }
-{
-    match asked {
-        Ok(text) => put_fitted(&text, 0, out, needed),
-        Err(fault) => give_fault(alloc, &fault, out, needed),
-    }
-}
-
-/// Gives an output, or the line of a fault as JSON.
-pub(crate) fn give_json(
-    alloc: Global,
-    asked: Result<Output, RunFault>,
-    out: &mut [u8],
-    needed: &mut usize,
-) -> i32
-    ensures { Answers (IsJsonOf asked) result needed.new out.old out.new }
-{
-    match asked {
-        Ok(lines) => put(&lines.text, lines.status, out, needed),
-        Err(fault) => give_json_fault(alloc, &fault, out, needed),
-    }
-}
-
-/// Gives an output for whose text the caller's buffer is the room, or its size, or the line of a fault as JSON.
-pub(crate) fn give_json_fitted(
-    alloc: Global,
-    asked: Result<FittedOutput, RunFault>,
-    out: &mut [u8],
-    needed: &mut usize,
-) -> i32
-    ensures given { IfOk asked (λ output. (text : List ℕ) → IsFitted (length out.old) text output.text
-        → IsGiven text output.status result needed.new out.old out.new) }
-    ensures fault { IfErr asked (λ fault. Answers (IsFailure true fault) result needed.new out.old out.new) }
-{
-    match asked {
-        Ok(output) => put_fitted(&output.text, output.status, out, needed),
-        Err(fault) => give_json_fault(alloc, &fault, out, needed),
-    }
-}
-
-// Gives the line of a fault; that of `Memory`, if there is no memory for it.
-fn give_fault(alloc: Global, fault: &RunFault, out: &mut [u8], needed: &mut usize) -> i32
-    ensures { Answers (IsFaultText fault.now) result needed.new out.old out.new }
-{
-    match line_of(alloc, fault) {
-        Ok(line) => put(&line, status_of(fault), out, needed),
-        Err(AllocError) => put(MEMORY_LINE, OUT_OF_MEMORY, out, needed),
-    }
-}
-
-// Gives the line of a fault as JSON; that of `Memory`, if there is no memory for it.
-fn give_json_fault(alloc: Global, fault: &RunFault, out: &mut [u8], needed: &mut usize) -> i32
-    ensures { Answers (IsFailure true fault.now) result needed.new out.old out.new }
-{
-    match json_fault_line(alloc, fault) {
-        Ok(json) => put(&json, status_of(fault), out, needed),
-        Err(AllocError) => put(json_memory_line(), OUT_OF_MEMORY, out, needed),
-    }
-}
-
-// The line of a fault.
 fn line_of(alloc: Global, fault: &RunFault) -> Result<Vec<u8>, AllocError>
     ensures { IfOk result (λ line. line.items ≡ fault_line fault.now) }
 {
@@ -174,49 +150,37 @@ fn line_of(alloc: Global, fault: &RunFault) -> Result<Vec<u8>, AllocError>
     }
 }
 
-// Puts a text at the front of the caller's buffer, if it fits.
-fn put(text: &[u8], status: u8, out: &mut [u8], needed: &mut usize) -> i32
-    ensures { IsGiven text.now status result needed.new out.old out.new }
+// Writes a text at the front of the caller's room, if it fits, and tells its size and the fault that it is the line of.
+fn put(text: &[u8], status: u8, fault: Option<&RunFault>, out: &mut [u8], told: &mut Told) -> i32
+    ensures { IsGiven text.now status (option_map (λ fault. fault.now) fault.entry) result told.new out.old out.new }
 {
-    *needed = text.len();
     if out.len() < text.len() {
+        *told = Told::of(text.len(), None);
         return TOO_SHORT;
     }
     out[..text.len()].copy_from_slice(text);
+    *told = Told::of(text.len(), fault);
     i32::from(status)
 }
 
-// Puts an answer and the text of a checkpoint each at the front of its buffer, if both fit.
+// Writes an answer and the text of a checkpoint each at the front of its room, if both fit.
 fn put_both(
     given: &Given,
     next: &mut [u8],
-    next_needed: &mut usize,
+    next_size: &mut usize,
     out: &mut [u8],
-    needed: &mut usize,
+    told: &mut Told,
 ) -> i32
-    ensures { AreGiven given.now.output.text.items given.now.output.status given.now.checkpoint.items result needed.new out.old out.new
-        next_needed.new next.old next.new }
+    ensures { AreGiven given.now.output.text.items given.now.output.status None given.now.checkpoint.items result told.new out.old out.new
+        next_size.new next.old next.new }
 {
     let text = &given.output.text;
     let state = &given.checkpoint;
-    *next_needed = state.len();
+    *next_size = state.len();
     if state.len() <= next.len() && text.len() <= out.len() {
         next[..state.len()].copy_from_slice(state);
-        return put(text, given.output.status, out, needed);
+        return put(text, given.output.status, None, out, told);
     }
-    *needed = given.output.text.len();
+    *told = Told::of(text.len(), None);
     TOO_SHORT
-}
-
-// Puts a text for which the caller's buffer is the room, or tells its size.
-fn put_fitted(fitted: &Fitted, status: u8, out: &mut [u8], needed: &mut usize) -> i32
-    ensures { (text : List ℕ) → IsFitted (length out.old) text fitted.now → IsGiven text status result needed.new out.old out.new }
-{
-    match fitted {
-        Fitted::Text(text) => put(text, status, out, needed),
-        Fitted::Longer(size) => {
-            *needed = *size;
-            TOO_SHORT
-        }
-    }
 }

@@ -1,5 +1,5 @@
 -- What an entry's line says.
-use Rattle.std.proofs.Common.{◌≡◌, ℕ, ◌^◌, ◌<◌, Bool, true, false, List, [], Option, Some, None, refl, sym, arith, inl, inr, rules}
+use Rattle.std.proofs.Common.{◌≡◌, ℕ, ◌^◌, ◌<◌, Bool, true, false, List, Option, Some, None, refl, sym, arith, inl, inr, rules}
 use Rattle.std.specs.Prelude.{◌↔◌, ◌⊎◌, ◌||◌, IsTrue, bytes_eq}
 use Rattle.std.proofs.lemmas.Slice.Eq.{bytes_eq-Decides}
 use Rattle.std.proofs.lemmas.Str.{IsUtf8-from_is_utf8}
@@ -14,8 +14,8 @@ use Rattle.ima_list.specs.FieldKinds.{FileFields}
 use Rattle.ima_list.specs.Fields.{fields_of}
 use Rattle.ima_list.specs.Templates.{template_named}
 use Rattle.json_texts.specs.JsonValues.{IsOneLine}
-use Rattle.json_texts.specs.EntryJson.{content_members, entry_json, head_members, is_genuine, signature_members}
-use Rattle.json_texts.proofs.LineLaws.{ArePlain, flag_plain, member_plain, members_joined, no_members_plain, number_plain, object_plain, one_line, string_plain}
+use Rattle.json_texts.specs.EntryJson.{content_members, entry_json, is_genuine, signature_members}
+use Rattle.json_texts.proofs.LineLaws.{ArePlain, one_line}
 
 decided : (b : Bool) → (b ≡ true → ⊥) → b ≡ false
 decided true not = absurd (not refl)
@@ -52,25 +52,34 @@ is_the_test entry answer both =
 
 -- ---- one line
 
-signature_plain : (template : Option Template) (sig : List ℕ) → ArePlain 0 (signature_members template sig)
-signature_plain (Some Ima) sig = no_members_plain 0
-signature_plain (Some ImaNg) sig = no_members_plain 0
-signature_plain (Some ImaSig) sig = member_plain 0 _ _ [] (string_plain 0 _) (no_members_plain 0)
-signature_plain None sig = no_members_plain 0
+signature_plain : (template : Option Template) (sig : List ℕ) → ArePlain (signature_members template sig) 2
+signature_plain (Some Ima) sig = tt
+signature_plain (Some ImaNg) sig = tt
+signature_plain (Some ImaSig) sig = (tt, tt)
+signature_plain None sig = tt
 
-content_plain : (template : Option Template) (fields : Option FileFields) (payload : List ℕ) → ArePlain 0 (content_members template fields payload)
-content_plain template (Some fields) payload =
-    member_plain 0 _ _ _ (string_plain 0 _) (member_plain 0 _ _ _ (string_plain 0 _) (member_plain 0 _ _ _ (string_plain 0 _) (signature_plain template fields.sig)))
-content_plain template None payload = member_plain 0 _ _ [] (string_plain 0 _) (no_members_plain 0)
-
-head_plain : (number : ℕ) (entry : ListEntry) → number < 2 ^ 64 → IsEntry entry → ArePlain 0 (head_members number entry)
-head_plain number entry fits is =
-    member_plain 0 _ _ _ (number_plain 0 number fits) (member_plain 0 _ _ _ (number_plain 0 entry.register (omega (arith, is.register_exists)))
-    (member_plain 0 _ _ _ (string_plain 0 _) (member_plain 0 _ _ _ (string_plain 0 _) (member_plain 0 _ _ _ (flag_plain 0 _)
-    (member_plain 0 _ _ [] (flag_plain 0 _) (no_members_plain 0))))))
+content_plain : (template : Option Template) (fields : Option FileFields) (payload : List ℕ) → ArePlain (content_members template fields payload) 2
+content_plain template (Some fields) payload = (tt, (tt, (tt, signature_plain template fields.sig)))
+content_plain template None payload = (tt, tt)
 
 pub entry_line : (number : ℕ) (entry : ListEntry) → number < 2 ^ 64 → IsEntry entry → IsOneLine (entry_json number entry)
 entry_line number entry fits is =
-    one_line 1 (entry_json number entry)
-    (object_plain 0 _ (members_joined 0 (head_members number entry) _ (head_plain number entry fits is)
-    (content_plain (template_named entry.name) (fields_of entry) entry.payload))) (omega arith)
+    one_line (entry_json number entry) (
+      (number, fits, refl),
+      (
+        (entry.register, omega (arith, is.register_exists), refl),
+        (
+          tt,
+          (
+            tt,
+            (
+              tt,
+              (
+                tt,
+                content_plain (template_named entry.name) (fields_of entry) entry.payload,
+              ),
+            ),
+          ),
+        ),
+      ),
+    )

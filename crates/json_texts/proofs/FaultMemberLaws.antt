@@ -1,7 +1,8 @@
 -- Only a fault's value has a member `fault`.
-use Rattle.std.proofs.Common.{◌≡◌, ℕ, Bool, true, false, cond, List, [], ◌∷◌, ◌++◌, Option, Some, None, refl, codes}
+use Rattle.std.proofs.Common.{◌≡◌, ℕ, Bool, true, false, cond, List, ◌++◌, Option, Some, None, refl, codes}
+use Rattle.std.specs.Prelude.{⊤, option_map}
 use Rattle.std.specs.Str.{bytes_eq, is_utf8}
-use Rattle.json.specs.Json.{Json}
+use Rattle.json.specs.Json.{Json, object, string, Members, no_members, member}
 use Rattle.json.specs.Find.{get, get_member}
 use Rattle.boot_log.specs.EventTypes.{event_type_name}
 use Rattle.boot_log.specs.Spelling.{LogEvent}
@@ -14,24 +15,25 @@ use Rattle.ima_list.specs.Templates.{template_named}
 use Rattle.growing_lists.specs.declared.front_report.Unconfirmed.{Unconfirmed}
 use Rattle.boot_verdict.specs.declared.requirement.BankRange.{BankRange}
 use Rattle.boot_verdict.specs.Verdicts.{Verdict}
-use Rattle.json_texts.specs.JsonValues.{Member, hex_json, members_of, number_json}
-use Rattle.json_texts.specs.EntryJson.{content_members, entry_json, head_members, signature_members}
-use Rattle.json_texts.specs.EventJson.{digests_json, event_json, type_members}
+use Rattle.json_texts.specs.JsonValues.{Member, members_of, optional}
+use Rattle.json_texts.specs.EntryJson.{content_members, entry_json, signature_members}
+use Rattle.json_texts.specs.EventJson.{event_json}
 use Rattle.json_texts.specs.ReportJson.{front_report_json}
 
 abbrev the_name : List ℕ
 the_name = codes "fault"
 
 -- None of the members has the name.
-record Lacks (members : List Member) : Type 0 where
-  lacks : get_member the_name (members_of members) ≡ None
+abbrev AreOther : Members → Type 0
+AreOther no_members = ⊤
+AreOther (member name value members) = (bytes_eq name the_name ≡ false) × AreOther members
 
-none_lacks : Lacks []
-none_lacks = record { lacks = refl }
+no_member : (members : Members) → AreOther members → get_member the_name members ≡ None
+no_member no_members other = refl
+no_member (member name value members) other = rw (no_member members other.1, other.0) refl
 
-one_more : (name : List ℕ) (value : Json) (members : List Member) → bytes_eq name the_name ≡ false → Lacks members
-    → Lacks ((name, value) ∷ members)
-one_more name value members other lacking = record { lacks = rw (lacking.lacks, other) refl }
+lacks : {members : Members} (value : Json) → value ≡ object members → AreOther members → get the_name value ≡ None
+lacks {members} value is other = rw is (no_member members other)
 
 -- A name that depends on the bytes that are shown.
 either : (is : Bool) (name hex_name : List ℕ) → bytes_eq name the_name ≡ false → bytes_eq hex_name the_name ≡ false
@@ -39,53 +41,32 @@ either : (is : Bool) (name hex_name : List ℕ) → bytes_eq name the_name ≡ f
 either true name hex_name first second = first
 either false name hex_name first second = second
 
--- ---- an entry
+signature_other : (template : Option Template) (sig : List ℕ) → AreOther (members_of (signature_members template sig))
+signature_other (Some Ima) sig = tt
+signature_other (Some ImaNg) sig = tt
+signature_other (Some ImaSig) sig = (refl, tt)
+signature_other None sig = tt
 
-signature_lacks : (template : Option Template) (sig : List ℕ) → Lacks (signature_members template sig)
-signature_lacks (Some Ima) sig = none_lacks
-signature_lacks (Some ImaNg) sig = none_lacks
-signature_lacks (Some ImaSig) sig = one_more _ _ [] refl none_lacks
-signature_lacks None sig = none_lacks
-
-content_lacks : (template : Option Template) (fields : Option FileFields) (payload : List ℕ) → Lacks (content_members template fields payload)
-content_lacks template (Some fields) payload =
-    one_more _ _ _ refl (one_more _ _ _ refl
-    (one_more _ _ _ (either (is_utf8 fields.path) (codes "path") (codes "path_hex") refl refl) (signature_lacks template fields.sig)))
-content_lacks template None payload = one_more _ _ [] refl none_lacks
-
-head_lacks : (number : ℕ) (entry : ListEntry) (members : List Member) → Lacks members → Lacks (head_members number entry ++ members)
-head_lacks number entry members lacking =
-    one_more _ _ _ refl (one_more _ _ _ refl
-    (one_more _ _ _ (either (is_utf8 entry.name) (codes "template") (codes "template_hex") refl refl)
-    (one_more _ _ _ refl (one_more _ _ _ refl (one_more _ _ _ refl lacking)))))
+content_other : (template : Option Template) (fields : Option FileFields) (payload : List ℕ)
+    → AreOther (members_of (content_members template fields payload))
+content_other template (Some fields) payload =
+    (refl, (refl, (either (is_utf8 fields.path) (codes "path") (codes "path_hex") refl refl, signature_other template fields.sig)))
+content_other template None payload = (refl, tt)
 
 pub entry_lacks : (number : ℕ) (entry : ListEntry) → get the_name (entry_json number entry) ≡ None
 entry_lacks number entry =
-    (head_lacks number entry _ (content_lacks (template_named entry.name) (fields_of entry) entry.payload)).lacks
+    let name = either (is_utf8 entry.name) (codes "template") (codes "template_hex") refl refl in
+    let content = content_other (template_named entry.name) (fields_of entry) entry.payload in
+    lacks (entry_json number entry) refl (refl, (refl, (name, (refl, (refl, (refl, content))))))
 
--- ---- an event
-
-type_lacks : (name : Option (List ℕ)) (members : List Member) → Lacks members → Lacks (type_members name ++ members)
-type_lacks None members lacking = lacking
-type_lacks (Some name) members lacking = one_more (codes "type") _ members refl lacking
-
--- The members after the type.
-abbrev last_members : LogEvent → List Member
-last_members event =
-    (codes "type_number", number_json event.kind)
-    ∷ (codes "digests", digests_json event.digests)
-    ∷ (codes "data", hex_json event.payload)
-    ∷ []
-
-last_lacks : (event : LogEvent) → Lacks (last_members event)
-last_lacks event = one_more _ _ _ refl (one_more _ _ _ refl (one_more _ _ [] refl none_lacks))
+optional_other : (value : Option (List ℕ)) (members : List Member) → AreOther (members_of members)
+    → AreOther (members_of (optional (codes "type") (option_map string value) ++ members))
+optional_other None members other = other
+optional_other (Some value) members other = (refl, other)
 
 pub event_lacks : (number : ℕ) (event : LogEvent) → get the_name (event_json number event) ≡ None
 event_lacks number event =
-    (one_more (codes "event") (number_json number) _ refl (one_more (codes "register") (number_json event.register) _ refl
-    (type_lacks (event_type_name event.kind) (last_members event) (last_lacks event)))).lacks
-
--- ---- a report on a confirmed front
+    lacks (event_json number event) refl (refl, (refl, optional_other (event_type_name event.kind) _ (refl, (refl, (refl, tt)))))
 
 pub front_report_lacks : (required : Option (List BankRange)) (front : Verdict) (entries : ℕ) (unconfirmed : Option Unconfirmed)
     → get the_name (front_report_json required front entries unconfirmed) ≡ None

@@ -1,12 +1,14 @@
 -- Each value is one line.
-use Rattle.std.proofs.Common.{ℕ, zero, suc, ◌+◌, ◌<◌, ◌≤◌, Bool, true, false, cond, List, [], ◌∷◌, ◌++◌, map, Option, Some, None, codes, arith}
-use Rattle.std.specs.Prelude.{⊤, flat_map, option_map, IfSome}
+use Rattle.std.proofs.Common.{ℕ, zero, suc, refl, ◌+◌, ◌≤◌, Bool, true, false, cond, List, [], ◌∷◌, ◌++◌, map, Option, Some, None, codes, arith}
+use Rattle.std.specs.Prelude.{flat_map, option_map, IfSome}
 use Rattle.std.specs.List.{AllByRecursion, range_with_len}
+use Rattle.std.proofs.lemmas.List.Concat.{flat_map-append}
 use Rattle.json.specs.Json.{Json, string}
+use Rattle.hex.specs.Hex.{encode_lower}
 use Rattle.pcr_banks.specs.declared.alg.Alg.{Alg}
 use Rattle.pcr_banks.specs.declared.banks.Banks.{Banks}
 use Rattle.pcr_banks.specs.declared.sets.PerBank.{PerBank}
-use Rattle.pcr_banks.specs.Hashing.{all_algs}
+use Rattle.pcr_banks.specs.Hashing.{all_algs, name_of}
 use Rattle.pcr_banks.specs.Registers.{value_at}
 use Rattle.pcr_banks.specs.Sets.{digest_in}
 use Rattle.boot_log.specs.declared.header.Row.{Row as TableRow}
@@ -30,170 +32,160 @@ use Rattle.growing_lists.specs.FrontTexts.{unconfirmed_entry, unconfirmed_kind, 
 use Rattle.boot_verdict.specs.ListVerdicts.{ListVerdict}
 use Rattle.boot_verdict.specs.declared.register_range.RegisterRange.{RegisterRange}
 use Rattle.boot_verdict.specs.RegisterRanges.{is_within}
-use Rattle.boot_verdict.specs.RegisterTexts.{all_registers, differs}
-use Rattle.boot_verdict.specs.Requirements.{expected_of_located, expected_of_rows, is_missing}
+use Rattle.boot_verdict.specs.RegisterTexts.{all_registers, differs, every_register}
+use Rattle.boot_verdict.specs.Requirements.{is_missing}
 use Rattle.boot_verdict.specs.Verdicts.{Verdict}
 use Rattle.json_texts.specs.declared.faults.FaultPlace.{FaultPlace}
 use Rattle.json_texts.specs.declared.faults.FaultPlace.TheVariants.{Event, Entry}
-use Rattle.json_texts.specs.JsonValues.{IsCount, IsOneLine, Member, array_of, object_of}
-use Rattle.json_texts.specs.EventJson.{algorithm_json, algorithms_json, digest_members, digests_json, event_json, name_members, type_members}
-use Rattle.json_texts.specs.FaultJson.{fault_json, fault_members, number_at, number_members, place_members}
-use Rattle.json_texts.specs.MissingJson.{missing_among, missing_in, missing_json, value_if_missing}
+use Rattle.json_texts.specs.JsonValues.{IsCount, IsOneLine, Member, hex_json, items_of, number_json, optional}
+use Rattle.json_texts.specs.EventJson.{algorithm_json, algorithms_json, event_json}
+use Rattle.json_texts.specs.FaultJson.{fault_json, fault_members, number_at, place_members}
 use Rattle.json_texts.specs.PlaceJson as place
-use Rattle.json_texts.specs.PlaceJson.{IsCountedPlace, located_json, places_json, places_values}
-use Rattle.json_texts.specs.RegisterJson.{change_values, changed_in, changed_register, changed_registers, expected_json, register_json, register_members, registers_json, value_within, values_within}
-use Rattle.json_texts.specs.ReportJson.{count_members, front_report_json, list_report_json, meets, outcome_members, report_json, row_json, rows_values, state_members, unconfirmed_members}
-use Rattle.json_texts.proofs.LineLaws.{ArePlain, IsPlain, all_joined, array_plain, flag_plain, member_plain, members_joined, no_members_plain, number_plain, object_plain, one_line, string_plain}
+use Rattle.json_texts.specs.PlaceJson.{IsCountedPlace, places_json}
+use Rattle.json_texts.specs.RegisterJson.{change_values, changed_register, expected_json, missing_among, register_json, registers_json, row_json, rows_values, value_if_missing, value_within}
+use Rattle.json_texts.specs.ReportJson.{front_report_json, list_report_json, report_json, report_rows, state_members, unconfirmed_members}
+use Rattle.json_texts.proofs.LineLaws.{ArePlain, IsPlain, ItemsArePlain, members_joined, one_line}
 
 -- ---- lists of values
 
-each_plain : {A : Type 0} (P : Json → Type 0) (Q : A → Type 0) (f : A → List Json) → ((x : A) → Q x → AllByRecursion P (f x))
-    → (xs : List A) → AllByRecursion Q xs → AllByRecursion P (flat_map f xs)
-each_plain P Q f plain [] are = tt
-each_plain P Q f plain (x ∷ xs) are = all_joined P (f x) (flat_map f xs) (plain x are.0) (each_plain P Q f plain xs are.1)
+-- Values in an array that a member of a line has.
+abbrev AreRows : List Json → Type 0
+AreRows js = ItemsArePlain (items_of js) 1
 
-mapped_plain : {A : Type 0} (P : Json → Type 0) (Q : A → Type 0) (f : A → Json) → ((x : A) → Q x → P (f x))
-    → (xs : List A) → AllByRecursion Q xs → AllByRecursion P (map f xs)
-mapped_plain P Q f plain [] are = tt
-mapped_plain P Q f plain (x ∷ xs) are = (plain x are.0, mapped_plain P Q f plain xs are.1)
+rows_joined : (js ks : List Json) → AreRows js → AreRows ks → AreRows (js ++ ks)
+rows_joined [] ks first second = second
+rows_joined (j ∷ js) ks first second = (first.0, rows_joined js ks first.1 second)
 
-of_each_alg : (P : Json → Type 0) (f : Alg → List Json) → ((alg : Alg) → AllByRecursion P (f alg)) → AllByRecursion P (flat_map f all_algs)
-of_each_alg P f plain = each_plain P (λ alg. ⊤) f (λ alg is. plain alg) all_algs (tt, (tt, (tt, (tt, tt))))
+each_plain : {A : Type 0} (Q : A → Type 0) (f : A → List Json) → ((x : A) → Q x → AreRows (f x)) → (xs : List A) → AllByRecursion Q xs
+    → AreRows (flat_map f xs)
+each_plain Q f plain [] are = tt
+each_plain Q f plain (x ∷ xs) are = rows_joined (f x) (flat_map f xs) (plain x are.0) (each_plain Q f plain xs are.1)
 
-range_below : (most start count : ℕ) → start + count ≤ most → AllByRecursion (λ r. r < most) (range_with_len start count)
-range_below most start zero fits = tt
-range_below most start (suc count) fits = (omega (arith, fits), range_below most (start + 1) count (omega (arith, fits)))
+mapped_plain : {A : Type 0} (Q : A → Type 0) (f : A → Json) → ((x : A) → Q x → IsPlain (f x) 1) → (xs : List A) → AllByRecursion Q xs
+    → AreRows (map f xs)
+mapped_plain Q f plain [] are = tt
+mapped_plain Q f plain (x ∷ xs) are = (plain x are.0, mapped_plain Q f plain xs are.1)
 
-registers_below : AllByRecursion (λ r. r < 24) all_registers
-unfolding all_registers
-registers_below = range_below 24 0 24 (omega arith)
+module _ (f : Alg → ℕ → List Json) (plain : (alg : Alg) (r : ℕ) → IsCount r → AreRows (f alg r)) where
+  value : Alg × ℕ → List Json
+  value register = f register.0 register.1
 
-of_each_register : (P : Json → Type 0) (f : ℕ → List Json) → ((r : ℕ) → r < 24 → AllByRecursion P (f r)) → AllByRecursion P (flat_map f all_registers)
-of_each_register P f plain = each_plain P (λ r. r < 24) f plain all_registers registers_below
+  bank_plain : (alg : Alg) (start count : ℕ) → start + count ≤ 24 → AreRows (flat_map value (map (λ r. (alg, r)) (range_with_len start count)))
+  unfolding value
+  bank_plain alg start zero fits = tt
+  bank_plain alg start (suc count) fits =
+      rows_joined (f alg start) _ (plain alg start (omega (arith, fits))) (bank_plain alg (start + 1) count (omega (arith, fits)))
 
-if_plain : (P : Json → Type 0) (b : Bool) (j : Json) → P j → AllByRecursion P (cond b (j ∷ []) [])
-if_plain P true j plain = (plain, tt)
-if_plain P false j plain = tt
+  banks_plain : (algs : List Alg) → AreRows (flat_map value (flat_map (λ alg. map (λ r. (alg, r)) (range_with_len 0 24)) algs))
+  banks_plain [] = tt
+  banks_plain (alg ∷ algs) =
+      let bank : List (Alg × ℕ) = map (λ (r : ℕ). (alg, r)) (range_with_len 0 24) in
+      rw (flat_map-append value bank (flat_map (λ alg. map (λ r. (alg, r)) (range_with_len 0 24)) algs))
+      (rows_joined (flat_map value bank) _ (bank_plain alg 0 24 (omega arith)) (banks_plain algs))
 
-one_text : (name text : List ℕ) → ArePlain 0 ((name, string text) ∷ [])
-one_text name text = member_plain 0 name _ [] (string_plain 0 text) (no_members_plain 0)
+  of_each_register : AreRows (flat_map (λ register. f register.0 register.1) every_register)
+  unfolding every_register all_registers value
+  of_each_register = banks_plain all_algs
+
+if_plain : (b : Bool) (j : Json) → IsPlain j 1 → AreRows (cond b (j ∷ []) [])
+if_plain true j plain = (plain, tt)
+if_plain false j plain = tt
 
 -- ---- faults
 
-number_of_fault : (most : ℕ) (number : Option ℕ) → IfSome number IsCount → ArePlain most (number_members number)
-number_of_fault most None fits = no_members_plain most
-number_of_fault most (Some number) fits = member_plain most _ _ [] (number_plain most number fits) (no_members_plain most)
+number_plain : (number : Option ℕ) → IfSome number IsCount → ArePlain (optional (codes "number") (option_map number_json number)) 1
+number_plain None fits = tt
+number_plain (Some number) fits = ((number, fits, refl), tt)
 
-place_of_fault : (most : ℕ) (place : Option FaultPlace) → IfSome place (λ at. IsCount (number_at at)) → ArePlain most (place_members place)
-place_of_fault most None fits = no_members_plain most
-place_of_fault most (Some (Event number)) fits = member_plain most _ _ [] (number_plain most number fits) (no_members_plain most)
-place_of_fault most (Some (Entry number)) fits = member_plain most _ _ [] (number_plain most number fits) (no_members_plain most)
+place_of_fault : (place : Option FaultPlace) → IfSome place (λ at. IsCount (number_at at)) → ArePlain (place_members place) 1
+place_of_fault None fits = tt
+place_of_fault (Some (Event number)) fits = ((number, fits, refl), tt)
+place_of_fault (Some (Entry number)) fits = ((number, fits, refl), tt)
 
 -- What is told of a fault.
-told_plain : (most : ℕ) (kind : List ℕ) (number : Option ℕ) (place : Option FaultPlace) (message : List ℕ)
-    → IfSome number IsCount → IfSome place (λ at. IsCount (number_at at))
-    → IsPlain (suc most) (object_of (fault_members kind number place message))
-told_plain most kind number place message fits placed =
-    let last = member_plain most _ _ [] (string_plain most message) (no_members_plain most) in
-    object_plain most (fault_members kind number place message) (member_plain most _ _ _ (string_plain most kind)
-    (members_joined most (number_members number) _ (number_of_fault most number fits)
-    (members_joined most (place_members place) _ (place_of_fault most place placed) last)))
+told_plain : (kind : List ℕ) (number : Option ℕ) (place : Option FaultPlace) (message : List ℕ)
+    → IfSome number IsCount → IfSome place (λ at. IsCount (number_at at)) → ArePlain (fault_members kind number place message) 1
+told_plain kind number place message fits placed = (
+  tt,
+  members_joined 1 (optional (codes "number") (option_map number_json number)) _ (number_plain number fits)
+      (members_joined 1 (place_members place) _ (place_of_fault place placed) (tt, tt)),
+)
 
 pub fault_line : (kind : List ℕ) (number : Option ℕ) (place : Option FaultPlace) (message : List ℕ)
     → IfSome number IsCount → IfSome place (λ at. IsCount (number_at at)) → IsOneLine (fault_json kind number place message)
 fault_line kind number place message fits placed =
-    one_line 2 (fault_json kind number place message)
-    (object_plain 1 _ (member_plain 1 _ _ [] (told_plain 0 kind number place message fits placed) (no_members_plain 1))) (omega arith)
+    one_line (fault_json kind number place message) (told_plain kind number place message fits placed, tt)
 
 -- ---- registers
 
-which_plain : (alg : Alg) (register : ℕ) → IsCount register → ArePlain 0 (register_members alg register)
-which_plain alg register fits =
-    member_plain 0 _ _ _ (string_plain 0 _) (member_plain 0 _ _ [] (number_plain 0 register fits) (no_members_plain 0))
+register_plain : (alg : Alg) (register : ℕ) (value : List ℕ) → IsCount register → IsPlain (register_json alg register value) 1
+register_plain alg register value fits = (tt, ((register, fits, refl), (tt, tt)))
 
-register_plain : (alg : Alg) (register : ℕ) (value : List ℕ) → IsCount register → IsPlain 1 (register_json alg register value)
-register_plain alg register value fits =
-    object_plain 0 _ (members_joined 0 (register_members alg register) _ (which_plain alg register fits) (one_text _ _))
-
-change_plain : (alg : Alg) (register : ℕ) (before now : Option (List ℕ)) → IsCount register
-    → AllByRecursion (IsPlain 1) (change_values alg register before now)
+change_plain : (alg : Alg) (register : ℕ) (before now : Option (List ℕ)) → IsCount register → AreRows (change_values alg register before now)
 change_plain alg register before None fits = tt
 change_plain alg register before (Some value) fits =
-    if_plain (IsPlain 1) (differs before value) (register_json alg register value) (register_plain alg register value fits)
+    if_plain (differs before value) (register_json alg register value) (register_plain alg register value fits)
 
 pub registers_line : (now start : Banks) → IsOneLine (registers_json now start)
 registers_line now start =
-    let all = of_each_alg (IsPlain 1) (changed_in now start)
-    (λ alg. of_each_register (IsPlain 1) (changed_register now start alg)
-    (λ r lt. change_plain alg r (value_at start alg r) (value_at now alg r) (omega (arith, lt)))) in
-    one_line 3 (registers_json now start)
-    (object_plain 2 _ (member_plain 2 _ _ [] (array_plain 1 (changed_registers now start) all) (no_members_plain 2))) (omega arith)
+    let all = of_each_register (changed_register now start) (λ alg r. change_plain alg r (value_at start alg r) (value_at now alg r)) in
+    one_line (registers_json now start) (all, tt)
 
-within_plain : (range : RegisterRange) (expected : Expected) → IsCount expected.register
-    → AllByRecursion (IsPlain 1) (value_within range expected)
-within_plain range expected fits =
-    if_plain (IsPlain 1) (is_within range expected.register) (register_json expected.alg expected.register (bytes_of expected.value))
-    (register_plain expected.alg expected.register (bytes_of expected.value) fits)
+within_plain : (range : RegisterRange) (e : Expected) → IsCount e.register → AreRows (value_within range e)
+within_plain range e fits =
+    if_plain (is_within range e.register) (register_json e.alg e.register (bytes_of e.value)) (register_plain e.alg e.register (bytes_of e.value) fits)
 
 pub expected_line : (range : RegisterRange) (expected : List Expected) → AllByRecursion (λ e. IsCount e.register) expected
     → IsOneLine (expected_json range expected)
 expected_line range expected fit =
-    let all = each_plain (IsPlain 1) (λ e. IsCount e.register) (value_within range) (within_plain range) expected fit in
-    one_line 3 (expected_json range expected)
-    (object_plain 2 _ (member_plain 2 _ _ [] (array_plain 1 (values_within range expected) all) (no_members_plain 2))) (omega arith)
+    let all = each_plain (λ e. IsCount e.register) (value_within range) (within_plain range) expected fit in
+    one_line (expected_json range expected) (all, tt)
 
 -- ---- required registers
 
-missing_plain : (name : List ℕ) (alg : Alg) (register : ℕ) → IsCount register → IsPlain 1 (missing_json name alg register)
-missing_plain name alg register fits =
-    object_plain 0 _ (members_joined 0 (register_members alg register) _ (which_plain alg register fits) (one_text _ _))
+missing_plain : (name : List ℕ) (required : Option (List BankRange)) (expected : List Expected) → AreRows (missing_among name required expected)
+missing_plain name None expected = tt
+missing_plain name (Some ranges) expected =
+    of_each_register (value_if_missing name ranges expected)
+    (λ alg r fits. if_plain (is_missing ranges expected alg r) (row_json alg r ((name, string (codes "missing")) ∷ [])) (tt, ((r, fits, refl), (tt, tt))))
 
-among_plain : (name : List ℕ) (required : Option (List BankRange)) (expected : List Expected)
-    → AllByRecursion (IsPlain 1) (missing_among name required expected)
-among_plain name None expected = tt
-among_plain name (Some ranges) expected =
-    of_each_alg (IsPlain 1) (missing_in name ranges expected)
-    (λ alg. of_each_register (IsPlain 1) (value_if_missing name ranges expected alg)
-    (λ r lt. if_plain (IsPlain 1) (is_missing ranges expected alg r) (missing_json name alg r) (missing_plain name alg r (omega (arith, lt)))))
+-- Rows, of which some are of each kind.
+rows_plain : {A : Type 0} (Q : A → Type 0) (name : List ℕ) (expected_of : A → Expected) (members_of : A → List Member)
+    → ((row : A) → Q row → IsCount (expected_of row).register × ArePlain (members_of row) 0) → (required : Option (List BankRange)) (rows : List A)
+    → AllByRecursion Q rows → AreRows (rows_values name expected_of members_of required rows)
+rows_plain {A} Q name expected_of members_of plain required rows fit =
+    let row = λ (row : A). row_json (expected_of row).alg (expected_of row).register (members_of row) in
+    rows_joined (map row rows) _
+    (mapped_plain Q row (λ x is. (tt, (((expected_of x).register, (plain x is).0, refl), (plain x is).1))) rows fit)
+    (missing_plain name required (map expected_of rows))
 
 -- ---- reports
 
-state_plain : (state : State) → ArePlain 0 (state_members state)
-state_plain Match = one_text _ _
-state_plain (Differ value) = member_plain 0 _ _ _ (string_plain 0 _) (one_text _ _)
-state_plain Absent = one_text _ _
+state_plain : (state : State) → ArePlain (state_members state) 0
+state_plain Match = (tt, tt)
+state_plain (Differ value) = (tt, (tt, tt))
+state_plain Absent = (tt, tt)
 
-row_plain : (row : Row) → IsCount row.expected.register → IsPlain 1 (row_json row)
-row_plain row fits =
-    object_plain 0 _ (members_joined 0 (register_members row.expected.alg row.expected.register) _
-    (which_plain row.expected.alg row.expected.register fits) (state_plain row.state))
-
-rows_plain : (required : Option (List BankRange)) (rows : List Row) → AllByRecursion (λ row. IsCount row.expected.register) rows
-    → IsPlain 2 (array_of (rows_values required rows))
-rows_plain required rows fit =
-    array_plain 1 (rows_values required rows) (all_joined (IsPlain 1) (map row_json rows) _
-    (mapped_plain (IsPlain 1) (λ row. IsCount row.expected.register) row_json row_plain rows fit)
-    (among_plain (codes "state") required (expected_of_rows rows)))
-
-counts_plain : (events locality entries : ℕ) (members : List Member) → IsCount events → IsCount locality → IsCount entries
-    → ArePlain 2 members → ArePlain 2 (count_members events locality entries ++ members)
-counts_plain events locality entries members some from all plain =
-    member_plain 2 _ _ _ (number_plain 2 events some)
-    (member_plain 2 _ _ _ (number_plain 2 locality from) (member_plain 2 _ _ members (number_plain 2 entries all) plain))
-
-outcome_plain : (required : Option (List BankRange)) (is_match : Bool) (verdict : Verdict)
-    → AllByRecursion (λ row. IsCount row.expected.register) verdict.rows → ArePlain 2 (outcome_members required is_match verdict)
-outcome_plain required is_match verdict rows =
-    member_plain 2 _ _ _ (string_plain 2 _)
-    (member_plain 2 _ _ _ (rows_plain required verdict.rows rows) (member_plain 2 _ _ [] (string_plain 2 _) (no_members_plain 2)))
+report_plain : (required : Option (List BankRange)) (rows : List Row) → AllByRecursion (λ row. IsCount row.expected.register) rows
+    → IsPlain (report_rows required rows) 2
+report_plain required rows fit =
+    rows_plain (λ row. IsCount row.expected.register) (codes "state") (λ row. row.expected) (λ row. state_members row.state)
+    (λ row is. (is, state_plain row.state)) required rows fit
 
 pub report_line : (required : Option (List BankRange)) (is_match : Bool) (verdict : Verdict)
     → IsCount verdict.events → IsCount verdict.locality → IsCount verdict.entries
     → AllByRecursion (λ row. IsCount row.expected.register) verdict.rows → IsOneLine (report_json required is_match verdict)
 report_line required is_match verdict events locality entries rows =
-    let outcome = outcome_plain required is_match verdict rows in
-    one_line 3 (report_json required is_match verdict)
-    (object_plain 2 _ (counts_plain verdict.events verdict.locality verdict.entries _ events locality entries outcome)) (omega arith)
+    one_line (report_json required is_match verdict) (
+      (verdict.events, events, refl),
+      (
+        (verdict.locality, locality, refl),
+        (
+          (verdict.entries, entries, refl),
+          (tt, (report_plain required verdict.rows rows, (tt, tt))),
+        ),
+      ),
+    )
 
 number_after : (fault : Unconfirmed) → IsCount (unconfirmed_number fault)
 number_after (faults.List (lists.Truncated entry)) = omega arith
@@ -207,98 +199,88 @@ place_after None fits = tt
 place_after (Some entry) fits = fits
 
 unconfirmed_plain : (unconfirmed : Option Unconfirmed) → IfSome unconfirmed (λ fault. IfSome (unconfirmed_entry fault) IsCount)
-    → ArePlain 2 (unconfirmed_members unconfirmed)
-unconfirmed_plain None fits = no_members_plain 2
-unconfirmed_plain (Some fault) fits =
-    let placed = place_after (unconfirmed_entry fault) fits in
-    let told = told_plain 1 (unconfirmed_kind fault) (Some (unconfirmed_number fault)) (option_map Entry (unconfirmed_entry fault))
-    (unconfirmed_message fault) (number_after fault) placed in
-    member_plain 2 _ _ [] told (no_members_plain 2)
+    → ArePlain (unconfirmed_members unconfirmed) 2
+unconfirmed_plain None fits = tt
+unconfirmed_plain (Some fault) fits = (
+  told_plain (unconfirmed_kind fault) (Some (unconfirmed_number fault)) (option_map Entry (unconfirmed_entry fault))
+      (unconfirmed_message fault) (number_after fault) (place_after (unconfirmed_entry fault) fits),
+  tt,
+)
 
 pub front_report_line : (required : Option (List BankRange)) (front : Verdict) (entries : ℕ) (unconfirmed : Option Unconfirmed)
     → IsCount front.events → IsCount front.locality → IsCount front.entries → IsCount entries
     → IfSome unconfirmed (λ fault. IfSome (unconfirmed_entry fault) IsCount)
     → AllByRecursion (λ row. IsCount row.expected.register) front.rows → IsOneLine (front_report_json required front entries unconfirmed)
 front_report_line required front entries unconfirmed events locality confirmed all after rows =
-    let outcome = outcome_plain required (meets required front) front rows in
-    let members = member_plain 2 _ _ _ (number_plain 2 front.entries confirmed)
-    (members_joined 2 (unconfirmed_members unconfirmed) _ (unconfirmed_plain unconfirmed after) outcome) in
-    one_line 3 (front_report_json required front entries unconfirmed)
-    (object_plain 2 _ (counts_plain front.events front.locality entries _ events locality all members)) (omega arith)
+    one_line (front_report_json required front entries unconfirmed) (
+      (front.events, events, refl),
+      (
+        (front.locality, locality, refl),
+        (
+          (entries, all, refl),
+          (
+            (front.entries, confirmed, refl),
+            members_joined 2 (unconfirmed_members unconfirmed) _ (unconfirmed_plain unconfirmed after)
+                (tt, (report_plain required front.rows rows, (tt, tt))),
+          ),
+        ),
+      ),
+    )
 
 pub list_report_line : (required : Option (List BankRange)) (verdict : ListVerdict) → IsCount verdict.entries
     → AllByRecursion (λ row. IsCount row.expected.register) verdict.rows → IsOneLine (list_report_json required verdict)
 list_report_line required verdict entries rows =
-    one_line 3 (list_report_json required verdict)
-    (object_plain 2 _ (member_plain 2 _ _ _ (number_plain 2 verdict.entries entries)
-    (member_plain 2 _ _ _ (rows_plain required verdict.rows rows) (member_plain 2 _ _ [] (string_plain 2 _) (no_members_plain 2)))))
-    (omega arith)
+    one_line (list_report_json required verdict) ((verdict.entries, entries, refl), (report_plain required verdict.rows rows, (tt, tt)))
 
 -- ---- places
 
-place_plain : (at : Place) → IsCountedPlace at → ArePlain 0 (place.place_members at)
-place_plain places.Reset fits = one_text _ _
-place_plain (places.Event number) fits =
-    member_plain 0 _ _ _ (string_plain 0 _) (member_plain 0 _ _ [] (number_plain 0 number fits) (no_members_plain 0))
-place_plain (places.Entry number) fits =
-    member_plain 0 _ _ _ (string_plain 0 _) (member_plain 0 _ _ [] (number_plain 0 number fits) (no_members_plain 0))
-place_plain places.Nowhere fits = one_text _ _
-place_plain places.Absent fits = one_text _ _
-
-located_plain : (row : Located) → IsCount row.expected.register × IsCountedPlace row.place → IsPlain 1 (located_json row)
-located_plain row fits =
-    object_plain 0 _ (members_joined 0 (register_members row.expected.alg row.expected.register) _
-    (which_plain row.expected.alg row.expected.register fits.0) (place_plain row.place fits.1))
+place_plain : (at : Place) → IsCountedPlace at → ArePlain (place.place_members at) 0
+place_plain places.Reset fits = (tt, tt)
+place_plain (places.Event number) fits = (tt, ((number, fits, refl), tt))
+place_plain (places.Entry number) fits = (tt, ((number, fits, refl), tt))
+place_plain places.Nowhere fits = (tt, tt)
+place_plain places.Absent fits = (tt, tt)
 
 pub places_line : (required : Option (List BankRange)) (located : List Located)
     → AllByRecursion (λ row. IsCount row.expected.register × IsCountedPlace row.place) located → IsOneLine (places_json required located)
 places_line required located fit =
-    let all = all_joined (IsPlain 1) (map located_json located) _
-    (mapped_plain (IsPlain 1) (λ row. IsCount row.expected.register × IsCountedPlace row.place) located_json located_plain located fit)
-    (among_plain (codes "place") required (expected_of_located located)) in
-    one_line 3 (places_json required located)
-    (object_plain 2 _ (member_plain 2 _ _ _ (array_plain 1 (places_values required located) all)
-    (member_plain 2 _ _ [] (flag_plain 2 _) (no_members_plain 2)))) (omega arith)
+    let rows = rows_plain (λ row. IsCount row.expected.register × IsCountedPlace row.place) (codes "place") (λ row. row.expected)
+    (λ row. place.place_members row.place) (λ row is. (is.0, place_plain row.place is.1)) required located fit in
+    one_line (places_json required located) (rows, (tt, tt))
 
 -- ---- events
 
-name_plain : (alg : Option Alg) → ArePlain 0 (name_members alg)
-name_plain None = no_members_plain 0
-name_plain (Some alg) = one_text _ _
+-- A text, if there is one.
+text_plain : {A : Type 0} (most : ℕ) (name : List ℕ) (text : A → List ℕ) (value : Option A)
+    → ArePlain (optional name (option_map (λ x. string (text x)) value)) most
+text_plain most name text None = tt
+text_plain most name text (Some x) = (tt, tt)
 
-algorithm_plain : (row : TableRow) → IsRow row → IsPlain 1 (algorithm_json row)
+algorithm_plain : (row : TableRow) → IsRow row → IsPlain (algorithm_json row) 1
 algorithm_plain row is =
-    object_plain 0 _ (members_joined 0 (name_members (algorithm_with row.id)) _ (name_plain (algorithm_with row.id))
-    (member_plain 0 _ _ _ (number_plain 0 row.id (omega (arith, is.id_fits)))
-    (member_plain 0 _ _ [] (number_plain 0 row.size (omega (arith, is.size_fits))) (no_members_plain 0))))
+    members_joined 0 (optional (codes "name") (option_map (λ alg. string (name_of alg)) (algorithm_with row.id))) _
+    (text_plain 0 (codes "name") name_of (algorithm_with row.id))
+    ((row.id, omega (arith, is.id_fits), refl), ((row.size, omega (arith, is.size_fits), refl), tt))
 
 pub algorithms_line : (rows : List TableRow) → AllByRecursion IsRow rows → IsOneLine (algorithms_json rows)
-algorithms_line rows are =
-    one_line 3 (algorithms_json rows)
-    (object_plain 2 _ (member_plain 2 _ _ [] (array_plain 1 _ (mapped_plain (IsPlain 1) IsRow algorithm_json algorithm_plain rows are))
-    (no_members_plain 2))) (omega arith)
+algorithms_line rows are = one_line (algorithms_json rows) (mapped_plain IsRow algorithm_json algorithm_plain rows are, tt)
 
-type_plain : (most : ℕ) (name : Option (List ℕ)) → ArePlain most (type_members name)
-type_plain most None = no_members_plain most
-type_plain most (Some name) = member_plain most _ _ [] (string_plain most name) (no_members_plain most)
-
-digest_plain : (alg : Alg) (digest : Option (List ℕ)) → ArePlain 0 (digest_members alg digest)
-digest_plain alg None = no_members_plain 0
-digest_plain alg (Some digest) = one_text _ _
-
-members_of_each : (f : Alg → List Member) → ((alg : Alg) → ArePlain 0 (f alg)) → (algs : List Alg) → ArePlain 0 (flat_map f algs)
-members_of_each f plain [] = no_members_plain 0
-members_of_each f plain (alg ∷ algs) = members_joined 0 (f alg) (flat_map f algs) (plain alg) (members_of_each f plain algs)
-
-digests_plain : (digests : PerBank) → IsPlain 1 (digests_json digests)
-digests_plain digests =
-    object_plain 0 _ (members_of_each (λ alg. digest_members alg (digest_in digests alg)) (λ alg. digest_plain alg (digest_in digests alg)) all_algs)
+digests_plain : (digests : PerBank) (algs : List Alg)
+    → ArePlain (flat_map (λ alg. optional (name_of alg) (option_map hex_json (digest_in digests alg))) algs) 1
+digests_plain digests [] = tt
+digests_plain digests (alg ∷ algs) =
+    members_joined 1 (optional (name_of alg) (option_map hex_json (digest_in digests alg))) _
+    (text_plain 1 (name_of alg) encode_lower (digest_in digests alg)) (digests_plain digests algs)
 
 pub event_line : (number : ℕ) (event : LogEvent) → IsCount number → IsCount event.register → IsCount event.kind
     → IsOneLine (event_json number event)
 event_line number event count register kind =
-    one_line 2 (event_json number event)
-    (object_plain 1 _ (member_plain 1 _ _ _ (number_plain 1 number count) (member_plain 1 _ _ _ (number_plain 1 event.register register)
-    (members_joined 1 (type_members (event_type_name event.kind)) _ (type_plain 1 (event_type_name event.kind))
-    (member_plain 1 _ _ _ (number_plain 1 event.kind kind) (member_plain 1 _ _ _ (digests_plain event.digests)
-    (member_plain 1 _ _ [] (string_plain 1 _) (no_members_plain 1)))))))) (omega arith)
+    one_line (event_json number event) (
+      (number, count, refl),
+      (
+        (event.register, register, refl),
+        members_joined 2 (optional (codes "type") (option_map string (event_type_name event.kind))) _
+            (text_plain 2 (codes "type") (λ name. name) (event_type_name event.kind))
+            ((event.kind, kind, refl), (digests_plain event.digests all_algs, (tt, tt))),
+      ),
+    )

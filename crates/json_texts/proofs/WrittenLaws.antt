@@ -33,32 +33,34 @@ members_joined ms ns = flat_map-append member_tokens ms ns
 pub items_joined : (js ks : List Json) → items_written (js ++ ks) ≡ items_written js ++ items_written ks
 items_joined js ks = flat_map-append json_tokens js ks
 
-flat_flat : {A B C : Type 0} (g : B → List C) (f : A → List B) (xs : List A) → flat_map g (flat_map f xs) ≡ flat_map (λ x. flat_map g (f x)) xs
-flat_flat g f [] = refl
-flat_flat {A} {B} {C} g f (x ∷ xs) =
-    flat_map-append g (f x) (flat_map f xs) ∙ ap (λ (t : List C). flat_map g (f x) ++ t) (flat_flat g f xs)
+-- The tokens of what one thing more gives.
+pub more_written : {X Y : Type 0} (g : Y → List Token) (f : X → List Y) (xs : List X) (i : ℕ) (d : X) (start now next : List Token) → i < length xs
+    → now ≡ start ++ flat_map g (flat_map f (take i xs)) → next ≡ now ++ flat_map g (f (get_or xs i d))
+    → next ≡ start ++ flat_map g (flat_map f (take (i + 1) xs))
+more_written {X} {Y} g f xs i d start now next lt before more =
+    let x = get_or xs i d in
+    let so-far = flat_map f (take i xs) in
+    more ∙ ap (λ (ts : List Token). ts ++ flat_map g (f x)) before ∙ append_assoc start (flat_map g so-far) (flat_map g (f x))
+    ∙ ap (λ (ts : List Token). start ++ ts)
+    (sym (flat_map-append g so-far (f x))
+    ∙ ap (λ (ys : List Y). flat_map g ys) (flat_map_more f [] (take i xs) x ∙ ap (λ (ys : List X). flat_map f ys) (sym (take_more xs i d lt))))
 
-pub items_of_each : {A : Type 0} (f : A → List Json) (xs : List A) → items_written (flat_map f xs) ≡ flat_map (λ x. items_written (f x)) xs
-items_of_each f xs = flat_flat json_tokens f xs
-
-pub members_of_each : {A : Type 0} (f : A → List Member) (xs : List A) → members_written (flat_map f xs) ≡ flat_map (λ x. members_written (f x)) xs
-members_of_each f xs = flat_flat member_tokens f xs
-
-pub item_of_each : {A : Type 0} (f : A → Json) (xs : List A) → items_written (map f xs) ≡ flat_map (λ x. json_tokens (f x)) xs
-item_of_each f xs = flat_map-map json_tokens f xs
-
--- The tokens of one thing more.
-pub more_written : {X : Type 0} (f : X → List Token) (xs : List X) (i : ℕ) (d : X) (start now next : List Token) → i < length xs
-    → now ≡ start ++ flat_map f (take i xs) → next ≡ now ++ f (get_or xs i d) → next ≡ start ++ flat_map f (take (i + 1) xs)
-more_written {X} f xs i d start now next lt before more =
-    more ∙ ap (λ (ts : List Token). ts ++ f (get_or xs i d)) before ∙ flat_map_more f start (take i xs) (get_or xs i d)
-    ∙ ap (λ (ys : List X). start ++ flat_map f ys) (sym (take_more xs i d lt))
+-- The tokens of one item more.
+pub more_mapped : {X : Type 0} (f : X → Json) (xs : List X) (i : ℕ) (d : X) (start now next : List Token) → i < length xs
+    → now ≡ start ++ items_written (map f (take i xs)) → next ≡ now ++ json_tokens (f (get_or xs i d))
+    → next ≡ start ++ items_written (map f (take (i + 1) xs))
+more_mapped {X} f xs i d start now next lt before more =
+    let tokens = λ (x : X). json_tokens (f x) in
+    let same = λ (ys : List X). ap (λ (ts : List Token). start ++ ts) (flat_map-map json_tokens f ys) in
+    more ∙ ap (λ (ts : List Token). ts ++ tokens (get_or xs i d)) (before ∙ same (take i xs))
+    ∙ flat_map_more tokens start (take i xs) (get_or xs i d)
+    ∙ ap (λ (ys : List X). start ++ flat_map tokens ys) (sym (take_more xs i d lt)) ∙ sym (same (take (i + 1) xs))
 
 -- The tokens of all.
-pub all_written : {X : Type 0} (f : X → List Token) (xs : List X) (i : ℕ) (start now : List Token) → i ≡ length xs
-    → now ≡ start ++ flat_map f (take i xs) → now ≡ start ++ flat_map f xs
-all_written {X} f xs i start now all before =
-    before ∙ ap (λ (n : ℕ). start ++ flat_map f (take n xs)) all ∙ ap (λ (ys : List X). start ++ flat_map f ys) (take-length xs)
+pub all_written : {X : Type 0} (F : List X → List Token) (xs : List X) (i : ℕ) (start now : List Token) → i ≡ length xs
+    → now ≡ start ++ F (take i xs) → now ≡ start ++ F xs
+all_written {X} F xs i start now all before =
+    before ∙ ap (λ (n : ℕ). start ++ F (take n xs)) all ∙ ap (λ (ys : List X). start ++ F ys) (take-length xs)
 
 line_feed : IsAscii (10 ∷ [])
 line_feed zero = omega arith

@@ -1,14 +1,10 @@
 -- A refusal as JSON. The members and their order are this project's choice.
-use Rattle.std.specs.Prelude.{ℕ, List, [], ◌∷◌, ◌++◌, codes, Option, Some, None}
+use Rattle.std.specs.Prelude.{ℕ, List, [], ◌∷◌, ◌++◌, codes, Option, Some, None, option_map}
 use Rattle.json.specs.Json.{Json}
 use Rattle.json.specs.Json as json
 use Rattle.json_texts.specs.declared.faults.FaultPlace.{FaultPlace}
 use Rattle.json_texts.specs.declared.faults.FaultPlace.TheVariants.{Event, Entry}
-use Rattle.json_texts.specs.JsonValues.{Member, number_json, object_of}
-
-abbrev pub number_members : Option ℕ → List Member
-number_members None = []
-number_members (Some number) = (codes "number", number_json number) ∷ []
+use Rattle.json_texts.specs.JsonValues.{Member, number_json, object_of, optional}
 
 -- The event or the entry at which the fault is.
 abbrev pub place_members : Option FaultPlace → List Member
@@ -24,7 +20,8 @@ number_at (Entry number) = number
 -- What is told of the fault.
 abbrev pub fault_members : List ℕ → Option ℕ → Option FaultPlace → List ℕ → List Member
 fault_members kind number place message =
-    (codes "kind", json.string kind) ∷ (number_members number ++ (place_members place ++ (codes "message", json.string message) ∷ []))
+    (codes "kind", json.string kind)
+    ∷ (optional (codes "number") (option_map number_json number) ++ (place_members place ++ (codes "message", json.string message) ∷ []))
 
 -- A fault, in an object of its own. A law says that no other value has a member `fault`.
 abbrev pub fault_json : List ℕ → Option ℕ → Option FaultPlace → List ℕ → Json

@@ -1,7 +1,7 @@
 -- JSON (RFC 8259) as this crate writes it: its values, and their lines. All of this is this project's choice.
-use Rattle.std.specs.Prelude.{◌≡◌, ℕ, ◌^◌, ◌<◌, nat_le, Bool, true, if◌then◌else◌, List, [], ◌∷◌, ◌++◌, codes, decimal, Some}
+use Rattle.std.specs.Prelude.{◌≡◌, ℕ, ◌^◌, ◌<◌, nat_le, Bool, true, if◌then◌else◌, List, [], ◌∷◌, ◌++◌, codes, decimal, Option, None, Some, Result, OnOk, OnErr}
 use Rattle.std.specs.List.{list_all}
-use Rattle.std.specs.Str.{is_utf8}
+use Rattle.std.specs.Str.{IsUtf8, is_utf8}
 use Rattle.hex.specs.Hex.{encode_lower}
 use Rattle.json.specs.Json.{Json, Items, Members, document}
 use Rattle.json.specs.Json as json
@@ -42,6 +42,11 @@ number_json number = json.number (decimal number)
 abbrev pub hex_json : List ℕ → Json
 hex_json bytes = json.string (encode_lower bytes)
 
+-- The member of this name, if it has a value.
+abbrev pub optional : List ℕ → Option Json → List Member
+optional name None = []
+optional name (Some value) = (name, value) ∷ []
+
 -- ---- bytes that are text, mostly
 
 -- The name of a member that shows bytes: the other one where they are not UTF-8.
@@ -69,3 +74,9 @@ has_no_control bytes = list_all (λ byte. nat_le 32 byte) bytes
 pub record IsOneLine (value : Json) : Type 0 where
   pub reads_back : document (print (json_tokens value)) ≡ Some value
   pub in_line : has_no_control (print (json_tokens value)) ≡ true
+
+-- The value's line was appended, unless memory ran out: then all is as before.
+pub record AppendsLine {E : Type 0} (result : Result (Unit {0}) E) (old new : List ℕ) (value : Json) : Type 0 where
+  pub ok : OnOk result (new ≡ old ++ line_of value)
+  pub utf8 : OnOk result (IsUtf8 (line_of value))
+  pub err : OnErr result (new ≡ old)

@@ -2,7 +2,6 @@ pub mod JsonValues
 pub mod EntryJson
 pub mod FaultJson
 pub mod RegisterJson
-pub mod MissingJson
 pub mod ReportJson
 pub mod PlaceJson
 pub mod EventJson

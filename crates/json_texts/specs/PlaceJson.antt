@@ -1,5 +1,5 @@
 -- Places as JSON. The members and their order are this project's choice.
-use Rattle.std.specs.Prelude.{⊤, Bool, List, [], ◌∷◌, ◌++◌, codes, map, Option, Some, None}
+use Rattle.std.specs.Prelude.{⊤, Bool, List, [], ◌∷◌, codes, Option, Some, None}
 use Rattle.json.specs.Json.{Json}
 use Rattle.json.specs.Json as json
 use Rattle.boot_verdict.specs.declared.places.Located.{Located}
@@ -7,10 +7,9 @@ use Rattle.boot_verdict.specs.declared.places.Place.{Place}
 use Rattle.boot_verdict.specs.declared.places.Place.TheVariants.{Reset, Event, Entry, Nowhere, Absent}
 use Rattle.boot_verdict.specs.declared.requirement.BankRange.{BankRange}
 use Rattle.boot_verdict.specs.Places.{all_found}
-use Rattle.boot_verdict.specs.Requirements.{expected_of_located, required_found}
+use Rattle.boot_verdict.specs.Requirements.{required_found}
 use Rattle.json_texts.specs.JsonValues.{IsCount, Member, array_of, number_json, object_of}
-use Rattle.json_texts.specs.MissingJson.{missing_among}
-use Rattle.json_texts.specs.RegisterJson.{register_members}
+use Rattle.json_texts.specs.RegisterJson.{rows_values}
 
 -- A place in one word, and the number of the event or entry: events count from 1, entries from 0.
 abbrev pub place_members : Place → List Member
@@ -28,22 +27,14 @@ IsCountedPlace (Entry number) = IsCount number
 IsCountedPlace Nowhere = ⊤
 IsCountedPlace Absent = ⊤
 
-abbrev pub located_json : Located → Json
-located_json row = object_of (register_members row.expected.alg row.expected.register ++ place_members row.place)
-
 -- Whether some register is expected, each value was reached at some place, and no register is missing.
 abbrev pub finds : Option (List BankRange) → List Located → Bool
 finds None located = all_found located
 finds (Some ranges) located = required_found ranges located
 
--- The places, and then the required registers that have none.
-abbrev pub places_values : Option (List BankRange) → List Located → List Json
-places_values required located =
-    map located_json located ++ missing_among (codes "place") required (expected_of_located located)
-
--- These, and whether they are located.
+-- The places, then the required registers that have none, and whether they are located.
 abbrev pub places_json : Option (List BankRange) → List Located → Json
 places_json required located = object_of (
-    (codes "registers", array_of (places_values required located))
+    (codes "registers", array_of (rows_values (codes "place") (λ row. row.expected) (λ row. place_members row.place) required located))
     ∷ (codes "located", json.boolean (finds required located))
     ∷ [])

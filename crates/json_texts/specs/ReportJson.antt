@@ -1,5 +1,5 @@
 -- Reports as JSON, with the words of their texts. The members and their order are this project's choice.
-use Rattle.std.specs.Prelude.{ℕ, Bool, true, false, List, [], ◌∷◌, ◌++◌, codes, map, Option, Some, None, option_map}
+use Rattle.std.specs.Prelude.{ℕ, Bool, true, false, List, [], ◌∷◌, ◌++◌, codes, Option, Some, None, option_map}
 use Rattle.json.specs.Json.{Json}
 use Rattle.json.specs.Json as json
 use Rattle.pcr_banks.specs.Digests.{bytes_of}
@@ -11,13 +11,12 @@ use Rattle.boot_verdict.specs.declared.requirement.BankRange.{BankRange}
 use Rattle.growing_lists.specs.FrontTexts.{unconfirmed_entry, unconfirmed_kind, unconfirmed_message, unconfirmed_number}
 use Rattle.boot_verdict.specs.ListVerdicts.{ListVerdict, list_matches, required_list_matches}
 use Rattle.boot_verdict.specs.ReportTexts.{aggregate_word}
-use Rattle.boot_verdict.specs.Requirements.{expected_of_rows, required_matches}
+use Rattle.boot_verdict.specs.Requirements.{required_matches}
 use Rattle.boot_verdict.specs.Verdicts.{Verdict, matches}
 use Rattle.json_texts.specs.declared.faults.FaultPlace.TheVariants.{Entry}
 use Rattle.json_texts.specs.FaultJson.{fault_members}
 use Rattle.json_texts.specs.JsonValues.{Member, array_of, hex_json, number_json, object_of}
-use Rattle.json_texts.specs.MissingJson.{missing_among}
-use Rattle.json_texts.specs.RegisterJson.{register_members}
+use Rattle.json_texts.specs.RegisterJson.{rows_values}
 
 -- How a register compares, and its value if it is another one.
 abbrev pub state_members : State → List Member
@@ -25,12 +24,9 @@ state_members Match = (codes "state", json.string (codes "match")) ∷ []
 state_members (Differ value) = (codes "state", json.string (codes "differ")) ∷ (codes "value", hex_json (bytes_of value)) ∷ []
 state_members Absent = (codes "state", json.string (codes "absent")) ∷ []
 
-abbrev pub row_json : Row → Json
-row_json row = object_of (register_members row.expected.alg row.expected.register ++ state_members row.state)
-
 -- The rows, and then the required registers that have none.
-abbrev pub rows_values : Option (List BankRange) → List Row → List Json
-rows_values required rows = map row_json rows ++ missing_among (codes "state") required (expected_of_rows rows)
+abbrev pub report_rows : Option (List BankRange) → List Row → Json
+report_rows required rows = array_of (rows_values (codes "state") (λ row. row.expected) (λ row. state_members row.state) required rows)
 
 abbrev pub verdict_word : Bool → List ℕ
 verdict_word true = codes "match"
@@ -54,7 +50,7 @@ count_members events locality entries =
 abbrev pub outcome_members : Option (List BankRange) → Bool → Verdict → List Member
 outcome_members required is_match verdict =
     (codes "boot_aggregate", json.string (aggregate_word verdict.aggregate))
-    ∷ (codes "registers", array_of (rows_values required verdict.rows))
+    ∷ (codes "registers", report_rows required verdict.rows)
     ∷ (codes "verdict", json.string (verdict_word is_match))
     ∷ []
 
@@ -90,6 +86,6 @@ list_meets (Some ranges) verdict = required_list_matches ranges verdict
 abbrev pub list_report_json : Option (List BankRange) → ListVerdict → Json
 list_report_json required verdict = object_of (
     (codes "entries", number_json verdict.entries)
-    ∷ (codes "registers", array_of (rows_values required verdict.rows))
+    ∷ (codes "registers", report_rows required verdict.rows)
     ∷ (codes "verdict", json.string (verdict_word (list_meets required verdict)))
     ∷ [])

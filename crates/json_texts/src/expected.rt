@@ -1,16 +1,12 @@
 //! The line of expected registers.
 
-ghost use Rattle.std.specs.Prelude.{◌≡◌, ◌++◌, OnOk, OnErr};
-ghost use Rattle.std.specs.Str.{IsUtf8};
-ghost use Rattle.json.specs.Tree.{json_tokens};
-ghost use Rattle.pcr_banks.specs.Digests.{bytes_of};
-ghost use Rattle.json_texts.specs.JsonValues.{line_of};
-ghost use Rattle.json_texts.specs.RegisterJson.{expected_json, register_json, value_within, values_within};
-ghost use Rattle.json_texts.specs.parts.WrittenParts.{items_written};
+ghost use Rattle.std.specs.Prelude.{◌≡◌};
+ghost use Rattle.json_texts.specs.JsonValues.{AppendsLine};
+ghost use Rattle.json_texts.specs.RegisterJson.{expected_json, value_within, values_within};
+ghost use Rattle.json_texts.specs.parts.WrittenParts.{WritesItems, WritesValue};
 
 use crate::lines::{begin_line, end_line};
-use crate::members::write_hex;
-use crate::registers::write_register_members;
+use crate::registers::write_value;
 use boot_verdict::{Expected, RegisterRange};
 use json::Writer;
 use std::alloc::{AllocError, Global};
@@ -26,9 +22,7 @@ pub fn append_expected(
     range: RegisterRange,
     line: &mut Vec<u8>,
 ) -> Result<(), AllocError>
-    ensures ok { OnOk result (line.new.items ≡ line.old.items ++ line_of (expected_json range expected.now)) }
-    ensures utf8 { OnOk result (IsUtf8 (line_of (expected_json range expected.now))) }
-    ensures err { OnErr result (line.new.items ≡ line.old.items) }
+    ensures { AppendsLine result line.old.items line.new.items (expected_json range expected.now) }
 {
     let start = line.len();
     let mut writer = begin_line(alloc, line);
@@ -43,7 +37,7 @@ fn write_expected(
     writer: &mut Writer,
 ) -> Result<(), AllocError>
     ensures before { writer.new.before ≡ writer.old.before }
-    ensures tokens { OnOk result (writer.new.tokens ≡ writer.old.tokens ++ json_tokens (expected_json range expected.now)) }
+    ensures tokens { WritesValue result writer.old writer.new (expected_json range expected.now) }
 {
     writer.begin_object()?;
     writer.key("registers")?;
@@ -61,7 +55,7 @@ fn write_each(
     writer: &mut Writer,
 ) -> Result<(), AllocError>
     ensures before { writer.new.before ≡ writer.old.before }
-    ensures tokens { OnOk result (writer.new.tokens ≡ writer.old.tokens ++ items_written (values_within range expected.now)) }
+    ensures tokens { WritesItems result writer.old writer.new (values_within range expected.now) }
 {
     for register in expected {
         write_if_within(alloc, register, range, writer)?;
@@ -77,22 +71,16 @@ fn write_if_within(
     writer: &mut Writer,
 ) -> Result<(), AllocError>
     ensures before { writer.new.before ≡ writer.old.before }
-    ensures tokens { OnOk result (writer.new.tokens ≡ writer.old.tokens ++ items_written (value_within range expected.now)) }
+    ensures tokens { WritesItems result writer.old writer.new (value_within range expected.now) }
 {
     if range.contains(expected.register) {
-        write_one(alloc, expected, writer)?;
+        write_value(
+            alloc,
+            expected.alg,
+            expected.register,
+            &expected.value,
+            writer,
+        )?;
     }
-    Ok(())
-}
-
-fn write_one(alloc: Global, expected: &Expected, writer: &mut Writer) -> Result<(), AllocError>
-    ensures before { writer.new.before ≡ writer.old.before }
-    ensures tokens { OnOk result (writer.new.tokens ≡ writer.old.tokens
-        ++ json_tokens (register_json expected.now.alg expected.now.register (bytes_of expected.now.value))) }
-{
-    writer.begin_object()?;
-    write_register_members(expected.alg, expected.register, writer)?;
-    write_hex(alloc, "value", expected.value.bytes(), writer)?;
-    writer.end_object()?;
     Ok(())
 }

@@ -1,11 +1,9 @@
 //! The line of a fault.
 
-ghost use Rattle.std.specs.Prelude.{◌≡◌, [], ◌∷◌, ◌++◌, OnOk, OnErr};
-ghost use Rattle.std.specs.Str.{IsUtf8};
-ghost use Rattle.json.specs.Tree.{json_tokens};
-ghost use Rattle.json_texts.specs.JsonValues.{line_of, object_of};
-ghost use Rattle.json_texts.specs.FaultJson.{fault_json, fault_members, number_members, place_members};
-ghost use Rattle.json_texts.specs.parts.WrittenParts.{members_written};
+ghost use Rattle.std.specs.Prelude.{◌≡◌, [], ◌∷◌, codes, option_map};
+ghost use Rattle.json_texts.specs.JsonValues.{AppendsLine, number_json, object_of, optional};
+ghost use Rattle.json_texts.specs.FaultJson.{fault_json, fault_members, place_members};
+ghost use Rattle.json_texts.specs.parts.WrittenParts.{WritesMembers, WritesValue};
 
 use crate::lines::{begin_line, end_line};
 use crate::members::{write_number, write_text};
@@ -43,11 +41,8 @@ pub fn append_fault(
     fault: &FaultText<'_>,
     line: &mut Vec<u8>,
 ) -> Result<(), AllocError>
-    ensures ok { OnOk result (line.new.items ≡ line.old.items ++ line_of
-        (fault_json fault.now.kind.now fault.now.number fault.now.place fault.now.message.now)) }
-    ensures utf8 { OnOk result (IsUtf8 (line_of
-        (fault_json fault.now.kind.now fault.now.number fault.now.place fault.now.message.now))) }
-    ensures err { OnErr result (line.new.items ≡ line.old.items) }
+    ensures { AppendsLine result line.old.items line.new.items
+        (fault_json fault.now.kind.now fault.now.number fault.now.place fault.now.message.now) }
 {
     let start = line.len();
     let mut writer = begin_line(alloc, line);
@@ -57,8 +52,8 @@ pub fn append_fault(
 
 fn write_fault(fault: &FaultText<'_>, writer: &mut Writer) -> Result<(), AllocError>
     ensures before { writer.new.before ≡ writer.old.before }
-    ensures tokens { OnOk result (writer.new.tokens ≡ writer.old.tokens ++ json_tokens
-        (fault_json fault.now.kind.now fault.now.number fault.now.place fault.now.message.now)) }
+    ensures tokens { WritesValue result writer.old writer.new
+        (fault_json fault.now.kind.now fault.now.number fault.now.place fault.now.message.now) }
 {
     writer.begin_object()?;
     write_fault_member("fault", fault, writer)?;
@@ -73,11 +68,8 @@ pub(crate) fn write_fault_member(
     writer: &mut Writer,
 ) -> Result<(), AllocError>
     ensures before { writer.new.before ≡ writer.old.before }
-    ensures tokens { OnOk result (writer.new.tokens ≡ writer.old.tokens ++ members_written ((
-      name.now,
-      object_of
-          (fault_members fault.now.kind.now fault.now.number fault.now.place fault.now.message.now),
-    ) ∷ [])) }
+    ensures tokens { WritesMembers result writer.old writer.new
+        ((name.now, object_of (fault_members fault.now.kind.now fault.now.number fault.now.place fault.now.message.now)) ∷ []) }
 {
     writer.key(name)?;
     writer.begin_object()?;
@@ -89,8 +81,8 @@ pub(crate) fn write_fault_member(
 // Writes what is told of the fault.
 fn write_members(fault: &FaultText<'_>, writer: &mut Writer) -> Result<(), AllocError>
     ensures before { writer.new.before ≡ writer.old.before }
-    ensures tokens { OnOk result (writer.new.tokens ≡ writer.old.tokens ++ members_written
-        (fault_members fault.now.kind.now fault.now.number fault.now.place fault.now.message.now)) }
+    ensures tokens { WritesMembers result writer.old writer.new
+        (fault_members fault.now.kind.now fault.now.number fault.now.place fault.now.message.now) }
 {
     write_text("kind", fault.kind, writer)?;
     write_fault_number(fault.number, writer)?;
@@ -101,7 +93,7 @@ fn write_members(fault: &FaultText<'_>, writer: &mut Writer) -> Result<(), Alloc
 
 fn write_fault_number(number: Option<u32>, writer: &mut Writer) -> Result<(), AllocError>
     ensures before { writer.new.before ≡ writer.old.before }
-    ensures tokens { OnOk result (writer.new.tokens ≡ writer.old.tokens ++ members_written (number_members number)) }
+    ensures tokens { WritesMembers result writer.old writer.new (optional (codes "number") (option_map number_json number)) }
 {
     match number {
         Some(number) => write_number("number", number as u64, writer),
@@ -112,7 +104,7 @@ fn write_fault_number(number: Option<u32>, writer: &mut Writer) -> Result<(), Al
 // Writes the event or the entry at which the fault is.
 fn write_place(place: Option<FaultPlace>, writer: &mut Writer) -> Result<(), AllocError>
     ensures before { writer.new.before ≡ writer.old.before }
-    ensures tokens { OnOk result (writer.new.tokens ≡ writer.old.tokens ++ members_written (place_members place)) }
+    ensures tokens { WritesMembers result writer.old writer.new (place_members place) }
 {
     match place {
         Some(FaultPlace::Event(number)) => write_number("event", number as u64, writer),

@@ -1,14 +1,12 @@
 //! The lines of reports on a confirmed front.
 
-ghost use Rattle.std.specs.Prelude.{◌≡◌, [], ◌∷◌, ◌++◌, Some, option_map, OnOk, OnErr};
-ghost use Rattle.std.specs.Str.{IsUtf8};
+ghost use Rattle.std.specs.Prelude.{◌≡◌, Some, option_map};
 ghost use Rattle.growing_lists.specs.FrontTexts.{unconfirmed_entry};
 ghost use Rattle.boot_verdict.specs.Verdicts.{verdict_of};
-ghost use Rattle.json.specs.Tree.{json_tokens};
 ghost use Rattle.json_texts.specs.declared.faults.FaultPlace.TheVariants.{Entry};
-ghost use Rattle.json_texts.specs.JsonValues.{line_of};
+ghost use Rattle.json_texts.specs.JsonValues.{AppendsLine};
 ghost use Rattle.json_texts.specs.ReportJson.{front_report_json, meets, outcome_members, unconfirmed_members};
-ghost use Rattle.json_texts.specs.parts.WrittenParts.{members_written};
+ghost use Rattle.json_texts.specs.parts.WrittenParts.{WritesMembers, WritesValue};
 
 use crate::faults::{FaultPlace, FaultText, write_fault_member};
 use crate::lines::{begin_line, end_line};
@@ -33,13 +31,9 @@ pub fn append_front_report(
     requirement: Option<&Requirement>,
     line: &mut Vec<u8>,
 ) -> Result<(), AllocError>
-    ensures ok { OnOk result (line.new.items ≡ line.old.items
-        ++ line_of (front_report_json (option_map (λ ranges. ranges.now) requirement.entry) (verdict_of front.now.report)
-        front.now.entries front.now.unconfirmed)) }
-    ensures utf8 { OnOk result (IsUtf8 (line_of
+    ensures { AppendsLine result line.old.items line.new.items
         (front_report_json (option_map (λ ranges. ranges.now) requirement.entry) (verdict_of front.now.report)
-        front.now.entries front.now.unconfirmed))) }
-    ensures err { OnErr result (line.new.items ≡ line.old.items) }
+        front.now.entries front.now.unconfirmed) }
 {
     let start = line.len();
     let mut writer = begin_line(alloc, line);
@@ -54,9 +48,9 @@ fn write_front_report(
     writer: &mut Writer,
 ) -> Result<(), AllocError>
     ensures before { writer.new.before ≡ writer.old.before }
-    ensures tokens { OnOk result (writer.new.tokens ≡ writer.old.tokens ++ json_tokens
+    ensures tokens { WritesValue result writer.old writer.new
         (front_report_json (option_map (λ ranges. ranges.now) requirement.entry) (verdict_of front.now.report)
-        front.now.entries front.now.unconfirmed)) }
+        front.now.entries front.now.unconfirmed) }
 {
     let report = &front.report;
     writer.begin_object()?;
@@ -76,9 +70,9 @@ fn write_judged(
     writer: &mut Writer,
 ) -> Result<(), AllocError>
     ensures before { writer.new.before ≡ writer.old.before }
-    ensures tokens { OnOk result (writer.new.tokens ≡ writer.old.tokens ++ members_written
+    ensures tokens { WritesMembers result writer.old writer.new
         (outcome_members (option_map (λ ranges. ranges.now) requirement.entry)
-        (meets (option_map (λ ranges. ranges.now) requirement.entry) (verdict_of report.now)) (verdict_of report.now))) }
+        (meets (option_map (λ ranges. ranges.now) requirement.entry) (verdict_of report.now)) (verdict_of report.now)) }
 {
     let is_match = meets(report, requirement);
     write_outcome(alloc, report, requirement, is_match, writer)
@@ -91,7 +85,7 @@ fn write_unconfirmed(
     writer: &mut Writer,
 ) -> Result<(), AllocError>
     ensures before { writer.new.before ≡ writer.old.before }
-    ensures tokens { OnOk result (writer.new.tokens ≡ writer.old.tokens ++ members_written (unconfirmed_members unconfirmed)) }
+    ensures tokens { WritesMembers result writer.old writer.new (unconfirmed_members unconfirmed) }
 {
     match unconfirmed {
         None => Ok(()),
@@ -101,7 +95,7 @@ fn write_unconfirmed(
 
 fn write_told(alloc: Global, fault: Unconfirmed, writer: &mut Writer) -> Result<(), AllocError>
     ensures before { writer.new.before ≡ writer.old.before }
-    ensures tokens { OnOk result (writer.new.tokens ≡ writer.old.tokens ++ members_written (unconfirmed_members (Some fault))) }
+    ensures tokens { WritesMembers result writer.old writer.new (unconfirmed_members (Some fault)) }
 {
     let message = fault.message(alloc)?;
     let told = FaultText {

@@ -8,6 +8,8 @@ ghost use Rattle.boot_log.specs.declared.header.Row.{Row as TableRow};
 ghost use Rattle.boot_log.specs.Spelling.{IsRow, LogEvent};
 ghost use Rattle.ima_list.specs.ListEntry.{IsEntry, ListEntry};
 ghost use Rattle.ima_list.specs.Digesting.{IsGenuine};
+ghost use Rattle.ima_list.specs.FieldKinds.{FileFields};
+ghost use Rattle.ima_list.specs.Fields.{HasFields, fields_of};
 ghost use Rattle.boot_verdict.specs.declared.expected.Expected.{Expected};
 ghost use Rattle.growing_lists.specs.declared.front_report.Unconfirmed.{Unconfirmed};
 ghost use Rattle.boot_verdict.specs.declared.register_range.RegisterRange.{RegisterRange};
@@ -25,7 +27,7 @@ ghost use Rattle.json_texts.specs.FaultJson.{fault_json, fault_members, number_a
 ghost use Rattle.json_texts.specs.PlaceJson.{IsCountedPlace, places_json};
 ghost use Rattle.json_texts.specs.RegisterJson.{expected_json, registers_json};
 ghost use Rattle.json_texts.specs.ReportJson.{front_report_json, list_report_json, report_json};
-ghost use Rattle.json_texts.specs.parts.KnownEntries.{IsKnown};
+ghost use Rattle.json_texts.specs.parts.KnownEntries.{HasBytes, IsKnown};
 
 use ima_list::EntryRef;
 
@@ -97,7 +99,18 @@ fn known(entry: &EntryRef<'_>)
     are_bytes(&digest);
     are_bytes(entry.name());
     are_bytes(entry.payload());
-    let _has_fields = entry.fields().is_some();
+    known_fields(entry);
+}
+
+// What is known of an entry's fields.
+fn known_fields(entry: &EntryRef<'_>)
+    ensures { (fields : FileFields) → fields_of entry.now ≡ Some fields → HasFields entry.now fields × HasBytes fields }
+{
+    if let Some(fields) = entry.fields() {
+        are_bytes(fields.file.bytes());
+        are_bytes(fields.path);
+        are_bytes(fields.sig);
+    }
 }
 
 // Bytes are below 256.

@@ -15,10 +15,10 @@ mod front_reports;
 pub mod laws;
 mod lines;
 mod members;
-mod missing;
 mod places;
 mod registers;
 mod reports;
+mod rows;
 
 pub use entries::append_entry;
 pub use entry_lines::{EntriesFault, send_entries};

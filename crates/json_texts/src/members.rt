@@ -1,9 +1,9 @@
 //! Writers of members.
 
-ghost use Rattle.std.specs.Prelude.{◌≡◌, [], ◌∷◌, ◌++◌, OnOk};
+ghost use Rattle.std.specs.Prelude.{◌≡◌, [], ◌∷◌};
 ghost use Rattle.json.specs.Json.{boolean, string};
 ghost use Rattle.json_texts.specs.JsonValues.{hex_json, number_json, shown_member};
-ghost use Rattle.json_texts.specs.parts.WrittenParts.{members_written};
+ghost use Rattle.json_texts.specs.parts.WrittenParts.{WritesMembers};
 
 use json::Writer;
 use std::alloc::{AllocError, Global};
@@ -11,8 +11,7 @@ use std::alloc::{AllocError, Global};
 /// Writes a member with a number.
 pub(crate) fn write_number(name: &str, number: u64, writer: &mut Writer) -> Result<(), AllocError>
     ensures before { writer.new.before ≡ writer.old.before }
-    ensures tokens { OnOk result (writer.new.tokens
-        ≡ writer.old.tokens ++ members_written ((name.now, number_json number) ∷ [])) }
+    ensures tokens { WritesMembers result writer.old writer.new ((name.now, number_json number) ∷ []) }
 {
     writer.key(name)?;
     writer.u64(number)?;
@@ -22,8 +21,7 @@ pub(crate) fn write_number(name: &str, number: u64, writer: &mut Writer) -> Resu
 /// Writes a member with a truth value.
 pub(crate) fn write_flag(name: &str, flag: bool, writer: &mut Writer) -> Result<(), AllocError>
     ensures before { writer.new.before ≡ writer.old.before }
-    ensures tokens { OnOk result (writer.new.tokens
-        ≡ writer.old.tokens ++ members_written ((name.now, boolean flag) ∷ [])) }
+    ensures tokens { WritesMembers result writer.old writer.new ((name.now, boolean flag) ∷ []) }
 {
     writer.key(name)?;
     writer.boolean(flag)?;
@@ -33,8 +31,7 @@ pub(crate) fn write_flag(name: &str, flag: bool, writer: &mut Writer) -> Result<
 /// Writes a member with a text.
 pub(crate) fn write_text(name: &str, text: &str, writer: &mut Writer) -> Result<(), AllocError>
     ensures before { writer.new.before ≡ writer.old.before }
-    ensures tokens { OnOk result (writer.new.tokens
-        ≡ writer.old.tokens ++ members_written ((name.now, string text.now) ∷ [])) }
+    ensures tokens { WritesMembers result writer.old writer.new ((name.now, string text.now) ∷ []) }
 {
     writer.key(name)?;
     writer.string(text)?;
@@ -49,8 +46,7 @@ pub(crate) fn write_hex(
     writer: &mut Writer,
 ) -> Result<(), AllocError>
     ensures before { writer.new.before ≡ writer.old.before }
-    ensures tokens { OnOk result (writer.new.tokens
-        ≡ writer.old.tokens ++ members_written ((name.now, hex_json bytes.now) ∷ [])) }
+    ensures tokens { WritesMembers result writer.old writer.new ((name.now, hex_json bytes.now) ∷ []) }
 {
     let digits = hex::encode(alloc, bytes)?;
     write_text(name, &digits, writer)?;
@@ -66,8 +62,7 @@ pub(crate) fn write_shown(
     writer: &mut Writer,
 ) -> Result<(), AllocError>
     ensures before { writer.new.before ≡ writer.old.before }
-    ensures tokens { OnOk result (writer.new.tokens
-        ≡ writer.old.tokens ++ members_written (shown_member name.now hex_name.now bytes.now ∷ [])) }
+    ensures tokens { WritesMembers result writer.old writer.new (shown_member name.now hex_name.now bytes.now ∷ []) }
 {
     match std::str::from_utf8(bytes) {
         Ok(text) => {

@@ -1,18 +1,17 @@
 //! The line of registers.
 
-ghost use Rattle.std.specs.Prelude.{◌≡◌, ℕ, List, [], ◌∷◌, ◌++◌, flat_map, Option, option_map, OnOk, OnErr};
-ghost use Rattle.std.specs.Str.{IsUtf8};
+ghost use Rattle.std.specs.Prelude.{◌≡◌, ℕ, List, Option, option_map};
 ghost use Rattle.pcr_banks.specs.declared.alg.Alg.{Alg};
-ghost use Rattle.pcr_banks.specs.Digests.{alg_of, bytes_of, digest_of};
-ghost use Rattle.json.specs.Tree.{json_tokens};
-ghost use Rattle.json_texts.specs.JsonValues.{line_of};
-ghost use Rattle.json_texts.specs.RegisterJson.{change_values, changed_in, changed_register, changed_registers, register_json, register_members, registers_json};
-ghost use Rattle.json_texts.specs.parts.WrittenParts.{items_written, members_written};
+ghost use Rattle.pcr_banks.specs.Digests.{bytes_of, digest_of};
+ghost use Rattle.json_texts.specs.JsonValues.{AppendsLine};
+ghost use Rattle.json_texts.specs.RegisterJson.{change_values, changed_register, changed_registers, register_json, register_members, registers_json};
+ghost use Rattle.json_texts.specs.parts.WrittenParts.{WritesItems, WritesMembers, WritesValue};
 
 use crate::lines::{begin_line, end_line};
 use crate::members::{write_hex, write_number, write_text};
+use boot_verdict::{ALL_REGISTERS, register_numbered};
 use json::Writer;
-use pcr_banks::{Alg, Banks, Digest, REGISTERS};
+use pcr_banks::{Alg, Banks, Digest};
 use std::alloc::{AllocError, Global};
 
 /// Appends the line of the registers whose value in `now` differs from that in `start`, or whose bank `start` lacks: those of which
@@ -27,9 +26,7 @@ pub fn append_registers(
     start: &Banks,
     line: &mut Vec<u8>,
 ) -> Result<(), AllocError>
-    ensures ok { OnOk result (line.new.items ≡ line.old.items ++ line_of (registers_json now.now start.now)) }
-    ensures utf8 { OnOk result (IsUtf8 (line_of (registers_json now.now start.now))) }
-    ensures err { OnErr result (line.new.items ≡ line.old.items) }
+    ensures { AppendsLine result line.old.items line.new.items (registers_json now.now start.now) }
 {
     let length = line.len();
     let mut writer = begin_line(alloc, line);
@@ -44,45 +41,29 @@ fn write_registers(
     writer: &mut Writer,
 ) -> Result<(), AllocError>
     ensures before { writer.new.before ≡ writer.old.before }
-    ensures tokens { OnOk result (writer.new.tokens ≡ writer.old.tokens ++ json_tokens (registers_json now.now start.now)) }
+    ensures tokens { WritesValue result writer.old writer.new (registers_json now.now start.now) }
 {
     writer.begin_object()?;
     writer.key("registers")?;
     writer.begin_array()?;
-    write_banks(alloc, now, start, writer)?;
+    write_each(alloc, now, start, writer)?;
     writer.end_array()?;
     writer.end_object()?;
     Ok(())
 }
 
-// Writes the registers of all banks that differ from the start.
-fn write_banks(
+// Writes the registers that differ from the start.
+fn write_each(
     alloc: Global,
     now: &Banks,
     start: &Banks,
     writer: &mut Writer,
 ) -> Result<(), AllocError>
     ensures before { writer.new.before ≡ writer.old.before }
-    ensures tokens { OnOk result (writer.new.tokens ≡ writer.old.tokens ++ items_written (changed_registers now.now start.now)) }
+    ensures tokens { WritesItems result writer.old writer.new (changed_registers now.now start.now) }
 {
-    for alg in &Alg::ALL {
-        write_bank(alloc, now, start, *alg, writer)?;
-    }
-    Ok(())
-}
-
-// Writes those of one bank.
-fn write_bank(
-    alloc: Global,
-    now: &Banks,
-    start: &Banks,
-    alg: Alg,
-    writer: &mut Writer,
-) -> Result<(), AllocError>
-    ensures before { writer.new.before ≡ writer.old.before }
-    ensures tokens { OnOk result (writer.new.tokens ≡ writer.old.tokens ++ items_written (changed_in now.now start.now alg)) }
-{
-    for register in 0..REGISTERS {
+    for number in 0..ALL_REGISTERS {
+        let (alg, register) = register_numbered(number);
         write_register(alloc, now, start, alg, register, writer)?;
     }
     Ok(())
@@ -97,8 +78,7 @@ fn write_register(
     writer: &mut Writer,
 ) -> Result<(), AllocError>
     ensures before { writer.new.before ≡ writer.old.before }
-    ensures tokens { OnOk result (writer.new.tokens
-        ≡ writer.old.tokens ++ items_written (changed_register now.now start.now alg register)) }
+    ensures tokens { WritesItems result writer.old writer.new (changed_register now.now start.now alg register) }
 {
     let before = start.read(alg, register);
     let value = now.read(alg, register);
@@ -115,27 +95,28 @@ fn write_change(
 ) -> Result<(), AllocError>
     ensures before { writer.new.before ≡ writer.old.before }
     ensures tokens { (alg : Alg) (old new : Option (List ℕ)) → before ≡ option_map (digest_of alg) old → now ≡ option_map (digest_of alg) new
-        → OnOk result (writer.new.tokens ≡ writer.old.tokens ++ items_written (change_values alg register old new)) }
+        → WritesItems result writer.old writer.new (change_values alg register old new) }
 {
     match (now, before) {
         (None, _) => Ok(()),
         (Some(value), Some(before)) if value == before => Ok(()),
-        (Some(value), _) => write_value(alloc, register, &value, writer),
+        (Some(value), _) => write_value(alloc, value.alg(), register, &value, writer),
     }
 }
 
-fn write_value(
+/// Writes the register with this value.
+pub(crate) fn write_value(
     alloc: Global,
+    alg: Alg,
     register: u32,
     value: &Digest,
     writer: &mut Writer,
 ) -> Result<(), AllocError>
     ensures before { writer.new.before ≡ writer.old.before }
-    ensures tokens { OnOk result (writer.new.tokens
-        ≡ writer.old.tokens ++ json_tokens (register_json (alg_of value.now) register (bytes_of value.now))) }
+    ensures tokens { WritesValue result writer.old writer.new (register_json alg register (bytes_of value.now)) }
 {
     writer.begin_object()?;
-    write_register_members(value.alg(), register, writer)?;
+    write_register_members(alg, register, writer)?;
     write_hex(alloc, "value", value.bytes(), writer)?;
     writer.end_object()?;
     Ok(())
@@ -148,7 +129,7 @@ pub(crate) fn write_register_members(
     writer: &mut Writer,
 ) -> Result<(), AllocError>
     ensures before { writer.new.before ≡ writer.old.before }
-    ensures tokens { OnOk result (writer.new.tokens ≡ writer.old.tokens ++ members_written (register_members alg register)) }
+    ensures tokens { WritesMembers result writer.old writer.new (register_members alg register) }
 {
     write_text("bank", alg.name(), writer)?;
     write_number("register", register as u64, writer)?;

@@ -1,21 +1,17 @@
 //! The lines of reports.
 
-ghost use Rattle.std.specs.Prelude.{◌≡◌, [], ◌∷◌, ◌++◌, codes, flat_map, map, option_map, OnOk, OnErr};
-ghost use Rattle.std.specs.Str.{IsUtf8};
+ghost use Rattle.std.specs.Prelude.{◌≡◌, option_map};
 ghost use Rattle.boot_verdict.specs.declared.report.State.TheVariants.{Differ};
 ghost use Rattle.boot_verdict.specs.ListVerdicts.{list_verdict_of};
-ghost use Rattle.boot_verdict.specs.ReportTexts.{aggregate_word};
 ghost use Rattle.boot_verdict.specs.Verdicts.{verdict_of};
-ghost use Rattle.json.specs.Tree.{json_tokens};
-ghost use Rattle.json_texts.specs.JsonValues.{array_of, line_of};
-ghost use Rattle.json_texts.specs.ReportJson.{count_members, list_meets, list_report_json, meets, outcome_members, report_json, row_json, rows_values, state_members, verdict_word};
-ghost use Rattle.json_texts.specs.parts.WrittenParts.{items_written, members_written};
+ghost use Rattle.json_texts.specs.JsonValues.{AppendsLine};
+ghost use Rattle.json_texts.specs.ReportJson.{count_members, list_meets, list_report_json, meets, outcome_members, report_json, state_members, verdict_word};
+ghost use Rattle.json_texts.specs.parts.WrittenParts.{WritesMembers, WritesValue};
 
 use crate::lines::{begin_line, end_line};
 use crate::members::{write_hex, write_number, write_text};
-use crate::missing::{expected_of_rows, write_missing};
-use crate::registers::write_register_members;
-use boot_verdict::{Aggregate, ListReport, Report, Requirement, Row, State};
+use crate::rows::{Says, write_rows};
+use boot_verdict::{ListReport, Report, Requirement, Row, State, aggregate_word};
 use json::Writer;
 use pcr_banks::Digest;
 use std::alloc::{AllocError, Global};
@@ -36,11 +32,8 @@ pub fn append_report(
     is_match: bool,
     line: &mut Vec<u8>,
 ) -> Result<(), AllocError>
-    ensures ok { OnOk result (line.new.items ≡ line.old.items
-        ++ line_of (report_json (option_map (λ ranges. ranges.now) requirement.entry) is_match (verdict_of report.now))) }
-    ensures utf8 { OnOk result (IsUtf8 (line_of
-        (report_json (option_map (λ ranges. ranges.now) requirement.entry) is_match (verdict_of report.now)))) }
-    ensures err { OnErr result (line.new.items ≡ line.old.items) }
+    ensures { AppendsLine result line.old.items line.new.items
+        (report_json (option_map (λ ranges. ranges.now) requirement.entry) is_match (verdict_of report.now)) }
 {
     let start = line.len();
     let mut writer = begin_line(alloc, line);
@@ -57,11 +50,8 @@ pub fn append_list_report(
     requirement: Option<&Requirement>,
     line: &mut Vec<u8>,
 ) -> Result<(), AllocError>
-    ensures ok { OnOk result (line.new.items ≡ line.old.items
-        ++ line_of (list_report_json (option_map (λ ranges. ranges.now) requirement.entry) (list_verdict_of report.now))) }
-    ensures utf8 { OnOk result (IsUtf8 (line_of
-        (list_report_json (option_map (λ ranges. ranges.now) requirement.entry) (list_verdict_of report.now)))) }
-    ensures err { OnErr result (line.new.items ≡ line.old.items) }
+    ensures { AppendsLine result line.old.items line.new.items
+        (list_report_json (option_map (λ ranges. ranges.now) requirement.entry) (list_verdict_of report.now)) }
 {
     let start = line.len();
     let mut writer = begin_line(alloc, line);
@@ -77,8 +67,8 @@ fn write_report(
     writer: &mut Writer,
 ) -> Result<(), AllocError>
     ensures before { writer.new.before ≡ writer.old.before }
-    ensures tokens { OnOk result (writer.new.tokens ≡ writer.old.tokens
-        ++ json_tokens (report_json (option_map (λ ranges. ranges.now) requirement.entry) is_match (verdict_of report.now))) }
+    ensures tokens { WritesValue result writer.old writer.new
+        (report_json (option_map (λ ranges. ranges.now) requirement.entry) is_match (verdict_of report.now)) }
 {
     writer.begin_object()?;
     write_counts(report.events, report.locality, report.entries, writer)?;
@@ -95,8 +85,7 @@ pub(crate) fn write_counts(
     writer: &mut Writer,
 ) -> Result<(), AllocError>
     ensures before { writer.new.before ≡ writer.old.before }
-    ensures tokens { OnOk result (writer.new.tokens
-        ≡ writer.old.tokens ++ members_written (count_members events locality entries)) }
+    ensures tokens { WritesMembers result writer.old writer.new (count_members events locality entries) }
 {
     write_number("events", events as u64, writer)?;
     write_number("locality", locality as u64, writer)?;
@@ -113,11 +102,11 @@ pub(crate) fn write_outcome(
     writer: &mut Writer,
 ) -> Result<(), AllocError>
     ensures before { writer.new.before ≡ writer.old.before }
-    ensures tokens { OnOk result (writer.new.tokens ≡ writer.old.tokens ++ members_written
-        (outcome_members (option_map (λ ranges. ranges.now) requirement.entry) is_match (verdict_of report.now))) }
+    ensures tokens { WritesMembers result writer.old writer.new
+        (outcome_members (option_map (λ ranges. ranges.now) requirement.entry) is_match (verdict_of report.now)) }
 {
     write_text("boot_aggregate", aggregate_word(report.aggregate), writer)?;
-    write_rows(alloc, &report.rows, requirement, writer)?;
+    write_rows(alloc, "state", &report.rows, requirement, writer)?;
     write_text("verdict", verdict_word(is_match), writer)?;
     Ok(())
 }
@@ -139,19 +128,19 @@ fn write_list_report(
     writer: &mut Writer,
 ) -> Result<(), AllocError>
     ensures before { writer.new.before ≡ writer.old.before }
-    ensures tokens { OnOk result (writer.new.tokens ≡ writer.old.tokens
-        ++ json_tokens (list_report_json (option_map (λ ranges. ranges.now) requirement.entry) (list_verdict_of report.now))) }
+    ensures tokens { WritesValue result writer.old writer.new
+        (list_report_json (option_map (λ ranges. ranges.now) requirement.entry) (list_verdict_of report.now)) }
 {
     let is_match = list_meets(report, requirement);
     writer.begin_object()?;
     write_number("entries", report.entries as u64, writer)?;
-    write_rows(alloc, &report.rows, requirement, writer)?;
+    write_rows(alloc, "state", &report.rows, requirement, writer)?;
     write_text("verdict", verdict_word(is_match), writer)?;
     writer.end_object()?;
     Ok(())
 }
 
-/// The same as [`meets`], of a list alone.
+/// Whether the report on a list alone matches and no required register is missing.
 pub fn list_meets(report: &ListReport, requirement: Option<&Requirement>) -> bool
     ensures { result ≡ list_meets (option_map (λ ranges. ranges.now) requirement.entry) (list_verdict_of report.now) }
 {
@@ -161,80 +150,28 @@ pub fn list_meets(report: &ListReport, requirement: Option<&Requirement>) -> boo
     }
 }
 
-fn aggregate_word(aggregate: Aggregate) -> &'static str
-    ensures { result.now ≡ aggregate_word aggregate }
-{
-    match aggregate {
-        Aggregate::Good => "good",
-        Aggregate::Wrong => "wrong",
-        Aggregate::NoBank => "nobank",
-        Aggregate::Missing => "missing",
-    }
-}
-
 fn verdict_word(is_match: bool) -> &'static str
     ensures { result.now ≡ verdict_word is_match }
 {
     if is_match { "match" } else { "differ" }
 }
 
-// Writes the member of the rows and of the required registers that have none.
-fn write_rows(
-    alloc: Global,
-    rows: &[Row],
-    requirement: Option<&Requirement>,
-    writer: &mut Writer,
-) -> Result<(), AllocError>
-    ensures before { writer.new.before ≡ writer.old.before }
-    ensures tokens { OnOk result (writer.new.tokens ≡ writer.old.tokens ++ members_written
-        ((codes "registers", array_of (rows_values (option_map (λ ranges. ranges.now) requirement.entry) rows.now)) ∷ [])) }
-{
-    let expected = expected_of_rows(alloc, rows)?;
-    writer.key("registers")?;
-    writer.begin_array()?;
-    write_each(alloc, rows, writer)?;
-    write_missing("state", requirement, &expected, writer)?;
-    writer.end_array()?;
-    Ok(())
-}
+impl Says for Row {
+    ghost members_of = { λ row. state_members row.state };
 
-fn write_each(alloc: Global, rows: &[Row], writer: &mut Writer) -> Result<(), AllocError>
-    ensures before { writer.new.before ≡ writer.old.before }
-    ensures tokens { OnOk result (writer.new.tokens ≡ writer.old.tokens ++ items_written (map row_json rows.now)) }
-{
-    for row in rows {
-        write_row(alloc, row, writer)?;
-    }
-    Ok(())
-}
-
-fn write_row(alloc: Global, row: &Row, writer: &mut Writer) -> Result<(), AllocError>
-    ensures before { writer.new.before ≡ writer.old.before }
-    ensures tokens { OnOk result (writer.new.tokens ≡ writer.old.tokens ++ json_tokens (row_json row.now)) }
-{
-    writer.begin_object()?;
-    write_register_members(row.expected.alg, row.expected.register, writer)?;
-    write_state(alloc, row.state, writer)?;
-    writer.end_object()?;
-    Ok(())
-}
-
-// Writes how a register compares, and its value if it is another one.
-fn write_state(alloc: Global, state: State, writer: &mut Writer) -> Result<(), AllocError>
-    ensures before { writer.new.before ≡ writer.old.before }
-    ensures tokens { OnOk result (writer.new.tokens ≡ writer.old.tokens ++ members_written (state_members state)) }
-{
-    match state {
-        State::Match => write_text("state", "match", writer),
-        State::Differ(value) => write_differing(alloc, &value, writer),
-        State::Absent => write_text("state", "absent", writer),
+    fn write_members(&self, alloc: Global, writer: &mut Writer) -> Result<(), AllocError> {
+        match self.state {
+            State::Match => write_text("state", "match", writer),
+            State::Differ(value) => write_differing(alloc, &value, writer),
+            State::Absent => write_text("state", "absent", writer),
+        }
     }
 }
 
 // Writes that a register differs, and its value.
 fn write_differing(alloc: Global, value: &Digest, writer: &mut Writer) -> Result<(), AllocError>
     ensures before { writer.new.before ≡ writer.old.before }
-    ensures tokens { OnOk result (writer.new.tokens ≡ writer.old.tokens ++ members_written (state_members (Differ value.now))) }
+    ensures tokens { WritesMembers result writer.old writer.new (state_members (Differ value.now)) }
 {
     write_text("state", "differ", writer)?;
     write_hex(alloc, "value", value.bytes(), writer)?;

@@ -50,7 +50,7 @@ begins_from bytes None list over lost = absurd lost
 begins_from bytes (Some rest) list over lost =
     (over ++ rest, sym (lost ∙ append_assoc list over rest), omega (arith, length-append over rest))
 
-held_more : (told old new : Option (List ℕ)) (limit : ℕ) (list over : List ℕ) → HasAll told old → CameFrom old new limit list over
+pub held_more : (told old new : Option (List ℕ)) (limit : ℕ) (list over : List ℕ) → HasAll told old → CameFrom old new limit list over
     → (later : List ℕ) × IfSome told (λ all. list ++ later ≡ all) × (length over ≤ length later)
 held_more None old new limit list over has came = (over, tt, omega arith)
 held_more (Some bytes) old new limit list over has came =

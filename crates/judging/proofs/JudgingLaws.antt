@@ -23,8 +23,8 @@ use Rattle.judging.specs.declared.answer.Answer.TheVariants as answers
 use Rattle.agent_inputs.specs.declared.fault.RunFault.{RunFault}
 use Rattle.agent_inputs.specs.declared.fault.RunFault.TheVariants as runs
 use Rattle.command_line.specs.declared.plan.Extent.{Extent}
-use Rattle.judging.specs.Answering.{AreGrounds, IsFound, IsKnown, IsNotFound, IsRefusal, IsRefusedAfter, IsRequired, IsTaken, entries_taken, most_more}
-use Rattle.judging.specs.Asking.{Asked, ListVerdictOf, PlacesOf, VerdictOf, text_of}
+use Rattle.judging.specs.Answering.{AreGrounds, IsFound, IsKnown, IsNoComparison, IsNotFound, IsRefusedAfter, IsRequired, IsTaken, entries_taken, most_more}
+use Rattle.judging.specs.Asking.{Compared, ListVerdictOf, PlacesOf, VerdictOf, text_of}
 use Rattle.agent_inputs.specs.Faults.{fault_of_log}
 use Rattle.agent_inputs.specs.Loading.{HasFailed, Inputs}
 use Rattle.judging.specs.Growing.{HasNoFront, IsFrontOf, IsUnconfirmedIn, IsWholeOf, seeks_front}
@@ -72,6 +72,8 @@ module _ (inputs : Inputs) (list : Where) (log : List ℕ) (expected : List Expe
   )
   verdict_found after room (answers.Places places) is = absurd is
   verdict_found after room (answers.ListReport report) is = absurd is
+  verdict_found after room (answers.Registers registers) is = absurd is
+  verdict_found after room (answers.Expected expected range) is = absurd is
 
   valid_log : (k : Option Checkpoint) → ((taken : List ℕ) → IsTaken k taken → HasTaken log taken before) → IfSome k (IsOfBoot log) → IsSomeLog log
   valid_log None start is =
@@ -168,10 +170,10 @@ module _ (inputs : Inputs) (list : Where) (log : List ℕ) (expected : List Expe
 
 -- ---- why there is no answer
 
-pub no_answer : (inputs : Inputs) (asked : Asked) (required : Option (List BankRange)) (log : List ℕ) (expected : List Expected)
+pub no_answer : (inputs : Inputs) (asked : Compared) (required : Option (List BankRange)) (log : List ℕ) (expected : List Expected)
     (known : Option Checkpoint) (fault : RunFault) → IsRequired (text_of asked.required) required → AreGrounds inputs asked log expected known
     → IsReadFailure inputs asked.list fault ⊎ IsNotFound inputs asked.judgement asked.list required log expected known fault
-    → IsRefusal inputs asked fault
+    → IsNoComparison inputs asked fault
 no_answer inputs asked required log expected known fault requires grounds (inl unread) =
     inr (required, requires, inl (inr (inr (inr (inl ((expected, grounds.expected_are), inr unread))))))
 no_answer inputs asked required log expected known fault requires grounds (inr none) =

@@ -1,7 +1,5 @@
 -- The answer to what is asked for, and why there is none. All of this is this project's choice.
 use Rattle.std.specs.Prelude.{◌≡◌, ℕ, ◌<◌, ◌≤◌, ◌⊎◌, true, List, ◌++◌, length, [], Option, Some, None, Err, IfSome}
-use Rattle.boot_log.specs.declared.fault.LogFault.{LogFault}
-use Rattle.boot_log.specs.Reading.{log_fault}
 use Rattle.ima_list.specs.Spelling.{IsReading}
 use Rattle.boot_verdict.specs.declared.checkpoint.Checkpoint.{Checkpoint}
 use Rattle.boot_verdict.specs.declared.expected.Expected.{Expected}
@@ -26,12 +24,15 @@ use Rattle.judging.specs.declared.answer.Answered.{Answered}
 use Rattle.agent_inputs.specs.declared.fault.NotResumed.TheVariants.{Damaged, OtherBoot, Version}
 use Rattle.agent_inputs.specs.declared.fault.RunFault.{RunFault}
 use Rattle.agent_inputs.specs.declared.fault.RunFault.TheVariants as runs
-use Rattle.judging.specs.Asking.{Asked, Judgement, VerdictOf, PlacesOf, ListVerdictOf, log_of, resume_of, text_of}
-use Rattle.agent_inputs.specs.Faults.{fault_of_expected, fault_of_log}
+use Rattle.boot_verdict.specs.declared.register_range.RegisterRange.{RegisterRange}
+use Rattle.judging.specs.Asking.{Asked, Compared, Compares, ExpectedOf, Judgement, ListRegistersOf, ListVerdictOf, LogRegistersOf, PlacesOf, VerdictOf, log_of, resume_of, text_of}
+use Rattle.agent_inputs.specs.Faults.{HasLogFault, fault_of_expected}
 use Rattle.agent_inputs.specs.Loading.{Inputs}
+use Rattle.judging.specs.Expecting.{IsNotPrintedWithin, IsPrintedWithin, IsRangeFault, IsRequested}
 use Rattle.judging.specs.Growing.{IsFrontOf, HasNoFront, IsUnconfirmedIn, IsWholeOf, IsWrongIn, seeks_front}
 use Rattle.judging.specs.Inputs.{Holds, IsFaultAt, IsInputFault, IsReadFailure, MayFail, OfInput, Where, limit_of}
-use Rattle.judging.specs.Judging.{is_well, next_if}
+use Rattle.judging.specs.Judging.{alone, is_well, next_if}
+use Rattle.judging.specs.Registers.{AreListRegisters, AreRegistersAfter}
 
 -- ---- what is required
 
@@ -80,7 +81,7 @@ IsKnown inputs resume known = ⊥
 abbrev pub OfMore : Inputs → Where → Option Checkpoint → (List ℕ → List ℕ → Type 0) → Type 0
 OfMore inputs place known P = (taken : List ℕ) → IsTaken known taken → OfInput inputs place (P taken)
 
--- The same of the list that both make.
+-- This holds of the list that both make.
 abbrev pub OfList : Inputs → Where → Option Checkpoint → (List ℕ → Type 0) → Type 0
 OfList inputs place known P = OfMore inputs place known (λ taken more. P (taken ++ more))
 
@@ -96,7 +97,7 @@ abbrev pub AreExpected : Inputs → Where → List Expected → Type 0
 AreExpected inputs place expected = OfInput inputs place (λ text. IsExpectedText text expected)
 
 -- The log, the expected registers, and what is gone on from, of the inputs that are asked for.
-pub record AreGrounds (inputs : Inputs) (asked : Asked) (log : List ℕ) (expected : List Expected) (known : Option Checkpoint) : Type 0 where
+pub record AreGrounds (inputs : Inputs) (asked : Compared) (log : List ℕ) (expected : List Expected) (known : Option Checkpoint) : Type 0 where
   pub log_is : IsLogIn inputs (log_of asked.judgement) log
   pub expected_are : AreExpected inputs asked.expected expected
   pub known_is : IsKnown inputs (resume_of asked.judgement) known
@@ -126,8 +127,8 @@ abbrev pub IsFound : Inputs → Judgement → Where → Option (List BankRange) 
 IsFound inputs judgement list required log expected known answer next =
     IfSome known (IsOfBoot log) × IsJudged inputs judgement list required log expected known answer next
 
--- This is the answer to what is asked for, and what it is worth.
-pub record IsAnswer (inputs : Inputs) (asked : Asked) (given : Answered) : Type 0 where
+-- This is what comes of what is compared, and what it is worth.
+pub record IsComparison (inputs : Inputs) (asked : Compared) (given : Answered) : Type 0 where
   pub log : List ℕ
   pub expected : List Expected
   pub known : Option Checkpoint
@@ -146,11 +147,12 @@ pub record IsNotExpected (inputs : Inputs) (place : Where) (fault : RunFault) : 
   pub first_is : OfInput inputs place (λ text. HasFirstFault text first)
   pub says : fault ≡ fault_of_expected first
 
--- Why a text is not read as a checkpoint: it is of another version, or no possible checkpoint's text, or memory ran out.
+-- Why a text is not read as a checkpoint: it is of another version; or it is not, and no possible checkpoint's text; or memory ran out.
 abbrev pub IsNoCheckpoint : List ℕ → RunFault → Type 0
 IsNoCheckpoint text fault =
     ((fault ≡ runs.Checkpoint Version) × IsOfOtherVersion text)
-    ⊎ ((fault ≡ runs.Checkpoint Damaged) × ((known : Checkpoint) → IsPossible known → text ≡ checkpoint_text known → ⊥))
+    ⊎ ((fault ≡ runs.Checkpoint Damaged) × (IsOfOtherVersion text → ⊥)
+    × ((known : Checkpoint) → IsPossible known → text ≡ checkpoint_text known → ⊥))
     ⊎ (fault ≡ runs.Memory)
 
 -- Why there is no log, or no checkpoint, where one is asked for.
@@ -158,9 +160,9 @@ abbrev pub IsNotIn : Inputs → Option Where → (Where → RunFault → Type 0)
 IsNotIn inputs None IsWrong fault = ⊥
 IsNotIn inputs (Some place) IsWrong fault = IsInputFault inputs place fault ⊎ IsWrong place fault
 
--- Why there are no grounds: in this order, an input was not loaded, the text does not state expected registers, the input to go on from
--- has no checkpoint, the list could not be opened, or memory ran out.
-abbrev pub HasNoGrounds : Inputs → Asked → RunFault → Type 0
+-- Why there are no grounds: an input was not loaded; the text does not state expected registers; it does, and the input to go on from has no
+-- checkpoint, or the list could not be opened; or memory ran out.
+abbrev pub HasNoGrounds : Inputs → Compared → RunFault → Type 0
 HasNoGrounds inputs asked fault =
     IsNotIn inputs (log_of asked.judgement) (λ place fault. ⊥) fault
     ⊎ IsInputFault inputs asked.expected fault
@@ -171,12 +173,6 @@ HasNoGrounds inputs asked fault =
     ⊎ (fault ≡ runs.Memory)
 
 -- ---- why there is no answer
-
--- The bytes are no log, and the fault is their first.
-pub record HasLogFault (content : List ℕ) (fault : RunFault) : Type 0 where
-  pub first : LogFault
-  pub first_is : log_fault content ≡ Some first
-  pub says : fault ≡ fault_of_log first
 
 -- The log, if there is one, is refused; it is valid.
 abbrev pub IsLogRefused : Judgement → List ℕ → RunFault → Type 0
@@ -229,17 +225,52 @@ IsNotFound inputs judgement list required log expected known fault =
     ⊎ IsNotTaken inputs judgement list required log expected known fault
     ⊎ (fault ≡ runs.Memory)
 
--- There are grounds, and no answer on them.
-pub record HasNoAnswer (inputs : Inputs) (asked : Asked) (required : Option (List BankRange)) (fault : RunFault) : Type 0 where
+-- There are grounds, and nothing comes of them.
+pub record HasNoAnswer (inputs : Inputs) (asked : Compared) (required : Option (List BankRange)) (fault : RunFault) : Type 0 where
   pub log : List ℕ
   pub expected : List Expected
   pub known : Option Checkpoint
   pub grounds : AreGrounds inputs asked log expected known
   pub cause : IsNotFound inputs asked.judgement asked.list required log expected known fault
 
--- Why there is no answer: the text spells no registers; or it spells some or is not given, and there are no grounds, or no answer on them.
-abbrev pub IsRefusal : Inputs → Asked → RunFault → Type 0
-IsRefusal inputs asked fault =
+-- Why nothing comes of what is compared: the text spells no registers; or it spells some or is not given, and there are no grounds, or no
+-- answer on them.
+abbrev pub IsNoComparison : Inputs → Compared → RunFault → Type 0
+IsNoComparison inputs asked fault =
     IsNotRequired (text_of asked.required) fault
     ⊎ ((required : Option (List BankRange)) × IsRequired (text_of asked.required) required
     × (HasNoGrounds inputs asked fault ⊎ HasNoAnswer inputs asked required fault))
+
+-- ---- what is asked for
+
+-- This is what is asked for, where nothing is compared.
+abbrev pub IsAlone : Inputs → Asked → Answer → Type 0
+IsAlone inputs (LogRegistersOf log) (answers.Registers registers) =
+    OfInput inputs log (λ content. AreRegistersAfter content registers.start registers.now)
+IsAlone inputs (ListRegistersOf list) (answers.Registers registers) =
+    OfInput inputs list (λ content. AreListRegisters content registers.start registers.now)
+IsAlone inputs (ExpectedOf printed text) (answers.Expected expected range) =
+    IsRequested text range × OfInput inputs printed (λ content. IsPrintedWithin range content expected.items)
+IsAlone inputs asked answer = ⊥
+
+-- This is the answer to what is asked for. Where nothing is compared, all is well with any.
+abbrev pub IsAnswer : Inputs → Asked → Answered → Type 0
+IsAnswer inputs (Compares compared) given = IsComparison inputs compared given
+IsAnswer inputs asked given = (answer : Answer) × IsAlone inputs asked answer × (given ≡ alone answer)
+
+-- The list of this input is refused: the first cause, or memory ran out.
+abbrev pub IsRefusedList : Inputs → Where → RunFault → Type 0
+IsRefusedList inputs list fault =
+    (first : VerifyFault) × IsRefusedAfter inputs list (limit_of list) [] first × IsFaultAt list first fault
+
+-- Why there is no answer: an input was not loaded or read; the bytes are no log; the list is refused; the text spells no range, or the
+-- other states no register within it, as tpm2-tools prints them; or memory ran out.
+abbrev pub IsRefusal : Inputs → Asked → RunFault → Type 0
+IsRefusal inputs (Compares compared) fault = IsNoComparison inputs compared fault
+IsRefusal inputs (LogRegistersOf log) fault =
+    IsInputFault inputs log fault ⊎ OfInput inputs log (λ content. HasLogFault content fault) ⊎ (fault ≡ runs.Memory)
+IsRefusal inputs (ListRegistersOf list) fault = IsReadFailure inputs list fault ⊎ IsRefusedList inputs list fault ⊎ (fault ≡ runs.Memory)
+IsRefusal inputs (ExpectedOf printed text) fault =
+    IsRangeFault text fault
+    ⊎ ((range : RegisterRange) × IsRequested text range
+    × (IsInputFault inputs printed fault ⊎ OfInput inputs printed (λ content. IsNotPrintedWithin range content fault)))

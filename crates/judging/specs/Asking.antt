@@ -6,7 +6,9 @@ use Rattle.judging.specs.declared.inputs.Input.{Input}
 use Rattle.judging.specs.declared.inputs.Input.TheVariants as inputs
 use Rattle.judging.specs.declared.inputs.Held.{Held}
 use Rattle.judging.specs.declared.inputs.Held.TheVariants as helds
+use Rattle.judging.specs.declared.request.Comparison.{Comparison}
 use Rattle.judging.specs.declared.request.Request.{Request}
+use Rattle.judging.specs.declared.request.Request.TheVariants as requests
 use Rattle.judging.specs.declared.request.Required.{Required}
 use Rattle.judging.specs.declared.request.Required.TheVariants as required
 use Rattle.judging.specs.declared.request.Wanted.{Wanted}
@@ -31,13 +33,21 @@ text_of Nothing = None
 text_of Any = None
 text_of (These text) = Some text
 
--- What is asked for: the result, with what only it is of; where the list is, or what follows the checkpoint, and the text of expected
+-- What is compared: the result, with what only it is of; where the list is, or what follows the checkpoint, and the text of expected
 -- registers; and what has to be among these.
-pub record Asked : Type 0 where
+pub record Compared : Type 0 where
   pub judgement : Judgement
   pub list : Where
   pub expected : Where
   pub required : Requires
+
+-- What is asked for: what a list is worth against expected registers; the registers after a log, or after a list alone; or the expected
+-- registers that a text has, as tpm2-tools printed it, of those within the range that another text spells, if there is one.
+pub data Asked : Type 0 where
+  Compares : Compared → Asked
+  LogRegistersOf : Where → Asked
+  ListRegistersOf : Where → Asked
+  ExpectedOf : Where → Option (List ℕ) → Asked
 
 -- Where the log is, if there is one.
 abbrev pub log_of : Judgement → Option Where
@@ -71,10 +81,16 @@ requires_of required.Nothing = Nothing
 requires_of required.Any = Any
 requires_of (required.These text) = These text.now
 
-abbrev pub asked_of : Request → Asked
-asked_of request = record {
-  judgement = judgement_of request.wanted;
-  list = place_of request.list;
-  expected = place_of request.expected;
-  required = requires_of request.required;
+abbrev pub compared_of : Comparison → Compared
+compared_of comparison = record {
+  judgement = judgement_of comparison.wanted;
+  list = place_of comparison.list;
+  expected = place_of comparison.expected;
+  required = requires_of comparison.required;
 }
+
+abbrev pub asked_of : Request → Asked
+asked_of (requests.Comparison comparison) = Compares (compared_of comparison)
+asked_of (requests.LogRegisters log) = LogRegistersOf (place_of log)
+asked_of (requests.ListRegisters list) = ListRegistersOf (place_of list)
+asked_of (requests.Expected printed range) = ExpectedOf (place_of printed) (option_map (λ text. text.now) range)

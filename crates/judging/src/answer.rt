@@ -3,13 +3,15 @@
 ghost use Rattle.std.specs.Prelude.{◌≡◌, option_map};
 ghost use Rattle.boot_verdict.specs.Verdicts.{verdict_of};
 ghost use Rattle.judging.specs.Asking.{requires_of};
-ghost use Rattle.judging.specs.Judging.{is_match, is_well, next_if};
+ghost use Rattle.judging.specs.Judging.{alone, is_match, is_well, next_if};
 
 use crate::request::Required;
 use boot_verdict::{
-    Checkpoint, ListReport, Located, Report, Requirement, all_found, required_found,
+    Checkpoint, Expected, ListReport, Located, RegisterRange, Report, Requirement, all_found,
+    required_found,
 };
 use growing_lists::FrontReport;
+use pcr_banks::Banks;
 
 /// What is answered.
 #[derive(Drop)]
@@ -22,6 +24,24 @@ pub enum Answer {
     Places(Vec<Located>),
     /// A report on a list alone.
     ListReport(ListReport),
+    /// Registers, of a log or of a list alone.
+    Registers(Registers),
+    /// Expected registers that a text states.
+    Expected {
+        /// All that it states.
+        expected: Vec<Expected>,
+        /// The range of those that are wanted; at least one is within it.
+        range: RegisterRange,
+    },
+}
+
+/// Registers, and those that they began from.
+#[derive(Clone, Copy)]
+pub struct Registers {
+    /// Before a log's events or a list, at their reset values.
+    pub start: Banks,
+    /// After it.
+    pub now: Banks,
 }
 
 /// An answer, and what it is worth.
@@ -37,7 +57,22 @@ pub struct Answered {
     pub next: Option<Checkpoint>,
 }
 
-/// Whether all is well where this has to be among the expected registers, of which the text spells these.
+impl Answered {
+    /// An answer that compares nothing: all is well with it.
+    pub fn alone(answer: Answer) -> Self
+        ensures { result ≡ alone answer }
+    {
+        Answered {
+            answer,
+            requirement: None,
+            is_well: true,
+            next: None,
+        }
+    }
+}
+
+/// Whether all is well where this has to be among the expected registers, of which the text spells these; so it is with an answer that
+/// compares nothing.
 pub(crate) fn is_well(
     required: Required<'_>,
     requirement: Option<&Requirement>,
@@ -54,6 +89,7 @@ pub(crate) fn is_well(
         (Answer::Places(places), Some(requirement)) => required_found(places, requirement),
         (Answer::ListReport(report), None) => report.matches(),
         (Answer::ListReport(report), Some(requirement)) => report.meets(requirement),
+        (Answer::Registers(_) | Answer::Expected { .. }, _) => true,
     }
 }
 

@@ -2,15 +2,17 @@
 
 ghost use Rattle.std.specs.Prelude.{◌≡◌, ◌⊎◌, List, None, Option, option_map, IfOk, IfErr};
 ghost use Rattle.boot_verdict.specs.declared.requirement.BankRange.{BankRange as BankRangeOf};
-ghost use Rattle.judging.specs.Answering.{AreGrounds, HasNoGrounds, IsAnswer, IsFound, IsKnown, IsLogIn, IsNoCheckpoint, IsNotFound, IsNotIn, IsNotRequired, IsRefusal, IsRequired};
-ghost use Rattle.judging.specs.Asking.{ListVerdictOf, PlacesOf, VerdictOf, asked_of, held_bytes, judgement_of, log_of, place_of, resume_of};
+ghost use Rattle.judging.specs.Answering.{AreGrounds, HasNoGrounds, IsAnswer, IsComparison, IsFound, IsKnown, IsLogIn, IsNoCheckpoint, IsNoComparison, IsNotFound, IsNotIn, IsNotRequired, IsRefusal, IsRequired};
+ghost use Rattle.judging.specs.Asking.{ListVerdictOf, PlacesOf, VerdictOf, asked_of, compared_of, held_bytes, judgement_of, log_of, place_of, resume_of};
 ghost use Rattle.agent_inputs.specs.Loading.{Inputs as InputsOf};
 ghost use Rattle.judging.specs.Inputs.{OfInput, IsReadFailure, Where};
 ghost use Rattle.judging.specs.parts.Growing.{GivesInput};
 
 use crate::answer::{Answer, Answered, is_well, next_if};
+use crate::expecting::printed_within;
 use crate::inputs::{Held, Input, limit_of, loaded_at, refused};
-use crate::request::{Request, Wanted};
+use crate::registers::{after_list, after_log};
+use crate::request::{Comparison, Request, Wanted};
 use crate::sessions::{checkpoint_in, judged_from, require_room, seeks_front, session_of};
 use agent_inputs::{AgentFiles, RunFault, not_read};
 use boot_verdict::{
@@ -21,8 +23,8 @@ use byte_streams::{Failed, SliceSource, Source};
 use command_line::Extent;
 use std::alloc::Global;
 
-/// The answer to what is asked for. What is required is read first; then the log is loaded, then the expected registers, and then the
-/// checkpoint; and then the list is opened, and replayed as it is read, without loading it.
+/// The answer to what is asked for. What is compared is read in this order (only in part by the clauses): what is required; the log, which
+/// is loaded; the expected registers; the checkpoint; and then the list is opened, and replayed as it is read, without loading it.
 pub fn answered<F: AgentFiles>(
     alloc: Global,
     files: &mut F,
@@ -30,6 +32,24 @@ pub fn answered<F: AgentFiles>(
 ) -> Result<Answered, RunFault>
     ensures answer { IfOk result (IsAnswer (F.told files.old) (asked_of asked.entry)) }
     ensures fault { IfErr result (IsRefusal (F.told files.old) (asked_of asked.entry)) }
+    ensures saved { F.saved files.new ≡ F.saved files.old }
+{
+    match asked {
+        Request::Comparison(asked) => compared(alloc, files, asked),
+        Request::LogRegisters { log } => after_log(alloc, files, log),
+        Request::ListRegisters { list } => after_list(alloc, files, list),
+        Request::Expected { printed, range } => printed_within(alloc, files, printed, range),
+    }
+}
+
+// What comes of what is compared.
+fn compared<F: AgentFiles>(
+    alloc: Global,
+    files: &mut F,
+    asked: Comparison<'_>,
+) -> Result<Answered, RunFault>
+    ensures answer { IfOk result (IsComparison (F.told files.old) (compared_of asked.entry)) }
+    ensures fault { IfErr result (IsNoComparison (F.told files.old) (compared_of asked.entry)) }
     ensures saved { F.saved files.new ≡ F.saved files.old }
 {
     let requirement = required_in(alloc, asked.required.text())?;
@@ -74,11 +94,11 @@ struct Grounds<'a> {
 fn grounds_of<'a, F: AgentFiles>(
     alloc: Global,
     files: &mut F,
-    asked: Request<'a>,
+    asked: Comparison<'a>,
 ) -> Result<Grounds<'a>, RunFault>
-    ensures grounds { IfOk result (λ grounds. AreGrounds (F.told files.old) (asked_of asked.entry) (held_bytes grounds.log)
+    ensures grounds { IfOk result (λ grounds. AreGrounds (F.told files.old) (compared_of asked.entry) (held_bytes grounds.log)
         grounds.expected.items grounds.known) }
-    ensures fault { IfErr result (HasNoGrounds (F.told files.old) (asked_of asked.entry)) }
+    ensures fault { IfErr result (HasNoGrounds (F.told files.old) (compared_of asked.entry)) }
     ensures told { F.told files.new ≡ F.told files.old }
     ensures saved { F.saved files.new ≡ F.saved files.old }
 {
@@ -146,7 +166,7 @@ struct Found {
 fn found_in<F: AgentFiles>(
     alloc: Global,
     files: &mut F,
-    asked: Request<'_>,
+    asked: Comparison<'_>,
     requirement: Option<&Requirement>,
     grounds: &Grounds<'_>,
 ) -> Result<Found, RunFault>
@@ -174,7 +194,7 @@ fn found_in<F: AgentFiles>(
 fn found_from<R: Source>(
     alloc: Global,
     source: &mut R,
-    asked: Request<'_>,
+    asked: Comparison<'_>,
     requirement: Option<&Requirement>,
     grounds: &Grounds<'_>,
 ) -> Result<Found, RunFault>

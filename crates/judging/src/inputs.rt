@@ -73,7 +73,7 @@ pub(crate) fn limit_of(input: Input<'_>) -> u64
 }
 
 /// The fault for a verifier's fault of the list in this input. Of bytes in memory no source fails, and none are too many.
-pub fn refused(alloc: Global, list: Input<'_>, fault: VerifyFault) -> RunFault
+pub(crate) fn refused(alloc: Global, list: Input<'_>, fault: VerifyFault) -> RunFault
     ensures { IsFaultAt (place_of list.entry) fault result }
 {
     match list {
@@ -82,7 +82,7 @@ pub fn refused(alloc: Global, list: Input<'_>, fault: VerifyFault) -> RunFault
     }
 }
 
-// The same of the file of this name.
+// The fault for one of the list in the file of this name.
 fn of_file(alloc: Global, name: &str, fault: VerifyFault) -> RunFault
     ensures { IsFaultOfVerdict name.now fault result }
 {
@@ -96,7 +96,7 @@ fn of_file(alloc: Global, name: &str, fault: VerifyFault) -> RunFault
     }
 }
 
-// The same of bytes in memory.
+// The fault for one of a list in memory.
 fn of_bytes(fault: VerifyFault) -> RunFault
     ensures { result ≡ fault_of_verdict fault }
 {

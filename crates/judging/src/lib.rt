@@ -3,11 +3,13 @@
 
 mod answer;
 mod answering;
+mod expecting;
 mod inputs;
+mod registers;
 mod request;
 mod sessions;
 
-pub use answer::{Answer, Answered};
+pub use answer::{Answer, Answered, Registers};
 pub use answering::answered;
-pub use inputs::{Input, refused};
-pub use request::{Request, Required, Wanted};
+pub use inputs::Input;
+pub use request::{Comparison, Request, Required, Wanted};

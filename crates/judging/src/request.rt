@@ -50,9 +50,9 @@ impl<'a> Required<'a> {
     }
 }
 
-/// What is asked for, and of which inputs.
+/// What a list is compared with, and what of it is wanted.
 #[derive(Clone, Copy)]
-pub struct Request<'a> {
+pub struct Comparison<'a> {
     /// What the answer is.
     pub wanted: Wanted<'a>,
     /// The measurement list; with a checkpoint, what follows it.
@@ -61,4 +61,28 @@ pub struct Request<'a> {
     pub expected: Input<'a>,
     /// What has to be among them.
     pub required: Required<'a>,
+}
+
+/// What is asked for, and of which inputs.
+#[derive(Clone, Copy)]
+pub enum Request<'a> {
+    /// What a list is worth against expected registers, or where they have their values.
+    Comparison(Comparison<'a>),
+    /// The registers after a firmware event log.
+    LogRegisters {
+        /// The log.
+        log: Input<'a>,
+    },
+    /// The registers that a measurement list alone makes.
+    ListRegisters {
+        /// The list.
+        list: Input<'a>,
+    },
+    /// The expected registers that `tpm2_pcrread` or `tpm2_checkquote` printed.
+    Expected {
+        /// The text that one of them printed.
+        printed: Input<'a>,
+        /// The text of the range of registers that are wanted, as `0-10`; none for all of them.
+        range: Option<&'a [u8]>,
+    },
 }

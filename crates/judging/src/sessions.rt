@@ -4,9 +4,10 @@ ghost use Rattle.std.specs.Prelude.{◌≡◌, ◌⊎◌, ℕ, List, [], true, f
 ghost use Rattle.boot_verdict.specs.Checkpoints.{IsCheckpoint, most_after};
 ghost use Rattle.growing_lists.specs.Sessions.{HasTaken, IsOfBoot};
 ghost use Rattle.boot_verdict.specs.Verdicts.{IsVerdict, verdict_of};
+ghost use Rattle.agent_inputs.specs.Faults.{HasLogFault};
 ghost use Rattle.agent_inputs.specs.declared.fault.NotResumed.TheVariants.{OtherBoot};
 ghost use Rattle.agent_inputs.specs.declared.fault.RunFault.TheVariants as runs;
-ghost use Rattle.judging.specs.Answering.{HasLogFault, IsCheckpointText, IsNoCheckpoint, IsOfOtherBoot, IsTaken, entries_taken, most_more};
+ghost use Rattle.judging.specs.Answering.{IsCheckpointText, IsNoCheckpoint, IsOfOtherBoot, IsTaken, entries_taken, most_more};
 ghost use Rattle.judging.specs.Asking.{place_of};
 ghost use Rattle.judging.specs.Growing.{seeks_front};
 ghost use Rattle.judging.specs.Inputs.{limit_of};

@@ -44,11 +44,11 @@ abbrev pub IsNotSaved : Option (List ℕ) → Option Checkpoint → RunFault →
 IsNotSaved (Some name) (Some next) fault = IsNotWritten name fault ⊎ (fault ≡ runs.Memory)
 IsNotSaved name next fault = ⊥
 
--- Why nothing is given: there is no answer, or memory ran out.
+-- Why nothing is given: there is no answer; or there is one, and memory ran out.
 abbrev pub IsRefusalOn : Inputs → Asked → RunFault → Type 0
-IsRefusalOn inputs asked fault = IsRefusal inputs asked fault ⊎ (fault ≡ runs.Memory)
+IsRefusalOn inputs asked fault = IsRefusal inputs asked fault ⊎ ((fault ≡ runs.Memory) × ((given : Answered) × IsAnswer inputs asked given))
 
--- Why nothing is shown: there is no answer, or memory ran out; or there is one, and the checkpoint could not be saved.
+-- Why nothing is shown: there is no answer; or there is one, and memory ran out, or the checkpoint could not be saved.
 abbrev pub IsOutputFault : Inputs → Asked → Option (List ℕ) → RunFault → Type 0
 IsOutputFault inputs asked save fault =
     IsRefusalOn inputs asked fault ⊎ ((given : Answered) × IsAnswer inputs asked given × IsNotSaved save given.next fault)

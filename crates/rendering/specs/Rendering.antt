@@ -1,21 +1,30 @@
 -- Answers as text or JSON, and their exit statuses. All of this is this project's choice.
-use Rattle.std.specs.Prelude.{ℕ, Bool, if◌then◌else◌, List, ◌++◌, Option, Some, None}
+use Rattle.std.specs.Prelude.{ℕ, Bool, if◌then◌else◌, List, ◌++◌, Option, Some, None, flat_map}
 use Rattle.boot_verdict.specs.declared.requirement.BankRange.{BankRange}
 use Rattle.boot_verdict.specs.ListVerdicts.{list_report_text, list_verdict_of, required_list_report_text}
 use Rattle.boot_verdict.specs.PlaceTexts.{places_text}
+use Rattle.boot_verdict.specs.RegisterTexts.{registers_text}
 use Rattle.boot_verdict.specs.ReportTexts.{counts_text, outcome_text}
 use Rattle.boot_verdict.specs.RequiredTexts.{required_places_text, required_report_text}
 use Rattle.boot_verdict.specs.Verdicts.{Verdict, verdict_of}
+use Rattle.boot_verdict.specs.WrittenTexts.{expected_text}
 use Rattle.growing_lists.specs.FrontTexts.{front_report_text, required_front_report_text}
 use Rattle.json.specs.Json.{Json}
 use Rattle.json_texts.specs.JsonValues.{line_of}
 use Rattle.json_texts.specs.PlaceJson.{places_json}
+use Rattle.json_texts.specs.RegisterJson.{expected_json, registers_json}
 use Rattle.json_texts.specs.ReportJson.{front_report_json, list_report_json, report_json}
 use Rattle.judging.specs.declared.answer.Answer.{Answer}
-use Rattle.judging.specs.declared.answer.Answer.TheVariants.{Report, Front, Places, ListReport}
+use Rattle.judging.specs.declared.answer.Answer.TheVariants.{Report, Front, Places, ListReport, Registers, Expected}
 use Rattle.judging.specs.declared.answer.Answered.{Answered}
 use Rattle.command_line.specs.declared.plan.Form.{Form}
 use Rattle.command_line.specs.declared.plan.Form.TheVariants as forms
+use Rattle.command_line.specs.declared.plan.Print.{Print}
+use Rattle.command_line.specs.declared.plan.Print.TheVariants as prints
+use Rattle.ima_list.specs.Lines.{line_of as entry_text}
+use Rattle.json_texts.specs.ItemLines.{entry_lines}
+use Rattle.measure_book.specs.Books.{exported}
+use Rattle.measuring.specs.declared.recording.Measured.{Measured}
 
 -- A report where no registers are required, and its verdict.
 abbrev pub report_lines : Verdict → Bool → List ℕ
@@ -31,13 +40,17 @@ lines_of well None (Places places) = places_text places.items
 lines_of well (Some ranges) (Places places) = required_places_text ranges places.items
 lines_of well None (ListReport report) = list_report_text (list_verdict_of report)
 lines_of well (Some ranges) (ListReport report) = required_list_report_text ranges (list_verdict_of report)
+lines_of well required (Registers registers) = registers_text registers.now registers.start
+lines_of well required (Expected expected range) = expected_text range expected.items
 
--- The same as JSON.
+-- An answer as JSON.
 abbrev pub json_of : Bool → Option (List BankRange) → Answer → Json
 json_of well required (Report report) = report_json required well (verdict_of report)
 json_of well required (Front front) = front_report_json required (verdict_of front.report) front.entries front.unconfirmed
 json_of well required (Places places) = places_json required places.items
 json_of well required (ListReport report) = list_report_json required (list_verdict_of report)
+json_of well required (Registers registers) = registers_json registers.now registers.start
+json_of well required (Expected expected range) = expected_json range expected.items
 
 -- The answer in this form.
 abbrev pub rendered : Form → Answered → List ℕ
@@ -47,3 +60,14 @@ rendered forms.Json given = line_of (json_of given.is_well given.requirement giv
 -- The exit status: 0 if all is well, else 1.
 abbrev pub status_of : Answered → ℕ
 status_of given = if given.is_well then 0 else 1
+
+-- ---- a measurement
+
+-- What is printed of a measurement in this form: the list as text or binary, or its registers that differ from their reset values. As JSON
+-- the list is the lines of its entries.
+abbrev pub printed : Form → Print → Measured → List ℕ
+printed forms.Text prints.Ascii given = flat_map entry_text given.book.entries
+printed forms.Text prints.Binary given = exported given.book
+printed forms.Text prints.Registers given = registers_text given.book.banks given.reset
+printed forms.Json prints.Registers given = line_of (registers_json given.book.banks given.reset)
+printed forms.Json print given = entry_lines given.book.entries

@@ -4,9 +4,11 @@
 mod no_files;
 mod output;
 mod outputs;
+mod printing;
 mod rendering;
 mod saving;
 
 pub use output::Output;
 pub use outputs::{Given, output_for, output_on};
+pub use printing::printed;
 pub use rendering::rendered;

@@ -45,7 +45,7 @@ pub struct Given {
     pub checkpoint: Vec<u8>,
 }
 
-/// The output of what is asked for of bytes in memory, in this form.
+/// The output of what is asked for of bytes in memory, in this form. There are no files: one that is asked for cannot be read.
 pub fn output_on(alloc: Global, asked: Request<'_>, form: Form) -> Result<Given, RunFault>
     ensures shown { IfOk result (λ given. GivesAnswer untold (asked_of asked.entry) form given.output.text.items given.output.status
         given.checkpoint.items) }

@@ -8,13 +8,16 @@ ghost use Rattle.rendering.specs.Rendering.{json_of, lines_of, rendered, status_
 
 use crate::output::Output;
 use boot_verdict::{
-    Report, write_counts, write_list_report, write_outcome, write_places,
-    write_required_list_report, write_required_places, write_required_report,
+    Report, write_counts, write_expected, write_list_report, write_outcome, write_places,
+    write_registers, write_required_list_report, write_required_places, write_required_report,
 };
 use byte_streams::{Failed, Sink, VecSink};
 use command_line::Form;
 use growing_lists::{write_front_report, write_required_front_report};
-use json_texts::{append_front_report, append_list_report, append_places, append_report};
+use json_texts::{
+    append_expected, append_front_report, append_list_report, append_places, append_registers,
+    append_report,
+};
 use judging::{Answer, Answered};
 use std::alloc::{AllocError, Global};
 
@@ -58,6 +61,12 @@ fn write_lines<S: Sink>(given: &Answered, sink: &mut S) -> Result<(), Failed>
         (Answer::ListReport(report), Some(required)) => {
             write_required_list_report(report, required, sink)
         }
+        (Answer::Registers(registers), _) => write_registers(
+            &registers.now,
+            &registers.start,
+            sink,
+        ),
+        (Answer::Expected { expected, range }, _) => write_expected(expected, *range, sink),
     }
 }
 
@@ -89,5 +98,9 @@ fn append_line(alloc: Global, given: &Answered, line: &mut Vec<u8>) -> Result<()
         Answer::Front(front) => append_front_report(alloc, front, requirement, line),
         Answer::Places(places) => append_places(alloc, places, requirement, line),
         Answer::ListReport(report) => append_list_report(alloc, report, requirement, line),
+        Answer::Registers(registers) => {
+            append_registers(alloc, &registers.now, &registers.start, line)
+        }
+        Answer::Expected { expected, range } => append_expected(alloc, expected, *range, line),
     }
 }

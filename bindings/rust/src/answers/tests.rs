@@ -1,8 +1,12 @@
 //! What a library may answer, and what not: lines of the forms that `docs/formats.md` shows, changes of them, and buffers.
 
 use super::Answer;
-use crate::library::{ask, registers, room_of_entries, show, DIFFERS, DONE, OUT_OF_MEMORY, REFUSED, ROOM, TOO_SHORT};
-use crate::{ask_for, Algorithm, Content, Entry, Error, Event, File, Kind, LogAlgorithm, Place};
+use crate::library::{ask, entries as list_entries, log_registers, zeros, Position, Told};
+use crate::library::{DIFFERS, DONE, MORE, OUT_OF_MEMORY, REFUSED, ROOM, TOO_SHORT};
+use crate::lines::{Lines, Source};
+use crate::{Algorithm, Content, Entry, Error, Event, File, Kind, LogAlgorithm, Place};
+use ima_verify_sys as c;
+use std::collections::VecDeque;
 
 const REPORT: &str = concat!(
     r#"{"events":1,"locality":0,"entries":3,"boot_aggregate":"good","#,
@@ -78,20 +82,39 @@ fn sample(name: &str) -> Vec<u8> {
     std::fs::read(format!("{}/../../samples/real-boot/{name}", env!("CARGO_MANIFEST_DIR"))).unwrap()
 }
 
-fn answer(status: i32, text: impl AsRef<[u8]>) -> Answer {
-    Answer { status, text: text.as_ref().to_vec() }
+/// What is reported of an error.
+fn fault(kind: u32, number: u32, place: Option<u64>) -> Told {
+    Told { size: 0, fault_kind: kind, fault_number: number, fault_place: place.unwrap_or(c::IMA_VERIFY_NO_PLACE) }
 }
 
-/// What is made of an answer to a call, which requests registers or does not.
-fn said(requests: bool, status: i32, text: &str, needed: usize) -> Result<Answer, Error> {
-    ask_for(requests, |out| {
-        out[..text.len()].copy_from_slice(text.as_bytes());
-        (status, needed)
+/// What is reported of a text; of one that is no line of an error something that fits the result.
+fn told_of(result: i32, text: &[u8]) -> Told {
+    let told = match result {
+        REFUSED if text == MALFORMED.as_bytes() => fault(c::IMA_VERIFY_ARGUMENT, 0, None),
+        REFUSED if text == LOG_FAULT.as_bytes() => fault(c::IMA_VERIFY_LOG, 1, Some(2)),
+        REFUSED => fault(c::IMA_VERIFY_LIST, 1, Some(2)),
+        OUT_OF_MEMORY => fault(c::IMA_VERIFY_MEMORY, 0, None),
+        _ => fault(c::IMA_VERIFY_NO_FAULT, 0, None),
+    };
+    Told { size: text.len(), ..told }
+}
+
+fn answer(result: i32, text: impl AsRef<[u8]>) -> Answer {
+    let text = text.as_ref().to_vec();
+    Answer { result, told: told_of(result, &text), next: Vec::new(), text }
+}
+
+/// What is made of an answer to a call whose text has this size.
+fn answered(result: i32, text: &str, size: usize) -> Result<Answer, Error> {
+    answered_with(result, text, Told { size, ..told_of(result, text.as_bytes()) })
+}
+
+fn answered_with(result: i32, text: &str, told: Told) -> Result<Answer, Error> {
+    ask(zeros(ROOM)?, |out| {
+        let size = text.len().min(out.len());
+        out[..size].copy_from_slice(&text.as_bytes()[..size]);
+        (result, told)
     })
-}
-
-fn answered(status: i32, text: &str, needed: usize) -> Result<Answer, Error> {
-    said(false, status, text, needed)
 }
 
 fn refused(line: &str, kind: Kind, number: u64, place: Option<u64>) -> Error {
@@ -102,39 +125,61 @@ fn is_unexpected<T>(result: Result<T, Error>) -> bool {
     matches!(result, Err(Error::Unexpected { .. }))
 }
 
-/// All entries of an answer, and what is wrong with it. Nothing comes after an error.
-fn entries(answer: Answer) -> (Vec<Entry>, Option<Error>) {
-    drained(answer.entries(false))
+/// A library that gives these answers, one to each call.
+struct Scripted {
+    answers: VecDeque<Answer>,
+    is_empty: bool,
 }
 
-fn events(answer: Answer) -> (Vec<Event>, Option<Error>) {
-    drained(answer.events())
+impl Source for Scripted {
+    fn piece(&mut self, out: &mut [u8]) -> (i32, Told) {
+        let Answer { result, told, text, .. } = self.answers.pop_front().expect("a call after the last one");
+        out[..text.len()].copy_from_slice(&text);
+        (result, told)
+    }
+
+    fn is_empty(&self) -> bool {
+        self.is_empty
+    }
 }
 
-fn drained<T>(listing: Result<impl Iterator<Item = Result<T, Error>>, Error>) -> (Vec<T>, Option<Error>) {
-    let mut listing = match listing {
-        Ok(listing) => listing,
-        Err(error) => return (Vec::new(), Some(error)),
-    };
+fn lines(answers: impl Into<VecDeque<Answer>>) -> Lines<Scripted> {
+    Lines::new(Scripted { answers: answers.into(), is_empty: false })
+}
+
+/// All entries of these answers, and the error after them. Nothing comes after an end.
+fn entries(answers: impl Into<VecDeque<Answer>>) -> (Vec<Entry>, Option<Error>) {
+    let mut lines = lines(answers);
+    drained(|| lines.next_entry())
+}
+
+fn events(answers: impl Into<VecDeque<Answer>>) -> (Vec<Event>, Option<Error>) {
+    let mut lines = lines(answers);
+    match lines.next_algorithms() {
+        Some(Ok(_)) => drained(|| lines.next_event()),
+        other => (Vec::new(), other.and_then(Result::err)),
+    }
+}
+
+fn drained<T>(mut next: impl FnMut() -> Option<Result<T, Error>>) -> (Vec<T>, Option<Error>) {
     let mut items = Vec::new();
     loop {
-        match listing.next() {
+        match next() {
             Some(Ok(item)) => items.push(item),
-            Some(Err(error)) => {
-                assert!(listing.next().is_none());
-                return (items, Some(error));
+            end => {
+                assert!(next().is_none() && next().is_none());
+                return (items, end.and_then(Result::err));
             }
-            None => return (items, None),
         }
     }
 }
 
 /// A text with a change is not read.
-fn check_changes<T>(read: impl Fn(Answer) -> Result<T, Error>, status: i32, text: &str, changes: &[(&str, &str)]) {
+fn check_changes<T>(read: impl Fn(Answer) -> Result<T, Error>, result: i32, text: &str, changes: &[(&str, &str)]) {
     for (old, new) in changes {
         let changed = text.replacen(old, new, 1);
         assert_ne!(changed, text, "{old:?}");
-        assert!(is_unexpected(read(answer(status, &changed))), "{changed:?}");
+        assert!(is_unexpected(read(answer(result, &changed))), "{changed:?}");
     }
 }
 
@@ -145,7 +190,7 @@ fn right_answers_are_read() {
     assert!(answer(DONE, PLACES).places().unwrap().located);
     assert!(!answer(DIFFERS, NOT_LOCATED).places().unwrap().located);
     assert_eq!(answer(DONE, register()).registers().unwrap()[0].value, [0xaa; 20]);
-    assert_eq!(answer(DONE, expected_line().repeat(2)).lines(false).unwrap(), expected_line().repeat(2).as_bytes());
+    assert_eq!(answer(DONE, expected_line().repeat(2)).lines().unwrap(), expected_line().repeat(2).as_bytes());
 }
 
 #[test]
@@ -341,13 +386,9 @@ fn wrong_answers_are_no_registers_and_no_lines() {
     ];
     check_changes(Answer::registers, DONE, &register(), &changes);
     assert!(is_unexpected(answer(DIFFERS, register()).registers()));
-    for is_empty in [false, true] {
-        for (status, text) in [(DIFFERS, "x\n"), (DIFFERS, ""), (DONE, "x")] {
-            assert!(is_unexpected(answer(status, text).lines(is_empty)), "{text:?}");
-        }
+    for (result, text) in [(DIFFERS, "x\n"), (MORE, "x\n"), (DIFFERS, ""), (DONE, "x"), (DONE, "")] {
+        assert!(is_unexpected(answer(result, text).lines()), "{text:?}");
     }
-    assert!(is_unexpected(answer(DONE, "").lines(false)));
-    assert!(is_unexpected(answer(DONE, expected_line()).lines(true)));
 }
 
 /// A line with a member in front.
@@ -367,7 +408,7 @@ fn result_that_states_a_fault_is_none() {
         (|answer| answer.places().map(drop), DIFFERS, NOT_LOCATED.to_owned()),
         (|answer| answer.registers().map(drop), DONE, register()),
         (|answer| first_entry(answer).map(drop), DONE, entry_line()),
-        (|answer| answer.events().map(drop), DONE, ALGORITHMS.to_owned()),
+        (|answer| lines([answer]).next_algorithms().unwrap().map(drop), DONE, ALGORITHMS.to_owned()),
         (|answer| first_event(answer).map(drop), DONE, ALGORITHMS.to_owned() + &event_line()),
     ];
     for (read, status, text) in &results {
@@ -419,15 +460,17 @@ fn entries_are_read() {
         content: Content::Payload(vec![0]),
         ..first.clone()
     };
-    assert_eq!(entries(answer(DONE, entry_line() + &other_line())), (vec![first, second], None));
-    assert_eq!(answer(DONE, "").entries(true).unwrap().count(), 0);
+    for answers in
+        [vec![answer(DONE, entry_line() + &other_line())], vec![answer(MORE, entry_line()), answer(DONE, other_line())]]
+    {
+        assert_eq!(entries(answers), (vec![first.clone(), second.clone()], None));
+    }
+    let mut none = Lines::new(Scripted { answers: [answer(DONE, "")].into(), is_empty: true });
+    assert_eq!(drained(|| none.next_entry()), (Vec::new(), None));
 }
 
 #[test]
 fn events_are_read() {
-    let listing = answer(DONE, ALGORITHMS.to_owned() + &event_line()).events().unwrap();
-    let named = LogAlgorithm { name: Some("sha1".to_owned()), id: 4, size: 20 };
-    assert_eq!(listing.algorithms(), [LogAlgorithm { name: None, id: 18, size: 1 }, named]);
     let event = Event {
         number: 1,
         register: 0,
@@ -436,34 +479,87 @@ fn events_are_read() {
         digests: [(Algorithm::Sha1, vec![0xaa; 20])].into(),
         data: vec![0],
     };
-    assert_eq!(drained(Ok(listing)), (vec![event.clone()], None));
+    let named = LogAlgorithm { name: Some("sha1".to_owned()), id: 4, size: 20 };
+    for answers in
+        [vec![answer(DONE, ALGORITHMS.to_owned() + &event_line())], vec![answer(MORE, ALGORITHMS), answer(DONE, event_line())]]
+    {
+        let mut lines = lines(answers);
+        let algorithms = lines.next_algorithms().unwrap().unwrap();
+        assert_eq!(algorithms, [LogAlgorithm { name: None, id: 18, size: 1 }, named.clone()]);
+        assert_eq!(drained(|| lines.next_event()), (vec![event.clone()], None));
+    }
     let nameless = event_line().replace(r#""type":"EV_SEPARATOR","#, "");
-    assert_eq!(events(answer(DONE, ALGORITHMS.to_owned() + &nameless)), (vec![Event { name: None, ..event }], None));
-    assert_eq!(events(answer(DONE, ALGORITHMS)), (Vec::new(), None));
+    let wanted = (vec![Event { name: None, ..event }], None);
+    assert_eq!(events([answer(DONE, ALGORITHMS.to_owned() + &nameless)]), wanted);
+    assert_eq!(events([answer(DONE, ALGORITHMS)]), (Vec::new(), None));
 }
 
 #[test]
-fn what_stands_before_a_fault_comes_first() {
-    let fault = refused("refused: list fault 1 at entry 2", Kind::List, 1, Some(2));
-    for (text, count) in [(entry_line() + &other_line(), 2), (entry_line(), 1), (String::new(), 0)] {
-        let listing = answer(REFUSED, text + LIST_FAULT).entries(false).unwrap();
-        assert_eq!(listing.fault(), Some(&fault));
-        let (items, error) = drained(Ok(listing));
-        assert_eq!((items.len(), error.as_ref()), (count, Some(&fault)));
+fn what_comes_before_an_error_comes_first() {
+    let wanted = refused("refused: list fault 1 at entry 2", Kind::List, 1, Some(2));
+    let last = || answer(REFUSED, LIST_FAULT);
+    for (answers, count) in [
+        (vec![answer(MORE, entry_line() + &other_line()), last()], 2),
+        (vec![answer(MORE, entry_line()), answer(MORE, other_line()), last()], 2),
+        (vec![answer(MORE, entry_line()), last()], 1),
+        (vec![last()], 0),
+    ] {
+        let (items, error) = entries(answers);
+        assert_eq!((items.len(), error.as_ref()), (count, Some(&wanted)));
     }
-    let fault = refused("refused: log fault 1 at event 2", Kind::Log, 1, Some(2));
-    for (text, count) in [(ALGORITHMS.to_owned() + &event_line(), 1), (ALGORITHMS.to_owned(), 0), (String::new(), 0)] {
-        let (items, error) = events(answer(REFUSED, text + LOG_FAULT));
-        assert_eq!((items.len(), error.as_ref()), (count, Some(&fault)));
+    let wanted = refused("refused: log fault 1 at event 2", Kind::Log, 1, Some(2));
+    for (text, count) in [(ALGORITHMS.to_owned() + &event_line(), 1), (ALGORITHMS.to_owned(), 0)] {
+        let (items, error) = events([answer(MORE, text), answer(REFUSED, LOG_FAULT)]);
+        assert_eq!((items.len(), error.as_ref()), (count, Some(&wanted)));
     }
-    assert_eq!(answer(REFUSED, LOG_FAULT).events().unwrap_err(), fault);
-    assert_eq!(answer(DONE, entry_line()).entries(false).unwrap().fault(), None);
+    assert_eq!(events([answer(REFUSED, LOG_FAULT)]), (Vec::new(), Some(wanted)));
+    let (items, error) = entries([answer(MORE, entry_line()), answer(OUT_OF_MEMORY, MEMORY)]);
+    assert_eq!((items.len(), error), (1, Some(Error::OutOfMemory)));
+}
+
+/// Gives these lines, and keeps how much room each call has.
+struct Lengths {
+    lines: VecDeque<String>,
+    rooms: Vec<usize>,
+}
+
+impl Source for &mut Lengths {
+    fn piece(&mut self, out: &mut [u8]) -> (i32, Told) {
+        self.rooms.push(out.len());
+        let size = self.lines[0].len();
+        let told = Told { size, ..fault(c::IMA_VERIFY_NO_FAULT, 0, None) };
+        if size > out.len() {
+            return (TOO_SHORT, told);
+        }
+        out[..size].copy_from_slice(self.lines.pop_front().unwrap().as_bytes());
+        (if self.lines.is_empty() { DONE } else { MORE }, told)
+    }
+
+    fn is_empty(&self) -> bool {
+        false
+    }
+}
+
+#[test]
+fn buffer_grows_for_one_long_line() {
+    let line = |number, size| {
+        let numbered = entry_line().replace(r#""entry":0"#, &format!(r#""entry":{number}"#));
+        numbered.replace("/a", &format!("/{}", "a".repeat(size)))
+    };
+    let all = [line(0, 1), line(1, 3 * ROOM), line(2, 1)];
+    let long = all[1].len();
+    let mut source = Lengths { lines: all.into(), rooms: Vec::new() };
+    let mut lines = Lines::new(&mut source);
+    let (found, error) = drained(|| lines.next_entry());
+    let sizes: Vec<_> = found.iter().map(|entry| entry.file().unwrap().path.len()).collect();
+    assert_eq!((sizes, error), (vec![2, 3 * ROOM + 1, 2], None));
+    assert_eq!(source.rooms, [ROOM, ROOM, long, long]);
 }
 
 #[test]
 fn wrong_answers_are_no_entries() {
     let (entry, other) = (entry_line(), other_line());
-    for (status, text) in [
+    for (result, text) in [
         (DONE, ""),
         (DONE, &entry[..entry.len() - 1]),
         (DONE, "\n"),
@@ -476,22 +572,48 @@ fn wrong_answers_are_no_entries() {
         (REFUSED, &LIST_FAULT[..LIST_FAULT.len() - 1]),
         (REFUSED, &format!("{LIST_FAULT}\n")),
         (REFUSED, &format!("{entry}{{}}\n")),
+        (REFUSED, &format!("{entry}{LIST_FAULT}")),
         (REFUSED, MEMORY),
-        (REFUSED, MALFORMED),
         (DONE, &entry.repeat(2)),
         (DONE, &other),
         (DONE, &format!("{entry}{LIST_FAULT}")),
         (DONE, &format!("{entry}{}", &other[..other.len() - 1])),
         (DONE, &format!("{entry}\n")),
         (DONE, &format!("{entry}null\n")),
+        (MORE, ""),
+        (MORE, &entry[..entry.len() - 1]),
+        (MORE, LIST_FAULT),
+        (c::IMA_VERIFY_MISUSED, ""),
+        (c::IMA_VERIFY_MISUSED, &entry),
+        (7, &entry),
     ] {
-        assert!(matches!(entries(answer(status, text)).1, Some(Error::Unexpected { .. })), "{status} {text:?}");
+        assert!(matches!(entries([answer(result, text)]).1, Some(Error::Unexpected { .. })), "{result} {text:?}");
     }
-    assert!(is_unexpected(answer(DONE, entry).entries(true)));
+    for (result, text) in [(DONE, entry.as_str()), (MORE, &entry), (MORE, "")] {
+        let mut lines = Lines::new(Scripted { answers: [answer(result, text)].into(), is_empty: true });
+        assert!(is_unexpected(lines.next_entry().unwrap()), "{result} {text:?}");
+    }
+    for (result, text) in [(DONE, entry.as_str()), (DONE, ""), (DIFFERS, &other), (REFUSED, &other)] {
+        let (found, error) = entries([answer(MORE, &entry), answer(result, text)]); // (the next piece)
+        assert!(found.len() == 1 && matches!(error, Some(Error::Unexpected { .. })), "{result} {text:?}");
+    }
+}
+
+#[test]
+fn text_of_entries_is_its_pieces() {
+    for answers in [vec![answer(DONE, "a\nb\n")], vec![answer(MORE, "a\n"), answer(DONE, "b\n")]] {
+        assert_eq!(lines(answers).text().unwrap(), b"a\nb\n");
+    }
+    for (result, text) in [(DONE, "b"), (DONE, ""), (DIFFERS, "b\n"), (MORE, "")] {
+        assert!(is_unexpected(lines([answer(MORE, "a\n"), answer(result, text)]).text()), "{result} {text:?}");
+    }
+    let wanted = refused("refused: list fault 1 at entry 2", Kind::List, 1, Some(2));
+    assert_eq!(lines([answer(MORE, "a\n"), answer(REFUSED, LIST_FAULT)]).text(), Err(wanted));
+    assert_eq!(lines([answer(MORE, "a\n"), answer(OUT_OF_MEMORY, MEMORY)]).text(), Err(Error::OutOfMemory));
 }
 
 fn first_entry(answer: Answer) -> Result<Entry, Error> {
-    answer.entries(false)?.next().unwrap()
+    lines([answer]).next_entry().unwrap()
 }
 
 #[test]
@@ -527,7 +649,9 @@ fn wrong_lines_are_no_entries() {
 }
 
 fn first_event(answer: Answer) -> Result<Event, Error> {
-    answer.events()?.next().unwrap()
+    let mut lines = lines([answer]);
+    lines.next_algorithms().unwrap()?;
+    lines.next_event().unwrap()
 }
 
 #[test]
@@ -543,11 +667,13 @@ fn wrong_answers_are_no_events() {
         (REFUSED, ""),
         (REFUSED, &LOG_FAULT[..LOG_FAULT.len() - 1]),
         (REFUSED, &format!("{event}{LOG_FAULT}")),
+        (REFUSED, &format!("{ALGORITHMS}{LOG_FAULT}")),
+        (MORE, ""),
         (DONE, &format!("{ALGORITHMS}{event}{event}")),
         (DONE, &format!("{ALGORITHMS}{event}{LOG_FAULT}")),
         (DONE, &format!("{ALGORITHMS}{event}{ALGORITHMS}")),
     ] {
-        assert!(matches!(events(answer(status, text)).1, Some(Error::Unexpected { .. })), "{status} {text:?}");
+        assert!(matches!(events([answer(status, text)]).1, Some(Error::Unexpected { .. })), "{status} {text:?}");
     }
     let changes = [
         (r#""algorithms""#, r#""banks""#),
@@ -573,30 +699,24 @@ fn wrong_answers_are_no_events() {
 }
 
 #[test]
-fn refusals_are_read() {
-    for (text, wanted) in [
-        (
-            r#"{"fault":{"kind":"log","number":2,"message":"refused: log fault 2"}}"#,
-            refused("refused: log fault 2", Kind::Log, 2, None),
-        ),
-        (
-            r#"{"fault":{"kind":"replay","number":1,"entry":2,"message":"refused: replay fault 1 at entry 2"}}"#,
-            refused("refused: replay fault 1 at entry 2", Kind::Replay, 1, Some(2)),
-        ),
-        (
-            r#"{"fault":{"kind":"expected","number":1,"message":"refused: expected fault 1 at line 2"}}"#,
-            refused("refused: expected fault 1 at line 2", Kind::Expected, 1, Some(2)),
-        ),
-        (
-            r#"{"fault":{"kind":"expected","number":6,"message":"refused: expected fault 6"}}"#,
-            refused("refused: expected fault 6", Kind::Expected, 6, None),
-        ),
-        (
-            r#"{"fault":{"kind":"checkpoint","number":3,"message":"refused: checkpoint fault 3"}}"#,
-            refused("refused: checkpoint fault 3", Kind::Checkpoint, 3, None),
-        ),
+fn refusals_are_what_is_reported() {
+    for (line, told, kind, number, place) in [
+        ("refused: log fault 2", fault(c::IMA_VERIFY_LOG, 2, None), Kind::Log, 2, None),
+        ("refused: log fault 1 at event 0", fault(c::IMA_VERIFY_LOG, 1, Some(0)), Kind::Log, 1, Some(0)),
+        ("refused: list fault 3 at entry 2", fault(c::IMA_VERIFY_LIST, 3, Some(2)), Kind::List, 3, Some(2)),
+        ("refused: replay fault 1 at entry 2", fault(c::IMA_VERIFY_REPLAY, 1, Some(2)), Kind::Replay, 1, Some(2)),
+        ("refused: expected fault 1 at line 2", fault(c::IMA_VERIFY_EXPECTED, 1, Some(2)), Kind::Expected, 1, Some(2)),
+        ("refused: expected fault 6", fault(c::IMA_VERIFY_EXPECTED, 6, None), Kind::Expected, 6, None),
+        ("refused: checkpoint fault 3", fault(c::IMA_VERIFY_CHECKPOINT, 3, None), Kind::Checkpoint, 3, None),
+        ("refused: list fault 1", fault(c::IMA_VERIFY_LIST, 1, Some(u64::MAX - 1)), Kind::List, 1, Some(u64::MAX - 1)),
+        ("refused: command line", fault(c::IMA_VERIFY_ARGUMENT, 0, None), Kind::Argument, 0, None),
+        // (kind, number and place are not those that the line spells, but those that are reported)
+        ("refused: something else", fault(c::IMA_VERIFY_LOG, 9, Some(7)), Kind::Log, 9, Some(7)),
     ] {
-        assert_eq!(answered(REFUSED, &format!("{text}\n"), text.len() + 1).unwrap_err(), wanted);
+        for text in [format!("{line}\n"), format!("{{\"fault\":{{\"x\":1,\"message\":\"{line}\"}}}}\n")] {
+            let found = answered_with(REFUSED, &text, Told { size: text.len(), ..told });
+            assert_eq!(found.unwrap_err(), refused(line, kind, number, place));
+        }
     }
 }
 
@@ -610,169 +730,141 @@ fn wrong_refusals_are_no_refusals() {
         &(entry_line() + LIST_FAULT),
         REPORT,
         MEMORY,
-        MALFORMED,
         "{}\n",
         "{\"fault\":{}}\n",
         "{\"fault\":1}\n",
+        "{\"fault\":null}\n",
         "{\"fault\":{\"message\":1}}\n",
-        &LIST_FAULT.replace("fault 1", "fault 01"),
+        "{\"fault\":{\"message\":null}}\n",
+        "{\"fault\":{\"message\":\"list fault 1\"}}\n",
         &LIST_FAULT.replace(r#""message""#, r#""line""#),
-        "{\"fault\":{\"kind\":\"job\",\"number\":7,\"message\":\"refused: job 0 book fault 7\"}}\n",
+        &LIST_FAULT.replace("refused: ", "Refused: "),
+        "refused: log fault 1 at event 0",
+        "refused: replay fault 1 at entry 5\n\n",
+        "failed: memory\n",
+        "\n",
+        "\n\n\n\n",
+        " refused: log fault 2\n",
+        "\nrefused: log fault 2\n",
     ] {
         assert!(is_unexpected(answered(REFUSED, text, text.len())), "{text:?}");
     }
-    for text in [
-        "",
-        "refused: log fault 1 at event 0",
-        "refused: log fault 1 at entry 0\n",
-        "refused: list fault 1\n",
-        "refused: replay fault 1 at entry 5\n\n",
-        "refused: expected fault 1 at entry 5\n",
-        "refused: log fault  1\n",
-        "refused: log fault 01\n",
-        "refused: book fault 1\n",
-        "refused: command line\n",
-        "failed: memory\n",
-        "\n\n\n\n",
-    ] {
-        assert!(is_unexpected(answer(REFUSED, text).accepted(false)), "{text:?}");
-    }
-    let error = answer(REFUSED, "refused: log fault 2\n").accepted(false).unwrap_err();
-    assert_eq!(error, refused("refused: log fault 2", Kind::Log, 2, None));
-}
-
-fn refusal(answer: Answer) -> Result<(), Error> {
-    answer.accepted(true).map(drop)
+    let not_utf8 = Answer { text: b"refused: \xff\n".to_vec(), ..answer(REFUSED, "refused: x\n") };
+    assert!(is_unexpected(not_utf8.accepted()));
 }
 
 #[test]
-fn fault_whose_members_contradict_is_none() {
-    for (line, place) in [(LIST_FAULT, r#""entry""#), (LOG_FAULT, r#""event""#)] {
-        let (here, there) = (format!("{place}:2"), format!("{place}:3"));
-        let changes = [
-            (r#""kind":"l"#, r#""kind":"x"#),
-            (r#""kind":"l"#, r#""kind":"replay","x":""#),
-            (r#""kind":""#, r#""kinds":""#),
-            (r#""number":1"#, r#""number":2"#),
-            (r#""number":1"#, r#""number":"1""#),
-            (r#""number":1"#, r#""number":true"#),
-            (r#""number":1"#, r#""number":null"#),
-            (r#""number":1"#, r#""number":1.0"#),
-            (r#""number":1,"#, ""),
-            (&here, &there),
-            (&format!("{here},"), ""),
-            (&here, r#""event":2,"entry":2"#),
-            (r#""message":"refused: l"#, r#""message":"refused: replay fault 1 at entry 2","x":""#),
-            (" fault 1 at", " fault 2 at"),
-            (r#" 2"}"#, r#" 3"}"#),
-        ];
-        check_changes(refusal, REFUSED, line, &changes);
-        check_changes(|answer| answer.entries(false), REFUSED, &(entry_line() + line), &changes);
-        check_changes(Answer::events, REFUSED, &(ALGORITHMS.to_owned() + line), &changes);
+fn reported_error_is_of_the_result() {
+    for kind in 0..10 {
+        let told = |text: &str| Told { size: text.len(), ..fault(kind, 1, Some(2)) };
+        let is_input = (c::IMA_VERIFY_ARGUMENT..=c::IMA_VERIFY_CHECKPOINT).contains(&kind);
+        let refusal = answered_with(REFUSED, LIST_FAULT, told(LIST_FAULT)).unwrap_err();
+        assert_eq!(matches!(refusal, Error::Refused { number: 1, place: Some(2), .. }), is_input, "{kind}");
+        assert_eq!(matches!(refusal, Error::Unexpected { .. }), !is_input, "{kind}");
+        let memory = answered_with(OUT_OF_MEMORY, MEMORY, told(MEMORY)).unwrap_err();
+        assert_eq!(memory == Error::OutOfMemory, kind == c::IMA_VERIFY_MEMORY, "{kind}");
+        assert_eq!(answered_with(DONE, REPORT, told(REPORT)).is_ok(), kind == c::IMA_VERIFY_NO_FAULT, "{kind}");
     }
-    for line in [
-        "{\"fault\":{\"kind\":\"log\",\"number\":2,\"message\":\"refused: log fault 2\"}}\n",
-        "{\"fault\":{\"kind\":\"expected\",\"number\":1,\"message\":\"refused: expected fault 1 at line 2\"}}\n",
-    ] {
-        let changes = [(r#""message""#, r#""event":0,"message""#), (r#""message""#, r#""entry":2,"message""#)];
-        check_changes(refusal, REFUSED, line, &changes);
-    }
-    let changes = [("command_line", "list"), ("command_line", "memory"), (r#""message""#, r#""number":1,"message""#)];
-    check_changes(refusal, REFUSED, MALFORMED, &changes);
-    let more = LIST_FAULT.replacen(r#"{"kind""#, r#"{"x":0,"kind""#, 1);
-    assert_eq!(refusal(answer(REFUSED, more)), Err(refused("refused: list fault 1 at entry 2", Kind::List, 1, Some(2))));
-}
-
-#[test]
-fn fault_is_of_the_status() {
-    for text in [MEMORY, &MEMORY.replace("failed: memory", "refused: command line"), "failed: memory\n"] {
-        assert!(is_unexpected(said(true, REFUSED, text, text.len())), "{text:?}");
-    }
-    for text in [
-        LIST_FAULT,
-        LOG_FAULT,
-        MALFORMED,
-        REPORT,
-        &entry_line(),
-        &MEMORY[..MEMORY.len() - 1],
-        &MEMORY.replace(r#""memory""#, r#""list""#),
-        &MEMORY.replace(r#""message""#, r#""number":1,"message""#),
-        "refused: log fault 2\n",
-    ] {
-        assert!(is_unexpected(answered(OUT_OF_MEMORY, text, text.len())), "{text:?}");
-    }
-}
-
-#[test]
-fn text_that_names_no_registers_is_malformed() {
-    assert_eq!(said(true, REFUSED, MALFORMED, MALFORMED.len()).unwrap_err(), Error::Malformed);
-    for (requests, status, text) in [(false, REFUSED, MALFORMED), (true, REFUSED, &MALFORMED[1..]), (true, 5, MALFORMED)] {
-        assert!(is_unexpected(said(requests, status, text, text.len())), "{status} {text:?}");
-    }
-    let line = "refused: command line\n";
-    assert_eq!(answer(REFUSED, line).accepted(true).unwrap_err(), Error::Malformed);
-    assert!(is_unexpected(answer(REFUSED, line).accepted(false)));
-    assert!(is_unexpected(answer(REFUSED, line.trim_end()).accepted(true)));
 }
 
 #[test]
 fn no_memory_is_its_error() {
-    for text in [MEMORY, &(entry_line() + MEMORY), "failed: memory\n", ""] {
+    for text in [MEMORY, "failed: memory\n", ""] {
         assert_eq!(answered(OUT_OF_MEMORY, text, text.len()).unwrap_err(), Error::OutOfMemory);
     }
     assert_eq!(answered(TOO_SHORT, "", usize::MAX / 2 + 2).unwrap_err(), Error::OutOfMemory);
 }
 
 #[test]
-fn sizes_and_statuses_that_cannot_be_are_errors() {
-    for (status, needed) in [
+fn sizes_and_results_that_cannot_be_are_errors() {
+    for (result, size) in [
         (DONE, ROOM + 1),
         (DONE, usize::MAX),
         (REFUSED, usize::MAX),
         (TOO_SHORT, 50),
         (TOO_SHORT, ROOM),
-        (TOO_SHORT, ROOM + 1),
         (TOO_SHORT, usize::MAX),
-        (5, 10),
+        (c::IMA_VERIFY_MISUSED, 0),
+        (7, 10),
         (-1, 10),
     ] {
-        assert!(is_unexpected(answered(status, REPORT, needed)), "{status} {needed}");
+        assert!(is_unexpected(answered(result, REPORT, size)), "{result} {size}");
+    }
+    assert!(is_unexpected(answered(MORE, REPORT, REPORT.len()).unwrap().verdict()));
+}
+
+#[test]
+fn call_is_made_again_with_as_much_room_as_it_needs() {
+    let mut rooms = Vec::new();
+    let text = expected_line();
+    let found = ask(vec![0; 5], |out| {
+        rooms.push(out.len());
+        if rooms.len() < 4 {
+            return (TOO_SHORT, Told { size: 10 * rooms.len(), ..told_of(TOO_SHORT, b"") });
+            // (the next text may have another size)
+        }
+        out.copy_from_slice(&text.as_bytes()[..out.len()]);
+        (DONE, told_of(DONE, out))
+    });
+    assert_eq!((rooms, &found.unwrap().text[..]), (vec![5, 10, 20, 30], &text.as_bytes()[..30]));
+    // (a library that asks for what it has, or for less, is not called again)
+    let mut calls = 0;
+    let found = ask(vec![0; 5], |_| {
+        calls += 1;
+        (TOO_SHORT, Told { size: 10, ..told_of(TOO_SHORT, b"") })
+    });
+    assert!(is_unexpected(found) && calls == 2);
+}
+
+/// The text of the entries of the sample, by pieces with a buffer of this size, and how many calls that takes.
+fn shown(json: bool, room: usize) -> (usize, Vec<u8>) {
+    let (list, mut at, mut calls, mut text) = (sample("ima.list"), Position::default(), 0, Vec::new());
+    loop {
+        calls += 1;
+        let piece = ask(vec![0; room], |out| list_entries(&list, &mut at, json, out)).unwrap();
+        assert!(piece.text.ends_with(b"\n"));
+        text.extend(piece.text);
+        if piece.result == DONE {
+            return (calls, text);
+        }
+        assert_eq!(piece.result, MORE);
     }
 }
 
 #[test]
-fn text_longer_than_the_buffer_takes_a_second_call() {
-    let (list, ascii) = (sample("ima.list"), sample("ima.ascii"));
-    for room in [0, 1, 2, ascii.len() / 2, ascii.len() - 1, ascii.len()] {
-        let mut calls = 0;
-        let shown = ask(room, |out| {
-            calls += 1;
-            show(&list, out)
-        });
-        assert_eq!(shown.unwrap().lines(false).unwrap(), ascii);
-        assert_eq!(calls, if room < ascii.len() { 2 } else { 1 });
+fn text_of_entries_is_the_same_by_pieces_of_any_size() {
+    let ascii = sample("ima.ascii");
+    let longest = ascii.split_inclusive(|byte| *byte == b'\n').map(<[u8]>::len).max().unwrap();
+    let whole = shown(true, 1 << 20).1;
+    for room in [0, 1, 2, longest - 1, longest, 1000, ascii.len() / 2, ascii.len() - 1, ascii.len(), whole.len()] {
+        let (calls, text) = shown(false, room);
+        assert!(text == ascii && (calls > 1) == (room < ascii.len()), "{room}");
+        assert!(shown(true, room).1 == whole, "{room}");
     }
 }
 
 #[test]
-fn line_of_a_fault_longer_than_the_buffer() {
-    let line = "refused: log fault 1 at event 0".to_owned();
-    let refused = Error::Refused { line, kind: Kind::Log, number: 1, place: Some(0) };
-    assert_eq!(ask(5, |out| registers(&[], out)).unwrap().accepted(false).unwrap_err(), refused);
+fn line_of_an_error_longer_than_the_buffer() {
+    let wanted = refused("refused: log fault 1 at event 0", Kind::Log, 1, Some(0));
+    assert_eq!(ask(vec![0; 5], |out| log_registers(&[], out)).unwrap_err(), wanted);
 }
 
 #[test]
-fn first_buffer_is_large_enough() {
-    // The smallest entry of its template has the longest text for its size.
-    let start = [[0; 4].as_slice(), &[b'x'; 20]].concat();
-    let ima = [start.as_slice(), b"\x03\0\0\0ima", &[0; 24]].concat();
-    let nameless = [start.as_slice(), &[0; 8]].concat();
-    for list in [Vec::new(), ima[..1].to_vec(), ima.repeat(900), nameless.repeat(900), sample("ima.list")] {
-        let mut calls = 0;
-        let _ = ask(room_of_entries(list.len()), |out| {
-            calls += 1;
-            show(&list, out)
+fn text_that_is_cut_is_none() {
+    let (first, text) = (entry_line(), entry_line() + &other_line());
+    for size in (0..text.len()).filter(|size| *size != first.len()) {
+        // (two calls may have the two lines)
+        assert!(matches!(entries([answer(DONE, &text[..size])]).1, Some(Error::Unexpected { .. })), "{size}");
+    }
+    for size in 0..LIST_FAULT.len() {
+        assert!(is_unexpected(answered(REFUSED, &LIST_FAULT[..size], size)), "{size}");
+    }
+    // A text that has no room for its last lines is reported to be longer than the room.
+    for result in [DONE, MORE, REFUSED] {
+        let found = ask(vec![0; first.len()], |out| {
+            out.copy_from_slice(first.as_bytes());
+            (result, told_of(result, text.as_bytes()))
         });
-        assert_eq!(calls, 1);
+        assert!(is_unexpected(found), "{result}");
     }
 }

@@ -2,8 +2,10 @@
 
 use super::Session;
 use crate::answers::Answer;
-use crate::library::{ask_for_texts, verify_more, More, DIFFERS, DONE, OUT_OF_MEMORY, REFUSED, ROOM, TOO_SHORT};
-use crate::{verify, Error, Kind, Unconfirmed, Verdict};
+use crate::library::More as Inputs;
+use crate::library::{ask_for_both, verify_more, Told, DIFFERS, DONE, MORE, OUT_OF_MEMORY, REFUSED, ROOM, TOO_SHORT};
+use crate::{verify, Error, Kind, Unconfirmed, Verdict, NOTHING_REQUIRED};
+use ima_verify_sys as c;
 
 const REPORT: &str = concat!(
     r#"{"events":1,"locality":0,"entries":3,"boot_aggregate":"good","#,
@@ -17,6 +19,7 @@ const LIST: &str = r#""unconfirmed":{"kind":"list","number":1,"entry":5,"message
 const CONFIRMED: &str = r#""confirmed":3,"#;
 const ENTRIES: &str = r#""entries":3,"#;
 const MEMORY: &str = "{\"fault\":{\"kind\":\"memory\",\"message\":\"failed: memory\"}}\n";
+const ARGUMENT: &str = "{\"fault\":{\"kind\":\"command_line\",\"message\":\"refused: command line\"}}\n";
 const FAULT: &str = "{\"fault\":{\"kind\":\"checkpoint\",\"number\":3,\"message\":\"refused: checkpoint fault 3\"}}\n";
 
 fn differing() -> String {
@@ -50,31 +53,47 @@ fn whole_front() -> String {
 }
 
 fn session(state: Option<&str>, prefix: bool) -> Session {
-    let session = Session { prefix, ..Session::new(b"", b"") };
+    let session = Session { prefix, ..Session::new(b"", b"", NOTHING_REQUIRED) };
     match state {
         Some(state) => session.resume(state.as_bytes()).unwrap(),
         None => session,
     }
 }
 
-fn texts(state: &str, text: &str) -> [Vec<u8>; 2] {
-    [state.into(), text.into()]
+/// What is reported of a text; of one that is no line of an error something that fits the result.
+fn told_of(result: i32, text: &str) -> Told {
+    let (fault_kind, fault_number) = match result {
+        REFUSED if text == FAULT => (c::IMA_VERIFY_CHECKPOINT, 3),
+        REFUSED if text == ARGUMENT => (c::IMA_VERIFY_ARGUMENT, 0),
+        REFUSED => (c::IMA_VERIFY_LIST, 1),
+        OUT_OF_MEMORY => (c::IMA_VERIFY_MEMORY, 0),
+        _ => (c::IMA_VERIFY_NO_FAULT, 0),
+    };
+    Told { size: text.len(), fault_kind, fault_number, fault_place: c::IMA_VERIFY_NO_PLACE }
 }
 
-/// The error of an answer to a call that makes 300 bytes. The session stays as it was, also if it has been used.
-fn error(status: i32, state: &str, text: &str, prefix: bool) -> Error {
+impl Session {
+    /// What a session makes of an answer to a call with so many bytes.
+    fn given(&mut self, size: usize, result: i32, state: &str, text: &str) -> Result<Verdict, Error> {
+        let answer = Answer { result, told: told_of(result, text), next: state.into(), text: text.into() };
+        self.answered(size, answer.accepted()?)
+    }
+}
+
+/// The error of an answer to a call that makes 300 bytes. The session is as it was, even if it has been used.
+fn error(result: i32, state: &str, text: &str, prefix: bool) -> Error {
     let errors = [None, Some(STATE)].map(|earlier| {
         let mut session = session(earlier, prefix);
         let before = session.reached.clone();
-        let error = session.answered(300 - before.bytes as usize, (status, texts(state, text)));
+        let error = session.given(300 - before.bytes as usize, result, state, text);
         assert_eq!(session.reached, before);
         error.expect_err(text)
     });
     errors[1].clone()
 }
 
-fn check_unexpected(status: i32, state: &str, text: &str, prefix: bool) {
-    let found = error(status, state, text, prefix);
+fn check_unexpected(result: i32, state: &str, text: &str, prefix: bool) {
+    let found = error(result, state, text, prefix);
     assert!(matches!(found, Error::Unexpected { .. }), "{found:?} of {text:?}");
 }
 
@@ -87,8 +106,8 @@ fn check_changes(text: &str, changes: &[(&str, &str)]) {
     }
 }
 
-fn is_whole(status: i32, text: &str) -> bool {
-    Answer { status, text: text.into() }.verdict().is_ok()
+fn is_whole(result: i32, text: &str) -> bool {
+    Answer { result, told: told_of(result, text), next: Vec::new(), text: text.into() }.verdict().is_ok()
 }
 
 #[test]
@@ -106,7 +125,7 @@ fn right_answers_are_read() {
         (DONE, front_and(LIST), true, Some(3), fault("unconfirmed: list fault 1 at entry 5", Kind::List, 5)),
     ] {
         let mut session = session(None, prefix);
-        let verdict = session.answered(300, (status, texts(state_of(status), &text))).unwrap();
+        let verdict = session.given(300, status, state_of(status), &text).unwrap();
         assert_eq!((verdict.matches, verdict.confirmed, verdict.unconfirmed), (status == DONE, confirmed, unconfirmed));
         let reached = if status == DONE { (Some(STATE.as_bytes()), 300) } else { (None, 0) };
         assert_eq!((session.state(), session.offset()), reached);
@@ -219,20 +238,20 @@ fn state_that_is_not_that_of_the_report_is_none() {
         (&none, "entries 3", "entries 0", 300),
     ] {
         let mut session = session(None, text != REPORT);
-        assert!(session.answered(size, (DONE, texts(&STATE.replace(old, new), text))).is_err());
+        assert!(session.given(size, DONE, &STATE.replace(old, new), text).is_err());
         assert_eq!(session.state(), None);
     }
     let less = STATE.replace("300", "299");
     check_unexpected(DONE, &less, REPORT, false);
     let mut new = session(None, true);
-    let verdict = new.answered(300, (DONE, texts(&less, &front()))).unwrap(); // (the front's end may be anywhere)
+    let verdict = new.given(300, DONE, &less, &front()).unwrap(); // (the front's end may be anywhere)
     assert_eq!((verdict.confirmed, new.offset()), (Some(3), 299));
-    assert!(session(Some(STATE), true).answered(0, (DONE, texts(&less, &front()))).is_err());
+    assert!(session(Some(STATE), true).given(0, DONE, &less, &front()).is_err());
     let later = STATE.replace("entries 3", "entries 4").replace("300", "400");
     for (text, prefix) in [(REPORT.to_owned(), false), (front(), true)] {
-        assert!(session(Some(&later), prefix).answered(0, (DONE, texts(&STATE.replace("300", "400"), &text))).is_err());
+        assert!(session(Some(&later), prefix).given(0, DONE, &STATE.replace("300", "400"), &text).is_err());
     }
-    assert!(session(Some(&later), false).answered(0, (DIFFERS, texts("", &differing()))).is_err());
+    assert!(session(Some(&later), false).given(0, DIFFERS, "", &differing()).is_err());
 }
 
 #[test]
@@ -255,14 +274,13 @@ fn failures_leave_the_session_as_it_was() {
         (DIFFERS, REPORT),
         (DONE, &differing()),
         (REFUSED, REPORT),
-        (OUT_OF_MEMORY, REPORT),
         (TOO_SHORT, REPORT),
         (5, REPORT),
         (-1, REPORT),
         (DONE, FAULT),
         (REFUSED, MEMORY),
-        (REFUSED, "{\"fault\":{\"kind\":\"command_line\",\"message\":\"refused: command line\"}}\n"), // (nothing was required)
-        (OUT_OF_MEMORY, FAULT),
+        (MORE, REPORT),
+        (c::IMA_VERIFY_MISUSED, REPORT),
     ] {
         check_unexpected(status, state_of(status), text, false);
     }
@@ -270,29 +288,32 @@ fn failures_leave_the_session_as_it_was() {
     let wanted = Error::Refused { line, kind: Kind::Checkpoint, number: 3, place: None };
     assert_eq!(error(REFUSED, "", FAULT, false), wanted);
     assert_eq!(error(OUT_OF_MEMORY, "", MEMORY, false), Error::OutOfMemory);
-    for old in ["\"number\":3", "\"kind\":\"checkpoint\"", "fault 3"] {
-        check_unexpected(REFUSED, "", &FAULT.replace(old, &old.replace('3', "2").replace("checkpoint", "log")), false);
-    }
-    check_unexpected(REFUSED, "", &FAULT.replace("\"message\"", "\"entry\":3,\"message\""), false);
+    let argument = error(REFUSED, "", ARGUMENT, false);
+    assert!(matches!(argument, Error::Refused { kind: Kind::Argument, number: 0, place: None, .. }), "{argument:?}");
+    check_unexpected(REFUSED, "", &FAULT.replace("message", "line"), false);
 }
 
 #[test]
 fn sizes_that_cannot_be_are_errors() {
-    for needed in [[usize::MAX; 2], [usize::MAX, 9], [9, usize::MAX], [ROOM + 1, 9], [9, ROOM + 1]] {
-        for status in [DONE, DIFFERS, REFUSED] {
-            assert!(matches!(ask_for_texts([ROOM; 2], |_| (status, needed)), Err(Error::Unexpected { .. })));
+    let told = |result, size| Told { size, ..told_of(result, "") };
+    let buffers = || (vec![0; ROOM], vec![0; ROOM]);
+    for (next_size, size) in [(usize::MAX, usize::MAX), (usize::MAX, 9), (9, usize::MAX), (ROOM + 1, 9), (9, ROOM + 1)] {
+        for result in [DONE, DIFFERS, REFUSED] {
+            let (next, out) = buffers();
+            let found = ask_for_both(next, out, |_, _| (result, next_size, told(result, size)));
+            assert!(matches!(found, Err(Error::Unexpected { .. })));
         }
     }
-    let huge = ask_for_texts([ROOM; 2], |_| (TOO_SHORT, [usize::MAX - 1, 9]));
+    let (next, out) = buffers();
+    let huge = ask_for_both(next, out, |_, _| (TOO_SHORT, usize::MAX - 1, told(TOO_SHORT, 9)));
     assert_eq!(huge.unwrap_err(), Error::OutOfMemory);
     let mut calls = 0;
-    let (status, texts) = ask_for_texts([5, 5], |outs| {
+    let short = ask_for_both(vec![0; 5], vec![0; 5], |next, out| {
         calls += 1;
-        assert_eq!((outs[0].len(), outs[1].len()), if calls == 1 { (5, 5) } else { (5, 9) });
-        (TOO_SHORT, [3, 9])
-    })
-    .unwrap();
-    assert_eq!((calls, status, texts.map(|text| text.len())), (2, TOO_SHORT, [3, 9]));
+        assert_eq!((next.len(), out.len()), if calls == 1 { (5, 5) } else { (5, 9) });
+        (TOO_SHORT, 3, told(TOO_SHORT, 9))
+    });
+    assert!(calls == 2 && matches!(short, Err(Error::Unexpected { .. })));
     check_unexpected(TOO_SHORT, "", "", false);
 }
 
@@ -300,20 +321,21 @@ fn sizes_that_cannot_be_are_errors() {
 fn second_call_has_room_for_both_texts() {
     let sample = |name| std::fs::read(format!("{}/../../samples/real-boot/{name}", env!("CARGO_MANIFEST_DIR"))).unwrap();
     let (log, data, expected) = (sample("firmware.log"), sample("ima.list"), sample("expected.txt"));
-    let mut session = Session::new(&log, &expected);
+    let mut session = Session::new(&log, &expected, NOTHING_REQUIRED);
     let Verdict { json, .. } = session.more(&data).unwrap();
-    assert_eq!(verify(&log, &data, &expected).unwrap().json, json);
+    assert_eq!(verify(&log, &data, &expected, NOTHING_REQUIRED).unwrap().json, json);
     let (state, line) = (session.state().unwrap(), format!("{json}\n"));
-    let inputs = More { log: &log, state: b"", data: &data, expected: &expected, require: b"none", prefix: false };
+    let inputs = Inputs { log: &log, state: b"", data: &data, expected: &expected, require: b"none", prefix: false };
     let sizes = (state.len(), line.len());
     for (next, out) in [(1, 1), (1, 40_000), (40_000, 1), (sizes.0 - 1, sizes.1), (sizes.0, sizes.1 - 1), sizes, (40_000, 40_000)]
     {
         let mut calls = 0;
-        let counted = ask_for_texts([next, out], |outs| {
+        let counted = ask_for_both(vec![0; next], vec![0; out], |next, out| {
             calls += 1;
-            verify_more(&inputs, outs)
+            verify_more(&inputs, next, out)
         });
-        assert_eq!(counted.unwrap(), (DONE, [state.to_vec(), line.clone().into_bytes()]));
+        let Answer { result, next: found, text, .. } = counted.unwrap();
+        assert_eq!((result, &found[..], &text[..]), (DONE, state, line.as_bytes()));
         assert_eq!(calls, if next < sizes.0 || out < sizes.1 { 2 } else { 1 });
     }
 }

@@ -1,6 +1,6 @@
 //! Entries and events of all kinds, with values by hand.
 
-use crate::{entries, events, Algorithm, Content, Entry, Error, Event, File, Kind, LogAlgorithm};
+use crate::{entries, events, show, Algorithm, Content, Entry, Error, Event, File, Kind, LogAlgorithm};
 
 fn sample(name: &str) -> Vec<u8> {
     std::fs::read(format!("{}/../../samples/real-boot/{name}", env!("CARGO_MANIFEST_DIR"))).unwrap()
@@ -26,7 +26,7 @@ fn entry_of(template: &[u8], payload: &[u8], template_digest: &[u8; 20]) -> Vec<
 }
 
 fn found(list: &[u8]) -> Vec<Entry> {
-    entries(list).unwrap().collect::<Result<_, _>>().unwrap()
+    entries(list).collect::<Result<_, _>>().unwrap()
 }
 
 /// An entry as it is found, which is genuine exactly if it is a violation.
@@ -155,7 +155,7 @@ fn refused(line: &str, kind: Kind, number: u64, place: u64) -> Error {
 }
 
 #[test]
-fn damaged_list_gives_what_stands_before_the_fault() {
+fn damaged_list_gives_what_comes_before_the_error() {
     let list = sample("ima.list");
     let last = list.len() - 95;
     let whole = found(&list);
@@ -169,8 +169,7 @@ fn damaged_list_gives_what_stands_before_the_fault() {
             refused("refused: list fault 2 at entry 98", Kind::List, 2, 98),
         ),
     ] {
-        let mut listing = entries(&list).unwrap();
-        assert_eq!(listing.fault(), Some(&fault));
+        let mut listing = entries(&list);
         let before: Vec<_> = listing.by_ref().take(count).collect::<Result<_, _>>().unwrap();
         assert_eq!(before, whole[..count]);
         assert_eq!(listing.next(), Some(Err(fault)));
@@ -179,10 +178,42 @@ fn damaged_list_gives_what_stands_before_the_fault() {
 }
 
 #[test]
+fn listing_may_be_cloned_between_its_items() {
+    let (list, log) = (sample("ima.list"), sample("firmware.log"));
+    let mut listing = entries(&list);
+    assert_eq!(listing.by_ref().take(50).filter(Result::is_ok).count(), 50);
+    assert_eq!(listing.clone().collect::<Result<Vec<_>, _>>().unwrap(), found(&list)[50..]);
+    assert_eq!(listing.collect::<Result<Vec<_>, _>>().unwrap(), found(&list)[50..]);
+    let mut listing = events(&log).unwrap();
+    assert_eq!(listing.by_ref().take(20).filter(Result::is_ok).count(), 20);
+    assert_eq!((listing.clone().count(), listing.count()), (4, 4));
+}
+
+#[test]
+fn list_longer_than_the_buffer_comes_by_pieces() {
+    let (list, ascii) = (sample("ima.list"), sample("ima.ascii"));
+    let once = found(&list);
+    let mut count = 0;
+    for (number, entry) in found(&list.repeat(20)).into_iter().enumerate() {
+        assert_eq!(entry, Entry { number: number as u64, ..once[number % 99].clone() });
+        count += 1;
+    }
+    assert_eq!(count, 20 * 99);
+    assert!(20 * ascii.len() > 2 * crate::library::ROOM);
+    assert_eq!(show(&list.repeat(20)).unwrap(), ascii.repeat(20));
+    // (a path of control bytes is six times as long as JSON)
+    let paths = [b"/".repeat(9), vec![1; 40_000], vec![2; 2 * crate::library::ROOM], b"/x".to_vec()];
+    let list: Vec<_> = paths.iter().flat_map(|path| entry_of(b"ima-ng", &ng(b"sha1", &[1; 20], path), &FORGED)).collect();
+    assert_eq!(
+        found(&list).iter().map(|entry| &entry.file().unwrap().path).collect::<Vec<_>>(),
+        paths.iter().collect::<Vec<_>>()
+    );
+}
+
+#[test]
 fn list_without_entries_has_none() {
-    let mut listing = entries(&[]).unwrap();
-    assert_eq!(listing.fault(), None);
-    assert_eq!(listing.next(), None);
+    let mut listing = entries(&[]);
+    assert_eq!((listing.next(), listing.next()), (None, None));
 }
 
 #[test]
@@ -190,7 +221,6 @@ fn events_of_the_sample() {
     let log = sample("firmware.log");
     let listing = events(&log).unwrap();
     assert_eq!(listing.algorithms(), [LogAlgorithm { name: Some("sha256".to_owned()), id: 11, size: 32 }]);
-    assert_eq!(listing.fault(), None);
     let all: Vec<_> = listing.collect::<Result<_, _>>().unwrap();
     // (the first event of the file, after the header of 65 bytes: register 0, type 8, one digest of SHA-256, 2 bytes of data)
     assert_eq!(log[65..79], [number(0), number(8), number(1), vec![0x0b, 0]].concat());
@@ -232,7 +262,7 @@ fn events_without_names_or_digests() {
 }
 
 #[test]
-fn damaged_log_is_refused_after_what_stands_before_the_fault() {
+fn damaged_log_is_refused_after_what_comes_before_the_error() {
     let log = sample("firmware.log");
     let whole: Vec<_> = events(&log).unwrap().map(Result::unwrap).collect();
     for (log, count, fault) in [
@@ -245,7 +275,6 @@ fn damaged_log_is_refused_after_what_stands_before_the_fault() {
         ),
     ] {
         let mut listing = events(&log).unwrap();
-        assert_eq!(listing.fault(), Some(&fault));
         let before: Vec<_> = listing.by_ref().take(count).collect::<Result<_, _>>().unwrap();
         assert_eq!(before, whole[..count]);
         assert_eq!((listing.next(), listing.next()), (Some(Err(fault)), None));

@@ -1,9 +1,8 @@
 //! What the crate answers about the sample, one boot whose registers were read from the TPM after the list, and about changes
 //! of it.
 
-use crate::{are_apart, expected as expected_from, list_registers, locate, locate_required, registers, replay_required, show};
-use crate::{verify, verify_required, version};
-use crate::{Algorithm, BootAggregate, Error, Kind, Place, PlaceRow, Register, Row, State, Verdict};
+use crate::{are_apart, expected as expected_from, list_registers, locate, registers, replay, show, verify, version};
+use crate::{Algorithm, BootAggregate, Error, Kind, Place, PlaceRow, Register, Row, State, Verdict, NOTHING_REQUIRED};
 use std::sync::Barrier;
 use std::thread;
 
@@ -81,7 +80,7 @@ fn verdict_on_the_sample_is_a_match() {
         confirmed: None,
         unconfirmed: None,
     };
-    assert_eq!(verify(&log(), &list(), &expected()).unwrap(), wanted);
+    assert_eq!(verify(&log(), &list(), &expected(), NOTHING_REQUIRED).unwrap(), wanted);
 }
 
 #[test]
@@ -96,7 +95,7 @@ fn entries_are_the_kernels_text() {
 
 #[test]
 fn list_that_went_on_differs_in_register_10() {
-    let verdict = verify(&log(), &longer(), &expected()).unwrap();
+    let verdict = verify(&log(), &longer(), &expected(), NOTHING_REQUIRED).unwrap();
     assert_eq!((verdict.matches, verdict.entries, verdict.boot_aggregate), (false, 100, BootAggregate::Good));
     let mut wanted: Vec<_> = (0..24).map(matching).collect();
     wanted[10].state = State::Differ(from_hex(AFTER_LONGER));
@@ -105,7 +104,7 @@ fn list_that_went_on_differs_in_register_10() {
 
 #[test]
 fn list_that_went_on_is_located_before_its_end() {
-    let places = locate(&log(), &longer(), &expected()).unwrap();
+    let places = locate(&log(), &longer(), &expected(), NOTHING_REQUIRED).unwrap();
     assert!(places.located);
     assert_eq!(places.rows.len(), 24);
     assert_eq!(places.rows[10], PlaceRow { algorithm: Algorithm::Sha256, register: 10, place: Place::Entry(98) });
@@ -122,8 +121,8 @@ fn list_that_went_on_is_located_before_its_end() {
 #[test]
 fn expected_registers_may_be_absent_or_reached_nowhere() {
     let text = format!("sha1 10 {}\nsha256 10 {}", "0".repeat(40), "1".repeat(64));
-    let verdict = verify(&log(), &longer(), text.as_bytes()).unwrap();
-    let places = locate(&log(), &longer(), text.as_bytes()).unwrap();
+    let verdict = verify(&log(), &longer(), text.as_bytes(), NOTHING_REQUIRED).unwrap();
+    let places = locate(&log(), &longer(), text.as_bytes(), NOTHING_REQUIRED).unwrap();
     assert!(!verdict.matches && !places.located);
     let absent = Row { algorithm: Algorithm::Sha1, register: 10, state: State::Absent };
     let differing = Row { algorithm: Algorithm::Sha256, register: 10, state: State::Differ(from_hex(AFTER_LONGER)) };
@@ -135,12 +134,12 @@ fn expected_registers_may_be_absent_or_reached_nowhere() {
 #[test]
 fn all_required_registers_are_expected() {
     for require in ["sha256:0-10", "sha256:0-23", "sha256:10,sha256:0-7"] {
-        let verdict = verify_required(&log(), &list(), &expected(), require).unwrap();
+        let verdict = verify(&log(), &list(), &expected(), require).unwrap();
         assert_eq!((verdict.matches, verdict.compared(), verdict.entries), (true, 24, 99));
-        assert_eq!(verdict.rows, verify(&log(), &list(), &expected()).unwrap().rows);
-        assert_eq!(locate_required(&log(), &list(), &expected(), require), locate(&log(), &list(), &expected()));
+        assert_eq!(verdict.rows, verify(&log(), &list(), &expected(), NOTHING_REQUIRED).unwrap().rows);
+        assert_eq!(locate(&log(), &list(), &expected(), require), locate(&log(), &list(), &expected(), NOTHING_REQUIRED));
     }
-    let verdict = verify_required(&log(), &longer(), &expected(), "sha256:10").unwrap();
+    let verdict = verify(&log(), &longer(), &expected(), "sha256:10").unwrap();
     assert!(!verdict.matches && matches!(verdict.rows[10].state, State::Differ(_)));
 }
 
@@ -148,24 +147,24 @@ fn all_required_registers_are_expected() {
 fn required_register_that_is_not_expected_is_missing() {
     let all = expected();
     let text = &all[..all.len() - "sha256 23 \n".len() - 64];
-    assert!(verify_required(&log(), &list(), text, "sha256:0-22").unwrap().matches);
+    assert!(verify(&log(), &list(), text, "sha256:0-22").unwrap().matches);
     let missing = [(Algorithm::Sha1, 10), (Algorithm::Sha256, 23)];
-    let verdict = verify_required(&log(), &list(), text, "sha256:0-23,sha1:10").unwrap();
+    let verdict = verify(&log(), &list(), text, "sha256:0-23,sha1:10").unwrap();
     assert_eq!((verdict.matches, verdict.compared()), (false, 23));
-    assert_eq!(verdict.rows[..23], verify(&log(), &list(), text).unwrap().rows);
+    assert_eq!(verdict.rows[..23], verify(&log(), &list(), text, NOTHING_REQUIRED).unwrap().rows);
     assert_eq!(verdict.rows[23..], missing.map(|(algorithm, register)| Row { algorithm, register, state: State::Missing }));
-    let places = locate_required(&log(), &list(), text, "sha256:0-23,sha1:10").unwrap();
+    let places = locate(&log(), &list(), text, "sha256:0-23,sha1:10").unwrap();
     assert!(!places.located);
-    assert_eq!(places.rows[..23], locate(&log(), &list(), text).unwrap().rows);
+    assert_eq!(places.rows[..23], locate(&log(), &list(), text, NOTHING_REQUIRED).unwrap().rows);
     assert_eq!(places.rows[23..], missing.map(|(algorithm, register)| PlaceRow { algorithm, register, place: Place::Missing }));
 }
 
 #[test]
 fn nothing_expected_never_matches() {
     for empty in [b"".as_slice(), b"\n"] {
-        let verdict = verify_required(&log(), &list(), empty, "sha256:10").unwrap();
+        let verdict = verify(&log(), &list(), empty, "sha256:10").unwrap();
         assert_eq!((verdict.matches, verdict.compared(), verdict.rows.len()), (false, 0, 1));
-        let places = locate_required(&log(), &list(), empty, "sha256:10").unwrap();
+        let places = locate(&log(), &list(), empty, "sha256:10").unwrap();
         assert_eq!((places.located, places.rows[0].place), (false, Place::Missing));
     }
 }
@@ -177,17 +176,17 @@ fn tenth() -> Vec<u8> {
 
 #[test]
 fn register_of_the_list_alone_matches() {
-    let verdict = replay_required(&list(), &tenth(), "sha256:10").unwrap();
+    let verdict = replay(&list(), &tenth(), "sha256:10").unwrap();
     assert_eq!((verdict.matches, verdict.entries, verdict.compared()), (true, 99, 1));
     let json = r#"{"entries":99,"registers":[{"bank":"sha256","register":10,"state":"match"}],"verdict":"match"}"#;
     assert_eq!((verdict.rows, verdict.json.as_str()), (vec![matching(10)], json));
-    let verdict = replay_required(&longer(), &tenth(), "sha256:10").unwrap();
+    let verdict = replay(&longer(), &tenth(), "sha256:10").unwrap();
     assert_eq!((verdict.matches, verdict.entries, &verdict.rows[0].state), (false, 100, &State::Differ(from_hex(AFTER_LONGER))));
 }
 
 #[test]
 fn registers_of_the_firmware_differ_after_the_list_alone() {
-    let verdict = replay_required(&list(), &expected(), "sha256:0-23").unwrap();
+    let verdict = replay(&list(), &expected(), "sha256:0-23").unwrap();
     assert_eq!((verdict.matches, verdict.compared()), (false, 24));
     assert_eq!(verdict.rows[0].state, State::Differ(vec![0; 32]));
     let differing: Vec<_> = verdict.rows.iter().filter(|row| row.state != State::Match).map(|row| row.register).collect();
@@ -198,11 +197,11 @@ fn registers_of_the_firmware_differ_after_the_list_alone() {
 #[test]
 fn list_alone_never_matches_without_its_registers_or_entries() {
     let missing = Row { algorithm: Algorithm::Sha1, register: 10, state: State::Missing };
-    let verdict = replay_required(&list(), &tenth(), "sha1:10,sha256:10").unwrap();
+    let verdict = replay(&list(), &tenth(), "sha1:10,sha256:10").unwrap();
     assert_eq!((verdict.matches, verdict.compared(), verdict.rows), (false, 1, vec![matching(10), missing.clone()]));
-    let verdict = replay_required(&list(), &[], "sha1:10").unwrap();
+    let verdict = replay(&list(), &[], "sha1:10").unwrap();
     assert_eq!((verdict.matches, verdict.compared(), verdict.rows), (false, 0, vec![missing]));
-    let verdict = replay_required(&[], format!("sha256 10 {}", "0".repeat(64)).as_bytes(), "sha256:10").unwrap();
+    let verdict = replay(&[], format!("sha256 10 {}", "0".repeat(64)).as_bytes(), "sha256:10").unwrap();
     assert_eq!((verdict.matches, verdict.entries, verdict.rows), (false, 0, vec![matching(10)]));
 }
 
@@ -210,23 +209,41 @@ fn list_alone_never_matches_without_its_registers_or_entries() {
 fn list_alone_is_refused() {
     let list = list();
     let wanted = refused("refused: replay fault 1 at entry 5", Kind::Replay, 1, Some(5));
-    assert_eq!(replay_required(&changed(), &tenth(), "sha256:10").unwrap_err(), wanted);
+    assert_eq!(replay(&changed(), &tenth(), "sha256:10").unwrap_err(), wanted);
     let wanted = refused("refused: list fault 1 at entry 98", Kind::List, 1, Some(98));
-    assert_eq!(replay_required(&list[..list.len() - 1], &tenth(), "sha256:10").unwrap_err(), wanted);
+    assert_eq!(replay(&list[..list.len() - 1], &tenth(), "sha256:10").unwrap_err(), wanted);
     let wanted = refused("refused: expected fault 1 at line 1", Kind::Expected, 1, Some(1));
-    assert_eq!(replay_required(&list[..1], b"x", "sha256:10").unwrap_err(), wanted);
+    assert_eq!(replay(&list[..1], b"x", "sha256:10").unwrap_err(), wanted);
+}
+
+/// The requirement, or the range, is refused.
+#[track_caller]
+fn check_argument<T: std::fmt::Debug>(result: Result<T, Error>, text: &str) {
+    let error = result.expect_err(text);
+    let Error::Refused { line, kind: Kind::Argument, number: 0, place: None } = &error else { panic!("{error:?} of {text:?}") };
+    assert!(error.to_string().starts_with(&format!("{line} ")));
 }
 
 #[test]
-fn wrong_requirement_or_range_is_malformed() {
-    for require in ["", "sha256", "sha256:24", "sha256:10-0", "sha256:0-10,", "sha256: 0", "none", "0-10", "\u{e4}"] {
-        assert_eq!(verify_required(&[], &[], &[], require).unwrap_err(), Error::Malformed, "{require:?}");
-        assert_eq!(locate_required(&[], &[], &[], require).unwrap_err(), Error::Malformed, "{require:?}");
-        assert_eq!(replay_required(&[], &[], require).unwrap_err(), Error::Malformed, "{require:?}");
+fn wrong_requirement_or_range_is_refused() {
+    let wrong = ["", "sha256", "sha256:24", "sha256:10-0", "sha256:0-10,", "sha256: 0", "None", "none ", "none,sha256:0", "0-10"];
+    for require in wrong.into_iter().chain(["\u{e4}"]) {
+        check_argument(verify(&[], &[], &[], require), require);
+        check_argument(locate(&[], &[], &[], require), require);
+        check_argument(replay(&[], &[], require), require);
     }
     for range in ["24", "10-0", "0-", "-", " ", "sha256:0"] {
-        assert_eq!(expected_from(&sample("tpm2_pcrread.txt"), Some(range)).unwrap_err(), Error::Malformed, "{range:?}");
+        check_argument(expected_from(&sample("tpm2_pcrread.txt"), Some(range)), range);
     }
+}
+
+#[test]
+fn list_alone_may_require_nothing() {
+    let verdict = replay(&list(), &tenth(), NOTHING_REQUIRED).unwrap();
+    assert_eq!((verdict.matches, verdict.rows), (true, vec![matching(10)]));
+    assert!(!replay(&longer(), &tenth(), NOTHING_REQUIRED).unwrap().matches);
+    let verdict = replay(&list(), &[], NOTHING_REQUIRED).unwrap();
+    assert_eq!((verdict.matches, verdict.entries, verdict.rows), (false, 99, vec![]));
 }
 
 #[test]
@@ -234,8 +251,8 @@ fn inputs_are_refused_as_without_a_requirement() {
     let (log, list, expected) = (log(), list(), expected());
     for (log, list, expected) in [(&log[..], &changed()[..], &expected[..]), (&log[..31], &list, &expected), (&log, &list, b"x")]
     {
-        assert_eq!(verify_required(log, list, expected, "sha256:0"), verify(log, list, expected));
-        assert_eq!(locate_required(log, list, expected, "sha256:0"), locate(log, list, expected));
+        assert_eq!(verify(log, list, expected, "sha256:0"), verify(log, list, expected, NOTHING_REQUIRED));
+        assert_eq!(locate(log, list, expected, "sha256:0"), locate(log, list, expected, NOTHING_REQUIRED));
     }
 }
 
@@ -245,8 +262,8 @@ fn expected_registers_are_those_that_were_printed() {
     assert_eq!(expected_from(&printed, None).unwrap(), expected());
     let some = expected_from(&printed, Some("0-10")).unwrap();
     assert_eq!(registers_in(&some), registers_in(&expected())[..11]);
-    assert!(verify_required(&log(), &list(), &some, "sha256:0-10").unwrap().matches);
-    assert!(!verify_required(&log(), &list(), &some, "sha256:0-11").unwrap().matches);
+    assert!(verify(&log(), &list(), &some, "sha256:0-10").unwrap().matches);
+    assert!(!verify(&log(), &list(), &some, "sha256:0-11").unwrap().matches);
     let wanted = refused("refused: expected fault 1 at line 1", Kind::Expected, 1, Some(1));
     assert_eq!(expected_from(&expected(), None).unwrap_err(), wanted);
     let wanted = refused("refused: expected fault 6", Kind::Expected, 6, None);
@@ -263,8 +280,8 @@ fn version_is_that_of_the_header() {
 #[test]
 fn changed_entry_is_not_genuine() {
     let wanted = refused("refused: replay fault 1 at entry 5", Kind::Replay, 1, Some(5));
-    assert_eq!(verify(&log(), &changed(), &expected()).unwrap_err(), wanted);
-    assert_eq!(locate(&log(), &changed(), &expected()).unwrap_err(), wanted);
+    assert_eq!(verify(&log(), &changed(), &expected(), NOTHING_REQUIRED).unwrap_err(), wanted);
+    assert_eq!(locate(&log(), &changed(), &expected(), NOTHING_REQUIRED).unwrap_err(), wanted);
     assert_eq!(wanted.to_string(), "refused: replay fault 1 at entry 5");
 }
 
@@ -272,7 +289,7 @@ fn changed_entry_is_not_genuine() {
 fn log_that_is_cut_is_refused() {
     let log = log();
     let header = refused("refused: log fault 1 at event 0", Kind::Log, 1, Some(0));
-    assert_eq!(verify(&log[..31], &list(), &expected()).unwrap_err(), header);
+    assert_eq!(verify(&log[..31], &list(), &expected(), NOTHING_REQUIRED).unwrap_err(), header);
     let last = refused("refused: log fault 1 at event 24", Kind::Log, 1, Some(24));
     assert_eq!(registers(&log[..log.len() - 1]).unwrap_err(), last);
 }
@@ -293,19 +310,23 @@ fn list_that_is_cut_is_refused() {
 fn expected_registers_of_another_form_are_refused() {
     let text = [expected(), format!("sha256 24 {}", "0".repeat(64)).into_bytes()].concat();
     let wanted = refused("refused: expected fault 1 at line 25", Kind::Expected, 1, Some(25));
-    assert_eq!(verify(&log(), &list(), &text).unwrap_err(), wanted);
+    assert_eq!(verify(&log(), &list(), &text, NOTHING_REQUIRED).unwrap_err(), wanted);
     let twice = [expected(), expected()].concat();
     let wanted = refused("refused: expected fault 2 at line 25", Kind::Expected, 2, Some(25));
-    assert_eq!(locate(&log(), &list(), &twice).unwrap_err(), wanted);
+    assert_eq!(locate(&log(), &list(), &twice, NOTHING_REQUIRED).unwrap_err(), wanted);
 }
 
 #[test]
 fn errors_say_what_is_wrong() {
     for (error, text) in [
-        (Error::Malformed, "the text names no registers in its form, as sha256:0-10 or 0-10"),
+        (refused("refused: log fault 2", Kind::Log, 2, None), "refused: log fault 2"),
+        (
+            refused("refused: command line", Kind::Argument, 0, None),
+            "refused: command line (no PCRs are named in the form sha256:0-10 or 0-10)",
+        ),
         (Error::OutOfMemory, "no memory for libima_verify"),
-        (Error::Unexpected { status: 5, needed: 10, text: Vec::new() }, "libima_verify answered status 5 and size 10"),
-        (Error::Version(1), "libima_verify has version 1 of the interface"),
+        (Error::Unexpected { result: 5, size: 10, text: Vec::new() }, "libima_verify gave the result 5 and the size 10"),
+        (Error::Version(0), "libima_verify has version 0 of the interface"),
     ] {
         assert_eq!(error.to_string(), text);
     }
@@ -315,22 +336,22 @@ fn errors_say_what_is_wrong() {
 fn input_is_taken_whole() {
     let text = ["\n".repeat(1 << 24).as_bytes(), b"x"].concat();
     let wanted = refused("refused: expected fault 1 at line 16777217", Kind::Expected, 1, Some((1 << 24) + 1));
-    assert_eq!(verify(&log(), &list(), &text).unwrap_err(), wanted);
+    assert_eq!(verify(&log(), &list(), &text, NOTHING_REQUIRED).unwrap_err(), wanted);
 }
 
 #[test]
 fn inputs_without_bytes() {
     let cut = refused("refused: log fault 1 at event 0", Kind::Log, 1, Some(0));
     assert_eq!(registers(&[]).unwrap_err(), cut);
-    assert_eq!(verify(&[], &[], &[]).unwrap_err(), cut);
+    assert_eq!(verify(&[], &[], &[], NOTHING_REQUIRED).unwrap_err(), cut);
     assert_eq!(show(&[]).unwrap(), b"");
-    let verdict = verify(&log(), &[], &expected()).unwrap();
+    let verdict = verify(&log(), &[], &expected(), NOTHING_REQUIRED).unwrap();
     assert_eq!((verdict.matches, verdict.entries, verdict.boot_aggregate), (false, 0, BootAggregate::Missing));
     for empty in ["", "\n", "\r\n\n"] {
-        let verdict = verify(&log(), &list(), empty.as_bytes()).unwrap();
+        let verdict = verify(&log(), &list(), empty.as_bytes(), NOTHING_REQUIRED).unwrap();
         assert_eq!((verdict.matches, verdict.compared(), verdict.boot_aggregate), (false, 0, BootAggregate::Good));
         assert_eq!(verdict.rows, []);
-        let places = locate(&log(), &list(), empty.as_bytes()).unwrap();
+        let places = locate(&log(), &list(), empty.as_bytes(), NOTHING_REQUIRED).unwrap();
         let json = r#"{"registers":[],"located":false}"#;
         assert_eq!((places.located, places.rows.len(), places.json.as_str()), (false, 0, json));
     }
@@ -346,10 +367,10 @@ fn registers_that_are_expected_have_rows() {
         format!("{} {register} {}\r\n", algorithm.name(), "0".repeat(2 * algorithm.digest_size()))
     };
     let text: String = all.iter().map(line).collect();
-    let verdict = verify(&log(), &list(), text.as_bytes()).unwrap();
+    let verdict = verify(&log(), &list(), text.as_bytes(), NOTHING_REQUIRED).unwrap();
     assert_eq!(verdict.rows.iter().map(|row| (row.algorithm, row.register)).collect::<Vec<_>>(), all);
     assert_eq!(verdict.compared(), 96);
-    let places = locate(&log(), &list(), text.as_bytes()).unwrap();
+    let places = locate(&log(), &list(), text.as_bytes(), NOTHING_REQUIRED).unwrap();
     assert_eq!(places.rows.iter().map(|row| (row.algorithm, row.register)).collect::<Vec<_>>(), all);
 }
 
@@ -408,21 +429,22 @@ fn log_of_any_one_bank_may_extend_register_10() {
 fn calls_at_once_give_what_they_give_alone() {
     const THREADS: usize = 8;
     let (log, list, longer, changed, expected) = (log(), list(), longer(), changed(), expected());
-    let (verdict, differing) = (verify(&log, &list, &expected), verify(&log, &longer, &expected));
-    let places = locate(&log, &longer, &expected);
+    let (verdict, differing) =
+        (verify(&log, &list, &expected, NOTHING_REQUIRED), verify(&log, &longer, &expected, NOTHING_REQUIRED));
+    let places = locate(&log, &longer, &expected, NOTHING_REQUIRED);
     assert!(verdict.is_ok() && differing.is_ok() && places.is_ok());
     let (after_log, ascii) = (registers_in(&sample("registers.txt")), sample("ima.ascii"));
     let start = Barrier::new(THREADS);
     let run = || {
         start.wait();
         for _ in 0..100 {
-            assert_eq!(verify(&log, &list, &expected), verdict);
-            assert_eq!(verify(&log, &longer, &expected), differing);
-            assert_eq!(locate(&log, &longer, &expected), places);
+            assert_eq!(verify(&log, &list, &expected, NOTHING_REQUIRED), verdict);
+            assert_eq!(verify(&log, &longer, &expected, NOTHING_REQUIRED), differing);
+            assert_eq!(locate(&log, &longer, &expected, NOTHING_REQUIRED), places);
             assert_eq!(registers(&log).as_ref(), Ok(&after_log));
             assert_eq!(show(&list).as_ref(), Ok(&ascii));
             let wanted = refused("refused: replay fault 1 at entry 5", Kind::Replay, 1, Some(5));
-            assert_eq!(verify(&log, &changed, &expected), Err(wanted));
+            assert_eq!(verify(&log, &changed, &expected, NOTHING_REQUIRED), Err(wanted));
         }
     };
     thread::scope(|scope| {

@@ -1,6 +1,6 @@
 //! Sessions on the sample's list as it grows.
 
-use crate::{verify, verify_required, Algorithm, BootAggregate, Error, Kind, Row, Session, State, Unconfirmed, Verdict};
+use crate::{verify, Algorithm, BootAggregate, Error, Kind, Row, Session, State, Unconfirmed, Verdict, NOTHING_REQUIRED};
 
 /// Register 10 after so many entries of the list, by Python's hashlib.
 const TENTHS: [(usize, &str); 5] = [
@@ -40,12 +40,12 @@ impl Sample {
     }
 
     fn session(&self) -> Session {
-        Session::new(&self.log, &self.expected)
+        Session::new(&self.log, &self.expected, NOTHING_REQUIRED)
     }
 
     /// A session on the expected registers, with register 10 as it is after so many entries.
     fn session_of(&self, count: usize) -> Session {
-        Session::new(&self.log, &self.tenth_after(count))
+        Session::new(&self.log, &self.tenth_after(count), NOTHING_REQUIRED)
     }
 
     fn tenth_after(&self, count: usize) -> Vec<u8> {
@@ -100,10 +100,18 @@ fn refused(line: &str, kind: Kind, number: u64, place: Option<u64>) -> Error {
     Error::Refused { line: line.to_owned(), kind, number, place }
 }
 
-/// The data is refused, and the session stays as it was.
+/// The data is refused, and the session is as it was.
 fn check_refused(session: &mut Session, data: &[u8], wanted: Error) {
     let before = (session.state().map(<[u8]>::to_vec), session.offset());
     assert_eq!(session.more(data).unwrap_err(), wanted);
+    assert_eq!((session.state().map(<[u8]>::to_vec), session.offset()), before);
+}
+
+/// The requirement is refused, and the session is as it was.
+fn check_argument(session: &mut Session, data: &[u8]) {
+    let before = (session.state().map(<[u8]>::to_vec), session.offset());
+    let error = session.more(data).unwrap_err();
+    assert!(matches!(error, Error::Refused { kind: Kind::Argument, number: 0, place: None, .. }), "{error:?}");
     assert_eq!((session.state().map(<[u8]>::to_vec), session.offset()), before);
 }
 
@@ -116,7 +124,7 @@ fn check_front(verdict: Verdict, entries: u64, confirmed: u64, unconfirmed: Opti
 fn list_in_two_parts_is_as_the_whole() {
     let boot = Sample::new();
     assert_eq!(boot.ends.len(), 100);
-    let whole = verify(&boot.log, &boot.list, &boot.expected).unwrap();
+    let whole = verify(&boot.log, &boot.list, &boot.expected, NOTHING_REQUIRED).unwrap();
     for cut in CUTS {
         let mut session = boot.session().resume(&boot.state_after(cut)).unwrap();
         assert_eq!((session.state(), session.offset()), (Some(&boot.state_after(cut)[..]), boot.ends[cut] as u64));
@@ -149,16 +157,16 @@ fn only_a_match_moves_the_session() {
 #[test]
 fn list_in_many_parts() {
     let boot = Sample::new();
-    let mut session = Session::new(&boot.log, &boot.first(10)).require("sha256:0-9"); // (of which each front is a match)
+    let mut session = Session::new(&boot.log, &boot.first(10), "sha256:0-9"); // (of which each front is a match)
     for (start, end) in boot.ends.iter().zip(&boot.ends[1..]) {
         let verdict = session.more(&boot.list[*start..*end]).unwrap();
         assert_eq!((verdict.matches, session.offset()), (true, *end as u64));
     }
-    let mut session = boot.session().require("sha256:0-10").resume(session.state().unwrap()).unwrap();
-    let whole = verify_required(&boot.log, &boot.list, &boot.expected, "sha256:0-10");
+    let mut session = Session::new(&boot.log, &boot.expected, "sha256:0-10").resume(session.state().unwrap()).unwrap();
+    let whole = verify(&boot.log, &boot.list, &boot.expected, "sha256:0-10");
     assert_eq!(session.more(b""), whole);
     let longer = [&boot.list, boot.from(98)].concat();
-    assert_eq!(session.more(boot.from(98)), verify_required(&boot.log, &longer, &boot.expected, "sha256:0-10"));
+    assert_eq!(session.more(boot.from(98)), verify(&boot.log, &longer, &boot.expected, "sha256:0-10"));
 }
 
 #[test]
@@ -170,7 +178,7 @@ fn another_session_goes_on_from_the_state() {
         assert_eq!((session.state(), session.offset()), (Some(&state[..]), boot.ends[cut] as u64));
         assert!(matches!(session.more(boot.from(cut)).unwrap().rows[10].state, State::Differ(_)));
         let mut later = boot.session().resume(session.state().unwrap()).unwrap();
-        assert_eq!(later.more(boot.from(cut)), verify(&boot.log, &boot.list, &boot.expected));
+        assert_eq!(later.more(boot.from(cut)), verify(&boot.log, &boot.list, &boot.expected, NOTHING_REQUIRED));
     }
 }
 
@@ -203,15 +211,15 @@ fn refusals_leave_the_session_as_it_was() {
         assert!(session.more(&boot.list[start..]).unwrap().matches);
     }
     let wanted = refused("refused: log fault 1 at event 24", Kind::Log, 1, Some(24));
-    check_refused(&mut Session::new(&boot.log[..boot.log.len() - 1], &boot.expected), &boot.list, wanted);
+    check_refused(&mut Session::new(&boot.log[..boot.log.len() - 1], &boot.expected, NOTHING_REQUIRED), &boot.list, wanted);
     let wanted = refused("refused: expected fault 1 at line 1", Kind::Expected, 1, Some(1));
-    check_refused(&mut Session::new(&boot.log, b"x"), &boot.list, wanted);
+    check_refused(&mut Session::new(&boot.log, b"x", NOTHING_REQUIRED), &boot.list, wanted);
 }
 
 #[test]
 fn sessions_at_once_give_what_they_give_alone() {
     let boot = Sample::new();
-    let wanted = CUTS.map(|cut| verify(&boot.log, boot.until(cut), &boot.tenth_after(cut)));
+    let wanted = CUTS.map(|cut| verify(&boot.log, boot.until(cut), &boot.tenth_after(cut), NOTHING_REQUIRED));
     std::thread::scope(|scope| {
         for _ in 0..8 {
             scope.spawn(|| {
@@ -236,17 +244,18 @@ fn required_registers_of_a_session() {
     let boot = Sample::new();
     let text = String::from_utf8(boot.expected.clone()).unwrap();
     let text = &text[..text.find("sha256 23 ").unwrap()];
-    for session in [Session::new(&boot.log, text.as_bytes()), Session::new(&boot.log, text.as_bytes()).prefix()] {
-        let verdict = session.require("sha256:0-23,sha1:10").more(&boot.list).unwrap();
+    let new = || Session::new(&boot.log, text.as_bytes(), "sha256:0-23,sha1:10");
+    for mut session in [new(), new().prefix()] {
+        let verdict = session.more(&boot.list).unwrap();
         let missing = |(algorithm, register)| Row { algorithm, register, state: State::Missing };
         assert_eq!(verdict.rows[23..], [(Algorithm::Sha1, 10), (Algorithm::Sha256, 23)].map(missing));
         assert_eq!((verdict.matches, verdict.compared(), verdict.confirmed), (false, 23, None));
     }
     for wrong in ["", "sha256", "sha256:24", "sha256:10-0", "sha256:0-10,", " ", "None", "none ", "\u{e4}"] {
-        check_refused(&mut Session::new(b"", b"x").require(wrong), b"", Error::Malformed);
-        check_refused(&mut boot.session().require(wrong), &boot.list, Error::Malformed);
+        check_argument(&mut Session::new(b"", b"x", wrong), b"");
+        check_argument(&mut Session::new(&boot.log, &boot.expected, wrong), &boot.list);
     }
-    let nothing = || Session::new(&boot.log, b"");
+    let nothing = || Session::new(&boot.log, b"", NOTHING_REQUIRED);
     for mut session in [nothing(), nothing().prefix(), nothing().resume(&boot.state_after(50)).unwrap()] {
         let verdict = session.more(&boot.list[session.offset() as usize..]).unwrap();
         assert_eq!((verdict.matches, verdict.confirmed, verdict.rows.len()), (false, None, 0));
@@ -260,13 +269,11 @@ fn requirement_of_a_resumed_session_holds() {
     let ten = boot.first(10);
     for cut in [0, 1, 50, 99] {
         let state = boot.state_after(cut);
-        let new = || Session::new(&boot.log, &ten);
+        let new = |require| Session::new(&boot.log, &ten, require);
         for mut session in [
-            new().require("sha256:0-10").resume(&state).unwrap(),
-            new().resume(&state).unwrap().require("sha256:0-10"),
-            new().require("sha256:0-10").prefix().resume(&state).unwrap(),
-            new().require("sha256:0-10").resume(&state).unwrap().prefix(),
-            new().prefix().resume(&state).unwrap().require("sha256:0-10"),
+            new("sha256:0-10").resume(&state).unwrap(),
+            new("sha256:0-10").prefix().resume(&state).unwrap(),
+            new("sha256:0-10").resume(&state).unwrap().prefix(),
         ] {
             assert_eq!((session.state(), session.offset()), (Some(&state[..]), boot.ends[cut] as u64));
             for _ in 0..2 {
@@ -275,8 +282,8 @@ fn requirement_of_a_resumed_session_holds() {
                 assert_eq!((verdict.matches, &verdict.rows[10..]), (false, &[missing][..]));
             }
         }
-        for session in [new().require("sha256:0-9"), new(), new().require("none")] {
-            assert!(session.resume(&state).unwrap().more(boot.from(cut)).unwrap().matches);
+        for require in ["sha256:0-9", NOTHING_REQUIRED, "none"] {
+            assert!(new(require).resume(&state).unwrap().more(boot.from(cut)).unwrap().matches);
         }
     }
 }
@@ -285,14 +292,12 @@ fn requirement_of_a_resumed_session_holds() {
 fn front_that_the_registers_confirm() {
     let boot = Sample::new();
     for count in [1, 2, 50, 97, 98, 99] {
-        let new = || boot.session_of(count);
-        for mut session in [new().require("sha256:0-10").prefix(), new().prefix().require("sha256:0-10")] {
-            check_front(session.more(&boot.list).unwrap(), 99, count as u64, None);
-            assert_eq!((session.state(), session.offset()), (Some(&boot.state_after(count)[..]), boot.ends[count] as u64));
-        }
+        let mut session = Session::new(&boot.log, &boot.tenth_after(count), "sha256:0-10").prefix();
+        check_front(session.more(&boot.list).unwrap(), 99, count as u64, None);
+        assert_eq!((session.state(), session.offset()), (Some(&boot.state_after(count)[..]), boot.ends[count] as u64));
     }
     // (without register 10 nothing speaks for more than the boot aggregate)
-    check_front(Session::new(&boot.log, &boot.first(10)).prefix().more(&boot.list).unwrap(), 99, 1, None);
+    check_front(Session::new(&boot.log, &boot.first(10), NOTHING_REQUIRED).prefix().more(&boot.list).unwrap(), 99, 1, None);
 }
 
 #[test]
@@ -323,7 +328,8 @@ fn damage_after_the_front_is_told() {
     ] {
         let line = format!("{} fault {number} at entry {place}", if kind == Kind::List { "list" } else { "replay" });
         for cut in [0, 1, 50, 97] {
-            let mut session = boot.session_of(97).require("sha256:10").prefix().resume(&boot.state_after(cut)).unwrap();
+            let new = Session::new(&boot.log, &boot.tenth_after(97), "sha256:10");
+            let mut session = new.prefix().resume(&boot.state_after(cut)).unwrap();
             let wanted = Unconfirmed { line: format!("unconfirmed: {line}"), kind, number, entry: place };
             check_front(session.more(&list[boot.ends[cut]..]).unwrap(), entries, 97, Some(wanted));
             assert_eq!(session.state(), Some(&boot.state_after(97)[..]));
@@ -340,10 +346,11 @@ fn damage_after_the_front_is_told() {
 fn list_without_a_front_is_as_without_prefix() {
     let boot = Sample::new();
     let nowhere = format!("sha256 10 {}", "1".repeat(64));
-    for mut session in [Session::new(&boot.log, nowhere.as_bytes()), Session::new(&boot.log, nowhere.as_bytes()).prefix()] {
+    let new = || Session::new(&boot.log, nowhere.as_bytes(), NOTHING_REQUIRED);
+    for mut session in [new(), new().prefix()] {
         let wanted = refused("refused: replay fault 1 at entry 5", Kind::Replay, 1, Some(5));
         check_refused(&mut session, &boot.forged(5), wanted);
-        assert_eq!(session.more(&boot.list), verify(&boot.log, &boot.list, nowhere.as_bytes()));
+        assert_eq!(session.more(&boot.list), verify(&boot.log, &boot.list, nowhere.as_bytes(), NOTHING_REQUIRED));
         assert_eq!(session.state(), None);
     }
 }
@@ -394,14 +401,18 @@ fn state_of_another_boot_or_list_gives_no_match() {
     // (another event, of register 16, which is in no boot aggregate: the list matches)
     let event = [&[16, 0, 0, 0, 13, 0, 0, 0, 1, 0, 0, 0, 0x0b, 0][..], &[1; 32], &[0; 4]].concat();
     let other = [&boot.log[..], &event].concat();
-    let mut session = Session::new(&other, &boot.first(11)).require("sha256:0-10");
+    let mut session = Session::new(&other, &boot.first(11), "sha256:0-10");
     assert!(session.more(&boot.list).unwrap().matches);
     boot.check_no_state(session.state().unwrap(), 3);
     let wanted = refused("refused: checkpoint fault 3", Kind::Checkpoint, 3, None);
-    check_refused(&mut Session::new(&other, &boot.expected).resume(&boot.state_after(99)).unwrap(), b"", wanted);
+    check_refused(
+        &mut Session::new(&other, &boot.expected, NOTHING_REQUIRED).resume(&boot.state_after(99)).unwrap(),
+        b"",
+        wanted,
+    );
 
     let expected = [boot.first(10), format!("sha256 10 {FOREIGN_TENTH}\n").into_bytes()].concat();
-    let mut foreign = Session::new(&boot.log, &expected);
+    let mut foreign = Session::new(&boot.log, &expected, NOTHING_REQUIRED);
     assert!(foreign.more(&[boot.until(50), &boot.list[boot.ends[51]..boot.ends[60]]].concat()).unwrap().matches);
     let state = foreign.state().unwrap();
     for cut in [50, 51, 59, 60] {

@@ -1,102 +1,116 @@
-//! The functions of libima_verify, as `ima_verify.h` declares them: it says what each takes and gives, and what a caller must keep. The crate
-//! `ima_verify` calls them safely.
+//! The raw functions of libima_verify, as `ima_verify.h` declares them for other languages than C. The header says what each
+//! function takes and gives, and what a caller must keep. The crate `ima-verify` calls them safely.
 
 #![no_std]
 #![deny(missing_docs)]
 
-/// The version of the interface that is declared here. A library whose [`ima_verify_version`] is this one or later has all of it.
-pub const IMA_VERIFY_VERSION: u32 = 2;
+/// The version of the interface that is declared here. A library whose [`ima_verify_version`] is this one or later has all of
+/// it.
+pub const IMA_VERIFY_VERSION: u32 = 1;
 
-/// The text is complete. A verdict is `match`; of places, every value was reached and none is missing.
+/// The text is complete. A verdict is `match`; for places, every value was reached and none is missing. For entries or events,
+/// these are the last.
 pub const IMA_VERIFY_DONE: i32 = 0;
-/// The text is complete. A verdict is `differ`; of places, a value was not reached or one is missing.
+/// The text is complete. A verdict is `differ`; for places, a value was not reached or one is missing.
 pub const IMA_VERIFY_DIFFERS: i32 = 1;
 /// An input is refused, and the text is the line that says why.
 pub const IMA_VERIFY_REFUSED: i32 = 2;
 /// Memory ran out.
 pub const IMA_VERIFY_OUT_OF_MEMORY: i32 = 3;
-/// A buffer is too short for its text, and all are as they were.
+/// There is too little room for the text, and nothing was written.
 pub const IMA_VERIFY_TOO_SHORT: i32 = 4;
+/// The text has whole lines of entries or events, and there are more.
+pub const IMA_VERIFY_MORE: i32 = 5;
+/// An argument is none that a function takes. Nothing was read or written.
+pub const IMA_VERIFY_MISUSED: i32 = 6;
 
-/// Declares functions of one shape: inputs, each a pointer and a size, and then the output.
-macro_rules! functions {
-    ($($(#[$doc:meta])* $name:ident($($input:ident $size:ident),*);)*) => {
-        extern "C" {
-            $(
-                $(#[$doc])*
-                pub fn $name($($input: *const u8, $size: usize,)* out: *mut u8, out_size: usize, needed: *mut usize) -> i32;
-            )*
-        }
+/// There is no error.
+pub const IMA_VERIFY_NO_FAULT: u32 = 0;
+/// `require` or `registers` is not of its form.
+pub const IMA_VERIFY_ARGUMENT: u32 = 1;
+/// The firmware event log; the place is an event's.
+pub const IMA_VERIFY_LOG: u32 = 2;
+/// The measurement list; the place is an entry's.
+pub const IMA_VERIFY_LIST: u32 = 3;
+/// The template digest of an entry is not valid; the place is the entry's.
+pub const IMA_VERIFY_REPLAY: u32 = 4;
+/// The expected PCRs, or what tpm2-tools printed; the place is a line's.
+pub const IMA_VERIFY_EXPECTED: u32 = 5;
+/// The checkpoint.
+pub const IMA_VERIFY_CHECKPOINT: u32 = 6;
+/// Memory ran out.
+pub const IMA_VERIFY_MEMORY: u32 = 7;
 
-        #[cfg(test)]
-        const DECLARED: &[(&str, &[&str])] = &[$((stringify!($name), &[$(stringify!($input)),*])),*];
-    };
-}
+/// The place of an error that names none.
+pub const IMA_VERIFY_NO_PLACE: u64 = u64::MAX;
 
-functions! {
-    /// The verdict on a log, a list and expected registers.
-    ima_verify_verdict(log log_size, list list_size, expected expected_size);
-    /// The verdict of [`ima_verify_verdict`] as JSON.
-    ima_verify_verdict_json(log log_size, list list_size, expected expected_size);
-    /// The verdict where `require` names registers that must be among the expected ones.
-    ima_verify_required(log log_size, list list_size, expected expected_size, require require_size);
-    /// The verdict of [`ima_verify_required`] as JSON.
-    ima_verify_required_json(log log_size, list list_size, expected expected_size, require require_size);
-    /// Where each expected register first has its value.
-    ima_verify_locate(log log_size, list list_size, expected expected_size);
-    /// The places of [`ima_verify_locate`] as JSON.
-    ima_verify_locate_json(log log_size, list list_size, expected expected_size);
-    /// The places where `require` names registers that must be among the expected ones.
-    ima_verify_locate_required(log log_size, list list_size, expected expected_size, require require_size);
-    /// The places of [`ima_verify_locate_required`] as JSON.
-    ima_verify_locate_required_json(log log_size, list list_size, expected expected_size, require require_size);
-    /// The verdict on a list without a log.
-    ima_verify_replay_required(list list_size, expected expected_size, require require_size);
-    /// The verdict of [`ima_verify_replay_required`] as JSON.
-    ima_verify_replay_required_json(list list_size, expected expected_size, require require_size);
-    /// The registers after a list without a log, as JSON.
-    ima_verify_replay_json(list list_size);
-    /// The expected registers that a text which tpm2-tools printed states.
-    ima_verify_expected(printed printed_size, registers registers_size);
-    /// The registers after a log.
-    ima_verify_registers(log log_size);
-    /// The registers of [`ima_verify_registers`] as JSON.
-    ima_verify_registers_json(log log_size);
-    /// The algorithms and the events of a log, as lines of JSON.
-    ima_verify_events_json(log log_size);
-    /// The entries of a list.
-    ima_verify_show(list list_size);
-    /// The entries of a list as lines of JSON.
-    ima_verify_entries_json(list list_size);
+/// What a call reports of its text. It is set in any case.
+#[repr(C)]
+#[derive(Debug, Clone, Copy, PartialEq, Eq)]
+#[allow(non_camel_case_types)]
+pub struct ima_verify_told {
+    /// The size of the text.
+    pub size: usize,
+    /// What is refused, or [`IMA_VERIFY_NO_FAULT`].
+    pub fault_kind: u32,
+    /// The number of the error among those of its kind; 0 where they have none.
+    pub fault_number: u32,
+    /// Where the error is, or [`IMA_VERIFY_NO_PLACE`].
+    pub fault_place: u64,
 }
 
 extern "C" {
     /// The version of the library's interface.
     pub fn ima_verify_version() -> u32;
 
-    /// The verdict on a list that grows, and the checkpoint to go on from.
-    pub fn ima_verify_more(
+    /// The verdict on a log, a list and expected PCRs.
+    pub fn ima_verify_raw_verdict(
         log: *const u8,
         log_size: usize,
-        state: *const u8,
-        state_size: usize,
-        more: *const u8,
-        more_size: usize,
+        list: *const u8,
+        list_size: usize,
         expected: *const u8,
         expected_size: usize,
         require: *const u8,
         require_size: usize,
-        prefix: bool,
-        next: *mut u8,
-        next_size: usize,
-        next_needed: *mut usize,
+        json: bool,
         out: *mut u8,
-        out_size: usize,
-        needed: *mut usize,
+        room: usize,
+        told: *mut ima_verify_told,
     ) -> i32;
 
-    /// The verdict of [`ima_verify_more`] as JSON.
-    pub fn ima_verify_more_json(
+    /// Where each expected PCR first has its value.
+    pub fn ima_verify_raw_locate(
+        log: *const u8,
+        log_size: usize,
+        list: *const u8,
+        list_size: usize,
+        expected: *const u8,
+        expected_size: usize,
+        require: *const u8,
+        require_size: usize,
+        json: bool,
+        out: *mut u8,
+        room: usize,
+        told: *mut ima_verify_told,
+    ) -> i32;
+
+    /// The verdict on a list without a log.
+    pub fn ima_verify_raw_replay(
+        list: *const u8,
+        list_size: usize,
+        expected: *const u8,
+        expected_size: usize,
+        require: *const u8,
+        require_size: usize,
+        json: bool,
+        out: *mut u8,
+        room: usize,
+        told: *mut ima_verify_told,
+    ) -> i32;
+
+    /// The verdict on a list that grows, and the checkpoint to continue from.
+    pub fn ima_verify_raw_more(
         log: *const u8,
         log_size: usize,
         state: *const u8,
@@ -108,12 +122,59 @@ extern "C" {
         require: *const u8,
         require_size: usize,
         prefix: bool,
+        json: bool,
         next: *mut u8,
-        next_size: usize,
-        next_needed: *mut usize,
+        next_room: usize,
+        next_size: *mut usize,
         out: *mut u8,
-        out_size: usize,
-        needed: *mut usize,
+        room: usize,
+        told: *mut ima_verify_told,
+    ) -> i32;
+
+    /// The expected PCRs that a text which tpm2-tools printed states.
+    pub fn ima_verify_raw_expected(
+        printed: *const u8,
+        printed_size: usize,
+        registers: *const u8,
+        registers_size: usize,
+        json: bool,
+        out: *mut u8,
+        room: usize,
+        told: *mut ima_verify_told,
+    ) -> i32;
+
+    /// The PCRs after a log, or after a list without a log.
+    pub fn ima_verify_raw_registers(
+        bytes: *const u8,
+        size: usize,
+        of_list: bool,
+        json: bool,
+        out: *mut u8,
+        room: usize,
+        told: *mut ima_verify_told,
+    ) -> i32;
+
+    /// The algorithms and the events of a log from a position on, as lines of JSON.
+    pub fn ima_verify_raw_events(
+        log: *const u8,
+        log_size: usize,
+        offset: *mut usize,
+        number: *mut usize,
+        out: *mut u8,
+        room: usize,
+        told: *mut ima_verify_told,
+    ) -> i32;
+
+    /// The entries of a list from a position on.
+    pub fn ima_verify_raw_entries(
+        list: *const u8,
+        list_size: usize,
+        offset: *mut usize,
+        number: *mut usize,
+        json: bool,
+        out: *mut u8,
+        room: usize,
+        told: *mut ima_verify_told,
     ) -> i32;
 }
 

@@ -4,12 +4,13 @@ ghost use Rattle.std.specs.Prelude.{◌≡◌, ℕ, List, Option, option_map};
 ghost use Rattle.pcr_banks.specs.declared.alg.Alg.{Alg};
 ghost use Rattle.pcr_banks.specs.Digests.{alg_of, bytes_of, digest_of};
 ghost use Rattle.byte_streams.specs.Streams.{Sends};
-ghost use Rattle.boot_verdict.specs.RegisterTexts.{register_line, register_change, change_line, bank_text, registers_text};
+ghost use Rattle.boot_verdict.specs.RegisterTexts.{register_line, register_change, change_line, registers_text};
 
 use super::digits::digits_of;
+use crate::all_registers::{ALL_REGISTERS, register_numbered};
 use byte_streams::{Failed, Sink, send_pieces};
 use itoa::Buffer;
-use pcr_banks::{Alg, Banks, Digest, MOST_DIGITS, REGISTERS};
+use pcr_banks::{Alg, Banks, Digest, MOST_DIGITS};
 
 fn write_register_line<S: Sink>(register: u32, value: &Digest, sink: &mut S) -> Result<(), Failed>
     ensures { Sends (S.state sink.old) (S.state sink.new) result (register_line (alg_of value.now) register (bytes_of value.now)) }
@@ -57,15 +58,6 @@ pub fn write_change<S: Sink>(
     }
 }
 
-fn write_bank<S: Sink>(now: &Banks, start: &Banks, alg: Alg, sink: &mut S) -> Result<(), Failed>
-    ensures { Sends (S.state sink.old) (S.state sink.new) result (bank_text now.now start.now alg) }
-{
-    for register in 0..REGISTERS {
-        write_register(now, start, alg, register, sink)?;
-    }
-    Ok(())
-}
-
 /// Writes a line for each register whose value in `now` differs from that in `start`, or whose bank `start` lacks: by bank in the
 /// order of [`Alg::ALL`], then by register.
 ///
@@ -74,8 +66,9 @@ fn write_bank<S: Sink>(now: &Banks, start: &Banks, alg: Alg, sink: &mut S) -> Re
 pub fn write_registers<S: Sink>(now: &Banks, start: &Banks, sink: &mut S) -> Result<(), Failed>
     ensures { Sends (S.state sink.old) (S.state sink.new) result (registers_text now.now start.now) }
 {
-    for alg in &Alg::ALL {
-        write_bank(now, start, *alg, sink)?;
+    for number in 0..ALL_REGISTERS {
+        let (alg, register) = register_numbered(number);
+        write_register(now, start, alg, register, sink)?;
     }
     Ok(())
 }

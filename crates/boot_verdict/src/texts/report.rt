@@ -66,7 +66,8 @@ pub(super) fn write_aggregate<S: Sink>(aggregate: Aggregate, sink: &mut S) -> Re
     send_pieces(&[b"boot_aggregate ", word, b"\n"], sink)
 }
 
-fn aggregate_word(aggregate: Aggregate) -> &'static str
+/// The state of a boot aggregate in one word.
+pub fn aggregate_word(aggregate: Aggregate) -> &'static str
     ensures { result.now ≡ aggregate_word aggregate }
 {
     match aggregate {

@@ -2,17 +2,18 @@
 
 ghost use Rattle.std.specs.Prelude.{map};
 ghost use Rattle.byte_streams.specs.Streams.{Sends};
-ghost use Rattle.boot_verdict.specs.RequiredTexts.{compared_text, line_if_missing, missing_in, missing_line, missing_text, required_outcome_text, required_places_text, required_report_text};
+ghost use Rattle.boot_verdict.specs.RequiredTexts.{compared_text, line_if_missing, missing_line, missing_text, required_outcome_text, required_places_text, required_report_text};
 ghost use Rattle.boot_verdict.specs.Verdicts.{verdict_of};
 
 use super::places::{found_line, write_all};
 use super::report::{verdict_line, write_aggregate, write_counts, write_rows};
+use crate::all_registers::{ALL_REGISTERS, register_numbered};
 use crate::places::{Located, required_found};
 use crate::report::Report;
 use crate::requirement::{HasExpected, Requirement};
 use byte_streams::{Failed, Sink, send, send_pieces};
 use itoa::Buffer;
-use pcr_banks::{Alg, REGISTERS};
+use pcr_banks::Alg;
 
 /// Writes a report as [`crate::write_report`] does, with two differences. After the line with the number of entries is one with
 /// the number of expected registers, `compared 24`. And after the lines of these is one for each required register that is not
@@ -70,6 +71,7 @@ pub fn write_required_places<S: Sink>(
     send(found_line(required_found(located, requirement)), sink)
 }
 
+/// Writes the line of each required register that has none of these rows.
 pub(super) fn write_missing<T: HasExpected, S: Sink>(
     requirement: &Requirement,
     rows: &[T],
@@ -77,22 +79,8 @@ pub(super) fn write_missing<T: HasExpected, S: Sink>(
 ) -> Result<(), Failed>
     ensures { Sends (S.state sink.old) (S.state sink.new) result (missing_text requirement.now (map T.expected_of rows.now)) }
 {
-    for alg in &Alg::ALL {
-        write_missing_in(requirement, rows, *alg, sink)?;
-    }
-    Ok(())
-}
-
-// The same of the registers of one bank.
-fn write_missing_in<T: HasExpected, S: Sink>(
-    requirement: &Requirement,
-    rows: &[T],
-    alg: Alg,
-    sink: &mut S,
-) -> Result<(), Failed>
-    ensures { Sends (S.state sink.old) (S.state sink.new) result (missing_in requirement.now (map T.expected_of rows.now) alg) }
-{
-    for register in 0..REGISTERS {
+    for number in 0..ALL_REGISTERS {
+        let (alg, register) = register_numbered(number);
         write_if_missing(requirement, rows, alg, register, sink)?;
     }
     Ok(())
@@ -109,7 +97,7 @@ fn write_if_missing<T: HasExpected, S: Sink>(
     ensures { Sends (S.state sink.old) (S.state sink.new) result
         (line_if_missing requirement.now (map T.expected_of rows.now) alg register) }
 {
-    if requirement.lacks(rows, alg, register) {
+    if requirement.is_missing(rows, alg, register) {
         return write_line(alg, register, sink);
     }
     Ok(())

@@ -32,7 +32,7 @@ pub record TakesVerdict (log taken : List ℕ) (old new : Option (List ℕ)) (li
   pub takes : TakesMore log taken old new limit after
   pub verdict_is : IsVerdict log (taken ++ takes.more) expected verdict
 
--- The same, whatever list it had taken before.
+-- It has, whatever list it had taken before.
 abbrev pub JudgesWhole : Where → Option (List ℕ) → Option (List ℕ) → List Expected → Session → Session → Report → Type 0
 JudgesWhole place old new expected before after report =
     (log taken : List ℕ) → HasTaken log taken before

@@ -7,6 +7,5 @@ use Rattle.json_texts.proofs.expected.write_each.Given as goal
 abbrev pub invariant-loop-register : goal.invariant-loop-register
 invariant-loop-register l = record {
   before : l.writer.before ≡ l.initial.writer.before;
-  tokens : l.writer.tokens
-      ≡ l.initial.writer.tokens ++ flat_map (λ e. items_written (value_within l.range e)) (take l.register-index l.expected);
+  tokens : l.writer.tokens ≡ l.initial.writer.tokens ++ items_written (flat_map (value_within l.range) (take l.register-index l.expected));
 }

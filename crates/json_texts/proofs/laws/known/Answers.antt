@@ -1,4 +1,4 @@
-use Rattle.std.proofs.Common.{subst, ◌∙◌}
+use Rattle.std.proofs.Common.{subst}
 use Rattle.hex.specs.Hex.{IsBytes}
 use Rattle.json_texts.proofs.laws.known.Goals as goal
 
@@ -8,5 +8,5 @@ returns c = record {
   digest_bytes = subst IsBytes c.digest-digest.ensures c.are_bytes.ensures;
   name_bytes = subst IsBytes c.name.ensures.value c.are_bytes-2.ensures;
   payload_bytes = subst IsBytes c.payload.ensures.value c.are_bytes-3.ensures;
-  has = λ fields is. (c.fields.ensures.made fields).0 (c.fields.ensures.value ∙ is);
+  fields = c.known_fields.ensures;
 }

@@ -8,7 +8,7 @@ returns-clause-tokens c =
     rw (
       c.in_ok-end_object.ensures.ok,
       c.in_ok-end_array.ensures.ok,
-      c.in_ok-write_banks.ensures.tokens,
+      c.in_ok-write_each.ensures.tokens,
       c.in_ok-begin_array.ensures.ok,
       c.in_ok-key.ensures.ok,
       c.in_ok-begin_object.ensures.ok,

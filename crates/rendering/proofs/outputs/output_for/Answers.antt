@@ -11,6 +11,11 @@ returns-in_err-save-clause-fault g c =
     let p = err_from_is_err_and c.from_residual-in_err-save.result c.from_residual-in_err-save.ensures.1 in
     rw (p.1, p.2) (inr (c.in_ok-given.given, c.in_ok-given.ensures.answer, c.in_err-save.ensures.fault))
 
+pub returns-in_err-output-clause-fault : goal.returns-in_err-output-clause-fault
+returns-in_err-output-clause-fault g c =
+    let p = err_from_is_err_and c.from_residual-in_err-output.result c.from_residual-in_err-output.ensures.1 in
+    rw (p.1, p.2) (inl (inr (refl, (c.in_ok-given.given, c.in_ok-given.ensures.answer))))
+
 pub returns-clause-shown : goal.returns-clause-shown
 returns-clause-shown g c = (
   c.in_ok-given.given.next,

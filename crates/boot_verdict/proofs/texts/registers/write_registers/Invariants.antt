@@ -1,10 +1,10 @@
 use Rattle.std.proofs.Common.{take}
 use Rattle.std.specs.Prelude.{flat_map}
-use Rattle.pcr_banks.specs.Hashing.{all_algs}
 use Rattle.byte_streams.proofs.SinkLaws.{Sent}
-use Rattle.boot_verdict.specs.RegisterTexts.{bank_text}
+use Rattle.boot_verdict.specs.RegisterTexts.{every_register, register_change}
 use Rattle.boot_verdict.proofs.texts.registers.write_registers.Given as goal
 
-abbrev pub invariant-loop-alg : goal.invariant-loop-alg
-invariant-loop-alg g l = Sent (g.S.Sink.state l.initial.sink) (g.S.Sink.state l.sink)
-    (flat_map (bank_text l.now l.start) (take l.alg-index all_algs))
+abbrev pub invariant-loop-number : goal.invariant-loop-number
+invariant-loop-number g l =
+    Sent (g.S.Sink.state l.initial.sink) (g.S.Sink.state l.sink)
+    (flat_map (λ register. register_change l.now l.start register.0 register.1) (take l.number every_register))

@@ -1,9 +1,0 @@
-use Rattle.std.proofs.Common.{ℕ, ◌<◌}
-use Rattle.ima_agent.specs.Measuring.{HasFile}
-use Rattle.ima_agent.specs.parts.Measuring.{names_lent}
-use Rattle.ima_agent.proofs.named_files.NamedFiles.check.Given as goal
-
--- Each file so far was read.
-abbrev pub invariant-loop-index : goal.invariant-loop-index
-invariant-loop-index g l =
-    (earlier : ℕ) → earlier < l.index → HasFile (g.S.SharedFiles.held l.self.files.now) (names_lent l.self.names.now) earlier

@@ -1,9 +1,0 @@
-use Rattle.std.proofs.Common.{length}
-use Rattle.ima_agent.proofs.ShowingLaws.{HasCounted}
-use Rattle.ima_agent.proofs.showing.entries_within.Given as goal
-
-abbrev pub invariant-loop-rest : goal.invariant-loop-rest
-invariant-loop-rest l = HasCounted l.room l.list l.text.items l.rest l.size l.number
-
-abbrev pub decreases-loop-rest : goal.decreases-loop-rest
-decreases-loop-rest l = length l.rest

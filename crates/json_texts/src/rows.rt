@@ -1,0 +1,144 @@
+//! Rows of registers, and the required registers that have none.
+
+ghost use Rattle.std.specs.Prelude.{◌≡◌, List, [], ◌∷◌, codes, map, Some, option_map};
+ghost use Rattle.json.specs.Json.{string};
+ghost use Rattle.json_texts.specs.JsonValues.{Member, array_of};
+ghost use Rattle.json_texts.specs.RegisterJson.{missing_among, row_json, rows_values, value_if_missing};
+ghost use Rattle.json_texts.specs.parts.WrittenParts.{WritesItems, WritesMembers, WritesValue};
+
+use crate::members::write_text;
+use crate::registers::write_register_members;
+use boot_verdict::{ALL_REGISTERS, HasExpected, Requirement, register_numbered};
+use json::Writer;
+use pcr_banks::Alg;
+use std::alloc::{AllocError, Global};
+
+/// A row that says something of an expected register.
+pub(crate) trait Says {
+    ghost members_of: { Self → List Member };
+
+    /// Writes what it says of the register.
+    fn write_members(&self, alloc: Global, writer: &mut Writer) -> Result<(), AllocError>
+        ensures before { writer.new.before ≡ writer.old.before }
+        ensures tokens { WritesMembers result writer.old writer.new (members_of self.now) };
+}
+
+/// Writes the member `registers` of the rows, and of the required registers that have none: there the member of this name says that they
+/// are missing.
+pub(crate) fn write_rows<T: HasExpected + Says>(
+    alloc: Global,
+    name: &str,
+    rows: &[T],
+    requirement: Option<&Requirement>,
+    writer: &mut Writer,
+) -> Result<(), AllocError>
+    ensures before { writer.new.before ≡ writer.old.before }
+    ensures tokens { WritesMembers result writer.old writer.new
+        ((
+          codes "registers",
+          array_of (rows_values name.now T.expected_of T.members_of
+              (option_map (λ ranges. ranges.now) requirement.entry) rows.now),
+        ) ∷ []) }
+{
+    writer.key("registers")?;
+    writer.begin_array()?;
+    write_each(alloc, rows, writer)?;
+    write_missing(name, requirement, rows, writer)?;
+    writer.end_array()?;
+    Ok(())
+}
+
+fn write_each<T: HasExpected + Says>(
+    alloc: Global,
+    rows: &[T],
+    writer: &mut Writer,
+) -> Result<(), AllocError>
+    ensures before { writer.new.before ≡ writer.old.before }
+    ensures tokens { WritesItems result writer.old writer.new
+        (map (λ row. row_json (T.expected_of row).alg (T.expected_of row).register (T.members_of row)) rows.now) }
+{
+    for row in rows {
+        write_row(alloc, row, writer)?;
+    }
+    Ok(())
+}
+
+fn write_row<T: HasExpected + Says>(
+    alloc: Global,
+    row: &T,
+    writer: &mut Writer,
+) -> Result<(), AllocError>
+    ensures before { writer.new.before ≡ writer.old.before }
+    ensures tokens { WritesValue result writer.old writer.new
+        (row_json (T.expected_of row.now).alg (T.expected_of row.now).register (T.members_of row.now)) }
+{
+    let expected = row.expected();
+    writer.begin_object()?;
+    write_register_members(expected.alg, expected.register, writer)?;
+    row.write_members(alloc, writer)?;
+    writer.end_object()?;
+    Ok(())
+}
+
+// Writes each required register that has no row; none where nothing is required.
+fn write_missing<T: HasExpected>(
+    name: &str,
+    requirement: Option<&Requirement>,
+    rows: &[T],
+    writer: &mut Writer,
+) -> Result<(), AllocError>
+    ensures before { writer.new.before ≡ writer.old.before }
+    ensures tokens { WritesItems result writer.old writer.new
+        (missing_among name.now (option_map (λ ranges. ranges.now) requirement.entry) (map T.expected_of rows.now)) }
+{
+    match requirement {
+        Some(requirement) => write_missing_of(name, requirement, rows, writer),
+        None => Ok(()),
+    }
+}
+
+fn write_missing_of<T: HasExpected>(
+    name: &str,
+    requirement: &Requirement,
+    rows: &[T],
+    writer: &mut Writer,
+) -> Result<(), AllocError>
+    ensures before { writer.new.before ≡ writer.old.before }
+    ensures tokens { WritesItems result writer.old writer.new (missing_among name.now (Some requirement.now) (map T.expected_of rows.now)) }
+{
+    for number in 0..ALL_REGISTERS {
+        let (alg, register) = register_numbered(number);
+        write_if_missing(name, requirement, rows, alg, register, writer)?;
+    }
+    Ok(())
+}
+
+// Writes the register if it is missing.
+fn write_if_missing<T: HasExpected>(
+    name: &str,
+    requirement: &Requirement,
+    rows: &[T],
+    alg: Alg,
+    register: u32,
+    writer: &mut Writer,
+) -> Result<(), AllocError>
+    ensures before { writer.new.before ≡ writer.old.before }
+    ensures tokens { WritesItems result writer.old writer.new
+        (value_if_missing name.now requirement.now (map T.expected_of rows.now) alg register) }
+{
+    if requirement.is_missing(rows, alg, register) {
+        write_one(name, alg, register, writer)?;
+    }
+    Ok(())
+}
+
+fn write_one(name: &str, alg: Alg, register: u32, writer: &mut Writer) -> Result<(), AllocError>
+    ensures before { writer.new.before ≡ writer.old.before }
+    ensures tokens { WritesValue result writer.old writer.new (row_json alg register ((name.now, string (codes "missing")) ∷ [])) }
+{
+    writer.begin_object()?;
+    write_register_members(alg, register, writer)?;
+    write_text(name, "missing", writer)?;
+    writer.end_object()?;
+    Ok(())
+}

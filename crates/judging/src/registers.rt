@@ -1,0 +1,84 @@
+//! The registers after a log, and after a list alone.
+
+ghost use Rattle.std.specs.Prelude.{◌≡◌, ◌⊎◌, IfOk, IfErr};
+ghost use Rattle.agent_inputs.specs.Faults.{HasLogFault};
+ghost use Rattle.agent_inputs.specs.Loading.{Inputs as InputsOf};
+ghost use Rattle.agent_inputs.specs.declared.fault.RunFault.TheVariants as runs;
+ghost use Rattle.judging.specs.Answering.{IsAnswer, IsRefusal};
+ghost use Rattle.judging.specs.Asking.{ListRegistersOf, LogRegistersOf, place_of};
+ghost use Rattle.judging.specs.Registers.{AreRegistersAfter};
+ghost use Rattle.judging.specs.parts.Growing.{GivesInput};
+
+use crate::answer::{Answer, Answered, Registers};
+use crate::inputs::{Input, limit_of, loaded_at, refused};
+use agent_inputs::{AgentFiles, RunFault, not_read};
+use boot_log::LogView;
+use boot_verdict::{list_start, replay_from};
+use byte_streams::{Failed, SliceSource, Source};
+use std::alloc::Global;
+
+/// The registers after the log in this input, which is loaded.
+pub(crate) fn after_log<F: AgentFiles>(
+    alloc: Global,
+    files: &mut F,
+    log: Input<'_>,
+) -> Result<Answered, RunFault>
+    ensures answer { IfOk result (IsAnswer (F.told files.old) (LogRegistersOf (place_of log.entry))) }
+    ensures fault { IfErr result (IsRefusal (F.told files.old) (LogRegistersOf (place_of log.entry))) }
+    ensures saved { F.saved files.new ≡ F.saved files.old }
+{
+    let log = loaded_at(alloc, files, log)?;
+    let registers = registers_after(log.bytes())?;
+    Ok(Answered::alone(Answer::Registers(registers)))
+}
+
+// The registers after this log.
+fn registers_after(log: &[u8]) -> Result<Registers, RunFault>
+    ensures registers { IfOk result (λ registers. AreRegistersAfter log.now registers.start registers.now) }
+    ensures fault { IfErr result (λ fault. HasLogFault log.now fault ⊎ (fault ≡ runs.Memory)) }
+{
+    let log = LogView::new(log)?;
+    Ok(Registers {
+        start: log.reset_registers(),
+        now: log.registers(),
+    })
+}
+
+/// The registers after the list in this input, which is replayed as it is read, without loading it.
+pub(crate) fn after_list<F: AgentFiles>(
+    alloc: Global,
+    files: &mut F,
+    list: Input<'_>,
+) -> Result<Answered, RunFault>
+    ensures answer { IfOk result (IsAnswer (F.told files.old) (ListRegistersOf (place_of list.entry))) }
+    ensures fault { IfErr result (IsRefusal (F.told files.old) (ListRegistersOf (place_of list.entry))) }
+    ensures saved { F.saved files.new ≡ F.saved files.old }
+{
+    match list {
+        Input::Bytes(bytes) => after_list_from(alloc, &mut SliceSource::new(bytes), list),
+        Input::File(name) => match files.source(Some(name)) {
+            Ok(mut source) => after_list_from(alloc, &mut source, list),
+            Err(Failed) => Err(not_read(alloc, name)),
+        },
+    }
+}
+
+// The registers after the list of this source.
+fn after_list_from<R: Source>(
+    alloc: Global,
+    source: &mut R,
+    list: Input<'_>,
+) -> Result<Answered, RunFault>
+    ensures answer { (inputs : InputsOf) → GivesInput inputs (place_of list.entry) (R.state source.old) (R.state source.new)
+        → IfOk result (IsAnswer inputs (ListRegistersOf (place_of list.entry))) }
+    ensures fault { (inputs : InputsOf) → GivesInput inputs (place_of list.entry) (R.state source.old) (R.state source.new)
+        → IfErr result (IsRefusal inputs (ListRegistersOf (place_of list.entry))) }
+{
+    match replay_from(alloc, source, limit_of(list)) {
+        Ok(now) => Ok(Answered::alone(Answer::Registers(Registers {
+            start: list_start(),
+            now,
+        }))),
+        Err(fault) => Err(refused(alloc, list, fault)),
+    }
+}

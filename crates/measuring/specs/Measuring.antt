@@ -1,0 +1,203 @@
+-- Files, measured into the registers of a log. All of this is this project's choice.
+use Rattle.std.specs.Prelude.{◌≡◌, ℕ, ◌<◌, ◌≤◌, ◌^◌, ◌⊎◌, List, [], ◌++◌, length, map, slice_get, Option, Some, IfSome, IsTrue, MatchOption, string_bytes}
+use Rattle.std.specs.Str.{IsUtf8}
+use Rattle.pcr_banks.specs.declared.alg.Alg.{Alg}
+use Rattle.pcr_banks.specs.Hashing.{hash_of}
+use Rattle.pcr_banks.specs.Registers.{IsReset}
+use Rattle.boot_log.specs.declared.header.Row.{Row}
+use Rattle.boot_log.specs.Spelling.{LogEvent, IsLog, algs_in}
+use Rattle.boot_log.specs.Replaying.{IsFirmware, startup_locality}
+use Rattle.measure_book.specs.declared.origin.Origin.{Origin}
+use Rattle.measure_book.specs.declared.fault.BookFault.{BookFault}
+use Rattle.measure_book.specs.declared.gathers.GatherFault.{GatherFault}
+use Rattle.measure_book.specs.Operations.{BookOp, BookOutcome, measure, refused}
+use Rattle.measure_book.specs.Books.{BookState, IsBook}
+use Rattle.hash_workers.specs.declared.fault.AgentFault.{AgentFault}
+use Rattle.hash_workers.specs.declared.fault.AgentFault.TheVariants as agents
+use Rattle.hash_workers.specs.Batches.{IsBatchOf}
+use Rattle.hash_workers.specs.Faults.{IsAgentFaultOf}
+use Rattle.hash_workers.specs.Causes.{IsCauseOf}
+use Rattle.command_line.specs.declared.plan.Measurement.{Measurement}
+use Rattle.command_line.specs.declared.plan.Names.{Names}
+use Rattle.agent_inputs.specs.declared.fault.RunFault.{RunFault}
+use Rattle.agent_inputs.specs.declared.fault.RunFault.TheVariants as runs
+use Rattle.agent_inputs.specs.Faults.{HasLogFault, fault_of_agent, fault_of_job}
+use Rattle.agent_inputs.specs.Loading.{Holds, Inputs, IsInputFault, IsNotRead, IsNotUtf8, IsTooLong, OfInput, input_limit}
+use Rattle.measuring.specs.declared.recording.Measured.{Measured}
+use Rattle.measuring.specs.Names.{names_of}
+
+-- ---- what is measured
+
+-- What files hold: all bytes of the file of a name; none if they are not told.
+abbrev pub Contents : Type 0
+Contents = List ℕ → Option (List ℕ)
+
+-- What the files among these inputs hold.
+abbrev pub files_in : Inputs → Contents
+files_in inputs = λ name. inputs.held (Some name)
+
+-- Which files among these inputs may fail.
+abbrev pub failing_in : Inputs → List ℕ → Type 0
+failing_in inputs = λ name. IsTrue (inputs.may_fail (Some name))
+
+-- The name of the file of this number, and all bytes that it holds, at most as many as an input may have.
+pub record HasFile (held : Contents) (names : List (List ℕ)) (number : ℕ) : Type 0 where
+  pub name : List ℕ
+  pub content : List ℕ
+  pub has : slice_get names number ≡ Some name
+  pub held_is : IfSome (held name) (λ all. content ≡ all)
+  pub within : length content ≤ input_limit
+
+-- Each of the first `count` of these files could be read.
+abbrev pub HasFiles : Contents → List (List ℕ) → ℕ → Type 0
+HasFiles held names count = (number : ℕ) → number < count → HasFile held names number
+
+-- The operation is the measurement of this file: its name, the hash of what it holds by this algorithm, and no signature.
+pub record IsFileMeasure (held : Contents) (names : List (List ℕ)) (alg : Alg) (number : ℕ) (op : BookOp) : Type 0 where
+  pub file : HasFile held names number
+  pub op_is : op ≡ measure (record { alg = alg; digest = hash_of alg file.content; path = file.name; sig = [] })
+
+-- No job was refused.
+abbrev pub AreAllDone : List BookOutcome → Type 0
+AreAllDone outcomes = (job : ℕ) (fault : BookFault) → slice_get outcomes job ≡ Some (refused fault) → ⊥
+
+-- The workers recorded `count` jobs in this book, each as an operation that it `Makes`, and none was refused.
+pub record HasMeasured (origin : Origin) (count : ℕ) (Makes : ℕ → BookOp → Type 0) (workers : ℕ) (book : BookState) : Type 0 where
+  pub outcomes : List BookOutcome
+  pub by : List ℕ
+  pub batch : IsBatchOf origin count Makes workers book outcomes by
+  pub done : AreAllDone outcomes
+
+-- Files are to be measured as asked, into a book of this origin: it starts with the registers after the events of this log.
+pub record IsSetOut (log : List ℕ) (asked : Measurement) (table : List Row) (events : List LogEvent) (origin : Origin) : Type 0 where
+  pub log_is : IsLog log table events
+  pub starts : IsFirmware (algs_in table) events origin.start
+  pub alg_is : origin.alg ≡ asked.alg
+  pub template_is : origin.template ≡ asked.template
+  pub limit_is : origin.limit ≡ asked.limit
+
+-- A text of further names: UTF-8, and no more bytes than an input may have.
+abbrev pub IsTextOfNames : List ℕ → Type 0
+IsTextOfNames text = IsUtf8 text × (length text ≤ input_limit)
+
+-- These are the names of the files to be measured, fewer than 2^32: those in the arguments, and then, if there is a text of further names, those
+-- in it.
+abbrev pub AreNames : Inputs → Measurement → List (List ℕ) → Type 0
+AreNames inputs asked names =
+    (length names < 2 ^ 32)
+    × MatchOption asked.names (names ≡ map string_bytes asked.files.items) (λ more. OfInput inputs (Some (string_bytes more.text)) (λ text.
+    IsTextOfNames text × (names ≡ map string_bytes asked.files.items ++ names_of more.ends text)))
+
+-- This is what a measurement of these inputs gives: a book that starts with the registers after the log, and in which the files of all
+-- names are measured, each under its name with all that it holds; its list is what the records add, and its registers are the list's
+-- replay. Beside it, the registers at their reset values.
+pub record IsMeasured (inputs : Inputs) (asked : Measurement) (given : Measured) : Type 0 where
+  pub log : List ℕ
+  pub names : List (List ℕ)
+  pub table : List Row
+  pub events : List LogEvent
+  pub origin : Origin
+  pub log_held : Holds inputs (Some (string_bytes asked.log)) log
+  pub names_are : AreNames inputs asked names
+  pub set_out : IsSetOut log asked table events origin
+  pub reset_is : IsReset (algs_in table) (startup_locality events) given.reset
+  pub measured : HasMeasured origin (length names) (IsFileMeasure (files_in inputs) names asked.alg) asked.workers given.book
+  pub book_is : IsBook given.book
+
+-- ---- why nothing is measured
+
+-- Why the file of this name has no hash: it is too long, it failed, as such a file may, or memory ran out.
+abbrev pub IsUnhashed : Contents → (List ℕ → Type 0) → List ℕ → RunFault → Type 0
+IsUnhashed held Fails name fault =
+    (IsTooLong name fault × IfSome (held name) (λ all. input_limit < length all)) ⊎ (IsNotRead name fault × Fails name)
+    ⊎ (fault ≡ runs.Memory)
+
+-- The file of one of these names could not be read, and each before it was read.
+pub record IsFileFault (held : Contents) (Fails : List ℕ → Type 0) (names : List (List ℕ)) (fault : RunFault) : Type 0 where
+  pub index : ℕ
+  pub name : List ℕ
+  pub has : slice_get names index ≡ Some name
+  pub cause : IsUnhashed held Fails name fault
+  pub before : HasFiles held names index
+
+-- The first refused job has this number and this cause.
+pub record IsFirstRefused (outcomes : List BookOutcome) (job : ℕ) (fault : BookFault) : Type 0 where
+  pub is_refused : slice_get outcomes job ≡ Some (refused fault)
+  pub first : (earlier : ℕ) (cause : BookFault) → earlier < job → slice_get outcomes earlier ≡ Some (refused cause) → ⊥
+
+-- The fault is that of the first refused job.
+pub record IsFirstRefusal (outcomes : List BookOutcome) (fault : RunFault) : Type 0 where
+  pub job : ℕ
+  pub cause : BookFault
+  pub first : IsFirstRefused outcomes job cause
+  pub says : fault ≡ fault_of_job job cause
+
+-- The workers recorded the jobs in a book, whose records are a legal history, and this is the fault of the first that it refused.
+pub record IsRefusedJob (origin : Origin) (count : ℕ) (Makes : ℕ → BookOp → Type 0) (workers : ℕ) (fault : RunFault) : Type 0 where
+  pub book : BookState
+  pub outcomes : List BookOutcome
+  pub by : List ℕ
+  pub book_is : IsBook book
+  pub batch : IsBatchOf origin count Makes workers book outcomes by
+  pub first : IsFirstRefusal outcomes fault
+
+-- Why the workers returned no batch. If their outcomes do not account for the book, this is the first cause against them.
+pub record IsNoBatch (origin : Origin) (count : ℕ) (Makes : ℕ → BookOp → Type 0) (workers : ℕ) (fault : RunFault) : Type 0 where
+  pub first : AgentFault
+  pub first_is : IsAgentFaultOf workers origin first
+  pub among : (cause : GatherFault) → first ≡ agents.Gather cause → IsCauseOf workers origin count Makes cause
+  pub says : fault ≡ fault_of_agent first
+
+-- Why the jobs are not all recorded.
+abbrev pub IsRecordingFault : Origin → ℕ → (ℕ → BookOp → Type 0) → ℕ → RunFault → Type 0
+IsRecordingFault origin count Makes workers fault =
+    IsNoBatch origin count Makes workers fault ⊎ IsRefusedJob origin count Makes workers fault
+
+-- If the fault is that no book could be opened, each of these files could be read.
+abbrev pub IsAfterFiles : Contents → List (List ℕ) → RunFault → Type 0
+IsAfterFiles held names fault = (cause : BookFault) → fault ≡ runs.Book cause → HasFiles held names (length names)
+
+-- The files of these names were to be measured as asked over this log, and were not all recorded. That no book could be opened comes after the
+-- faults of files.
+pub record IsNotRecorded (held : Contents) (log : List ℕ) (asked : Measurement) (names : List (List ℕ)) (fault : RunFault) : Type 0 where
+  pub table : List Row
+  pub events : List LogEvent
+  pub origin : Origin
+  pub set_out : IsSetOut log asked table events origin
+  pub cause : IsRecordingFault origin (length names) (IsFileMeasure held names asked.alg) asked.workers fault
+  pub after_files : IsAfterFiles held names fault
+
+-- Why the text of further names is refused, if it holds these bytes: they are not UTF-8, or, with the names before, there are 2^32 names or
+-- more.
+abbrev pub IsTextRefused : List (List ℕ) → Names → List ℕ → RunFault → Type 0
+IsTextRefused before more text fault =
+    (IsNotUtf8 (string_bytes more.text) fault × (IsUtf8 text → ⊥))
+    ⊎ ((fault ≡ runs.Usage) × (2 ^ 32 ≤ length (before ++ names_of more.ends text)))
+
+-- The bytes are a log, and no more than an input may have.
+pub record IsInputLog (bytes : List ℕ) : Type 0 where
+  pub within : length bytes ≤ input_limit
+  pub table : List Row
+  pub events : List LogEvent
+  pub log_is : IsLog bytes table events
+
+-- Why there are no names: there is a text of further names, and it was not loaded, or is refused.
+abbrev pub IsNamesFault : Inputs → Measurement → RunFault → Type 0
+IsNamesFault inputs asked fault = MatchOption asked.names ⊥ (λ more.
+    IsInputFault inputs (Some (string_bytes more.text)) fault
+    ⊎ OfInput inputs (Some (string_bytes more.text)) (λ text. IsTextRefused (map string_bytes asked.files.items) more text fault))
+
+-- Why the files of all names are not measured over this log: one could not be read, or they were not all recorded.
+abbrev pub IsFilesFault : Inputs → List ℕ → Measurement → RunFault → Type 0
+IsFilesFault inputs log asked fault =
+    (names : List (List ℕ)) × AreNames inputs asked names
+    × (IsFileFault (files_in inputs) (failing_in inputs) names fault ⊎ IsNotRecorded (files_in inputs) log asked names fault)
+
+-- Why nothing is measured of these inputs: the log was not loaded, or is no log; it is one, and there are no names, or the files are not
+-- measured; or memory ran out.
+abbrev pub IsMeasuringFault : Inputs → Measurement → RunFault → Type 0
+IsMeasuringFault inputs asked fault =
+    IsInputFault inputs (Some (string_bytes asked.log)) fault
+    ⊎ OfInput inputs (Some (string_bytes asked.log)) (λ log.
+    HasLogFault log fault ⊎ (IsInputLog log × (IsNamesFault inputs asked fault ⊎ IsFilesFault inputs log asked fault))
+    ⊎ (fault ≡ runs.Memory))

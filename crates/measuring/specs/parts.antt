@@ -1,0 +1,3 @@
+pub mod Names
+pub mod NamedFiles
+pub mod Measuring

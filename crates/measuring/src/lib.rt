@@ -1,0 +1,13 @@
+//! Measures files into the registers of a log, into a book that several workers share.
+#![tactic(auto)]
+
+mod listing;
+mod measuring;
+mod named_files;
+mod names;
+mod progress;
+mod recording;
+
+pub use measuring::measured;
+pub use progress::FileProgress;
+pub use recording::Measured;

@@ -1,0 +1,75 @@
+//! Measures files into the registers of a log.
+
+ghost use Rattle.std.specs.Prelude.{◌≡◌, ◌<◌, ◌≤◌, ◌^◌, string_bytes, vec_len, Some, IfOk, IfErr, IfSome, MatchOption};
+ghost use Rattle.agent_inputs.specs.Loading.{Holds, IsInputFault, input_limit};
+ghost use Rattle.measuring.specs.Measuring.{IsMeasured, IsMeasuringFault};
+
+use crate::listing::names_for;
+use crate::progress::FileProgress;
+use crate::recording::{Measured, measured_over};
+use agent_inputs::{AgentFiles, RunFault, loaded};
+use boot_log::LogView;
+use command_line::{Measurement, Names};
+use std::alloc::Global;
+use std::sync::Wait;
+use std::thread::Threads;
+
+/// Measures the named files into the registers of the log, into a new book.
+///
+/// The log is loaded and read first, then the text of further names, if there is one. Then each worker hashes one file after
+/// another, as it reads it, and records it; `progress` receives how many files are done, and when the workers have ended.
+///
+/// Fails, in this order:
+/// - with `TooLong` or `Read` if the log cannot be loaded, and with `Log` if it is no log;
+/// - with `TooLong` or `Read` if the text of further names cannot be loaded, with `NotUtf8` if it is not UTF-8, and with `Usage` if
+///   there are 2^32 names or more;
+/// - with `Usage` if the workers are not 1 to 8;
+/// - with `TooLong` or `Read` of the first file, in the order of the names, that cannot be read;
+/// - with `Book` if the book cannot be opened: each file is read first; and with `Outcome` of the first file that the book refuses.
+///
+/// It may also fail with `Gather`, if the workers' outcomes do not account for the book's records, and at any point with `Memory`.
+pub fn measured<R: Threads + Wait + Sync, F: AgentFiles, P: FileProgress>(
+    rt: &R,
+    alloc: Global,
+    files: &mut F,
+    asked: &Measurement,
+    progress: &P,
+) -> Result<Measured, RunFault>
+    requires { vec_len asked.now.files < 2 ^ 32 }
+    ensures measured { IfOk result (IsMeasured (F.told files.old) asked.now) }
+    ensures fault { IfErr result (IsMeasuringFault (F.told files.old) asked.now) }
+    ensures saved { F.saved files.new ≡ F.saved files.old }
+{
+    let bytes = loaded(alloc, files, Some(&asked.log))?;
+    let log = LogView::new(&bytes)?;
+    let text = text_of(alloc, files, &asked.names)?;
+    let names = names_for(alloc, asked, &text)?;
+    measured_over(
+        rt,
+        alloc,
+        files.shared(),
+        &bytes,
+        &log,
+        asked,
+        &names,
+        progress,
+    )
+}
+
+// All bytes of the text of further names; none if there is no such text.
+fn text_of<F: AgentFiles>(
+    alloc: Global,
+    files: &mut F,
+    names: &Option<Names>,
+) -> Result<Vec<u8>, RunFault>
+    ensures text { IfOk result (λ text. IfSome names.now (λ more. Holds (F.told files.old) (Some (string_bytes more.text)) text.items)) }
+    ensures within { IfOk result (λ text. vec_len text ≤ input_limit) }
+    ensures fault { IfErr result (λ fault. MatchOption names.now ⊥ (λ more. IsInputFault (F.told files.old) (Some (string_bytes more.text)) fault)) }
+    ensures told { F.told files.new ≡ F.told files.old }
+    ensures saved { F.saved files.new ≡ F.saved files.old }
+{
+    match names {
+        None => Ok(Vec::new(alloc)),
+        Some(more) => loaded(alloc, files, Some(&more.text)),
+    }
+}

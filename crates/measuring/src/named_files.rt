@@ -1,0 +1,117 @@
+//! Named files as the workers' jobs.
+
+ghost use Rattle.std.specs.Prelude.{◌≡◌, ◌<◌, ◌^◌, length, IfErr, OnOk};
+ghost use Rattle.measuring.specs.Measuring.{HasFiles, IsFileFault, IsFileMeasure};
+ghost use Rattle.measuring.specs.parts.Names.{names_lent};
+ghost use Rattle.measuring.specs.parts.NamedFiles.{IsFileFaultOf, IsFileFailure, job_fault_of};
+
+use crate::progress::FileProgress;
+use agent_inputs::{INPUT_LIMIT, LoadFault, RunFault, SharedFiles, not_read, too_long};
+use hash_workers::{Gate, JobFault, Jobs};
+use ima_list::Sig;
+use measure_book::Op;
+use pcr_banks::Alg;
+use std::alloc::Global;
+use std::sync::atomic::{AtomicU32, Ordering};
+
+/// The files of these names, as jobs. Each becomes the measurement of its name, with the hash of its content, which is hashed as
+/// it is read, and without a signature: extended attributes are not read.
+#[derive(Clone, Copy)]
+pub(crate) struct NamedFiles<'a, S> {
+    pub files: &'a S,
+    pub names: &'a [&'a str],
+}
+
+impl<S: SharedFiles> Jobs for NamedFiles<'_, S> {
+    ghost total = { λ jobs. length jobs.names.now };
+
+    ghost makes = { λ jobs. IsFileMeasure (S.held jobs.files.now) (names_lent jobs.names.now) };
+
+    ghost fails = { λ jobs. IsFileFailure (S.held jobs.files.now) (S.fails jobs.files.now) (names_lent jobs.names.now) };
+
+    fn count(&self) -> usize {
+        self.names.len()
+    }
+
+    fn operation(&self, alloc: Global, job: u32, alg: Alg) -> Result<Op, JobFault> {
+        let name = self.names[job as usize];
+        let digest = match self.files.hash(alloc, name, alg, INPUT_LIMIT) {
+            Ok(digest) => digest,
+            Err(fault) => return Err(job_fault(fault)),
+        };
+        Ok(Op::Measure {
+            path: Vec::from_slice(alloc, name.as_bytes())?,
+            digest,
+            sig: Sig::empty(alloc),
+        })
+    }
+}
+
+impl<S: SharedFiles> NamedFiles<'_, S> {
+    /// The fault of the file of this number.
+    pub fn fault_of(&self, alloc: Global, job: u32, fault: JobFault) -> RunFault
+        requires { job < length self.now.names.now }
+        ensures { IsFileFaultOf (names_lent self.now.names.now) job fault result }
+    {
+        let name = self.names[job as usize];
+        match fault {
+            JobFault::TooLong => too_long(alloc, name),
+            JobFault::Source => not_read(alloc, name),
+            JobFault::Memory => RunFault::Memory,
+        }
+    }
+
+    /// Reads each file. Fails with the fault of the first, in their order, that cannot be read. For the case that no book was opened,
+    /// and so no worker read them.
+    pub fn check(&self, alloc: Global, alg: Alg) -> Result<(), RunFault>
+        requires { length self.now.names.now < 2 ^ 32 }
+        ensures read { OnOk result (HasFiles (S.held self.now.files.now) (names_lent self.now.names.now) (length self.now.names.now)) }
+        ensures fault { IfErr result (IsFileFault (S.held self.now.files.now) (S.fails self.now.files.now) (names_lent self.now.names.now)) }
+    {
+        for index in 0..self.names.len() {
+            if let Err(fault) = self.files.hash(alloc, self.names[index], alg, INPUT_LIMIT) {
+                return Err(self.fault_of(alloc, index as u32, job_fault(fault)));
+            }
+        }
+        Ok(())
+    }
+}
+
+// The job's fault for a file that could not be hashed.
+fn job_fault(fault: LoadFault) -> JobFault
+    ensures { result ≡ job_fault_of fault }
+{
+    match fault {
+        LoadFault::TooLong => JobFault::TooLong,
+        LoadFault::Source => JobFault::Source,
+        LoadFault::Memory => JobFault::Memory,
+    }
+}
+
+/// A gate of the workers that reports how many files are done.
+#[derive(Drop)]
+pub(crate) struct ProgressGate<'a, P> {
+    progress: &'a P,
+    done: AtomicU32,
+    all: u32,
+}
+
+impl<'a, P: FileProgress> ProgressGate<'a, P> {
+    /// A gate for `all` files, none of which is done yet.
+    pub fn new(progress: &'a P, all: u32) -> Self {
+        ProgressGate {
+            progress,
+            done: AtomicU32::new(0),
+            all,
+        }
+    }
+}
+
+impl<P: FileProgress> Gate for ProgressGate<'_, P> {
+    fn hashed(&self, _job: u32, _op: Option<&Op>) {}
+
+    fn recorded(&self, _job: u32) {
+        let before = self.done.fetch_add(1, Ordering::SeqCst);
+        self.progress.done(before.wrapping_add(1), self.all);
+    }
+}

@@ -1,0 +1,4 @@
+mod PieceLaws
+mod EntryLaws
+mod EventLaws
+mod LineLaws

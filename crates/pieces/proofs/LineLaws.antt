@@ -1,0 +1,41 @@
+-- The lines of items one after another, and the part of bytes that an offset leads to.
+use Rattle.std.proofs.Common.{◌≡◌, ℕ, Bool, true, false, eqb, ◌+◌, ◌-◌, ◌<◌, ◌≤◌, List, [], ◌∷◌, ◌++◌, length, take, drop, refl, sym, ap, ◌∙◌, append_assoc, arith}
+use Rattle.std.proofs.Math.Seq.{drop-append_seam}
+use Rattle.std.proofs.lemmas.List.{append-nil, length-append, length-drop, length-take-le, take_all}
+use Rattle.std.proofs.lemmas.Bool.{eqb-true}
+use Rattle.json_texts.specs.ItemLines.{numbered_lines}
+
+pub numbered_last : {A : Type 0} (line : ℕ → A → List ℕ) (number : ℕ) (items : List A) (item : A)
+    → numbered_lines line number (items ++ item ∷ []) ≡ numbered_lines line number items ++ line (length items + number) item
+numbered_last {A} line number [] item =
+    let same : number ≡ length {A = A} [] + number = omega arith in
+    append-nil (line number item) ∙ ap (λ (n : ℕ). line n item) same
+numbered_last {A} line number (first ∷ items) item =
+    let same : length items + (number + 1) ≡ length (first ∷ items) + number = omega arith in
+    ap (λ (t : List ℕ). line number first ++ t)
+    (numbered_last line (number + 1) items item ∙ ap (λ (n : ℕ). numbered_lines line (number + 1) items ++ line n item) same)
+    ∙ sym (append_assoc (line number first) (numbered_lines line (number + 1) items) (line (length (first ∷ items) + number) item))
+
+-- What follows a front is the part of the bytes from where the front ends.
+pub part_is : (bytes front rest : List ℕ) (offset : ℕ) → bytes ≡ front ++ rest → offset + length rest ≡ length bytes
+    → take (length bytes - offset) (drop offset bytes) ≡ rest
+part_is bytes front rest offset parts ends =
+    let size : length bytes ≡ length front + length rest = ap length parts ∙ length-append front rest in
+    let at : offset ≡ length front = omega (arith, size, ends) in
+    let left : length bytes - offset ≡ length rest = omega (arith, ends) in
+    let dropped : drop offset bytes ≡ rest =
+    ap (λ (n : ℕ). drop n bytes) at ∙ ap (drop (length front)) parts ∙ drop-append_seam front rest in
+    rw (left, dropped) (take_all (length rest) rest (omega arith))
+
+pub part_size : (bytes : List ℕ) (offset : ℕ) → offset ≤ length bytes
+    → length (take (length bytes - offset) (drop offset bytes)) ≡ length bytes - offset
+part_size bytes offset within = length-take-le (length bytes - offset) (drop offset bytes) (omega (arith, length-drop offset bytes))
+
+pub none_left : (is_empty : Bool) (rest : List ℕ) → is_empty ≡ eqb (length rest) 0 → is_empty ≡ true → rest ≡ []
+none_left is_empty [] tells empty = refl
+none_left is_empty (byte ∷ rest) tells empty =
+    let none : length (byte ∷ rest) ≡ 0 = eqb-true (length (byte ∷ rest)) 0 (sym tells ∙ empty) in absurd (omega (arith, none))
+
+pub some_left : (is_empty : Bool) (rest : List ℕ) → is_empty ≡ eqb (length rest) 0 → is_empty ≡ false → 0 < length rest
+some_left is_empty [] tells empty = absurd cc
+some_left is_empty (byte ∷ rest) tells empty = omega arith

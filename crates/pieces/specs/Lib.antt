@@ -1,0 +1,4 @@
+pub mod Pieces
+pub mod EntryPieces
+pub mod EventPieces
+pub mod parts

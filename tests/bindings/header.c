@@ -1,0 +1,493 @@
+/* Holds the library to what ima_verify.h promises of wrong calls, room, faults, requirements, pieces and the stack.
+ *
+ *     header LOG LIST EXPECTED PRINTED [STACK]
+ *
+ * The files are those of the sample boot; PRINTED is what tpm2_pcrread printed. Each function is called in a thread with so many bytes of
+ * stack, by default the 384 KiB of the header. Prints a line for each check that fails, how much stack was used at most, and last 'N
+ * passed, M failed'. The status is 1 if one failed. */
+#define _GNU_SOURCE
+#include <ima_verify.h>
+
+#include <pthread.h>
+#include <signal.h>
+#include <stdio.h>
+#include <stdlib.h>
+#include <sys/mman.h>
+#include <unistd.h>
+
+enum {
+    ROOM = 1 << 16,
+    LONGEST_CHECKPOINT = 20000,
+    FILL = 0xa7,
+    STACK = 384 * 1024,
+    GUARD = 1 << 24,
+    SIGNAL_STACK = 1 << 16,
+    UNSET = 77,
+    SHOWN = 60
+};
+
+/* All that a function may be given. */
+struct given {
+    struct ima_verify_evidence evidence;
+    struct ima_verify_bytes state, printed, registers;
+    enum ima_verify_origin origin;
+    struct ima_verify_position position;
+    bool prefix;
+};
+
+/* The sample with another member. */
+#define WITH(member, value) (given = *sample, given.member = (value), &given)
+
+static uint8_t text[ROOM], checkpoint[ROOM];
+static struct ima_verify_output out, next, *to = &out, *to_next = &next;
+static struct ima_verify_position position, *at = &position;
+static enum ima_verify_result result;
+static long passed, failed;
+
+/* Counts a check of the last call. */
+static void check(bool holds, const char *name, const char *what) {
+    passed += holds;
+    failed += !holds;
+    if (holds)
+        return;
+    int shown = out.size < SHOWN ? (int)out.size : SHOWN;
+    printf("WRONG: %s, %s: result %d, %zu bytes '%.*s', fault %u %u %lld\n", name, what, (int)result, out.size, shown, (char *)text,
+           out.fault.kind, out.fault.number, (long long)out.fault.place);
+}
+
+typedef enum ima_verify_result called(const struct given *given, enum ima_verify_form form);
+
+static enum ima_verify_result call_verdict(const struct given *given, enum ima_verify_form form) {
+    return ima_verify_verdict(&given->evidence, form, to);
+}
+
+static enum ima_verify_result call_locate(const struct given *given, enum ima_verify_form form) {
+    return ima_verify_locate(&given->evidence, form, to);
+}
+
+static enum ima_verify_result call_replay(const struct given *given, enum ima_verify_form form) {
+    return ima_verify_replay(&given->evidence, form, to);
+}
+
+static enum ima_verify_result call_more(const struct given *given, enum ima_verify_form form) {
+    return ima_verify_more(&given->evidence, given->state, given->prefix, form, to_next, to);
+}
+
+static enum ima_verify_result call_expected(const struct given *given, enum ima_verify_form form) {
+    return ima_verify_expected(given->printed, given->registers, form, to);
+}
+
+static enum ima_verify_result call_registers(const struct given *given, enum ima_verify_form form) {
+    bool is_log = given->origin == IMA_VERIFY_OF_LOG;
+    return ima_verify_registers(given->origin, is_log ? given->evidence.log : given->evidence.list, form, to);
+}
+
+static enum ima_verify_result call_entries(const struct given *given, enum ima_verify_form form) {
+    return ima_verify_entries(given->evidence.list, at, form, to);
+}
+
+static enum ima_verify_result call_events(const struct given *given, enum ima_verify_form form) {
+    (void)form;
+    return ima_verify_events(given->evidence.log, at, to);
+}
+
+enum inputs {
+    OF_LOG = 1,
+    OF_LIST = 2,
+    OF_EXPECTED = 4,
+    OF_REQUIRE = 8,
+    OF_STATE = 16,
+    OF_PRINTED = 32,
+    OF_REGISTERS = 64,
+    ALL = 15,
+    INPUTS = 7
+};
+
+/* Each function, and which inputs it looks at. */
+static const struct function {
+    const char *name;
+    called *call;
+    int inputs;
+} functions[] = {
+    {"verdict", call_verdict, ALL},
+    {"locate", call_locate, ALL},
+    {"replay", call_replay, ALL},
+    {"more", call_more, ALL | OF_STATE},
+    {"expected", call_expected, OF_PRINTED | OF_REGISTERS},
+    {"registers", call_registers, OF_LOG},
+    {"entries", call_entries, OF_LIST},
+    {"events", call_events, OF_LOG},
+};
+enum { FUNCTIONS = sizeof functions / sizeof functions[0] };
+static const struct function *const more = &functions[3], *const expecting = &functions[4], *const registers = &functions[5];
+static const struct function *const entries = &functions[6], *const events = &functions[7];
+
+static struct ima_verify_bytes *input(struct given *given, int number) {
+    struct ima_verify_bytes *inputs[INPUTS] = {
+        &given->evidence.log, &given->evidence.list, &given->evidence.expected, &given->evidence.require,
+        &given->state,        &given->printed,       &given->registers,
+    };
+    return inputs[number];
+}
+
+/* Gives each output this room, where nothing is set yet. */
+static void prepare(const struct given *given, size_t room) {
+    static const struct ima_verify_fault unset = {UNSET, UNSET, UNSET};
+    memset(text, FILL, sizeof text);
+    memset(checkpoint, FILL, sizeof checkpoint);
+    out = (struct ima_verify_output){text, room, UNSET, unset};
+    next = (struct ima_verify_output){checkpoint, room, UNSET, unset};
+    position = given->position;
+}
+
+static enum ima_verify_result ask(const struct function *function, const struct given *given, enum ima_verify_form form, size_t room) {
+    prepare(given, room);
+    return result = function->call(given, form);
+}
+
+static bool is_filled(const uint8_t *bytes, size_t from) {
+    for (size_t i = from; i < ROOM; i++)
+        if (bytes[i] != FILL)
+            return false;
+    return true;
+}
+
+static bool is_unset(const struct ima_verify_output *output) {
+    return output->size == UNSET && output->fault.kind == UNSET && output->fault.number == UNSET && output->fault.place == UNSET;
+}
+
+static bool is_fault(uint32_t kind, uint32_t number, uint64_t place) {
+    return out.fault.kind == kind && out.fault.number == number && out.fault.place == place;
+}
+
+static bool has_no_fault(void) {
+    return is_fault(IMA_VERIFY_NO_FAULT, 0, IMA_VERIFY_NO_PLACE);
+}
+
+/* Whether both outputs are as they were. */
+static bool is_left(void) {
+    return is_filled(text, 0) && is_filled(checkpoint, 0);
+}
+
+static bool is_text(const char *words) {
+    return out.size == strlen(words) && memcmp(text, words, out.size) == 0;
+}
+
+/* Nothing was read or written. */
+static void check_misused(enum ima_verify_result given, const char *name, const char *what) {
+    result = given;
+    check(result == IMA_VERIFY_MISUSED && is_unset(&out) && is_unset(&next) && is_left(), name, what);
+}
+
+static void check_wrong_calls(const struct given *sample) {
+    volatile int no_form = 2;
+    for (int i = 0; i < FUNCTIONS; i++) {
+        const struct function *function = &functions[i];
+        for (int number = 0; number < INPUTS; number++) {
+            struct given given = *sample;
+            if (!(function->inputs & 1 << number))
+                continue;
+            *input(&given, number) = (struct ima_verify_bytes){NULL, 1};
+            check_misused(ask(function, &given, IMA_VERIFY_TEXT, ROOM), function->name, "NULL as an input with a size");
+            *input(&given, number) = (struct ima_verify_bytes){NULL, 0};
+            enum ima_verify_result of_null = ask(function, &given, IMA_VERIFY_TEXT, ROOM);
+            size_t size = out.size;
+            check(result <= IMA_VERIFY_REFUSED, function->name, "NULL as an empty input");
+            *input(&given, number) = ima_verify_text("");
+            check(ask(function, &given, IMA_VERIFY_TEXT, ROOM) == of_null && out.size == size, function->name, "an empty input");
+        }
+        if (function->call != call_events)
+            check_misused(ask(function, sample, (enum ima_verify_form)no_form, ROOM), function->name, "a form that is none");
+    }
+    struct given given = *sample;
+    given.origin = (enum ima_verify_origin)no_form;
+    check_misused(ask(registers, &given, IMA_VERIFY_TEXT, ROOM), "registers", "an origin that is none");
+    given.position = (struct ima_verify_position){given.evidence.list.size + 1, 0};
+    check_misused(ask(entries, &given, IMA_VERIFY_TEXT, ROOM), "entries", "a position behind the list");
+    given.position.offset = given.evidence.log.size + 1;
+    check_misused(ask(events, &given, IMA_VERIFY_TEXT, ROOM), "events", "a position behind the log");
+}
+
+static void check_wrong_outputs(const struct given *sample) {
+    for (int i = 0; i < FUNCTIONS; i++) {
+        const struct function *function = &functions[i];
+        to = NULL;
+        check_misused(ask(function, sample, IMA_VERIFY_TEXT, ROOM), function->name, "no output");
+        to = &out;
+        prepare(sample, ROOM);
+        out.data = NULL;
+        check_misused(function->call(sample, IMA_VERIFY_TEXT), function->name, "an output with room at NULL");
+        out.room = 0;
+        result = function->call(sample, IMA_VERIFY_TEXT);
+        check(result == IMA_VERIFY_TOO_SHORT && out.size > 0, function->name, "no room at NULL");
+    }
+    to_next = NULL;
+    check_misused(ask(more, sample, IMA_VERIFY_TEXT, ROOM), "more", "no output for a checkpoint");
+    to_next = &next;
+    prepare(sample, ROOM);
+    next.data = NULL;
+    check_misused(more->call(sample, IMA_VERIFY_TEXT), "more", "a checkpoint with room at NULL");
+    at = NULL;
+    check_misused(ask(entries, sample, IMA_VERIFY_TEXT, ROOM), "entries", "no position");
+    check_misused(ask(events, sample, IMA_VERIFY_TEXT, ROOM), "events", "no position");
+    at = &position;
+    prepare(sample, ROOM);
+    check_misused(ima_verify_verdict(NULL, IMA_VERIFY_TEXT, to), "verdict", "no evidence");
+    check_misused(ima_verify_locate(NULL, IMA_VERIFY_TEXT, to), "locate", "no evidence");
+    check_misused(ima_verify_replay(NULL, IMA_VERIFY_TEXT, to), "replay", "no evidence");
+    check_misused(ima_verify_more(NULL, sample->state, false, IMA_VERIFY_TEXT, to_next, to), "more", "no evidence");
+}
+
+/* With too little room nothing is written, and with what the call asks for there is enough. */
+static void check_rooms(const struct given *sample) {
+    for (int i = 0; i < FUNCTIONS * 2; i++) {
+        const struct function *function = &functions[i / 2];
+        enum ima_verify_form form = i % 2 ? IMA_VERIFY_JSON : IMA_VERIFY_TEXT;
+        ask(function, sample, form, 0);
+        size_t size = out.size, next_size = next.size;
+        check(result == IMA_VERIFY_TOO_SHORT && is_left() && has_no_fault() && size > 0, function->name, "no room");
+        check(position.offset == 0 && position.number == 0, function->name, "the position after no room");
+        ask(function, sample, form, size - 1);
+        check(result == IMA_VERIFY_TOO_SHORT && is_left() && has_no_fault() && out.size == size, function->name, "a byte too few");
+        if (function == more) {
+            check(next_size > 0 && next_size < LONGEST_CHECKPOINT, "more", "the size of a checkpoint");
+            size = size > next_size ? size : next_size;
+        }
+        ask(function, sample, form, size);
+        check(result <= IMA_VERIFY_DIFFERS || result == IMA_VERIFY_MORE, function->name, "enough room");
+        check(is_filled(text, out.size) && is_filled(checkpoint, function == more ? next.size : 0), function->name, "after the text");
+        check(has_no_fault(), function->name, "no fault");
+    }
+    /* (one output of two) */
+    ask(more, sample, IMA_VERIFY_TEXT, ROOM);
+    size_t size = out.size, next_size = next.size;
+    for (int which = 0; which < 2; which++) {
+        memset(text, FILL, sizeof text);
+        memset(checkpoint, FILL, sizeof checkpoint);
+        out.room = which ? ROOM : size - 1;
+        next.room = which ? next_size - 1 : ROOM;
+        result = call_more(sample, IMA_VERIFY_TEXT);
+        bool is_told = out.size == size && next.size == next_size;
+        check(result == IMA_VERIFY_TOO_SHORT && is_left() && is_told, "more", "one output that is too short");
+    }
+}
+
+static void check_refusal(const struct function *function, const struct given *given, const char *line, uint32_t kind, uint32_t number,
+                          uint64_t place) {
+    ask(function, given, IMA_VERIFY_TEXT, ROOM);
+    check(result == IMA_VERIFY_REFUSED && is_text(line) && is_fault(kind, number, place), function->name, line);
+    check(is_filled(checkpoint, 0) && (function != more || next.size == 0), function->name, "no checkpoint");
+    ask(function, given, IMA_VERIFY_JSON, ROOM);
+    bool is_json = out.size > 10 && memcmp(text, "{\"fault\":{", 10) == 0 && text[out.size - 1] == '\n';
+    check(result == IMA_VERIFY_REFUSED && is_json && is_fault(kind, number, place), function->name, "a fault as JSON");
+}
+
+static void check_faults(const struct given *sample) {
+    static uint8_t changed[ROOM];
+    struct given given;
+    const char *argument = "refused: command line\n";
+
+    for (int i = 0; i < 4; i++) {
+        check_refusal(&functions[i], WITH(evidence.require, ima_verify_text("")), argument, IMA_VERIFY_ARGUMENT, 0, IMA_VERIFY_NO_PLACE);
+        check_refusal(&functions[i], WITH(evidence.require, ima_verify_text("sha256:0-24")), argument, IMA_VERIFY_ARGUMENT, 0,
+                      IMA_VERIFY_NO_PLACE);
+        check_refusal(&functions[i], WITH(evidence.expected, ima_verify_text("sha256 24 00\n")), "refused: expected fault 1 at line 1\n",
+                      IMA_VERIFY_EXPECTED, 1, 1);
+        struct ima_verify_bytes list = sample->evidence.list;
+        list.size--;
+        check_refusal(&functions[i], WITH(evidence.list, list), "refused: list fault 1 at entry 98\n", IMA_VERIFY_LIST, 1, 98);
+        memcpy(changed, list.data, sample->evidence.list.size);
+        changed[4] ^= 1;
+        list = (struct ima_verify_bytes){changed, sample->evidence.list.size};
+        check_refusal(&functions[i], WITH(evidence.list, list), "refused: replay fault 1 at entry 0\n", IMA_VERIFY_REPLAY, 1, 0);
+        if (functions[i].call != call_replay)
+            check_refusal(&functions[i], WITH(evidence.log, ima_verify_none()), "refused: log fault 1 at event 0\n", IMA_VERIFY_LOG, 1,
+                          0);
+    }
+    check_refusal(expecting, WITH(registers, ima_verify_text("x")), argument, IMA_VERIFY_ARGUMENT, 0, IMA_VERIFY_NO_PLACE);
+    check_refusal(more, WITH(state, ima_verify_text("x")), "refused: checkpoint fault 1\n", IMA_VERIFY_CHECKPOINT, 1,
+                  IMA_VERIFY_NO_PLACE);
+    memcpy(changed, sample->evidence.log.data, sample->evidence.log.size);
+    changed[32] ^= 1; /* (the signature of the header) */
+    struct ima_verify_bytes log = {changed, sample->evidence.log.size};
+    check_refusal(registers, WITH(evidence.log, log), "refused: log fault 2\n", IMA_VERIFY_LOG, 2, IMA_VERIFY_NO_PLACE);
+}
+
+static void check_requirements(const struct given *sample) {
+    struct given given;
+    for (int i = 0; i < 4; i++) {
+        const struct function *function = &functions[i];
+        bool is_list = function->call == call_replay;
+        enum ima_verify_result wanted = is_list ? IMA_VERIFY_DIFFERS : IMA_VERIFY_DONE;
+        ask(function, sample, IMA_VERIFY_TEXT, ROOM);
+        check(result == wanted, function->name, "the sample");
+        ask(function, WITH(evidence.require, ima_verify_none()), IMA_VERIFY_TEXT, ROOM);
+        check(result == wanted, function->name, "nothing is required");
+        ask(function, WITH(evidence.require, ima_verify_text("sha512:7")), IMA_VERIFY_TEXT, ROOM);
+        check(result == IMA_VERIFY_DIFFERS, function->name, "a register that is missing");
+        given.evidence.require = ima_verify_none();
+        given.evidence.expected = ima_verify_text("");
+        wanted = function->call == call_verdict ? IMA_VERIFY_DONE : IMA_VERIFY_DIFFERS;
+        ask(function, &given, IMA_VERIFY_TEXT, ROOM);
+        check(result == wanted, function->name, "no register is expected");
+    }
+}
+
+/* Lines one by one, and all at once; and there is nothing after the last. */
+static void check_pieces(const struct given *sample) {
+    static uint8_t whole[ROOM];
+    for (int i = 6 * 2; i < FUNCTIONS * 2; i++) {
+        const struct function *function = &functions[i / 2];
+        enum ima_verify_form form = i % 2 ? IMA_VERIFY_JSON : IMA_VERIFY_TEXT;
+        struct given given = *sample;
+        size_t size = 0, end = (function->inputs == OF_LOG ? given.evidence.log : given.evidence.list).size;
+        ask(function, sample, form, ROOM);
+        size_t whole_size = out.size;
+        memcpy(whole, text, whole_size);
+        check(result == IMA_VERIFY_DONE && position.offset == end, function->name, "all at once");
+        bool is_next = true;
+        do {
+            ask(function, &given, form, 0);
+            size_t line = out.size;
+            ask(function, &given, form, line);
+            is_next = (result == IMA_VERIFY_DONE || result == IMA_VERIFY_MORE) && position.offset > given.position.offset
+                      && out.size == line && size + line <= whole_size && memcmp(whole + size, text, line) == 0;
+            check(is_next, function->name, "the next line");
+            given.position = position;
+            size += line;
+        } while (is_next && result == IMA_VERIFY_MORE);
+        check(result == IMA_VERIFY_DONE && size == whole_size && position.offset == end, function->name, "line by line");
+        ask(function, &given, form, ROOM);
+        check(result == IMA_VERIFY_DONE && out.size == 0 && position.offset == end, function->name, "nothing after the last line");
+    }
+}
+
+/* A call in a thread of its own. */
+struct deep {
+    const struct function *function;
+    const struct given *given;
+    enum ima_verify_form form;
+    enum ima_verify_result result;
+};
+
+static struct deep deep;
+static uint8_t signal_stack[SIGNAL_STACK];
+
+static void overflowed(int number) {
+    static char line[200];
+    int size = snprintf(line, sizeof line, "WRONG: %s%s: more than the stack (signal %d)\n0 passed, 1 failed\n", deep.function->name,
+                        deep.form == IMA_VERIFY_JSON ? " as JSON" : "", number);
+    _exit(write(1, line, (size_t)size) < 0 ? 2 : 1);
+}
+
+static void *call_deep(void *none) {
+    stack_t alternate = {.ss_sp = signal_stack, .ss_size = sizeof signal_stack};
+    sigaltstack(&alternate, NULL);
+    deep.result = deep.function->call(deep.given, deep.form);
+    return none;
+}
+
+/* How many bytes of so large a stack a call takes, with what a thread itself takes. */
+static size_t stack_of(size_t size) {
+    uint8_t *low = mmap(NULL, GUARD + size, PROT_NONE, MAP_PRIVATE | MAP_ANONYMOUS | MAP_NORESERVE, -1, 0), *stack = low + GUARD;
+    pthread_attr_t attributes;
+    pthread_t thread;
+    if (low == MAP_FAILED || mprotect(stack, size, PROT_READ | PROT_WRITE) != 0)
+        abort();
+    memset(stack, FILL, size);
+    pthread_attr_init(&attributes);
+    if (pthread_attr_setstack(&attributes, stack, size) != 0 || pthread_create(&thread, &attributes, call_deep, NULL) != 0)
+        abort();
+    pthread_join(thread, NULL);
+    pthread_attr_destroy(&attributes);
+    size_t unused = 0;
+    while (unused < size && stack[unused] == FILL)
+        unused++;
+    munmap(low, GUARD + size);
+    return size - unused;
+}
+
+static size_t deepest;
+static char its_name[100];
+
+static void check_deep(const struct function *function, const struct given *given, enum ima_verify_form form, size_t stack,
+                       const char *what) {
+    enum ima_verify_result wanted = ask(function, given, form, ROOM);
+    deep = (struct deep){function, given, form, IMA_VERIFY_MISUSED};
+    position = given->position;
+    size_t used = stack_of(stack);
+    result = deep.result;
+    check(result == wanted, function->name, "in a thread");
+    if (used > deepest) {
+        deepest = used;
+        snprintf(its_name, sizeof its_name, "%s%s, %s", function->name, form == IMA_VERIFY_JSON ? " as JSON" : "", what);
+    }
+}
+
+static void check_stack(const struct given *sample, size_t stack) {
+    static uint8_t front[ROOM], state[ROOM];
+    struct given given;
+    struct sigaction action = {.sa_handler = overflowed, .sa_flags = SA_ONSTACK};
+    sigaction(SIGSEGV, &action, NULL);
+    sigaction(SIGBUS, &action, NULL);
+    ask(more, sample, IMA_VERIFY_TEXT, ROOM);
+    memcpy(state, checkpoint, next.size);
+    struct ima_verify_bytes saved = {state, next.size}, list = sample->evidence.list;
+    memcpy(front, list.data, list.size);
+    front[list.size - 20] ^= 1;
+    for (int i = 0; i < FUNCTIONS * 2; i++) {
+        const struct function *function = &functions[i / 2];
+        enum ima_verify_form form = i % 2 ? IMA_VERIFY_JSON : IMA_VERIFY_TEXT;
+        check_deep(function, sample, form, stack, "the sample");
+        check_deep(function, WITH(evidence.require, ima_verify_text("sha1:0-23,sha256:0-23,sha384:0-23,sha512:0-23")), form, stack,
+                   "all registers");
+        check_deep(function, WITH(prefix, true), form, stack, "the confirmed front");
+        check_deep(function, WITH(origin, IMA_VERIFY_OF_LIST), form, stack, "of the list");
+        check_deep(function, WITH(evidence.list, ((struct ima_verify_bytes){front, list.size})), form, stack, "a changed list");
+        check_deep(function, WITH(evidence.log, ima_verify_none()), form, stack, "no log");
+    }
+    for (int i = 0; i < 4; i++) {
+        given = *sample;
+        given.state = saved;
+        given.prefix = i & 1;
+        given.evidence.list = i & 2 ? (struct ima_verify_bytes){list.data + list.size - 95, 95} : ima_verify_text("");
+        check_deep(more, &given, IMA_VERIFY_TEXT, stack, "with a checkpoint");
+        check_deep(more, &given, IMA_VERIFY_JSON, stack, "with a checkpoint");
+    }
+    check(deepest > 0 && deepest < stack, its_name, "the stack");
+    printf("%zu bytes of stack at most: %s\n", deepest, its_name);
+}
+
+static struct ima_verify_bytes load(const char *name) {
+    uint8_t *bytes = malloc(ROOM);
+    FILE *stream = fopen(name, "rb");
+    size_t size = stream && bytes ? fread(bytes, 1, ROOM, stream) : ROOM;
+    if (size == ROOM) {
+        perror(name);
+        exit(2);
+    }
+    fclose(stream);
+    return (struct ima_verify_bytes){bytes, size};
+}
+
+int main(int count, char **words) {
+    if (count < 5)
+        return 2;
+    struct given sample = {
+        .evidence = {load(words[1]), load(words[2]), load(words[3]), ima_verify_text("sha256:0-10")},
+        .state = {NULL, 0},
+        .printed = load(words[4]),
+        .registers = ima_verify_text("0-10"),
+    };
+    check(ima_verify_version() >= IMA_VERIFY_VERSION, "version", "older than the header");
+    check_wrong_calls(&sample);
+    check_wrong_outputs(&sample);
+    check_rooms(&sample);
+    check_faults(&sample);
+    check_requirements(&sample);
+    check_pieces(&sample);
+    fflush(stdout);
+    check_stack(&sample, count > 5 ? strtoul(words[5], NULL, 10) : STACK);
+    printf("%ld passed, %ld failed\n", passed, failed);
+    return failed != 0;
+}
