@@ -1,9 +1,10 @@
 -- What loading takes from a source, and why an input is not loaded.
-use Rattle.std.specs.Prelude.{◌≡◌, ℕ, ◌+◌, ◌<◌, ◌⊎◌, Bool, true, List, [], ◌∷◌, ◌++◌, length, codes, Option, None, Some, is_some, ⊤, Result, Ok, Err, IfSome, IsTrue, String, string_bytes}
+use Rattle.std.specs.Prelude.{◌≡◌, ℕ, ◌+◌, ◌<◌, ◌⊎◌, Bool, true, List, [], ◌∷◌, ◌++◌, length, codes, Option, None, Some, is_some, ⊤, Result, Ok, Err, IfSome, IsErrOf, IsTrue, OnOk, String, string_bytes}
+use Rattle.std.specs.Io.KnownBytes.{IsAtEnd}
 use Rattle.std.specs.Global.{Global}
 use Rattle.byte_streams.specs.declared.pieces.ReadFault.{ReadFault}
 use Rattle.byte_streams.specs.declared.pieces.ReadFault.TheVariants as reads
-use Rattle.byte_streams.specs.Streams.{SourceState, failures_after}
+use Rattle.byte_streams.specs.Streams.{LosesFront, SourceState, failures_after}
 use Rattle.agent_inputs.specs.declared.loading.LoadFault.{LoadFault}
 use Rattle.agent_inputs.specs.declared.loading.LoadFault.TheVariants.{TooLong, Source, Memory}
 use Rattle.agent_inputs.specs.declared.fault.RunFault.{RunFault}
@@ -26,6 +27,15 @@ abbrev pub LosesMoreThan : ℕ → Option (List ℕ) → Option (List ℕ) → T
 LosesMoreThan count None new = ⊤
 LosesMoreThan count (Some left) None = ⊥
 LosesMoreThan count (Some left) (Some rest) = count + length rest < length left
+
+-- What loading or hashing, within a limit, takes of a source: after `Ok` all that it has left, after `TooLong` more bytes than the limit, and in
+-- any case some from its front. `Source` is one failure more. Whether the source tells its bytes never changes.
+pub record Drains {A : Type 0} (limit : ℕ) (old new : SourceState) (result : Result A LoadFault) : Type 0 where
+  pub end : OnOk result (IsAtEnd new.remaining)
+  pub too_long : IsErrOf result TooLong → LosesMoreThan limit old.remaining new.remaining
+  pub front : LosesFront old.remaining new.remaining
+  pub telling : is_some new.remaining ≡ is_some old.remaining
+  pub counts : new.failures ≡ failures_after_load result old.failures
 
 -- ---- the program's inputs
 

@@ -1,10 +1,8 @@
 //! The hash of all bytes of a source.
 
-ghost use Rattle.std.specs.Prelude.{◌≡◌, ◌<◌, length, is_some, IfOk, IfSome, IsErrOf, OnOk};
-ghost use Rattle.std.specs.Io.KnownBytes.{IsAtEnd};
-ghost use Rattle.byte_streams.specs.Streams.{LosesFront};
+ghost use Rattle.std.specs.Prelude.{◌<◌, length, IfOk, IfSome, IsErrOf};
 ghost use Rattle.agent_inputs.specs.Hashing.{IsHashOfAll};
-ghost use Rattle.agent_inputs.specs.Loading.{failures_after_load, LosesMoreThan};
+ghost use Rattle.agent_inputs.specs.Loading.{Drains};
 
 use crate::loading::LoadFault;
 use byte_streams::Source;
@@ -16,25 +14,18 @@ const PIECE: usize = 65_536;
 /// The most bytes per read until one read gives as many: 4 KiB, so that a small file costs little.
 const FIRST_PIECE: usize = 4_096;
 
+// The hash of all bytes of a source, or why there is none.
+type Hashed = Result<Digest, LoadFault>;
+
 /// The hash, by this algorithm, of all bytes that a source has left. They are hashed as they are read; at most 64 KiB are in
 /// memory at once.
 ///
 /// Fails with `TooLong` if more than `limit` bytes come, and with `Source` if the source fails during this call. The bytes read
 /// before a fault are lost.
-pub fn hash_from<R: Source>(
-    alloc: Global,
-    source: &mut R,
-    alg: Alg,
-    limit: u64,
-) -> Result<Digest, LoadFault>
+pub fn hash_from<R: Source>(alloc: Global, source: &mut R, alg: Alg, limit: u64) -> Hashed
     ensures hashed { IfOk result (IsHashOfAll (R.state source.old).remaining alg limit) }
-    ensures end { OnOk result (IsAtEnd (R.state source.new).remaining) }
-    ensures too_long { IsErrOf result LoadFault.TooLong →
-        LosesMoreThan limit (R.state source.old).remaining (R.state source.new).remaining }
     ensures more { IsErrOf result LoadFault.TooLong → IfSome (R.state source.old).remaining (λ left. limit < length left) }
-    ensures front { LosesFront (R.state source.old).remaining (R.state source.new).remaining }
-    ensures telling { is_some (R.state source.new).remaining ≡ is_some (R.state source.old).remaining }
-    ensures counts { (R.state source.new).failures ≡ failures_after_load result (R.state source.old).failures }
+    ensures drains { Drains limit (R.state source.old) (R.state source.new) result }
 {
     let mut hasher = Hasher::new(alg);
     let mut piece = Vec::new(alloc);

@@ -1,10 +1,8 @@
 //! Loads all bytes of a source.
 
-ghost use Rattle.std.specs.Prelude.{◌≡◌, ◌<◌, ◌≤◌, length, vec_len, is_some, IfOk, IfSome, IsErrOf, OnOk};
-ghost use Rattle.std.specs.Io.KnownBytes.{IsAtEnd};
-ghost use Rattle.byte_streams.specs.Streams.{LosesFront};
+ghost use Rattle.std.specs.Prelude.{◌≡◌, ◌<◌, ◌≤◌, length, vec_len, IfOk, IfSome, IsErrOf};
 ghost use Rattle.agent_inputs.specs.declared.loading.LoadFault.TheVariants.{Memory, Source};
-ghost use Rattle.agent_inputs.specs.Loading.{failures_after_load, fault_of_reading, LosesMoreThan};
+ghost use Rattle.agent_inputs.specs.Loading.{Drains, fault_of_reading};
 
 use byte_streams::{Failed, PieceReader, ReadFault, Source};
 use std::alloc::{AllocError, Global};
@@ -57,14 +55,9 @@ impl From<AllocError> for LoadFault {
 /// before a fault are lost.
 pub fn load<R: Source>(alloc: Global, source: &mut R, limit: u64) -> Result<Vec<u8>, LoadFault>
     ensures all { IfOk result (λ bytes. IfSome (R.state source.old).remaining (λ left. bytes.items ≡ left)) }
-    ensures end { OnOk result (IsAtEnd (R.state source.new).remaining) }
     ensures within { IfOk result (λ bytes. vec_len bytes ≤ limit) }
-    ensures too_long { IsErrOf result LoadFault.TooLong →
-        LosesMoreThan limit (R.state source.old).remaining (R.state source.new).remaining }
     ensures more { IsErrOf result LoadFault.TooLong → IfSome (R.state source.old).remaining (λ left. limit < length left) }
-    ensures front { LosesFront (R.state source.old).remaining (R.state source.new).remaining }
-    ensures telling { is_some (R.state source.new).remaining ≡ is_some (R.state source.old).remaining }
-    ensures counts { (R.state source.new).failures ≡ failures_after_load result (R.state source.old).failures }
+    ensures drains { Drains limit (R.state source.old) (R.state source.new) result }
 {
     let mut pieces = PieceReader::new(alloc);
     let mut bytes = Vec::new(alloc);
