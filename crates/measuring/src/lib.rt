@@ -4,7 +4,6 @@
 mod listing;
 mod measuring;
 mod named_files;
-mod names;
 mod progress;
 mod recording;
 

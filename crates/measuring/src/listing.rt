@@ -1,55 +1,37 @@
 //! The names of files in arguments and in a text.
 
-ghost use Rattle.std.specs.Prelude.{◌≡◌, ◌<◌, ◌⊎◌, ◌++◌, ◌^◌, length, map, string_bytes, vec_len, IfOk, IfErr};
-ghost use Rattle.std.specs.Str.{IsUtf8};
+ghost use Rattle.std.specs.Prelude.{◌≡◌, ◌<◌, ◌⊎◌, ◌++◌, ◌^◌, length, map, string_bytes, vec_len, IfOk, IfErr, OnOk};
 ghost use Rattle.agent_inputs.specs.declared.fault.RunFault.TheVariants.{Memory};
-ghost use Rattle.measuring.specs.Measuring.{IsTextRefused};
-ghost use Rattle.measuring.specs.Names.{names_of};
-ghost use Rattle.measuring.specs.parts.Names.{AreNamesWith, IsNoNames, names_lent};
+ghost use Rattle.agent_inputs.specs.Loading.{Inputs};
+ghost use Rattle.measuring.specs.Measuring.{AreNames, IsNamesFault, byte_of, names_of};
+ghost use Rattle.measuring.specs.parts.{IsTextFor, names_lent};
 
-use crate::names::{NamesFault, names_in};
 use agent_inputs::{RunFault, not_utf8};
-use command_line::{Measurement, Names};
+use command_line::{Measurement, NameEnd};
 use std::alloc::{AllocError, Global};
+
+// Names that are lent, or why there are none.
+type Listed<'a> = Result<Vec<&'a str>, RunFault>;
 
 /// The names of all files to be measured, lent: those in the arguments, and then, if there is a text of further names, those in it,
 /// where it holds these bytes. Fails with `NotUtf8` if they are not UTF-8, and with `Usage` if there are 2^32 names or more.
-pub(crate) fn names_for<'a>(
-    alloc: Global,
-    asked: &'a Measurement,
-    text: &'a [u8],
-) -> Result<Vec<&'a str>, RunFault>
+pub(crate) fn names_for<'a>(alloc: Global, asked: &'a Measurement, text: &'a [u8]) -> Listed<'a>
     requires { vec_len asked.now.files < 2 ^ 32 }
-    ensures names { IfOk result (λ names. AreNamesWith asked.now text.now (names_lent names.items)) }
+    ensures names { IfOk result (λ names. (inputs : Inputs) → IsTextFor inputs asked.now text.now → AreNames inputs asked.now (names_lent names.items)) }
     ensures small { IfOk result (λ names. vec_len names < 2 ^ 32) }
-    ensures fault { IfErr result (IsNoNames asked.now text.now) }
+    ensures fault { IfErr result (λ fault. (inputs : Inputs) → IsTextFor inputs asked.now text.now → IsNamesFault inputs asked.now fault ⊎ (fault ≡ Memory)) }
 {
-    match &asked.names {
-        None => Ok(lent(alloc, &asked.files)?),
-        Some(more) => with_names_in(alloc, &asked.files, more, text),
+    let mut names = lent(alloc, &asked.files)?;
+    if let Some(more) = &asked.names {
+        let Ok(text) = str::from_utf8(text) else {
+            return Err(not_utf8(alloc, &more.text));
+        };
+        names_in(text, more.ends, &mut names)?;
+        if names.len() > u32::MAX as usize {
+            return Err(RunFault::Usage);
+        }
     }
-}
-
-// These names, and then those in a text of further names, which holds these bytes; all of them are lent. Fails with `NotUtf8` if the
-// text is not UTF-8, and with `Usage` if there are 2^32 names or more.
-fn with_names_in<'a>(
-    alloc: Global,
-    first: &'a [String],
-    more: &Names,
-    text: &'a [u8],
-) -> Result<Vec<&'a str>, RunFault>
-    ensures names { IfOk result (λ names. names_lent names.items ≡ map string_bytes first.now ++ names_of more.now.ends text.now) }
-    ensures utf8 { IfOk result (λ _. IsUtf8 text.now) }
-    ensures small { IfOk result (λ names. vec_len names < 2 ^ 32) }
-    ensures fault { IfErr result (λ fault. IsTextRefused (map string_bytes first.now) more.now text.now fault ⊎ (fault ≡ Memory)) }
-{
-    let mut names = lent(alloc, first)?;
-    match names_in(text, more.ends, &mut names) {
-        Ok(()) if names.len() <= u32::MAX as usize => Ok(names),
-        Ok(()) => Err(RunFault::Usage),
-        Err(NamesFault::NotUtf8) => Err(not_utf8(alloc, &more.text)),
-        Err(NamesFault::Memory) => Err(RunFault::Memory),
-    }
+    Ok(names)
 }
 
 // These names, lent.
@@ -62,4 +44,28 @@ fn lent<'a>(alloc: Global, names: &'a [String]) -> Result<Vec<&'a str>, AllocErr
         lent.push(name.as_str())?;
     }
     Ok(lent)
+}
+
+// Appends each name of the text to `names`, in order: a part of the text, which lends it. The text is split at each byte that ends a
+// name, and at no other; the last name may lack it. Empty names are skipped. After a fault some of the names were appended.
+fn names_in<'a>(text: &'a str, ends: NameEnd, names: &mut Vec<&'a str>) -> Result<(), AllocError>
+    ensures names { OnOk result (names_lent names.new.items ≡ names_lent names.old.items ++ names_of ends text.now) }
+{
+    for name in text.split(end_char(ends)) {
+        if !name.is_empty() {
+            names.push(name)?;
+        }
+    }
+    Ok(())
+}
+
+// The character that ends each name.
+fn end_char(ends: NameEnd) -> char
+    ensures byte { result ≡ byte_of ends }
+    ensures ascii { result < 128 }
+{
+    match ends {
+        NameEnd::LineFeed => '\n',
+        NameEnd::Nul => '\0',
+    }
 }

@@ -1,18 +1,21 @@
 //! Measures files into the registers of a log.
 
-ghost use Rattle.std.specs.Prelude.{◌≡◌, ◌<◌, ◌≤◌, ◌^◌, string_bytes, vec_len, Some, IfOk, IfErr, IfSome, MatchOption};
-ghost use Rattle.agent_inputs.specs.Loading.{Holds, IsInputFault, input_limit};
-ghost use Rattle.measuring.specs.Measuring.{IsMeasured, IsMeasuringFault};
+ghost use Rattle.std.specs.Prelude.{◌≡◌, ◌<◌, ◌^◌, vec_len, IfOk, IfErr};
+ghost use Rattle.measuring.specs.Measuring.{IsMeasured, IsMeasuringFault, IsNamesFault};
+ghost use Rattle.measuring.specs.parts.{IsTextFor};
 
 use crate::listing::names_for;
 use crate::progress::FileProgress;
 use crate::recording::{Measured, measured_over};
 use agent_inputs::{AgentFiles, RunFault, loaded};
 use boot_log::LogView;
-use command_line::{Measurement, Names};
+use command_line::Measurement;
 use std::alloc::Global;
 use std::sync::Wait;
 use std::thread::Threads;
+
+// All bytes of an input, or why it was not loaded.
+type Loaded = Result<Vec<u8>, RunFault>;
 
 /// Measures the named files into the registers of the log, into a new book.
 ///
@@ -42,33 +45,19 @@ pub fn measured<R: Threads + Wait + Sync, F: AgentFiles, P: FileProgress>(
 {
     let bytes = loaded(alloc, files, Some(&asked.log))?;
     let log = LogView::new(&bytes)?;
-    let text = text_of(alloc, files, &asked.names)?;
+    let text = text_of(alloc, files, asked)?;
     let names = names_for(alloc, asked, &text)?;
-    measured_over(
-        rt,
-        alloc,
-        files.shared(),
-        &bytes,
-        &log,
-        asked,
-        &names,
-        progress,
-    )
+    measured_over(rt, alloc, files.shared(), &log, asked, &names, progress)
 }
 
 // All bytes of the text of further names; none if there is no such text.
-fn text_of<F: AgentFiles>(
-    alloc: Global,
-    files: &mut F,
-    names: &Option<Names>,
-) -> Result<Vec<u8>, RunFault>
-    ensures text { IfOk result (λ text. IfSome names.now (λ more. Holds (F.told files.old) (Some (string_bytes more.text)) text.items)) }
-    ensures within { IfOk result (λ text. vec_len text ≤ input_limit) }
-    ensures fault { IfErr result (λ fault. MatchOption names.now ⊥ (λ more. IsInputFault (F.told files.old) (Some (string_bytes more.text)) fault)) }
+fn text_of<F: AgentFiles>(alloc: Global, files: &mut F, asked: &Measurement) -> Loaded
+    ensures text { IfOk result (λ text. IsTextFor (F.told files.old) asked.now text.items) }
+    ensures fault { IfErr result (IsNamesFault (F.told files.old) asked.now) }
     ensures told { F.told files.new ≡ F.told files.old }
     ensures saved { F.saved files.new ≡ F.saved files.old }
 {
-    match names {
+    match &asked.names {
         None => Ok(Vec::new(alloc)),
         Some(more) => loaded(alloc, files, Some(&more.text)),
     }

@@ -1,5 +1,5 @@
 use Rattle.std.proofs.Common.{◌≡◌, length, map, take, string_bytes}
-use Rattle.measuring.specs.parts.Names.{names_lent}
+use Rattle.measuring.specs.parts.{names_lent}
 use Rattle.measuring.proofs.listing.lent.Given as goal
 
 -- The names so far are lent.

@@ -1,6 +1,6 @@
 use Rattle.std.proofs.Common.{◌≡◌, ◌++◌, ◌==◌, not, filter, length}
-use Rattle.measuring.specs.parts.Names.{names_lent}
-use Rattle.measuring.proofs.names.names_in.Given as goal
+use Rattle.measuring.specs.parts.{names_lent}
+use Rattle.measuring.proofs.listing.names_in.Given as goal
 
 -- The names so far are the parts of the text so far, except empty ones.
 abbrev pub invariant-loop-name : goal.invariant-loop-name

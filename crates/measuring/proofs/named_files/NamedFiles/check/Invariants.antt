@@ -1,5 +1,5 @@
 use Rattle.measuring.specs.Measuring.{HasFiles}
-use Rattle.measuring.specs.parts.Names.{names_lent}
+use Rattle.measuring.specs.parts.{names_lent}
 use Rattle.measuring.proofs.named_files.NamedFiles.check.Given as goal
 
 -- Each file so far was read.
