@@ -2,7 +2,7 @@
 use Rattle.std.proofs.Common.{◌≡◌, ℕ, ◌+◌, ◌-◌, ◌<◌, ◌≤◌, List, [], ◌++◌, drop, length, take, refl, append-nil, length-append, arith}
 use Rattle.std.proofs.Math.Seq.{take-append_seam}
 use Rattle.std.proofs.lemmas.List.{length-take-le}
-use Rattle.std.specs.Io.KnownBytes.{Consumes, IsAtEnd}
+use Rattle.std.specs.Io.KnownBytes.{IsAtEnd}
 use Rattle.pcr_banks.specs.declared.alg.Alg.{Alg}
 use Rattle.pcr_banks.specs.declared.digest.Digest.{Digest}
 use Rattle.pcr_banks.specs.declared.hashing.Hasher.{Hasher}
@@ -11,7 +11,7 @@ use Rattle.pcr_banks.specs.Hashing.{hash_of}
 use Rattle.pcr_banks.specs.Hashers.{HasTaken}
 use Rattle.byte_streams.specs.Streams.{SourceState}
 use Rattle.agent_inputs.specs.Hashing.{IsHashOfAll}
-use Rattle.agent_inputs.proofs.LoadingLemmas.{HasLost, lost_more, lost_nothing, whole}
+use Rattle.agent_inputs.proofs.LoadingLemmas.{HasLost, lost_nothing, whole}
 
 -- The hasher took what the source lost, and `room` more bytes are allowed.
 pub record HasHashed (old new : SourceState) (alg : Alg) (limit room : ℕ) (hasher : Hasher) : Type 0 where

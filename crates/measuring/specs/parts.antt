@@ -1,5 +1,5 @@
 -- What is known of names before all of them are, and of files as jobs.
-use Rattle.std.specs.Prelude.{◌≡◌, ℕ, ◌<◌, ◌≤◌, List, length, map, slice_get, Some, IfSome, ⊤, string_bytes}
+use Rattle.std.specs.Prelude.{ℕ, ◌<◌, ◌≤◌, List, length, map, slice_get, Some, IfSome, ⊤, string_bytes}
 use Rattle.std.specs.Borrow.{Bor}
 use Rattle.hash_workers.specs.declared.fault.JobFault.{JobFault}
 use Rattle.hash_workers.specs.declared.fault.JobFault.TheVariants.{TooLong, Source, Memory}

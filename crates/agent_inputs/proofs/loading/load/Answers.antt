@@ -1,6 +1,6 @@
 use Rattle.std.proofs.Common.{arith}
 use Rattle.std.proofs.lemmas.Result.{err_from_is_err_and}
-use Rattle.agent_inputs.proofs.LoadingLemmas.{drained_all, drained_failed, drained_more, had, lost_nothing, lost_piece, read_fault_is_not_too_long, whole}
+use Rattle.agent_inputs.proofs.LoadingLemmas.{drained_all, drained_failed, lost_nothing, lost_piece, read_fault_is_not_too_long, whole}
 use Rattle.agent_inputs.proofs.loading.load.Goals as goal
 
 pub loop-bytes-init : goal.loop-bytes-init

@@ -1,4 +1,3 @@
-use Rattle.std.proofs.Common.{refl}
 use Rattle.std.proofs.lemmas.Result.{err_from_is_err_and}
 use Rattle.measuring.proofs.MeasuringLaws.{not_recorded, set_out}
 use Rattle.measuring.proofs.recording.measured_over.Goals as goal

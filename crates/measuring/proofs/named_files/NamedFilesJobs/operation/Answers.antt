@@ -1,5 +1,5 @@
 use Rattle.std.proofs.Common.{rules}
-use Rattle.measuring.proofs.MeasuringLaws.{file_measure, name_at, of_lent}
+use Rattle.measuring.proofs.MeasuringLaws.{file_measure, name_at}
 use Rattle.measuring.proofs.named_files.NamedFilesJobs.operation.Goals as goal
 
 pub returns : goal.returns
