@@ -1,6 +1,7 @@
 -- The bytes that a source lost, and why it was not loaded.
-use Rattle.std.proofs.Common.{◌≡◌, ℕ, ◌<◌, List, [], ◌++◌, length, Option, None, Some, Ok, Err, refl, sym, ap, subst, ◌∙◌, Result, append-nil, length-append, arith}
-use Rattle.std.specs.Prelude.{IfSome, is_some}
+use Rattle.std.proofs.Common.{◌≡◌, ℕ, ◌<◌, List, [], ◌++◌, length, Option, None, Some, Ok, Err, refl, sym, ap, subst, ◌∙◌, inl, inr, Result, string_bytes, append-nil, length-append, arith}
+use Rattle.std.specs.Prelude.{◌⊎◌, IfOk, IfSome, MatchResult, String, is_some}
+use Rattle.std.specs.Global.{Global}
 use Rattle.std.specs.Io.KnownBytes.{Consumes, IsAtEnd, Keeps}
 use Rattle.byte_streams.specs.declared.pieces.ReadFault.{ReadFault}
 use Rattle.byte_streams.specs.declared.pieces.ReadFault.TheVariants as reads
@@ -54,6 +55,13 @@ pub had : (old new : Option (List ℕ)) (limit : ℕ) (lost : List ℕ) → Cons
 had None new limit lost came more = tt
 had (Some all) None limit lost came more = absurd came
 had (Some all) (Some rest) limit lost came more = omega (arith, ap length came, length-append lost rest)
+
+-- A fault that names an input, whose name was copied.
+pub named : {E : Type 0} (copied : Result (String Global) E) (name : List ℕ) (Says : String Global → Type 0) (P Q : Type 0)
+    → ((copy : String Global) → string_bytes copy ≡ name → Says copy → P)
+    → IfOk copied (λ copy. string_bytes copy ≡ name) → MatchResult copied Says (λ _. Q) → P ⊎ Q
+named (Ok copy) name Says P Q made names says = inl (made copy names says)
+named (Err fault) name Says P Q made names says = inr says
 
 -- A list that was not read since its source failed.
 pub source_failed : {A : Type 0} (result : Result A VerifyFault) (fault : VerifyFault) (old new : SourceState) → result ≡ Err fault

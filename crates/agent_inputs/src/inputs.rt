@@ -43,38 +43,26 @@ pub fn loaded<F: AgentFiles>(alloc: Global, files: &mut F, name: Option<&str>) -
 pub fn not_read(alloc: Global, input: &str) -> RunFault
     ensures { IsNotRead input.now result ⊎ (result ≡ RunFault.Memory) }
 {
-    match String::from_str(alloc, input) {
-        Ok(input) => RunFault::Read(input),
-        Err(_) => RunFault::Memory,
-    }
+    String::from_str(alloc, input).map_or(RunFault::Memory, RunFault::Read)
 }
 
 /// The fault that the file of this name could not be written; `Memory` if its name cannot be copied.
 pub fn not_written(alloc: Global, name: &str) -> RunFault
     ensures { IsNotWritten name.now result ⊎ (result ≡ RunFault.Memory) }
 {
-    match String::from_str(alloc, name) {
-        Ok(name) => RunFault::Write(name),
-        Err(_) => RunFault::Memory,
-    }
+    String::from_str(alloc, name).map_or(RunFault::Memory, RunFault::Write)
 }
 
 /// The fault that this input is too long; `Memory` if its name cannot be copied.
 pub fn too_long(alloc: Global, input: &str) -> RunFault
     ensures { IsTooLong input.now result ⊎ (result ≡ RunFault.Memory) }
 {
-    match String::from_str(alloc, input) {
-        Ok(input) => RunFault::TooLong(input),
-        Err(_) => RunFault::Memory,
-    }
+    String::from_str(alloc, input).map_or(RunFault::Memory, RunFault::TooLong)
 }
 
 /// The fault that the text of names in this input is not UTF-8; `Memory` if the input's name cannot be copied.
 pub fn not_utf8(alloc: Global, input: &str) -> RunFault
     ensures { IsNotUtf8 input.now result ⊎ (result ≡ RunFault.Memory) }
 {
-    match String::from_str(alloc, input) {
-        Ok(input) => RunFault::NotUtf8(input),
-        Err(_) => RunFault::Memory,
-    }
+    String::from_str(alloc, input).map_or(RunFault::Memory, RunFault::NotUtf8)
 }
