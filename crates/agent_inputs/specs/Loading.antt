@@ -17,10 +17,8 @@ fault_of_reading reads.Memory = Memory
 
 -- The source's count of failures after loading: one more after `Source`, else unchanged.
 abbrev pub failures_after_load : {A : Type 0} → Result A LoadFault → ℕ → ℕ
-failures_after_load (Ok bytes) failures = failures
-failures_after_load (Err TooLong) failures = failures
 failures_after_load (Err Source) failures = failures_after {A = ℕ} (Err Source) failures
-failures_after_load (Err Memory) failures = failures
+failures_after_load result failures = failures
 
 -- The source lost more bytes than this count, if its bytes are told.
 abbrev pub LosesMoreThan : ℕ → Option (List ℕ) → Option (List ℕ) → Type 0

@@ -168,10 +168,7 @@ impl<R: FileSystem + io::Input + Sync> Files for SystemFiles<'_, R> {
     {
         let input = match name {
             None => Input::StandardInput(self.runtime.reader()),
-            Some(name) => match File::open(self.runtime, name) {
-                Ok(file) => Input::File(file),
-                Err(_) => return Err(Failed),
-            },
+            Some(name) => Input::File(File::open(self.runtime, name).map_err(|_| Failed)?),
         };
         Ok(ReadSource::new(input))
     }
@@ -233,10 +230,8 @@ fn created_beside<R: FileSystem>(rt: &R, name: &str, mode: u32) -> io::Result<(R
 // The name of a file beside that of the name, for this number.
 fn name_beside(name: &str, number: u32) -> io::Result<Path> {
     let mut beside = ArrayString::new();
-    match write!(beside, "{name}.{number}.new") {
-        Ok(()) => Ok(beside),
-        Err(_) => Err(io::Error::from(io::ErrorKind::InvalidFilename)),
-    }
+    write!(beside, "{name}.{number}.new").map_err(|_| io::ErrorKind::InvalidFilename)?;
+    Ok(beside)
 }
 
 // Writes the bytes to the file, and syncs it.
@@ -251,9 +246,7 @@ impl<R: FileSystem> SharedFiles for SystemFiles<'_, R> {
 
     /// Opens and hashes the file of this name.
     fn hash(&self, alloc: Global, name: &str, alg: Alg, limit: u64) -> Result<Digest, LoadFault> {
-        match File::open(self.runtime, name) {
-            Ok(file) => hash_from(alloc, &mut ReadSource::new(file), alg, limit),
-            Err(_) => Err(LoadFault::Source),
-        }
+        let file = File::open(self.runtime, name).map_err(|_| LoadFault::Source)?;
+        hash_from(alloc, &mut ReadSource::new(file), alg, limit)
     }
 }
