@@ -1,5 +1,5 @@
 -- Files, measured into the registers of a log. All of this is this project's choice.
-use Rattle.std.specs.Prelude.{◌≡◌, ℕ, ◌<◌, ◌≤◌, ◌^◌, ◌⊎◌, ◌==◌, not, List, [], ◌++◌, filter, length, map, slice_get, Option, Some, IfSome, IsTrue, MatchOption, string_bytes}
+use Rattle.std.specs.Prelude.{◌≡◌, ℕ, ◌<◌, ◌≤◌, ◌^◌, ◌⊎◌, ◌==◌, not, List, [], ◌++◌, filter, length, map, slice_get, Option, None, Some, IfSome, IsTrue, MatchOption, string_bytes}
 use Rattle.std.specs.List.{slice_split}
 use Rattle.std.specs.Str.{IsUtf8}
 use Rattle.pcr_banks.specs.declared.alg.Alg.{Alg}
@@ -74,20 +74,23 @@ pub record IsFileMeasure (held : Contents) (names : List (List ℕ)) (alg : Alg)
 abbrev pub AreDone : List BookOutcome → ℕ → Type 0
 AreDone outcomes count = (job : ℕ) (fault : BookFault) → job < count → slice_get outcomes job ≡ Some (refused fault) → ⊥
 
--- The workers recorded the files of these names in this book, whose records are a legal history, each as its measurement; this holds of
--- their outcomes.
-pub record HasRecorded (held : Contents) (names : List (List ℕ)) (origin : Origin) (workers : ℕ) (P : List BookOutcome → Type 0)
+-- The fault is that of the first refused job.
+pub record IsFirstRefusal (outcomes : List BookOutcome) (fault : RunFault) : Type 0 where
+  pub job : ℕ
+  pub cause : BookFault
+  pub is_refused : slice_get outcomes job ≡ Some (refused cause)
+  pub before : AreDone outcomes job
+  pub says : fault ≡ fault_of_job job cause
+
+-- The workers recorded the files of these names in this book, whose records are a legal history, each as its measurement. The fault is that of
+-- the first file that the book refused; there is none if it refused none.
+pub record HasRecorded (held : Contents) (names : List (List ℕ)) (origin : Origin) (workers : ℕ) (refusal : Option RunFault)
     (book : BookState) : Type 0 where
   pub outcomes : List BookOutcome
   pub by : List ℕ
   pub book_is : IsBook book
   pub batch : IsBatchOf origin (length names) (IsFileMeasure held names origin.alg) workers book outcomes by
-  pub holds : P outcomes
-
--- They recorded all of these files: none was refused.
-abbrev pub HasMeasured : Contents → List (List ℕ) → Origin → ℕ → BookState → Type 0
-HasMeasured held names origin workers book =
-    HasRecorded held names origin workers (λ outcomes. AreDone outcomes (length outcomes)) book
+  pub refusal_is : MatchOption refusal (AreDone outcomes (length outcomes)) (IsFirstRefusal outcomes)
 
 -- The bytes are a log.
 abbrev pub AreLog : List ℕ → Type 0
@@ -120,7 +123,7 @@ pub record IsMeasuredOver (held : Contents) (log : List ℕ) (asked : Measuremen
   pub origin : Origin
   pub set_out : IsSetOut log asked origin
   pub reset_is : IsReset (algs_in set_out.table) (startup_locality set_out.events) given.reset
-  pub measured : HasMeasured held names origin asked.workers given.book
+  pub measured : HasRecorded held names origin asked.workers None given.book
 
 -- This is what a measurement of these inputs gives: that of the files of all names over the log.
 abbrev pub IsMeasured : Inputs → Measurement → Measured → Type 0
@@ -143,14 +146,6 @@ pub record IsFileFault (held : Contents) (Fails : List ℕ → Type 0) (names : 
   pub cause : IsUnhashed held Fails name fault
   pub before : HasFiles held names index
 
--- The fault is that of the first refused job.
-pub record IsFirstRefusal (outcomes : List BookOutcome) (fault : RunFault) : Type 0 where
-  pub job : ℕ
-  pub cause : BookFault
-  pub is_refused : slice_get outcomes job ≡ Some (refused cause)
-  pub before : AreDone outcomes job
-  pub says : fault ≡ fault_of_job job cause
-
 -- If the fault is that no book could be opened, each of these files could be read: it comes after the faults of files.
 abbrev pub IsAfterFiles : Contents → List (List ℕ) → RunFault → Type 0
 IsAfterFiles held names fault = (cause : BookFault) → fault ≡ runs.Book cause → HasFiles held names (length names)
@@ -169,7 +164,7 @@ pub record IsNoBatch (held : Contents) (names : List (List ℕ)) (origin : Origi
 abbrev pub IsRecordingFault : Contents → List (List ℕ) → Origin → ℕ → RunFault → Type 0
 IsRecordingFault held names origin workers fault =
     IsNoBatch held names origin workers fault
-    ⊎ ((book : BookState) × HasRecorded held names origin workers (λ outcomes. IsFirstRefusal outcomes fault) book)
+    ⊎ ((book : BookState) × HasRecorded held names origin workers (Some fault) book)
 
 -- The files of these names were to be measured as asked over this log, and were not all recorded.
 abbrev pub IsNotRecorded : Contents → List ℕ → Measurement → List (List ℕ) → RunFault → Type 0
@@ -193,17 +188,12 @@ IsNamesFault inputs asked fault = MatchOption asked.names ⊥ (λ more.
     IsInputFault inputs (Some (string_bytes more.text)) fault
     ⊎ OfInput inputs (Some (string_bytes more.text)) (λ text. IsTextRefused (map string_bytes asked.files.items) more text fault))
 
--- Why the files of all names are not measured over this log: one could not be read, or they were not all recorded.
-abbrev pub IsFilesFault : Inputs → List ℕ → Measurement → RunFault → Type 0
-IsFilesFault inputs log asked fault =
-    (names : List (List ℕ)) × AreNames inputs asked names
-    × (IsFileFault (files_in inputs) (failing_in inputs) names fault ⊎ IsNotRecorded (files_in inputs) log asked names fault)
-
 -- Why nothing is measured of these inputs: the log was not loaded, or is no log; it is one, and there are no names, or the files are not
 -- measured; or memory ran out.
 abbrev pub IsMeasuringFault : Inputs → Measurement → RunFault → Type 0
 IsMeasuringFault inputs asked fault =
     IsInputFault inputs (Some (string_bytes asked.log)) fault
     ⊎ OfInput inputs (Some (string_bytes asked.log)) (λ log.
-    HasLogFault log fault ⊎ (IsInputLog log × (IsNamesFault inputs asked fault ⊎ IsFilesFault inputs log asked fault))
+    HasLogFault log fault ⊎ (IsInputLog log × (IsNamesFault inputs asked fault ⊎ ((names : List (List ℕ)) × AreNames inputs asked names
+    × (IsFileFault (files_in inputs) (failing_in inputs) names fault ⊎ IsNotRecorded (files_in inputs) log asked names fault))))
     ⊎ (fault ≡ runs.Memory))

@@ -17,9 +17,11 @@ type Listed<'a> = Result<Vec<&'a str>, RunFault>;
 /// where it holds these bytes. Fails with `NotUtf8` if they are not UTF-8, and with `Usage` if there are 2^32 names or more.
 pub(crate) fn names_for<'a>(alloc: Global, asked: &'a Measurement, text: &'a [u8]) -> Listed<'a>
     requires { vec_len asked.now.files < 2 ^ 32 }
-    ensures names { IfOk result (λ names. (inputs : Inputs) → IsTextFor inputs asked.now text.now → AreNames inputs asked.now (names_lent names.items)) }
+    ensures names { IfOk result (λ names. (inputs : Inputs) → IsTextFor inputs asked.now text.now
+        → AreNames inputs asked.now (names_lent names.items)) }
     ensures small { IfOk result (λ names. vec_len names < 2 ^ 32) }
-    ensures fault { IfErr result (λ fault. (inputs : Inputs) → IsTextFor inputs asked.now text.now → IsNamesFault inputs asked.now fault ⊎ (fault ≡ Memory)) }
+    ensures fault { IfErr result (λ fault. (inputs : Inputs) → IsTextFor inputs asked.now text.now
+        → IsNamesFault inputs asked.now fault ⊎ (fault ≡ Memory)) }
 {
     let mut names = lent(alloc, &asked.files)?;
     if let Some(more) = &asked.names {

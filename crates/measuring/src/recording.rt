@@ -1,10 +1,11 @@
 //! Records the files of given names in a book over a log.
 
-ghost use Rattle.std.specs.Prelude.{◌≡◌, ◌<◌, ◌⊎◌, ◌^◌, length, map, IfOk, IfErr, IfSome, IfNone};
+ghost use Rattle.std.specs.Prelude.{◌≡◌, ◌<◌, ◌⊎◌, ◌^◌, length, map, None, IfOk, IfErr, IfSome, IfNone};
 ghost use Rattle.boot_log.specs.LogViews.{log_bytes};
 ghost use Rattle.measure_book.specs.Operations.{book_outcome_of};
 ghost use Rattle.agent_inputs.specs.Faults.{fault_of_job};
-ghost use Rattle.measuring.specs.Measuring.{AreDone, AreLog, HasMeasured, IsFileFault, IsFirstRefusal, IsMeasuredOver, IsNotRecorded, IsRecordingFault};
+ghost use Rattle.measuring.specs.Measuring.{AreDone, AreLog, HasRecorded, IsFileFault, IsFirstRefusal};
+ghost use Rattle.measuring.specs.Measuring.{IsMeasuredOver, IsNotRecorded, IsRecordingFault};
 ghost use Rattle.measuring.specs.parts.{names_lent};
 
 use crate::named_files::{NamedFiles, ProgressGate};
@@ -68,8 +69,9 @@ fn recorded<R: Threads + Wait + Sync, S: SharedFiles + Sync, P: FileProgress>(
     progress: &P,
 ) -> Result<Book, RunFault>
     requires small { length jobs.now.names.now < 2 ^ 32 }
-    ensures measured { IfOk result (HasMeasured (S.held jobs.now.files.now) (names_lent jobs.now.names.now) origin workers) }
-    ensures fault { IfErr result (λ fault. IsFileFault (S.held jobs.now.files.now) (S.fails jobs.now.files.now) (names_lent jobs.now.names.now) fault
+    ensures measured { IfOk result (HasRecorded (S.held jobs.now.files.now) (names_lent jobs.now.names.now) origin workers None) }
+    ensures fault { IfErr result (λ fault.
+        IsFileFault (S.held jobs.now.files.now) (S.fails jobs.now.files.now) (names_lent jobs.now.names.now) fault
         ⊎ IsRecordingFault (S.held jobs.now.files.now) (names_lent jobs.now.names.now) origin workers fault) }
 {
     let gate = ProgressGate::new(progress, jobs.names.len() as u32);
