@@ -21,7 +21,6 @@ use Rattle.hash_workers.specs.Causes.{IsCauseOf}
 use Rattle.command_line.specs.declared.plan.Measurement.{Measurement}
 use Rattle.command_line.specs.declared.plan.NameEnd.{NameEnd}
 use Rattle.command_line.specs.declared.plan.NameEnd.TheVariants.{LineFeed, Nul}
-use Rattle.command_line.specs.declared.plan.Names.{Names}
 use Rattle.agent_inputs.specs.declared.fault.RunFault.{RunFault}
 use Rattle.agent_inputs.specs.declared.fault.RunFault.TheVariants as runs
 use Rattle.agent_inputs.specs.Faults.{HasLogFault, fault_of_agent, fault_of_job}
@@ -159,34 +158,26 @@ pub record IsNoBatch (held : Contents) (names : List (List ℕ)) (origin : Origi
   pub says : fault ≡ fault_of_agent first
   pub after_files : IsAfterFiles held names fault
 
--- Why the files of these names are not all recorded: the workers returned no batch, or this is the fault of the first file that their book
--- refused.
+-- Why the files of these names are not all recorded: there is no batch, or a book refused some, and this is the fault of the first of these.
 abbrev pub IsRecordingFault : Contents → List (List ℕ) → Origin → ℕ → RunFault → Type 0
 IsRecordingFault held names origin workers fault =
-    IsNoBatch held names origin workers fault
-    ⊎ ((book : BookState) × HasRecorded held names origin workers (Some fault) book)
+    IsNoBatch held names origin workers fault ⊎ ((book : BookState) × HasRecorded held names origin workers (Some fault) book)
 
 -- The files of these names were to be measured as asked over this log, and were not all recorded.
 abbrev pub IsNotRecorded : Contents → List ℕ → Measurement → List (List ℕ) → RunFault → Type 0
-IsNotRecorded held log asked names fault =
-    (origin : Origin) × IsSetOut log asked origin × IsRecordingFault held names origin asked.workers fault
-
--- Why the text of further names is refused, if it holds these bytes: they are not UTF-8, or, with the names before, there are 2^32 names or
--- more.
-abbrev pub IsTextRefused : List (List ℕ) → Names → List ℕ → RunFault → Type 0
-IsTextRefused before more text fault =
-    (IsNotUtf8 (string_bytes more.text) fault × (IsUtf8 text → ⊥))
-    ⊎ ((fault ≡ runs.Usage) × (2 ^ 32 ≤ length (before ++ names_of more.ends text)))
+IsNotRecorded held log asked names fault = (origin : Origin) × IsSetOut log asked origin × IsRecordingFault held names origin asked.workers fault
 
 -- The bytes are a log, and no more than an input may have.
 abbrev pub IsInputLog : List ℕ → Type 0
 IsInputLog bytes = (length bytes ≤ input_limit) × AreLog bytes
 
--- Why there are no names: there is a text of further names, and it was not loaded, or is refused.
+-- Why there are no names: there is a text of further names, and it was not loaded, is not UTF-8, or names, with the names before, 2^32 files
+-- or more.
 abbrev pub IsNamesFault : Inputs → Measurement → RunFault → Type 0
 IsNamesFault inputs asked fault = MatchOption asked.names ⊥ (λ more.
-    IsInputFault inputs (Some (string_bytes more.text)) fault
-    ⊎ OfInput inputs (Some (string_bytes more.text)) (λ text. IsTextRefused (map string_bytes asked.files.items) more text fault))
+    IsInputFault inputs (Some (string_bytes more.text)) fault ⊎ OfInput inputs (Some (string_bytes more.text)) (λ text.
+    (IsNotUtf8 (string_bytes more.text) fault × (IsUtf8 text → ⊥))
+    ⊎ ((fault ≡ runs.Usage) × (2 ^ 32 ≤ length (map string_bytes asked.files.items ++ names_of more.ends text)))))
 
 -- Why nothing is measured of these inputs: the log was not loaded, or is no log; it is one, and there are no names, or the files are not
 -- measured; or memory ran out.

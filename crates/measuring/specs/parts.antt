@@ -13,13 +13,11 @@ names_lent names = map (λ name. name.now) names
 
 -- The text of further names, if there is one, holds these bytes.
 abbrev pub IsTextFor : Inputs → Measurement → List ℕ → Type 0
-IsTextFor inputs asked text =
-    (length text ≤ input_limit) × IfSome asked.names (λ more. Holds inputs (Some (string_bytes more.text)) text)
+IsTextFor inputs asked text = (length text ≤ input_limit) × IfSome asked.names (λ more. Holds inputs (Some (string_bytes more.text)) text)
 
 -- Why the file of this number has no operation: it is too long, it could not be opened or read (both only as far as this is told), or
 -- memory ran out.
 abbrev pub IsFileFailure : Contents → (List ℕ → Type 0) → List (List ℕ) → ℕ → JobFault → Type 0
-IsFileFailure held Fails names number TooLong =
-    IfSome (slice_get names number) (λ name. IfSome (held name) (λ all. input_limit < length all))
+IsFileFailure held Fails names number TooLong = IfSome (slice_get names number) (λ name. IfSome (held name) (λ all. input_limit < length all))
 IsFileFailure held Fails names number Source = IfSome (slice_get names number) Fails
 IsFileFailure held Fails names number Memory = ⊤
