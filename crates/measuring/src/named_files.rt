@@ -68,7 +68,7 @@ impl<S: SharedFiles> NamedFiles<'_, S> {
     /// and so no worker read them.
     pub fn check(&self, alloc: Global, alg: Alg) -> Result<(), RunFault>
         requires { length self.now.names.now < 2 ^ 32 }
-        ensures read { OnOk result (HasFiles (S.held self.now.files.now) (names_lent self.now.names.now) (length self.now.names.now)) }
+        ensures read { OnOk result (HasFiles (S.held self.now.files.now) (names_lent self.now.names.now) (length (names_lent self.now.names.now))) }
         ensures fault { IfErr result (IsFileFault (S.held self.now.files.now) (S.fails self.now.files.now) (names_lent self.now.names.now)) }
     {
         for index in 0..self.names.len() {

@@ -25,8 +25,7 @@ returns-in-Err-Agent-Book-clause-fault g c = inr (inl (record {
   first_is = search rules;
   among = search rules;
   says = refl;
-  after_files = λ cause is number below. c.in_ok-check-in-Err-Agent-Book.ensures.read number
-      (omega (arith, length-map c.args.jobs.now.names.now (λ (name : Bor (List ℕ)). name.now)));
+  after_files = search rules;
 }))
 
 pub returns : goal.returns

@@ -13,3 +13,7 @@ returns-in-Err-clause-fault g c =
     let names = c.args.self.now.names.now in
     file_fault _ _ (names_lent names) c.loop-index.index c.fault_of.result
     (omega (arith, c.loop-index-test.true, length-map names (λ (name : Bor (List ℕ)). name.now))) c.fault_of.ensures c.loop-index.invariant
+
+pub returns-clause-read : goal.returns-clause-read
+returns-clause-read g c = λ number below.
+    c.loop-index.invariant number (omega (arith, length-map c.args.self.now.names.now (λ (name : Bor (List ℕ)). name.now)))
