@@ -1,7 +1,6 @@
-use Rattle.std.proofs.Common.{rules, refl, inl, inr, List, ℕ, arith}
+use Rattle.std.proofs.Common.{rules, inl, inr, List, ℕ, arith}
 use Rattle.std.specs.Borrow.{Bor}
 use Rattle.std.proofs.lemmas.List.{length-map}
-use Rattle.hash_workers.specs.declared.fault.AgentFault.TheVariants.{Book}
 use Rattle.measuring.proofs.MeasuringLaws.{file_fault}
 use Rattle.measuring.proofs.recording.recorded.Goals as goal
 
@@ -18,15 +17,6 @@ fault_of-requires-clause-number g c =
       (c.record_jobs-recorded.ensures.job c.in-Err-Job.job c.in-Err-Job.fault (search rules)).0.within,
       length-map c.args.jobs.now.names.now (λ (name : Bor (List ℕ)). name.now),
     )
-
-pub returns-in-Err-Agent-Book-clause-fault : goal.returns-in-Err-Agent-Book-clause-fault
-returns-in-Err-Agent-Book-clause-fault g c = inr (inl (record {
-  first = Book c.in-Err-Agent-Book.fault;
-  first_is = search rules;
-  among = search rules;
-  says = refl;
-  after_files = search rules;
-}))
 
 pub returns : goal.returns
 returns g c = record {
