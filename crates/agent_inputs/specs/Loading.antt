@@ -1,5 +1,5 @@
 -- What loading takes from a source, and why an input is not loaded.
-use Rattle.std.specs.Prelude.{◌≡◌, ℕ, ◌+◌, ◌<◌, ◌⊎◌, Bool, true, List, [], ◌∷◌, ◌++◌, length, codes, Option, None, Some, is_some, ⊤, Result, Ok, Err, IfSome, IsErrOf, IsTrue, OnOk, String, string_bytes}
+use Rattle.std.specs.Prelude.{◌≡◌, ℕ, ◌+◌, ◌<◌, ◌⊎◌, Bool, true, List, [], ◌∷◌, ◌++◌, length, codes, Option, None, Some, is_some, ⊤, Result, Err, IfSome, IsErrOf, IsTrue, OnOk, String, string_bytes}
 use Rattle.std.specs.Io.KnownBytes.{IsAtEnd}
 use Rattle.std.specs.Global.{Global}
 use Rattle.byte_streams.specs.declared.pieces.ReadFault.{ReadFault}
