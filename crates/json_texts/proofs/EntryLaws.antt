@@ -1,6 +1,7 @@
 -- What an entry's line says.
 use Rattle.std.proofs.Common.{◌≡◌, ℕ, ◌^◌, ◌<◌, Bool, true, false, List, Option, Some, None, refl, sym, arith, inl, inr, rules}
 use Rattle.std.specs.Prelude.{◌↔◌, ◌⊎◌, ◌||◌, IsTrue, bytes_eq}
+use Rattle.std.proofs.lemmas.Bool.{false_from_ne_true}
 use Rattle.std.proofs.lemmas.Slice.Eq.{bytes_eq-Decides}
 use Rattle.std.proofs.lemmas.Str.{IsUtf8-from_is_utf8}
 use Rattle.std.specs.Str.{is_utf8, IsUtf8}
@@ -17,12 +18,8 @@ use Rattle.json_texts.specs.JsonValues.{IsOneLine}
 use Rattle.json_texts.specs.EntryJson.{content_members, entry_json, is_genuine, signature_members}
 use Rattle.json_texts.proofs.LineLaws.{ArePlain, one_line}
 
-decided : (b : Bool) → (b ≡ true → ⊥) → b ≡ false
-decided true not = absurd (not refl)
-decided false not = refl
-
 pub not_utf8 : (bytes : List ℕ) → (IsUtf8 bytes → ⊥) → is_utf8 bytes ≡ false
-not_utf8 bytes other = decided (is_utf8 bytes) (λ is. other (IsUtf8-from_is_utf8 bytes is))
+not_utf8 bytes other = false_from_ne_true (is_utf8 bytes) (λ is. other (IsUtf8-from_is_utf8 bytes is))
 
 -- ---- genuine entries
 

@@ -1,12 +1,6 @@
-use Rattle.std.proofs.Common.{append_assoc, refl}
+use Rattle.json_texts.proofs.WrittenLaws.{in_object, joined}
 use Rattle.json_texts.proofs.reports.write_report.Goals as goal
 
-pub returns-clause-tokens : goal.returns-clause-tokens
-returns-clause-tokens c =
-    rw (
-      c.in_ok-end_object.ensures.ok,
-      c.in_ok-write_outcome.ensures.tokens,
-      c.in_ok-write_counts.ensures.tokens,
-      c.in_ok-begin_object.ensures.ok,
-    )
-    (simp append_assoc refl)
+pub returns : goal.returns
+returns c =
+    in_object c.in_ok-begin_object.ensures (joined c.in_ok-write_counts.ensures c.in_ok-write_outcome.ensures) c.in_ok-end_object.ensures
