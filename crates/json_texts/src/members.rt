@@ -41,8 +41,7 @@ pub(crate) fn write_hex(alloc: Global, name: &str, bytes: &[u8], writer: &mut Wr
     ensures { WritesMembers result writer.old writer.new ((name.now, hex_json bytes.now) ∷ []) }
 {
     let digits = hex::encode(alloc, bytes)?;
-    write_text(name, &digits, writer)?;
-    Ok(())
+    write_text(name, &digits, writer)
 }
 
 /// Writes a member that shows bytes: as text, or under the other name in hexadecimal where they are not UTF-8.
@@ -56,13 +55,7 @@ pub(crate) fn write_shown(
     ensures { WritesMembers result writer.old writer.new (shown_member name.now hex_name.now bytes.now ∷ []) }
 {
     match std::str::from_utf8(bytes) {
-        Ok(text) => {
-            write_text(name, text, writer)?;
-            Ok(())
-        }
-        Err(_) => {
-            write_hex(alloc, hex_name, bytes, writer)?;
-            Ok(())
-        }
+        Ok(text) => write_text(name, text, writer),
+        Err(_) => write_hex(alloc, hex_name, bytes, writer),
     }
 }

@@ -1,6 +1,6 @@
 //! The line of places.
 
-ghost use Rattle.std.specs.Prelude.{◌≡◌, [], ◌∷◌, codes, option_map};
+ghost use Rattle.std.specs.Prelude.{◌≡◌, [], ◌∷◌, codes, option_copied};
 ghost use Rattle.json.specs.Json.{string};
 ghost use Rattle.json_texts.specs.JsonValues.{AppendsLine, number_json};
 ghost use Rattle.json_texts.specs.PlaceJson.{finds, place_members, places_json};

@@ -71,7 +71,8 @@ fn write_change(
     now: Option<Digest>,
     writer: &mut Writer,
 ) -> Written
-    ensures { (alg : Alg) (old new : Option (List ℕ)) → before ≡ option_map (digest_of alg) old → now ≡ option_map (digest_of alg) new
+    ensures before { writer.new.before ≡ writer.old.before }
+    ensures items { (alg : Alg) (old new : Option (List ℕ)) → before ≡ option_map (digest_of alg) old → now ≡ option_map (digest_of alg) new
         → WritesItems result writer.old writer.new (change_values alg register old new) }
 {
     match (now, before) {

@@ -183,8 +183,7 @@ fn write_unconfirmed(alloc: Global, after: Option<Unconfirmed>, writer: &mut Wri
         place: place_of(fault),
         message: &message,
     };
-    write_fault_member("unconfirmed", &told, writer)?;
-    Ok(())
+    write_fault_member("unconfirmed", &told, writer)
 }
 
 // The place of a fault that names an entry.

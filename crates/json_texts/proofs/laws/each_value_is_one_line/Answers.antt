@@ -19,11 +19,14 @@ pub returns : goal.returns
 returns c = record {
   entry = entry_line;
   event = λ number event count register kind.
-      let last = ((event.kind, kind, refl), (digests_plain event.digests all_algs, (tt, tt))) in
       let type = text_plain 2 (codes "type") (λ name. name) (event_type_name event.kind) in
       one_line _ (
         (number, count, refl),
-        ((event.register, register, refl), members_joined 2 (optional (codes "type") (option_map string (event_type_name event.kind))) _ type last),
+        (
+          (event.register, register, refl),
+          members_joined 2 (optional (codes "type") (option_map string (event_type_name event.kind))) _ type
+              ((event.kind, kind, refl), (digests_plain event.digests all_algs, (tt, tt))),
+        ),
       );
   algorithms = λ rows are. one_line _ (mapped_plain IsRow algorithm_json algorithm_plain rows are, tt);
   registers = λ now start.
@@ -31,11 +34,16 @@ returns c = record {
   expected = λ range expected fit.
       one_line _ (each_plain (λ e. IsCount e.register) (value_within range) (within_plain range) expected fit, tt);
   report = λ required is_match verdict events locality entries rows.
-      let last = (tt, (report_plain required verdict.rows rows, (tt, tt))) in
-      one_line _ ((verdict.events, events, refl), ((verdict.locality, locality, refl), ((verdict.entries, entries, refl), last)));
+      one_line _ (
+        (verdict.events, events, refl),
+        (
+          (verdict.locality, locality, refl),
+          ((verdict.entries, entries, refl), (tt, (report_plain required verdict.rows rows, (tt, tt)))),
+        ),
+      );
   front_report = λ required front entries unconfirmed events locality confirmed all after rows.
-      let last = (tt, (report_plain required front.rows rows, (tt, tt))) in
-      let told = members_joined 2 (unconfirmed_members unconfirmed) _ (unconfirmed_plain unconfirmed after) last in
+      let told = members_joined 2 (unconfirmed_members unconfirmed) _ (unconfirmed_plain unconfirmed after)
+      (tt, (report_plain required front.rows rows, (tt, tt))) in
       one_line _ (
         (front.events, events, refl),
         ((front.locality, locality, refl), ((entries, all, refl), ((front.entries, confirmed, refl), told))),

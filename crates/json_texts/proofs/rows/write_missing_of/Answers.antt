@@ -3,7 +3,7 @@ use Rattle.std.specs.Prelude.{flat_map}
 use Rattle.boot_verdict.specs.RegisterTexts.{every_register}
 use Rattle.boot_verdict.proofs.RegisterLaws.{every_count}
 use Rattle.json_texts.specs.RegisterJson.{value_if_missing}
-use Rattle.json_texts.proofs.WrittenLaws.{HasItems, more_items, whole}
+use Rattle.json_texts.proofs.WrittenLaws.{all_items, more_items}
 use Rattle.json_texts.proofs.rows.write_missing_of.Goals as goal
 
 pub loop-number-preserved : goal.loop-number-preserved
@@ -14,5 +14,6 @@ loop-number-preserved g c =
 
 pub returns : goal.returns
 returns g c =
-    let of = λ register. value_if_missing c.args.name.now c.args.requirement.now (map g.T.HasExpected.expected_of c.args.rows.now) register.0 register.1 in
-    whole (λ rs. HasItems _ _ (flat_map of rs)) every_register c.loop-number.number (omega (arith, every_count)) c.loop-number.invariant
+    all_items
+    (λ rs. flat_map (λ register. value_if_missing c.args.name.now c.args.requirement.now (map g.T.HasExpected.expected_of c.args.rows.now) register.0 register.1) rs)
+    every_register c.loop-number.number (omega (arith, every_count)) c.loop-number.invariant
