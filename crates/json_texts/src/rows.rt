@@ -1,10 +1,9 @@
 //! Rows of registers, and the required registers that have none.
 
-ghost use Rattle.std.specs.Prelude.{◌≡◌, List, [], ◌∷◌, codes, map, Some, option_copied};
-ghost use Rattle.json.specs.Json.{string};
+ghost use Rattle.std.specs.Prelude.{◌≡◌, List, [], ◌∷◌, codes, map, option_copied};
 ghost use Rattle.json_texts.specs.JsonValues.{Member, array_of};
 ghost use Rattle.json_texts.specs.RegisterJson.{missing_among, row_json, rows_values, value_if_missing};
-ghost use Rattle.json_texts.specs.parts.WrittenParts.{WritesItems, WritesMembers, WritesValue};
+ghost use Rattle.json_texts.specs.parts.WrittenParts.{WritesItems, WritesMembers};
 
 use crate::lines::Written;
 use crate::members::write_text;
@@ -48,20 +47,12 @@ fn write_each<T: HasExpected + Says>(alloc: Global, rows: &[T], writer: &mut Wri
         (map (λ row. row_json (T.expected_of row).alg (T.expected_of row).register (T.members_of row)) rows.now) }
 {
     for row in rows {
-        write_row(alloc, row, writer)?;
+        let expected = row.expected();
+        writer.begin_object()?;
+        write_register_members(expected.alg, expected.register, writer)?;
+        row.write_members(alloc, writer)?;
+        writer.end_object()?;
     }
-    Ok(())
-}
-
-fn write_row<T: HasExpected + Says>(alloc: Global, row: &T, writer: &mut Writer) -> Written
-    ensures { WritesValue result writer.old writer.new
-        (row_json (T.expected_of row.now).alg (T.expected_of row.now).register (T.members_of row.now)) }
-{
-    let expected = row.expected();
-    writer.begin_object()?;
-    write_register_members(expected.alg, expected.register, writer)?;
-    row.write_members(alloc, writer)?;
-    writer.end_object()?;
     Ok(())
 }
 
@@ -75,23 +66,12 @@ fn write_missing<T: HasExpected>(
     ensures { WritesItems result writer.old writer.new
         (missing_among name.now (option_copied requirement.entry) (map T.expected_of rows.now)) }
 {
-    match requirement {
-        Some(requirement) => write_missing_of(name, requirement, rows, writer),
-        None => Ok(()),
-    }
-}
-
-fn write_missing_of<T: HasExpected>(
-    name: &str,
-    requirement: &Requirement,
-    rows: &[T],
-    writer: &mut Writer,
-) -> Written
-    ensures { WritesItems result writer.old writer.new (missing_among name.now (Some requirement.now) (map T.expected_of rows.now)) }
-{
+    let Some(required) = requirement else {
+        return Ok(());
+    };
     for number in 0..ALL_REGISTERS {
         let (alg, register) = register_numbered(number);
-        write_if_missing(name, requirement, rows, alg, register, writer)?;
+        write_if_missing(name, required, rows, alg, register, writer)?;
     }
     Ok(())
 }
@@ -108,15 +88,9 @@ fn write_if_missing<T: HasExpected>(
     ensures { WritesItems result writer.old writer.new
         (value_if_missing name.now requirement.now (map T.expected_of rows.now) alg register) }
 {
-    if requirement.is_missing(rows, alg, register) {
-        write_one(name, alg, register, writer)?;
+    if !requirement.is_missing(rows, alg, register) {
+        return Ok(());
     }
-    Ok(())
-}
-
-fn write_one(name: &str, alg: Alg, register: u32, writer: &mut Writer) -> Written
-    ensures { WritesValue result writer.old writer.new (row_json alg register ((name.now, string (codes "missing")) ∷ [])) }
-{
     writer.begin_object()?;
     write_register_members(alg, register, writer)?;
     write_text(name, "missing", writer)?;
