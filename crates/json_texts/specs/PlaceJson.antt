@@ -20,11 +20,9 @@ place_members Absent = (codes "place", string (codes "absent")) ∷ []
 
 -- The number of the event or entry, if there is one, fits.
 abbrev pub IsCountedPlace : Place → Type 0
-IsCountedPlace Reset = ⊤
 IsCountedPlace (Event number) = IsCount number
 IsCountedPlace (Entry number) = IsCount number
-IsCountedPlace Nowhere = ⊤
-IsCountedPlace Absent = ⊤
+IsCountedPlace place = ⊤
 
 -- Whether some register is expected, each value was reached at some place, and no register is missing.
 abbrev pub finds : Option (List BankRange) → List Located → Bool
