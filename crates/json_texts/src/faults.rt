@@ -1,6 +1,6 @@
 //! The line of a fault.
 
-ghost use Rattle.std.specs.Prelude.{◌≡◌, [], ◌∷◌, codes, option_map};
+ghost use Rattle.std.specs.Prelude.{[], ◌∷◌, codes, option_map};
 ghost use Rattle.json_texts.specs.JsonValues.{AppendsLine, number_json, object_of, optional};
 ghost use Rattle.json_texts.specs.FaultJson.{fault_json, fault_members, place_members};
 ghost use Rattle.json_texts.specs.parts.WrittenParts.{WritesMembers, WritesValue};

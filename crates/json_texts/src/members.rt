@@ -1,6 +1,6 @@
 //! Writers of members.
 
-ghost use Rattle.std.specs.Prelude.{◌≡◌, [], ◌∷◌};
+ghost use Rattle.std.specs.Prelude.{[], ◌∷◌};
 ghost use Rattle.json.specs.Json.{boolean, string};
 ghost use Rattle.json_texts.specs.JsonValues.{hex_json, number_json, shown_member};
 ghost use Rattle.json_texts.specs.parts.WrittenParts.{WritesMembers};
