@@ -144,10 +144,11 @@ fn write_list_report(
 ) -> Written
     ensures { WritesValue result writer.old writer.new (list_report_json (option_copied requirement.entry) (list_verdict_of report.now)) }
 {
+    let word = verdict_word(list_meets(report, requirement));
     writer.begin_object()?;
     write_number("entries", report.entries as u64, writer)?;
     write_rows(alloc, "state", &report.rows, requirement, writer)?;
-    write_text("verdict", verdict_word(list_meets(report, requirement)), writer)?;
+    write_text("verdict", word, writer)?;
     writer.end_object()?;
     Ok(())
 }
@@ -162,11 +163,12 @@ fn write_front_report(
         (front_report_json (option_copied requirement.entry) (verdict_of front.now.report) front.now.entries front.now.unconfirmed) }
 {
     let report = &front.report;
+    let is_met = meets(report, requirement);
     writer.begin_object()?;
     write_counts(report.events, report.locality, front.entries, writer)?;
     write_number("confirmed", report.entries as u64, writer)?;
     write_unconfirmed(alloc, front.unconfirmed, writer)?;
-    write_outcome(alloc, report, requirement, meets(report, requirement), writer)?;
+    write_outcome(alloc, report, requirement, is_met, writer)?;
     writer.end_object()?;
     Ok(())
 }
