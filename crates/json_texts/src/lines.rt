@@ -34,16 +34,11 @@ pub(crate) fn begin_line(alloc: Global, line: &mut Vec<u8>) -> (Writer, usize)
     (Writer::new(mem::replace(line, Vec::new(alloc))), start)
 }
 
-/// Gives the vector the bytes of a writer that began after `start` bytes, and a line feed; without what the writer added, if
+/// Gives the vector the bytes of a writer that began after `from` bytes, and a line feed; without what the writer added, if
 /// that was refused or the line feed is.
 #[tactic(auto, using(crate::proofs::WrittenLaws::with_line_feed))]
-pub(crate) fn end_line(
-    written: Written,
-    writer: Writer,
-    start: usize,
-    line: &mut Vec<u8>,
-) -> Written
-    requires { start ≡ length writer.before }
+pub(crate) fn end_line(written: Written, writer: Writer, from: usize, line: &mut Vec<u8>) -> Written
+    requires { from ≡ length writer.before }
     ensures written { OnOk result (IsOk written) }
     ensures ok { OnOk result (line.new.items ≡ writer.before ++ (print writer.tokens ++ codes "\n")) }
     ensures utf8 { OnOk result (IsUtf8 (print writer.tokens ++ codes "\n")) }
@@ -52,7 +47,7 @@ pub(crate) fn end_line(
     *line = writer.into_inner();
     let ended = end(written, line);
     if ended.is_err() {
-        line.truncate(start);
+        line.truncate(from);
     }
     ended
 }

@@ -62,8 +62,7 @@ pub fn finds(located: &[Located], requirement: Option<&Requirement>) -> bool
 impl Says for Located {
     ghost members_of = { λ row. place_members row.place };
 
-    fn write_members(&self, alloc: Global, writer: &mut Writer) -> Written {
-        let _ = alloc;
+    fn write_members(&self, _alloc: Global, writer: &mut Writer) -> Written {
         match self.place {
             Place::Reset => write_text("place", "reset", writer),
             Place::Event(number) => write_numbered("event", number, writer),
