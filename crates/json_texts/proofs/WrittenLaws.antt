@@ -126,17 +126,10 @@ abbrev pub HasItems : Written → Written → List Json → Type 0
 HasItems old new values = WritesItems {E = AllocError} (Ok tt) old new values
 
 -- All of them are taken.
-all : {X : Type 0} (P : List X → Type 0) (xs : List X) (i : ℕ) → i ≡ length xs → P (take i xs) → P xs
-all P xs i is written = subst P (ap (λ (n : ℕ). take n xs) is ∙ take-length xs) written
-
-module _ {E X : Type 0} {old now : Written} where
-  pub all_items : (f : List X → List Json) (xs : List X) (i : ℕ) → i ≡ length xs → WritesItems {E = E} (Ok tt) old now (f (take i xs))
-      → WritesItems {E = E} (Ok tt) old now (f xs)
-  all_items f = all (λ ys. WritesItems {E = E} (Ok tt) old now (f ys))
-
-  pub all_members : (f : List X → List Member) (xs : List X) (i : ℕ) → i ≡ length xs → WritesMembers {E = E} (Ok tt) old now (f (take i xs))
-      → WritesMembers {E = E} (Ok tt) old now (f xs)
-  all_members f = all (λ ys. WritesMembers {E = E} (Ok tt) old now (f ys))
+pub all_items : {E X : Type 0} {old now : Written} (f : List X → List Json) (xs : List X) (i : ℕ) → i ≡ length xs
+    → WritesItems {E = E} (Ok tt) old now (f (take i xs)) → WritesItems {E = E} (Ok tt) old now (f xs)
+all_items {E} {old = old} {now = now} f xs i all written =
+    subst (λ ys. WritesItems {E = E} (Ok tt) old now (f ys)) (ap (λ (n : ℕ). take n xs) all ∙ take-length xs) written
 
 line_feed : IsAscii (10 ∷ [])
 line_feed zero = omega arith
