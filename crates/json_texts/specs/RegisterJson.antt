@@ -36,7 +36,8 @@ changed_register now start alg register = change_values alg register (value_at s
 
 -- All that differ: the ones of which `registers_text` has a line.
 abbrev pub registers_json : Banks → Banks → Json
-registers_json now start = object_of ((codes "registers", array_of (flat_map (λ register. changed_register now start register.0 register.1) every_register)) ∷ [])
+registers_json now start =
+    object_of ((codes "registers", array_of (flat_map (λ register. changed_register now start register.0 register.1) every_register)) ∷ [])
 
 -- ---- expected registers
 

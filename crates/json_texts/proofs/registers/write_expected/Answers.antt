@@ -13,4 +13,5 @@ pub returns : goal.returns
 returns c =
     let all = all_items (λ rows. flat_map (value_within c.args.range) rows) c.args.expected.now c.loop-register.register-index
     (omega arith) c.loop-register.invariant in
-    in_object c.in_ok-begin_object.ensures (named c.in_ok-key.ensures (in_array c.in_ok-begin_array.ensures all c.in_ok-end_array.ensures)) c.in_ok-end_object.ensures
+    in_object c.in_ok-begin_object.ensures
+    (named c.in_ok-key.ensures (in_array c.in_ok-begin_array.ensures all c.in_ok-end_array.ensures)) c.in_ok-end_object.ensures

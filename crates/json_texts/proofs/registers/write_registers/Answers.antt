@@ -16,4 +16,5 @@ pub returns : goal.returns
 returns c =
     let all = all_items (λ rs. flat_map (λ register. changed_register c.args.now.now c.args.start.now register.0 register.1) rs) every_register
     c.loop-number.number (omega (arith, every_count)) c.loop-number.invariant in
-    in_object c.in_ok-begin_object.ensures (named c.in_ok-key.ensures (in_array c.in_ok-begin_array.ensures all c.in_ok-end_array.ensures)) c.in_ok-end_object.ensures
+    in_object c.in_ok-begin_object.ensures
+    (named c.in_ok-key.ensures (in_array c.in_ok-begin_array.ensures all c.in_ok-end_array.ensures)) c.in_ok-end_object.ensures
