@@ -1,7 +1,6 @@
 -- Places as JSON. The members and their order are this project's choice.
 use Rattle.std.specs.Prelude.{⊤, Bool, List, [], ◌∷◌, codes, Option, Some, None}
-use Rattle.json.specs.Json.{Json}
-use Rattle.json.specs.Json as json
+use Rattle.json.specs.Json.{Json, boolean, string}
 use Rattle.boot_verdict.specs.declared.places.Located.{Located}
 use Rattle.boot_verdict.specs.declared.places.Place.{Place}
 use Rattle.boot_verdict.specs.declared.places.Place.TheVariants.{Reset, Event, Entry, Nowhere, Absent}
@@ -13,19 +12,17 @@ use Rattle.json_texts.specs.RegisterJson.{rows_values}
 
 -- A place in one word, and the number of the event or entry: events count from 1, entries from 0.
 abbrev pub place_members : Place → List Member
-place_members Reset = (codes "place", json.string (codes "reset")) ∷ []
-place_members (Event number) = (codes "place", json.string (codes "event")) ∷ (codes "number", number_json number) ∷ []
-place_members (Entry number) = (codes "place", json.string (codes "entry")) ∷ (codes "number", number_json number) ∷ []
-place_members Nowhere = (codes "place", json.string (codes "nowhere")) ∷ []
-place_members Absent = (codes "place", json.string (codes "absent")) ∷ []
+place_members Reset = (codes "place", string (codes "reset")) ∷ []
+place_members (Event number) = (codes "place", string (codes "event")) ∷ (codes "number", number_json number) ∷ []
+place_members (Entry number) = (codes "place", string (codes "entry")) ∷ (codes "number", number_json number) ∷ []
+place_members Nowhere = (codes "place", string (codes "nowhere")) ∷ []
+place_members Absent = (codes "place", string (codes "absent")) ∷ []
 
 -- The number of the event or entry, if there is one, fits.
 abbrev pub IsCountedPlace : Place → Type 0
-IsCountedPlace Reset = ⊤
 IsCountedPlace (Event number) = IsCount number
 IsCountedPlace (Entry number) = IsCount number
-IsCountedPlace Nowhere = ⊤
-IsCountedPlace Absent = ⊤
+IsCountedPlace place = ⊤
 
 -- Whether some register is expected, each value was reached at some place, and no register is missing.
 abbrev pub finds : Option (List BankRange) → List Located → Bool
@@ -36,5 +33,5 @@ finds (Some ranges) located = required_found ranges located
 abbrev pub places_json : Option (List BankRange) → List Located → Json
 places_json required located = object_of (
     (codes "registers", array_of (rows_values (codes "place") (λ row. row.expected) (λ row. place_members row.place) required located))
-    ∷ (codes "located", json.boolean (finds required located))
+    ∷ (codes "located", boolean (finds required located))
     ∷ [])

@@ -1,7 +1,6 @@
 -- Registers as JSON. The members and their order are this project's choice.
 use Rattle.std.specs.Prelude.{ℕ, List, [], ◌∷◌, ◌++◌, codes, flat_map, map, if◌then◌else◌, Option, Some, None}
-use Rattle.json.specs.Json.{Json}
-use Rattle.json.specs.Json as json
+use Rattle.json.specs.Json.{Json, string}
 use Rattle.pcr_banks.specs.declared.alg.Alg.{Alg}
 use Rattle.pcr_banks.specs.declared.banks.Banks.{Banks}
 use Rattle.pcr_banks.specs.Hashing.{name_of}
@@ -17,7 +16,7 @@ use Rattle.json_texts.specs.JsonValues.{Member, array_of, hex_json, number_json,
 
 -- Which register it is: the bank's algorithm by name, and the number.
 abbrev pub register_members : Alg → ℕ → List Member
-register_members alg register = (codes "bank", json.string (name_of alg)) ∷ (codes "register", number_json register) ∷ []
+register_members alg register = (codes "bank", string (name_of alg)) ∷ (codes "register", number_json register) ∷ []
 
 -- A register, and what is said of it.
 abbrev pub row_json : Alg → ℕ → List Member → Json
@@ -36,34 +35,27 @@ abbrev pub changed_register : Banks → Banks → Alg → ℕ → List Json
 changed_register now start alg register = change_values alg register (value_at start alg register) (value_at now alg register)
 
 -- All that differ: the ones of which `registers_text` has a line.
-abbrev pub changed_registers : Banks → Banks → List Json
-changed_registers now start = flat_map (λ register. changed_register now start register.0 register.1) every_register
-
 abbrev pub registers_json : Banks → Banks → Json
-registers_json now start = object_of ((codes "registers", array_of (changed_registers now start)) ∷ [])
+registers_json now start =
+    object_of ((codes "registers", array_of (flat_map (λ register. changed_register now start register.0 register.1) every_register)) ∷ [])
 
 -- ---- expected registers
 
 -- An expected register within the range; nothing if it is not within it.
 abbrev pub value_within : RegisterRange → Expected → List Json
 value_within range expected =
-    if is_within range expected.register
-    then register_json expected.alg expected.register (bytes_of expected.value) ∷ []
-    else []
+    if is_within range expected.register then register_json expected.alg expected.register (bytes_of expected.value) ∷ [] else []
 
 -- Those within the range, in order: the ones of which `expected_text` has a line.
-abbrev pub values_within : RegisterRange → List Expected → List Json
-values_within range expected = flat_map (value_within range) expected
-
 abbrev pub expected_json : RegisterRange → List Expected → Json
-expected_json range expected = object_of ((codes "registers", array_of (values_within range expected)) ∷ [])
+expected_json range expected = object_of ((codes "registers", array_of (flat_map (value_within range) expected)) ∷ [])
 
 -- ---- rows
 
 -- The required register, if it is missing: `missing` under this name; nothing for any other.
 abbrev pub value_if_missing : List ℕ → List BankRange → List Expected → Alg → ℕ → List Json
 value_if_missing name ranges expected alg register =
-    if is_missing ranges expected alg register then row_json alg register ((name, json.string (codes "missing")) ∷ []) ∷ [] else []
+    if is_missing ranges expected alg register then row_json alg register ((name, string (codes "missing")) ∷ []) ∷ [] else []
 
 -- All that are missing; none where nothing is required.
 abbrev pub missing_among : List ℕ → Option (List BankRange) → List Expected → List Json

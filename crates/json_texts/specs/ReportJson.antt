@@ -1,7 +1,6 @@
 -- Reports as JSON, with the words of their texts. The members and their order are this project's choice.
 use Rattle.std.specs.Prelude.{ℕ, Bool, true, false, List, [], ◌∷◌, ◌++◌, codes, Option, Some, None, option_map}
-use Rattle.json.specs.Json.{Json}
-use Rattle.json.specs.Json as json
+use Rattle.json.specs.Json.{Json, string}
 use Rattle.pcr_banks.specs.Digests.{bytes_of}
 use Rattle.growing_lists.specs.declared.front_report.Unconfirmed.{Unconfirmed}
 use Rattle.boot_verdict.specs.declared.report.Row.{Row}
@@ -20,9 +19,9 @@ use Rattle.json_texts.specs.RegisterJson.{rows_values}
 
 -- How a register compares, and its value if it is another one.
 abbrev pub state_members : State → List Member
-state_members Match = (codes "state", json.string (codes "match")) ∷ []
-state_members (Differ value) = (codes "state", json.string (codes "differ")) ∷ (codes "value", hex_json (bytes_of value)) ∷ []
-state_members Absent = (codes "state", json.string (codes "absent")) ∷ []
+state_members Match = (codes "state", string (codes "match")) ∷ []
+state_members (Differ value) = (codes "state", string (codes "differ")) ∷ (codes "value", hex_json (bytes_of value)) ∷ []
+state_members Absent = (codes "state", string (codes "absent")) ∷ []
 
 -- The rows, and then the required registers that have none.
 abbrev pub report_rows : Option (List BankRange) → List Row → Json
@@ -49,9 +48,9 @@ count_members events locality entries =
 -- What comes after the counts, with whether it is a match.
 abbrev pub outcome_members : Option (List BankRange) → Bool → Verdict → List Member
 outcome_members required is_match verdict =
-    (codes "boot_aggregate", json.string (aggregate_word verdict.aggregate))
+    (codes "boot_aggregate", string (aggregate_word verdict.aggregate))
     ∷ (codes "registers", report_rows required verdict.rows)
-    ∷ (codes "verdict", json.string (verdict_word is_match))
+    ∷ (codes "verdict", string (verdict_word is_match))
     ∷ []
 
 abbrev pub report_json : Option (List BankRange) → Bool → Verdict → Json
@@ -87,5 +86,5 @@ abbrev pub list_report_json : Option (List BankRange) → ListVerdict → Json
 list_report_json required verdict = object_of (
     (codes "entries", number_json verdict.entries)
     ∷ (codes "registers", report_rows required verdict.rows)
-    ∷ (codes "verdict", json.string (verdict_word (list_meets required verdict)))
+    ∷ (codes "verdict", string (verdict_word (list_meets required verdict)))
     ∷ [])

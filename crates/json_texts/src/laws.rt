@@ -21,13 +21,12 @@ ghost use Rattle.boot_verdict.specs.Verdicts.{Verdict};
 ghost use Rattle.json.specs.Find.{get};
 ghost use Rattle.json_texts.specs.declared.faults.FaultPlace.{FaultPlace};
 ghost use Rattle.json_texts.specs.JsonValues.{IsCount, IsOneLine, line_of, object_of};
-ghost use Rattle.json_texts.specs.EntryJson.{entry_json, is_genuine};
+ghost use Rattle.json_texts.specs.EntryJson.{HasBytes, IsKnown, entry_json, is_genuine};
 ghost use Rattle.json_texts.specs.EventJson.{algorithms_json, event_json};
 ghost use Rattle.json_texts.specs.FaultJson.{fault_json, fault_members, number_at};
 ghost use Rattle.json_texts.specs.PlaceJson.{IsCountedPlace, places_json};
 ghost use Rattle.json_texts.specs.RegisterJson.{expected_json, registers_json};
 ghost use Rattle.json_texts.specs.ReportJson.{front_report_json, list_report_json, report_json};
-ghost use Rattle.json_texts.specs.parts.KnownEntries.{HasBytes, IsKnown};
 
 use ima_list::EntryRef;
 

@@ -1,17 +1,17 @@
 //! The line of places.
 
-ghost use Rattle.std.specs.Prelude.{◌≡◌, [], ◌∷◌, codes, option_map};
+ghost use Rattle.std.specs.Prelude.{◌≡◌, [], ◌∷◌, codes, option_copied};
 ghost use Rattle.json.specs.Json.{string};
 ghost use Rattle.json_texts.specs.JsonValues.{AppendsLine, number_json};
 ghost use Rattle.json_texts.specs.PlaceJson.{finds, place_members, places_json};
 ghost use Rattle.json_texts.specs.parts.WrittenParts.{WritesMembers, WritesValue};
 
-use crate::lines::{begin_line, end_line};
+use crate::lines::{Written, begin_line, end_line};
 use crate::members::{write_flag, write_number, write_text};
 use crate::rows::{Says, write_rows};
 use boot_verdict::{Located, Place, Requirement, all_found, required_found};
 use json::Writer;
-use std::alloc::{AllocError, Global};
+use std::alloc::Global;
 
 /// Appends the line of places: where each expected register first has its value.
 ///
@@ -25,12 +25,10 @@ pub fn append_places(
     located: &[Located],
     requirement: Option<&Requirement>,
     line: &mut Vec<u8>,
-) -> Result<(), AllocError>
-    ensures { AppendsLine result line.old.items line.new.items
-        (places_json (option_map (λ ranges. ranges.now) requirement.entry) located.now) }
+) -> Written
+    ensures { AppendsLine result line.old.items line.new.items (places_json (option_copied requirement.entry) located.now) }
 {
-    let start = line.len();
-    let mut writer = begin_line(alloc, line);
+    let (mut writer, start) = begin_line(alloc, line);
     let written = write_places(alloc, located, requirement, &mut writer);
     end_line(written, writer, start, line)
 }
@@ -40,10 +38,8 @@ fn write_places(
     located: &[Located],
     requirement: Option<&Requirement>,
     writer: &mut Writer,
-) -> Result<(), AllocError>
-    ensures before { writer.new.before ≡ writer.old.before }
-    ensures tokens { WritesValue result writer.old writer.new
-        (places_json (option_map (λ ranges. ranges.now) requirement.entry) located.now) }
+) -> Written
+    ensures { WritesValue result writer.old writer.new (places_json (option_copied requirement.entry) located.now) }
 {
     writer.begin_object()?;
     write_rows(alloc, "place", located, requirement, writer)?;
@@ -55,7 +51,7 @@ fn write_places(
 /// Whether some register is expected, each has its value somewhere and no required one is missing: what the member `located` of their
 /// line says.
 pub fn finds(located: &[Located], requirement: Option<&Requirement>) -> bool
-    ensures { result ≡ finds (option_map (λ ranges. ranges.now) requirement.entry) located.now }
+    ensures { result ≡ finds (option_copied requirement.entry) located.now }
 {
     match requirement {
         Some(requirement) => required_found(located, requirement),
@@ -66,8 +62,7 @@ pub fn finds(located: &[Located], requirement: Option<&Requirement>) -> bool
 impl Says for Located {
     ghost members_of = { λ row. place_members row.place };
 
-    fn write_members(&self, alloc: Global, writer: &mut Writer) -> Result<(), AllocError> {
-        let _ = alloc;
+    fn write_members(&self, _alloc: Global, writer: &mut Writer) -> Written {
         match self.place {
             Place::Reset => write_text("place", "reset", writer),
             Place::Event(number) => write_numbered("event", number, writer),
@@ -78,10 +73,8 @@ impl Says for Located {
     }
 }
 
-fn write_numbered(word: &str, number: usize, writer: &mut Writer) -> Result<(), AllocError>
-    ensures before { writer.new.before ≡ writer.old.before }
-    ensures tokens { WritesMembers result writer.old writer.new
-        ((codes "place", string word.now) ∷ (codes "number", number_json number) ∷ []) }
+fn write_numbered(word: &str, number: usize, writer: &mut Writer) -> Written
+    ensures { WritesMembers result writer.old writer.new ((codes "place", string word.now) ∷ (codes "number", number_json number) ∷ []) }
 {
     write_text("place", word, writer)?;
     write_number("number", number as u64, writer)?;
