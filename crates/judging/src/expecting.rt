@@ -5,9 +5,9 @@ ghost use Rattle.std.specs.List.{list_any};
 ghost use Rattle.boot_verdict.specs.RegisterRanges.{is_within};
 ghost use Rattle.judging.specs.Answering.{IsAnswer, IsRefusal};
 ghost use Rattle.judging.specs.Asking.{ExpectedOf, place_of};
-ghost use Rattle.judging.specs.Expecting.{IsNotPrintedWithin, IsPrintedWithin, IsRangeFault, IsRequested};
+ghost use Rattle.judging.specs.Registers.{IsNotPrintedWithin, IsPrintedWithin, IsRangeFault, IsRequested};
 
-use crate::answer::{Answer, Answered};
+use crate::answer::{Answer, Answered, Answering};
 use crate::inputs::{Input, loaded_at};
 use agent_inputs::{AgentFiles, RunFault};
 use boot_verdict::{ExpectFault, Expected, RegisterRange, read_printed};
@@ -20,7 +20,7 @@ pub(crate) fn printed_within<F: AgentFiles>(
     files: &mut F,
     printed: Input<'_>,
     range: Option<&[u8]>,
-) -> Result<Answered, RunFault>
+) -> Answering
     ensures answer { IfOk result (IsAnswer (F.told files.old)
         (ExpectedOf (place_of printed.entry) (option_map (λ text. text.now) range.entry))) }
     ensures fault { IfErr result (IsRefusal (F.told files.old)
