@@ -27,9 +27,8 @@ use Rattle.agent_inputs.specs.declared.fault.RunFault.TheVariants as runs
 use Rattle.agent_inputs.specs.Faults.{HasLogFault}
 use Rattle.agent_inputs.specs.Loading.{HasFailed, Inputs}
 use Rattle.judging.specs.declared.answer.Answer.TheVariants as answers
-use Rattle.judging.specs.Answering.{IsJudged, IsNotFound, IsRefusedAfter, IsRefusedList}
+use Rattle.judging.specs.Growing.{CanBeReadBack, Evidence, GivesInput, IsJudged, IsNext, IsNotFound, IsRefusedAfter, IsRefusedList, IsStarted, IsUnconfirmedIn, IsWrongIn, seeks_front}
 use Rattle.judging.specs.Asking.{VerdictOf}
-use Rattle.judging.specs.Growing.{CanBeReadBack, Evidence, GivesInput, IsNext, IsStarted, IsUnconfirmedIn, IsWrongIn, seeks_front}
 use Rattle.judging.specs.Inputs.{Holds, IsFaultAt, OfInput, Where, held_in, limit_of}
 
 -- The source gives exactly what the input holds.
@@ -159,7 +158,8 @@ module _ {inputs : Inputs} {list : Where} {old new : SourceState} (gives : Gives
             held t.came,
             (
               subst (λ (n : ℕ). length t.more ≤ n) (started.most list) t.came.came.within,
-              (verdict evidence.log (taken ++ t.more) t.taken, next_of t.taken (room _ t.taken.checkpoint)),
+              verdict evidence.log (taken ++ t.more) t.taken,
+              next_of t.taken (room _ t.taken.checkpoint),
             ),
           ),
       λ sought taken take.

@@ -1,26 +1,31 @@
 -- The answer to what is asked for, what it is worth, and why there is none. All of this is this project's choice.
-use Rattle.std.specs.Prelude.{◌≡◌, ℕ, ◌&&◌, ◌<◌, ◌≤◌, ◌⊎◌, ◌==◌, not, if◌then◌else◌, Bool, true, List, ◌++◌, length, [], Option, Some, None, Result, Err, IfSome, MatchResult}
-use Rattle.byte_streams.specs.Streams.{SourceState}
+use Rattle.std.specs.Prelude.{◌≡◌, ℕ, ◌&&◌, ◌<◌, ◌⊎◌, ◌==◌, nat_lt, not, if◌then◌else◌, Bool, true, List, length, [], Option, Some, None, Ok, IsSomeAnd, MatchOption}
+use Rattle.pcr_banks.specs.declared.banks.Banks.{Banks}
+use Rattle.pcr_banks.specs.Registers.{IsReset, register_count}
+use Rattle.boot_log.specs.declared.header.Row.{Row}
+use Rattle.boot_log.specs.Replaying.{IsFirmware, startup_locality}
+use Rattle.boot_log.specs.Spelling.{LogEvent, IsLog, algs_in}
+use Rattle.ima_list.specs.ListEntry.{ListEntry}
+use Rattle.ima_list.specs.Replaying.{AreGenuine, IsReplayed}
 use Rattle.ima_list.specs.Spelling.{IsReading}
 use Rattle.boot_verdict.specs.declared.checkpoint.Checkpoint.{Checkpoint}
 use Rattle.boot_verdict.specs.declared.expected.Expected.{Expected}
 use Rattle.boot_verdict.specs.declared.expected.ExpectFault.{ExpectFault}
+use Rattle.boot_verdict.specs.declared.expected.ExpectFault.TheVariants.{NoRegister}
 use Rattle.boot_verdict.specs.declared.register_range.RegisterRange.{RegisterRange}
 use Rattle.boot_verdict.specs.declared.requirement.BankRange.{BankRange}
-use Rattle.boot_verdict.specs.declared.verifier.VerifyFault.{VerifyFault}
-use Rattle.boot_verdict.specs.declared.verifier.VerifyFault.TheVariants as verdicts
 use Rattle.boot_verdict.specs.ExpectedTexts.{HasFirstFault, IsExpectedText}
-use Rattle.boot_verdict.specs.ListSources.{IsSound}
-use Rattle.boot_verdict.specs.ListVerdicts.{IsListVerdict, list_matches, list_verdict_of, required_list_matches}
-use Rattle.boot_verdict.specs.Places.{AreLocated, all_found}
+use Rattle.boot_verdict.specs.ListVerdicts.{list_matches, list_verdict_of, required_list_matches}
+use Rattle.boot_verdict.specs.Places.{all_found}
+use Rattle.boot_verdict.specs.PrintedTexts.{HasPrintedFault, IsPrintedText}
+use Rattle.boot_verdict.specs.RegisterRanges.{IsRangeText, is_within}
+use Rattle.boot_verdict.specs.Replays.{IsListStart}
 use Rattle.boot_verdict.specs.Requirements.{IsRequirementText, required_found, required_matches}
-use Rattle.boot_verdict.specs.Verdicts.{IsForged, IsSomeLog, Verdict, matches, verdict_of}
-use Rattle.growing_lists.specs.declared.session.Session.{Session}
+use Rattle.boot_verdict.specs.Verdicts.{Verdict, matches, verdict_of}
+use Rattle.boot_verdict.specs.WrittenTexts.{those_within}
 use Rattle.growing_lists.specs.CheckpointData.{IsPossible}
 use Rattle.growing_lists.specs.CheckpointTexts.{IsOfOtherVersion, checkpoint_text}
-use Rattle.growing_lists.specs.Sessions.{IsOfBoot}
-use Rattle.command_line.specs.declared.plan.Extent.{Extent}
-use Rattle.agent_inputs.specs.declared.fault.NotResumed.TheVariants.{Damaged, OtherBoot, Version}
+use Rattle.agent_inputs.specs.declared.fault.NotResumed.TheVariants.{Damaged, Version}
 use Rattle.agent_inputs.specs.declared.fault.RunFault.{RunFault}
 use Rattle.agent_inputs.specs.declared.fault.RunFault.TheVariants as runs
 use Rattle.agent_inputs.specs.Faults.{HasLogFault, fault_of_expected}
@@ -29,10 +34,9 @@ use Rattle.judging.specs.declared.answer.Answer.{Answer}
 use Rattle.judging.specs.declared.answer.Answer.TheVariants as answers
 use Rattle.judging.specs.declared.answer.Answered.{Answered}
 use Rattle.judging.specs.declared.answering.Evidence.{Evidence as HeldEvidence}
-use Rattle.judging.specs.Asking.{Asked, Compared, Compares, ExpectedOf, Judgement, ListRegistersOf, ListVerdictOf, LogRegistersOf, Nothing, PlacesOf, Requires, These, VerdictOf, held_bytes, log_of, resume_of}
-use Rattle.judging.specs.Growing.{CanBeReadBack, Evidence, GivesInput, HasNoFront, IsFrontOf, IsStarted, IsTaken, IsUnconfirmedIn, IsWholeOf, IsWrongIn, OfList, OfMore, most_more, seeks_front}
-use Rattle.judging.specs.Inputs.{Holds, IsFaultAt, IsInputFault, IsReadFailure, MayFail, OfInput, Where, limit_of}
-use Rattle.judging.specs.Registers.{AreListRegisters, AreRegistersAfter, IsNotPrintedWithin, IsPrintedWithin, IsRangeFault, IsRequested}
+use Rattle.judging.specs.Asking.{Asked, Compared, Compares, ExpectedOf, ListRegistersOf, LogRegistersOf, Nothing, Requires, These, held_bytes, log_of, resume_of}
+use Rattle.judging.specs.Growing.{Evidence, IsJudged, IsNotFound, IsRefusedList}
+use Rattle.judging.specs.Inputs.{Holds, IsInputFault, IsReadFailure, OfInput, Where}
 
 -- ---- evidence
 
@@ -48,11 +52,6 @@ IsNotRequired (These text) fault =
     ((fault ≡ runs.Usage) × ((ranges : List BankRange) → IsRequirementText text ranges → ⊥)) ⊎ (fault ≡ runs.Memory)
 IsNotRequired requires fault = ⊥
 
--- All bytes of the log, if there is one.
-abbrev pub IsLogIn : Inputs → Option Where → List ℕ → Type 0
-IsLogIn inputs None log = log ≡ []
-IsLogIn inputs (Some place) log = Holds inputs place log
-
 -- The text is that of this checkpoint, which is possible. Any other possible one of which it is has the same data, and so is that of the
 -- same lists and boots.
 abbrev pub IsCheckpointText : List ℕ → Checkpoint → Type 0
@@ -67,33 +66,33 @@ IsKnown inputs resume known = ⊥
 -- What is judged with is what the text requires, and what the inputs have that are asked for.
 pub record IsEvidence (inputs : Inputs) (asked : Compared) (evidence : Evidence) : Type 0 where
   pub required_are : IsRequired asked.required evidence.required
-  pub log_is : IsLogIn inputs (log_of asked.judgement) evidence.log
+  pub log_is : MatchOption (log_of asked.judgement) (evidence.log ≡ []) (λ place. Holds inputs place evidence.log)
   pub expected_are : OfInput inputs asked.expected (λ text. IsExpectedText text evidence.expected)
   pub known_is : IsKnown inputs (resume_of asked.judgement) evidence.known
 
 abbrev pub evidence_of : HeldEvidence → Evidence
 evidence_of held = record { required = held.requirement; log = held_bytes held.log; expected = held.expected.items; known = held.known }
 
--- ---- the answer
+-- Why a text is not read as a checkpoint: it is of another version; or it is not, and no possible checkpoint's text; or memory ran out.
+abbrev pub IsNoCheckpoint : List ℕ → RunFault → Type 0
+IsNoCheckpoint text fault =
+    ((fault ≡ runs.Checkpoint Version) × IsOfOtherVersion text)
+    ⊎ ((fault ≡ runs.Checkpoint Damaged) × (IsOfOtherVersion text → ⊥)
+    × ((known : Checkpoint) → IsPossible known → text ≡ checkpoint_text known → ⊥))
+    ⊎ (fault ≡ runs.Memory)
 
--- The answer is on this evidence and the list of this input; and this is where to go on. A verdict is on a log that leaves the registers
--- before what is gone on from, and on the whole list, of which no front is confirmed, if one is sought; or on its confirmed front.
-abbrev pub IsJudged : Inputs → Judgement → Where → Evidence → Answer → Option Checkpoint → Type 0
-IsJudged inputs (VerdictOf place extent resume) list evidence (answers.Report report) (Some next) =
-    IfSome evidence.known (IsOfBoot evidence.log)
-    × OfMore inputs list evidence.known (λ taken more.
-    (length more ≤ most_more evidence.known list) × IsWholeOf evidence (taken ++ more) (verdict_of report) next)
-    × (seeks_front extent evidence.required evidence.expected ≡ true → OfList inputs list evidence.known (HasNoFront evidence))
-IsJudged inputs (VerdictOf place extent resume) list evidence (answers.Front report) (Some next) =
-    IfSome evidence.known (IsOfBoot evidence.log)
-    × (seeks_front extent evidence.required evidence.expected ≡ true)
-    × OfList inputs list evidence.known (λ all. IsFrontOf evidence all report next)
-    × OfList inputs list evidence.known (λ all. IsWrongIn all report.entries report.unconfirmed)
-IsJudged inputs (PlacesOf place) list evidence (answers.Places located) None =
-    OfInput inputs list (λ all. AreLocated evidence.log all evidence.expected located.items)
-IsJudged inputs ListVerdictOf list evidence (answers.ListReport report) None =
-    OfInput inputs list (λ all. IsListVerdict all evidence.expected (list_verdict_of report))
-IsJudged inputs judgement list evidence answer next = ⊥
+-- Why there is no evidence, where a text that is given spells registers: an input was not loaded; the text does not state expected
+-- registers, and the fault is that of its first wrong line; it does, and the input to go on from has no checkpoint; or memory ran out.
+abbrev pub HasNoEvidence : Inputs → Compared → RunFault → Type 0
+HasNoEvidence inputs asked fault =
+    IsSomeAnd (log_of asked.judgement) (λ place. IsInputFault inputs place fault)
+    ⊎ IsInputFault inputs asked.expected fault
+    ⊎ ((first : ExpectFault) × OfInput inputs asked.expected (λ text. HasFirstFault text first) × (fault ≡ fault_of_expected first))
+    ⊎ (((expected : List Expected) × OfInput inputs asked.expected (λ text. IsExpectedText text expected))
+    × IsSomeAnd (resume_of asked.judgement) (λ place. IsInputFault inputs place fault ⊎ OfInput inputs place (λ text. IsNoCheckpoint text fault)))
+    ⊎ (fault ≡ runs.Memory)
+
+-- ---- what is compared
 
 -- Whether a verdict is 'match' where no text spells what is required: all that is compared matches, and something is compared, unless
 -- nothing has to be.
@@ -128,86 +127,6 @@ pub record IsComparison (inputs : Inputs) (asked : Compared) (given : Answered) 
   pub well_is : given.is_well ≡ is_well asked.required given.requirement given.answer
   pub next_is : given.next ≡ next_if given.is_well next
 
--- ---- why there is no evidence
-
--- The text in the input does not state expected registers, and the fault is that of its first wrong line.
-pub record IsNotExpected (inputs : Inputs) (place : Where) (fault : RunFault) : Type 0 where
-  pub first : ExpectFault
-  pub first_is : OfInput inputs place (λ text. HasFirstFault text first)
-  pub says : fault ≡ fault_of_expected first
-
--- Why a text is not read as a checkpoint: it is of another version; or it is not, and no possible checkpoint's text; or memory ran out.
-abbrev pub IsNoCheckpoint : List ℕ → RunFault → Type 0
-IsNoCheckpoint text fault =
-    ((fault ≡ runs.Checkpoint Version) × IsOfOtherVersion text)
-    ⊎ ((fault ≡ runs.Checkpoint Damaged) × (IsOfOtherVersion text → ⊥)
-    × ((known : Checkpoint) → IsPossible known → text ≡ checkpoint_text known → ⊥))
-    ⊎ (fault ≡ runs.Memory)
-
--- Why there is no log, or no checkpoint, where one is asked for.
-abbrev pub IsNotIn : Inputs → Option Where → (Where → RunFault → Type 0) → RunFault → Type 0
-IsNotIn inputs None IsWrong fault = ⊥
-IsNotIn inputs (Some place) IsWrong fault = IsInputFault inputs place fault ⊎ IsWrong place fault
-
--- Why there is no evidence, where a text that is given spells registers: an input was not loaded; the text does not state expected
--- registers; it does, and the input to go on from has no checkpoint; or memory ran out.
-abbrev pub HasNoEvidence : Inputs → Compared → RunFault → Type 0
-HasNoEvidence inputs asked fault =
-    IsNotIn inputs (log_of asked.judgement) (λ place fault. ⊥) fault
-    ⊎ IsInputFault inputs asked.expected fault
-    ⊎ IsNotExpected inputs asked.expected fault
-    ⊎ (((expected : List Expected) × OfInput inputs asked.expected (λ text. IsExpectedText text expected))
-    × IsNotIn inputs (resume_of asked.judgement) (λ place fault. OfInput inputs place (λ text. IsNoCheckpoint text fault)) fault)
-    ⊎ (fault ≡ runs.Memory)
-
--- ---- why there is no answer
-
--- The log is valid, and leaves other registers than those before the checkpoint.
-abbrev pub IsOfOtherBoot : List ℕ → Option Checkpoint → Type 0
-IsOfOtherBoot log None = ⊥
-IsOfOtherBoot log (Some known) = IsSomeLog log × (IsOfBoot log known → ⊥)
-
--- Why the input is not taken as what goes on after this list, of which no more than `most` bytes may follow.
-abbrev pub IsRefusedAfter : Inputs → Where → ℕ → List ℕ → VerifyFault → Type 0
-IsRefusedAfter inputs place most taken (verdicts.Log first) = ⊥
-IsRefusedAfter inputs place most taken (verdicts.List first) = OfInput inputs place (λ more. IsReading (taken ++ more) (Err first))
-IsRefusedAfter inputs place most taken (verdicts.Replay first) = OfInput inputs place (λ more. IsForged (taken ++ more) first)
-IsRefusedAfter inputs place most taken verdicts.Source = MayFail inputs place
-IsRefusedAfter inputs place most taken verdicts.TooLong = OfInput inputs place (λ more.
-    (front : List ℕ) × (over : List ℕ) × (more ≡ front ++ over) × (length front ≡ most) × (0 < length over) × IsSound (taken ++ front))
-IsRefusedAfter inputs place most taken verdicts.Memory = Unit {0}
-
--- The list of this input is refused: the first cause, or memory ran out.
-abbrev pub IsRefusedList : Inputs → Where → RunFault → Type 0
-IsRefusedList inputs list fault =
-    (first : VerifyFault) × IsRefusedAfter inputs list (limit_of list) [] first × IsFaultAt list first fault
-
--- The log is valid, and what the input adds to a list is refused: the first cause, or memory ran out. If a front is sought, none is
--- confirmed before what is refused.
-pub record IsNotTaken (inputs : Inputs) (extent : Extent) (list : Where) (evidence : Evidence) (fault : RunFault) : Type 0 where
-  pub first : VerifyFault
-  pub log_is : IsSomeLog evidence.log
-  pub boot : IfSome evidence.known (IsOfBoot evidence.log)
-  pub first_is : (taken : List ℕ) → IsTaken evidence.known taken → IsRefusedAfter inputs list (most_more evidence.known list) taken first
-  pub unconfirmed : seeks_front extent evidence.required evidence.expected ≡ true → IsUnconfirmedIn inputs list evidence first
-  pub says : IsFaultAt list first fault
-
--- Why there is no answer on this evidence and what the list has: the log is refused, or of another boot than the checkpoint; or the list
--- is refused.
-abbrev pub IsNotJudged : Inputs → Judgement → Where → Evidence → RunFault → Type 0
-IsNotJudged inputs (VerdictOf place extent resume) list evidence fault =
-    HasLogFault evidence.log fault
-    ⊎ ((fault ≡ runs.Checkpoint OtherBoot) × IsOfOtherBoot evidence.log evidence.known)
-    ⊎ IsNotTaken inputs extent list evidence fault
-IsNotJudged inputs (PlacesOf place) list evidence fault =
-    HasLogFault evidence.log fault ⊎ (IsSomeLog evidence.log × IsRefusedList inputs list fault)
-IsNotJudged inputs ListVerdictOf list evidence fault = IsRefusedList inputs list fault
-
--- Why nothing is found in the list of this input: it could not be opened; there is no answer; or memory ran out.
-abbrev pub IsNotFound : Inputs → Judgement → Where → Evidence → RunFault → Type 0
-IsNotFound inputs judgement list evidence fault =
-    IsReadFailure inputs list fault ⊎ IsNotJudged inputs judgement list evidence fault ⊎ (fault ≡ runs.Memory)
-
 -- Why nothing comes of what is compared: the text spells no registers; it spells some or is not given, and there is no evidence; or there
 -- is, and no answer.
 abbrev pub IsNoComparison : Inputs → Compared → RunFault → Type 0
@@ -216,23 +135,45 @@ IsNoComparison inputs asked fault =
     ⊎ (((required : Option (List BankRange)) × IsRequired asked.required required) × HasNoEvidence inputs asked fault)
     ⊎ ((evidence : Evidence) × IsEvidence inputs asked evidence × IsNotFound inputs asked.judgement asked.list evidence fault)
 
--- ---- what comes of a list
+-- ---- registers
 
--- What was found in the list of this input, or why nothing was.
-abbrev pub Finds : Inputs → Judgement → Where → Evidence → Result (Answer × Option Checkpoint) RunFault → Type 0
-Finds inputs judgement list evidence result =
-    MatchResult result (λ found. IsJudged inputs judgement list evidence found.0 found.1) (IsNotFound inputs judgement list evidence)
+-- The bytes are a firmware event log, and these are the registers before its events, at their reset values, and after them.
+pub record AreRegistersAfter (log : List ℕ) (start now : Banks) : Type 0 where
+  pub table : List Row
+  pub events : List LogEvent
+  pub log_is : IsLog log table events
+  pub reset : IsReset (algs_in table) (startup_locality events) start
+  pub firmware : IsFirmware (algs_in table) events now
 
--- So it is in the list of each input that the source gives.
-abbrev pub FindsFrom : Judgement → Where → Evidence → SourceState → SourceState → Result (Answer × Option Checkpoint) RunFault → Type 0
-FindsFrom judgement list evidence old new result = (inputs : Inputs) → GivesInput inputs list old new → Finds inputs judgement list evidence result
+-- The bytes are a list of genuine entries, and these are the registers before it, at their reset values, and after it.
+pub record AreListRegisters (list : List ℕ) (start now : Banks) : Type 0 where
+  pub entries : List ListEntry
+  pub list_is : IsReading list (Ok entries)
+  pub genuine : AreGenuine entries
+  pub reset : IsListStart start
+  pub replayed : IsReplayed start entries now
 
--- So it is where a session goes on from what is known, if its checkpoint can be read back.
-abbrev pub JudgesFrom : Extent → Where → Evidence → SourceState → SourceState → Session → Session → Result Answer RunFault → Type 0
-JudgesFrom extent list evidence old new before after result =
-    (inputs : Inputs) (log : Where) (resume : Option Where) → GivesInput inputs list old new → IsStarted evidence.log evidence.known before
-    → MatchResult result (λ answer. CanBeReadBack after.known → IsJudged inputs (VerdictOf log extent resume) list evidence answer (Some after.known))
-    (IsNotFound inputs (VerdictOf log extent resume) list evidence)
+-- The range of registers that is requested: the one that the text spells; all registers without a text.
+abbrev pub IsRequested : Option (List ℕ) → RegisterRange → Type 0
+IsRequested None range = (register : ℕ) → is_within range register ≡ nat_lt register register_count
+IsRequested (Some text) range = IsRangeText text range
+
+-- A text is given, and spells no range.
+abbrev pub IsRangeFault : Option (List ℕ) → RunFault → Type 0
+IsRangeFault None fault = ⊥
+IsRangeFault (Some text) fault = (fault ≡ runs.Usage) × ((range : RegisterRange) → IsRangeText text range → ⊥)
+
+-- The text was printed by tpm2-tools, and states these registers, of which at least one is within the range.
+abbrev pub IsPrintedWithin : RegisterRange → List ℕ → List Expected → Type 0
+IsPrintedWithin range text expected = IsPrintedText text expected × (0 < length (those_within range expected))
+
+-- Why a text gives no registers within the range: it was not printed by tpm2-tools, or states no register; it states none within the range;
+-- or memory ran out.
+abbrev pub IsNotPrintedWithin : RegisterRange → List ℕ → RunFault → Type 0
+IsNotPrintedWithin range text fault =
+    ((first : ExpectFault) × HasPrintedFault text first × (fault ≡ fault_of_expected first))
+    ⊎ ((expected : List Expected) × IsPrintedText text expected × (those_within range expected ≡ []) × (fault ≡ runs.Expect NoRegister))
+    ⊎ (fault ≡ runs.Memory)
 
 -- ---- what is asked for
 

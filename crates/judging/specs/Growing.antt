@@ -1,8 +1,8 @@
--- What is judged of a list, of one that goes on after another, and of one from a source. All of this is this project's choice.
-use Rattle.std.specs.Prelude.{◌≡◌, ℕ, ◌==◌, not, Bool, false, List, [], ◌++◌, length, Option, Some, None, Ok, Err, IfSome}
+-- What is found in a list, also in one that goes on after another, and why nothing is. All of this is this project's choice.
+use Rattle.std.specs.Prelude.{◌≡◌, ℕ, ◌<◌, ◌≤◌, ◌⊎◌, ◌==◌, not, Bool, true, false, List, [], ◌++◌, length, Option, Some, None, Result, Ok, Err, IfSome, IsSomeAnd, MatchResult}
 use Rattle.byte_streams.specs.Streams.{SourceState}
-use Rattle.boot_log.specs.Spelling.{IsLog, LogEvent, algs_in}
 use Rattle.boot_log.specs.declared.header.Row.{Row as TableRow}
+use Rattle.boot_log.specs.Spelling.{IsLog, LogEvent, algs_in}
 use Rattle.ima_list.specs.ListEntry.{ListEntry}
 use Rattle.ima_list.specs.ListFaults.{list_fault_entry}
 use Rattle.ima_list.specs.Replaying.{AreGenuine, IsReplayFault}
@@ -13,8 +13,11 @@ use Rattle.boot_verdict.specs.declared.requirement.BankRange.{BankRange}
 use Rattle.boot_verdict.specs.declared.verifier.VerifyFault.{VerifyFault}
 use Rattle.boot_verdict.specs.declared.verifier.VerifyFault.TheVariants as verdicts
 use Rattle.boot_verdict.specs.Checkpoints.{IsCheckpoint, most_after}
+use Rattle.boot_verdict.specs.ListSources.{IsSound}
+use Rattle.boot_verdict.specs.ListVerdicts.{IsListVerdict, list_verdict_of}
+use Rattle.boot_verdict.specs.Places.{AreLocated}
 use Rattle.boot_verdict.specs.Requirements.{is_complete}
-use Rattle.boot_verdict.specs.Verdicts.{IsSomeLog, IsVerdict, Verdict, verdict_of, verdict_on}
+use Rattle.boot_verdict.specs.Verdicts.{IsForged, IsSomeLog, IsVerdict, verdict_of, verdict_on}
 use Rattle.growing_lists.specs.declared.front_report.FrontReport.{FrontReport}
 use Rattle.growing_lists.specs.declared.front_report.Unconfirmed.{Unconfirmed}
 use Rattle.growing_lists.specs.declared.front_report.Unconfirmed.TheVariants as unconfirmed
@@ -24,8 +27,15 @@ use Rattle.growing_lists.specs.Fronts.{AreUnconfirmed, IsConfirmed}
 use Rattle.growing_lists.specs.Sessions.{HasTaken, IsOfBoot}
 use Rattle.command_line.specs.declared.plan.Extent.{Extent}
 use Rattle.command_line.specs.declared.plan.Extent.TheVariants.{Whole, Front}
+use Rattle.agent_inputs.specs.declared.fault.NotResumed.TheVariants.{OtherBoot}
+use Rattle.agent_inputs.specs.declared.fault.RunFault.{RunFault}
+use Rattle.agent_inputs.specs.declared.fault.RunFault.TheVariants as runs
+use Rattle.agent_inputs.specs.Faults.{HasLogFault}
 use Rattle.agent_inputs.specs.Loading.{GivesAll, HasFailed, Inputs}
-use Rattle.judging.specs.Inputs.{MayFail, OfInput, Where, held_in, limit_of}
+use Rattle.judging.specs.declared.answer.Answer.{Answer}
+use Rattle.judging.specs.declared.answer.Answer.TheVariants as answers
+use Rattle.judging.specs.Asking.{Judgement, ListVerdictOf, PlacesOf, VerdictOf}
+use Rattle.judging.specs.Inputs.{IsFaultAt, IsReadFailure, MayFail, OfInput, Where, held_in, limit_of}
 
 -- What a list is judged with: the registers that are required, if a text spells some; the log, no bytes without one; the expected
 -- registers; and the checkpoint that is gone on from, if there is one.
@@ -74,10 +84,6 @@ pub record IsNext (log list : List ℕ) (next : Checkpoint) : Type 0 where
   pub boot : IsOfBoot log next
   pub possible : IsPossible next
 
--- This is the verdict on the log and the list, and this is the checkpoint of the list.
-abbrev pub IsWholeOf : Evidence → List ℕ → Verdict → Checkpoint → Type 0
-IsWholeOf evidence list verdict next = IsVerdict evidence.log list evidence.expected verdict × IsNext evidence.log list next
-
 -- No front of these entries is confirmed, with as many of them as were taken before, or more.
 abbrev pub AreUnconfirmedAfter : Evidence → List ListEntry → Type 0
 AreUnconfirmedAfter evidence entries =
@@ -116,6 +122,72 @@ IsUnconfirmedIn inputs place evidence (verdicts.List first) = OfList inputs plac
 IsUnconfirmedIn inputs place evidence (verdicts.Replay first) = OfList inputs place evidence.known (HasNoFront evidence)
 IsUnconfirmedIn inputs place evidence first = Unit {0}
 
+-- The answer is on this evidence and the list of this input; and this is where to go on. A verdict is on a log that leaves the registers
+-- before what is gone on from, and on the whole list, of which no front is confirmed, if one is sought; or on its confirmed front.
+abbrev pub IsJudged : Inputs → Judgement → Where → Evidence → Answer → Option Checkpoint → Type 0
+IsJudged inputs (VerdictOf place extent resume) list evidence (answers.Report report) (Some next) =
+    IfSome evidence.known (IsOfBoot evidence.log)
+    × OfMore inputs list evidence.known (λ taken more. (length more ≤ most_more evidence.known list)
+    × IsVerdict evidence.log (taken ++ more) evidence.expected (verdict_of report) × IsNext evidence.log (taken ++ more) next)
+    × (seeks_front extent evidence.required evidence.expected ≡ true → OfList inputs list evidence.known (HasNoFront evidence))
+IsJudged inputs (VerdictOf place extent resume) list evidence (answers.Front report) (Some next) =
+    IfSome evidence.known (IsOfBoot evidence.log)
+    × (seeks_front extent evidence.required evidence.expected ≡ true)
+    × OfList inputs list evidence.known (λ all. IsFrontOf evidence all report next)
+    × OfList inputs list evidence.known (λ all. IsWrongIn all report.entries report.unconfirmed)
+IsJudged inputs (PlacesOf place) list evidence (answers.Places located) None =
+    OfInput inputs list (λ all. AreLocated evidence.log all evidence.expected located.items)
+IsJudged inputs ListVerdictOf list evidence (answers.ListReport report) None =
+    OfInput inputs list (λ all. IsListVerdict all evidence.expected (list_verdict_of report))
+IsJudged inputs judgement list evidence answer next = ⊥
+
+-- ---- why there is no answer
+
+-- The log is valid, and leaves other registers than those before the checkpoint.
+abbrev pub IsOfOtherBoot : List ℕ → Option Checkpoint → Type 0
+IsOfOtherBoot log known = IsSomeAnd known (λ known. IsSomeLog log × (IsOfBoot log known → ⊥))
+
+-- Why the input is not taken as what goes on after this list, of which no more than `most` bytes may follow.
+abbrev pub IsRefusedAfter : Inputs → Where → ℕ → List ℕ → VerifyFault → Type 0
+IsRefusedAfter inputs place most taken (verdicts.Log first) = ⊥
+IsRefusedAfter inputs place most taken (verdicts.List first) = OfInput inputs place (λ more. IsReading (taken ++ more) (Err first))
+IsRefusedAfter inputs place most taken (verdicts.Replay first) = OfInput inputs place (λ more. IsForged (taken ++ more) first)
+IsRefusedAfter inputs place most taken verdicts.Source = MayFail inputs place
+IsRefusedAfter inputs place most taken verdicts.TooLong = OfInput inputs place (λ more.
+    (front : List ℕ) × (over : List ℕ) × (more ≡ front ++ over) × (length front ≡ most) × (0 < length over) × IsSound (taken ++ front))
+IsRefusedAfter inputs place most taken verdicts.Memory = Unit {0}
+
+-- The list of this input is refused: the first cause, or memory ran out.
+abbrev pub IsRefusedList : Inputs → Where → RunFault → Type 0
+IsRefusedList inputs list fault =
+    (first : VerifyFault) × IsRefusedAfter inputs list (limit_of list) [] first × IsFaultAt list first fault
+
+-- The log is valid, and what the input adds to a list is refused: the first cause, or memory ran out. If a front is sought, none is
+-- confirmed before what is refused.
+pub record IsNotTaken (inputs : Inputs) (extent : Extent) (list : Where) (evidence : Evidence) (fault : RunFault) : Type 0 where
+  pub first : VerifyFault
+  pub log_is : IsSomeLog evidence.log
+  pub boot : IfSome evidence.known (IsOfBoot evidence.log)
+  pub first_is : (taken : List ℕ) → IsTaken evidence.known taken → IsRefusedAfter inputs list (most_more evidence.known list) taken first
+  pub unconfirmed : seeks_front extent evidence.required evidence.expected ≡ true → IsUnconfirmedIn inputs list evidence first
+  pub says : IsFaultAt list first fault
+
+-- Why there is no answer on this evidence and what the list has: the log is refused, or of another boot than the checkpoint; or the list
+-- is refused.
+abbrev pub IsNotJudged : Inputs → Judgement → Where → Evidence → RunFault → Type 0
+IsNotJudged inputs (VerdictOf place extent resume) list evidence fault =
+    HasLogFault evidence.log fault
+    ⊎ ((fault ≡ runs.Checkpoint OtherBoot) × IsOfOtherBoot evidence.log evidence.known)
+    ⊎ IsNotTaken inputs extent list evidence fault
+IsNotJudged inputs (PlacesOf place) list evidence fault =
+    HasLogFault evidence.log fault ⊎ (IsSomeLog evidence.log × IsRefusedList inputs list fault)
+IsNotJudged inputs ListVerdictOf list evidence fault = IsRefusedList inputs list fault
+
+-- Why nothing is found in the list of this input: it could not be opened; there is no answer; or memory ran out.
+abbrev pub IsNotFound : Inputs → Judgement → Where → Evidence → RunFault → Type 0
+IsNotFound inputs judgement list evidence fault =
+    IsReadFailure inputs list fault ⊎ IsNotJudged inputs judgement list evidence fault ⊎ (fault ≡ runs.Memory)
+
 -- ---- a list from one source
 
 -- The source gives all bytes of the input, and fails only where that may.
@@ -134,3 +206,19 @@ pub record IsStarted (log : List ℕ) (known : Option Checkpoint) (session : Ses
 -- If this is the checkpoint of a list, it is read back from its text.
 abbrev pub CanBeReadBack : Checkpoint → Type 0
 CanBeReadBack known = (list : List ℕ) → IsCheckpoint list known → IsPossible known
+
+-- What was found in the list of this input, or why nothing was.
+abbrev pub Finds : Inputs → Judgement → Where → Evidence → Result (Answer × Option Checkpoint) RunFault → Type 0
+Finds inputs judgement list evidence result =
+    MatchResult result (λ found. IsJudged inputs judgement list evidence found.0 found.1) (IsNotFound inputs judgement list evidence)
+
+-- So it is in the list of each input that the source gives.
+abbrev pub FindsFrom : Judgement → Where → Evidence → SourceState → SourceState → Result (Answer × Option Checkpoint) RunFault → Type 0
+FindsFrom judgement list evidence old new result = (inputs : Inputs) → GivesInput inputs list old new → Finds inputs judgement list evidence result
+
+-- So it is where a session goes on from what is known, if its checkpoint can be read back.
+abbrev pub JudgesFrom : Extent → Where → Evidence → SourceState → SourceState → Session → Session → Result Answer RunFault → Type 0
+JudgesFrom extent list evidence old new before after result =
+    (inputs : Inputs) (log : Where) (resume : Option Where) → GivesInput inputs list old new → IsStarted evidence.log evidence.known before
+    → MatchResult result (λ answer. CanBeReadBack after.known → IsJudged inputs (VerdictOf log extent resume) list evidence answer (Some after.known))
+    (IsNotFound inputs (VerdictOf log extent resume) list evidence)

@@ -1,5 +1,4 @@
 pub mod Inputs
 pub mod Asking
 pub mod Growing
-pub mod Registers
 pub mod Answering

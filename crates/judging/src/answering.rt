@@ -1,9 +1,10 @@
 //! The answer to what is asked for, by one path.
 
-ghost use Rattle.std.specs.Prelude.{◌≡◌, IfOk, IfErr};
-ghost use Rattle.judging.specs.Answering.{Finds, FindsFrom, HasNoEvidence, IsAnswer, IsComparison, IsEvidence, IsKnown, IsLogIn, IsNoCheckpoint, IsNoComparison, IsNotIn, IsNotRequired, IsRefusal, IsRequired, evidence_of};
+ghost use Rattle.std.specs.Prelude.{◌≡◌, ◌⊎◌, [], IfOk, IfErr, IsSomeAnd, MatchOption};
+ghost use Rattle.judging.specs.Answering.{HasNoEvidence, IsAnswer, IsComparison, IsEvidence, IsKnown, IsNoCheckpoint, IsNoComparison, IsNotRequired, IsRefusal, IsRequired, evidence_of};
+ghost use Rattle.judging.specs.Growing.{Finds, FindsFrom};
 ghost use Rattle.judging.specs.Asking.{asked_of, compared_of, held_bytes, judgement_of, log_of, place_of, requires_of, resume_of};
-ghost use Rattle.judging.specs.Inputs.{OfInput};
+ghost use Rattle.judging.specs.Inputs.{Holds, IsInputFault, OfInput};
 
 use crate::answer::{Answer, Answered, Answering, is_well, next_if};
 use crate::expecting::printed_within;
@@ -115,8 +116,9 @@ fn log_in<'a, F: AgentFiles>(
     files: &mut F,
     wanted: Wanted<'a>,
 ) -> Result<Held<'a>, RunFault>
-    ensures log { IfOk result (λ log. IsLogIn (F.told files.old) (log_of (judgement_of wanted.entry)) (held_bytes log)) }
-    ensures fault { IfErr result (IsNotIn (F.told files.old) (log_of (judgement_of wanted.entry)) (λ place fault. ⊥)) }
+    ensures log { IfOk result (λ log. MatchOption (log_of (judgement_of wanted.entry)) (held_bytes log ≡ [])
+        (λ place. Holds (F.told files.old) place (held_bytes log))) }
+    ensures fault { IfErr result (λ fault. IsSomeAnd (log_of (judgement_of wanted.entry)) (λ place. IsInputFault (F.told files.old) place fault)) }
     ensures told { F.told files.new ≡ F.told files.old }
     ensures saved { F.saved files.new ≡ F.saved files.old }
 {
@@ -134,8 +136,8 @@ fn known_in<F: AgentFiles>(
     wanted: Wanted<'_>,
 ) -> Result<Option<Checkpoint>, RunFault>
     ensures known { IfOk result (IsKnown (F.told files.old) (resume_of (judgement_of wanted.entry))) }
-    ensures fault { IfErr result (IsNotIn (F.told files.old) (resume_of (judgement_of wanted.entry))
-        (λ place fault. OfInput (F.told files.old) place (λ text. IsNoCheckpoint text fault))) }
+    ensures fault { IfErr result (λ fault. IsSomeAnd (resume_of (judgement_of wanted.entry))
+        (λ place. IsInputFault (F.told files.old) place fault ⊎ OfInput (F.told files.old) place (λ text. IsNoCheckpoint text fault))) }
     ensures told { F.told files.new ≡ F.told files.old }
     ensures saved { F.saved files.new ≡ F.saved files.old }
 {

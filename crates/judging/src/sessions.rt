@@ -6,9 +6,9 @@ ghost use Rattle.growing_lists.specs.Sessions.{HasTaken};
 ghost use Rattle.agent_inputs.specs.Faults.{HasLogFault};
 ghost use Rattle.agent_inputs.specs.declared.fault.NotResumed.TheVariants.{OtherBoot};
 ghost use Rattle.agent_inputs.specs.declared.fault.RunFault.TheVariants as runs;
-ghost use Rattle.judging.specs.Answering.{FindsFrom, IsCheckpointText, IsNoCheckpoint, IsOfOtherBoot, JudgesFrom, evidence_of};
+ghost use Rattle.judging.specs.Answering.{IsCheckpointText, IsNoCheckpoint, evidence_of};
+ghost use Rattle.judging.specs.Growing.{CanBeReadBack, FindsFrom, IsOfOtherBoot, IsStarted, JudgesFrom, seeks_front};
 ghost use Rattle.judging.specs.Asking.{VerdictOf, place_of};
-ghost use Rattle.judging.specs.Growing.{CanBeReadBack, IsStarted, seeks_front};
 ghost use Rattle.judging.specs.Inputs.{Where};
 
 use crate::answer::Answer;
