@@ -28,7 +28,7 @@ pub(crate) fn printed_within<F: AgentFiles>(
 {
     let range = range_of(range)?;
     let text = loaded_at(alloc, files, printed)?;
-    let expected = stated_within(alloc, text.bytes(), range)?;
+    let expected = stated_in(alloc, text.bytes(), range)?;
     Ok(Answered::alone(Answer::Expected { expected, range }))
 }
 
@@ -44,11 +44,7 @@ fn range_of(text: Option<&[u8]>) -> Result<RegisterRange, RunFault>
 }
 
 // The registers that this text states, of which at least one is within the range.
-fn stated_within(
-    alloc: Global,
-    text: &[u8],
-    range: RegisterRange,
-) -> Result<Vec<Expected>, RunFault>
+fn stated_in(alloc: Global, text: &[u8], range: RegisterRange) -> Result<Vec<Expected>, RunFault>
     ensures expected { IfOk result (λ expected. IsPrintedWithin range text.now expected.items) }
     ensures fault { IfErr result (IsNotPrintedWithin range text.now) }
 {

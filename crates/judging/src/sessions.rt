@@ -69,12 +69,12 @@ impl Evidence<'_> {
         if seeks_front(extent, self.requirement.as_ref(), &self.expected) {
             match session.confirm(alloc, source, limit_of(list), &self.expected) {
                 Ok(Some(front)) => Ok(Answer::Front(front)),
-                Ok(None) => Ok(Answer::Report(report_of(alloc, session, &self.expected)?)),
+                Ok(None) => Ok(Answer::Report(report(alloc, session, &self.expected)?)),
                 Err(fault) => Err(refused(alloc, list, fault)),
             }
         } else {
             match session.more(alloc, source, limit_of(list)) {
-                Ok(()) => Ok(Answer::Report(report_of(alloc, session, &self.expected)?)),
+                Ok(()) => Ok(Answer::Report(report(alloc, session, &self.expected)?)),
                 Err(fault) => Err(refused(alloc, list, fault)),
             }
         }
@@ -127,15 +127,8 @@ fn next_of(session: &Session<'_>) -> Result<Checkpoint, RunFault>
 }
 
 // The report on all that the session has taken. It fails only if memory runs out.
-fn report_of(
-    alloc: Global,
-    session: &Session<'_>,
-    expected: &[Expected],
-) -> Result<Report, AllocError>
+fn report(alloc: Global, session: &Session<'_>, expected: &[Expected]) -> Result<Report, AllocError>
     ensures { IfOk result (λ report. (log list : List ℕ) → HasTaken log list session.now → IsVerdict log list expected.now (verdict_of report)) }
 {
-    match session.report(alloc, expected) {
-        Ok(report) => Ok(report),
-        Err(_) => Err(AllocError),
-    }
+    Ok(session.report(alloc, expected).map_err(|_| AllocError)?)
 }

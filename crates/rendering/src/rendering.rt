@@ -1,10 +1,10 @@
 //! Answers as text or JSON.
 
-ghost use Rattle.std.specs.Prelude.{◌≡◌, ◌++◌, None, IfOk, OnOk};
+ghost use Rattle.std.specs.Prelude.{◌≡◌, ◌++◌, if◌then◌else◌, None, IfOk, OnOk};
 ghost use Rattle.byte_streams.specs.Streams.{Sends};
 ghost use Rattle.json_texts.specs.JsonValues.{line_of};
 ghost use Rattle.judging.specs.declared.answer.Answer.TheVariants as answers;
-ghost use Rattle.rendering.specs.Rendering.{json_of, lines_of, rendered, status_of};
+ghost use Rattle.rendering.specs.Rendering.{json_of, lines_of, rendered};
 
 use crate::output::Output;
 use boot_verdict::{
@@ -24,7 +24,7 @@ use std::alloc::{AllocError, Global};
 /// The output of an answer in this form: its status says whether all is well.
 pub fn rendered(alloc: Global, given: &Answered, form: Form) -> Result<Output, AllocError>
     ensures text { IfOk result (λ output. output.text.items ≡ rendered form given.now) }
-    ensures status { IfOk result (λ output. output.status ≡ status_of given.now) }
+    ensures status { IfOk result (λ output. output.status ≡ (if given.now.is_well then 0 else 1)) }
 {
     let text = match form {
         Form::Text => lines(alloc, given)?,

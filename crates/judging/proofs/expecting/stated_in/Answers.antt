@@ -1,6 +1,6 @@
 use Rattle.std.proofs.Common.{refl, sym, ◌∙◌, inl, inr}
 use Rattle.judging.proofs.RegisterLaws.{none_within, some_within}
-use Rattle.judging.proofs.expecting.stated_within.Goals as goal
+use Rattle.judging.proofs.expecting.stated_in.Goals as goal
 
 pub returns-then-not-is_any_within-clause-fault : goal.returns-then-not-is_any_within-clause-fault
 returns-then-not-is_any_within-clause-fault c =
