@@ -230,7 +230,7 @@ module _ {inputs : Inputs} {list : Where} {old new : SourceState} (gives : Gives
         → IsUnconfirmedFault log taken old.remaining new.remaining (most_after before.known (limit_of list)) evidence.expected
         before.known.entries first) → IsFaultAt list first fault → IsNotFound inputs (VerdictOf place extent resume) list evidence fault
     not_found first fault failed is unconfirmed says =
-        inr (inl (inr (inr (record {
+        inr (inl (inr (record {
           first = first;
           log_is = started.valid;
           boot = started.boot;
@@ -239,4 +239,4 @@ module _ {inputs : Inputs} {list : Where} {old new : SourceState} (gives : Gives
               (refused_after taken _ first failed (is evidence.log taken (started.takes taken take)));
           unconfirmed = λ sought. unconfirmed_in first (unconfirmed sought);
           says = says;
-        }))))
+        })))

@@ -143,9 +143,10 @@ IsJudged inputs judgement list evidence answer next = ⊥
 
 -- ---- why there is no answer
 
--- The log is valid, and leaves other registers than those before the checkpoint.
-abbrev pub IsOfOtherBoot : List ℕ → Option Checkpoint → Type 0
-IsOfOtherBoot log known = IsSomeAnd known (λ known. IsSomeLog log × (IsOfBoot log known → ⊥))
+-- The log is refused; or it is valid, and leaves other registers than those before the checkpoint.
+abbrev pub IsLogRefused : List ℕ → Option Checkpoint → RunFault → Type 0
+IsLogRefused log known fault =
+    HasLogFault log fault ⊎ ((fault ≡ runs.Checkpoint OtherBoot) × IsSomeAnd known (λ known. IsSomeLog log × (IsOfBoot log known → ⊥)))
 
 -- Why the input is not taken as what goes on after this list, of which no more than `most` bytes may follow.
 abbrev pub IsRefusedAfter : Inputs → Where → ℕ → List ℕ → VerifyFault → Type 0
@@ -176,9 +177,7 @@ pub record IsNotTaken (inputs : Inputs) (extent : Extent) (list : Where) (eviden
 -- is refused.
 abbrev pub IsNotJudged : Inputs → Judgement → Where → Evidence → RunFault → Type 0
 IsNotJudged inputs (VerdictOf place extent resume) list evidence fault =
-    HasLogFault evidence.log fault
-    ⊎ ((fault ≡ runs.Checkpoint OtherBoot) × IsOfOtherBoot evidence.log evidence.known)
-    ⊎ IsNotTaken inputs extent list evidence fault
+    IsLogRefused evidence.log evidence.known fault ⊎ IsNotTaken inputs extent list evidence fault
 IsNotJudged inputs (PlacesOf place) list evidence fault =
     HasLogFault evidence.log fault ⊎ (IsSomeLog evidence.log × IsRefusedList inputs list fault)
 IsNotJudged inputs ListVerdictOf list evidence fault = IsRefusedList inputs list fault

@@ -1,13 +1,11 @@
 //! Verdicts on a log and a list, which may go on from a checkpoint.
 
-ghost use Rattle.std.specs.Prelude.{◌≡◌, ◌⊎◌, ℕ, List, Option, option_map, IfOk, IfErr};
+ghost use Rattle.std.specs.Prelude.{◌≡◌, ℕ, List, Option, option_map, IfOk, IfErr};
 ghost use Rattle.boot_verdict.specs.Verdicts.{IsVerdict, verdict_of};
 ghost use Rattle.growing_lists.specs.Sessions.{HasTaken};
-ghost use Rattle.agent_inputs.specs.Faults.{HasLogFault};
-ghost use Rattle.agent_inputs.specs.declared.fault.NotResumed.TheVariants.{OtherBoot};
 ghost use Rattle.agent_inputs.specs.declared.fault.RunFault.TheVariants as runs;
 ghost use Rattle.judging.specs.Answering.{IsCheckpointText, IsNoCheckpoint, evidence_of};
-ghost use Rattle.judging.specs.Growing.{CanBeReadBack, FindsFrom, IsOfOtherBoot, IsStarted, JudgesFrom, seeks_front};
+ghost use Rattle.judging.specs.Growing.{CanBeReadBack, FindsFrom, IsLogRefused, IsStarted, JudgesFrom, seeks_front};
 ghost use Rattle.judging.specs.Asking.{VerdictOf, place_of};
 ghost use Rattle.judging.specs.Inputs.{Where};
 
@@ -84,7 +82,7 @@ impl Evidence<'_> {
 // A session of this log that goes on from this checkpoint, if there is one.
 fn session_of(log: &[u8], known: Option<Checkpoint>) -> Result<Session<'_>, RunFault>
     ensures started { IfOk result (IsStarted log.now known) }
-    ensures fault { IfErr result (λ fault. HasLogFault log.now fault ⊎ ((fault ≡ runs.Checkpoint OtherBoot) × IsOfOtherBoot log.now known)) }
+    ensures fault { IfErr result (IsLogRefused log.now known) }
 {
     entries_to_the_end_are_the_reading();
     no_bytes_have_two_readings();
