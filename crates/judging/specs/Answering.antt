@@ -42,8 +42,7 @@ use Rattle.judging.specs.Inputs.{Holds, IsInputFault, IsReadFailure, OfInput, Wh
 
 -- These registers are required: those that the text spells; none are without a text.
 abbrev pub IsRequired : Requires → Option (List BankRange) → Type 0
-IsRequired (These text) (Some ranges) = IsRequirementText text ranges
-IsRequired (These text) None = ⊥
+IsRequired (These text) ranges = IsSomeAnd ranges (IsRequirementText text)
 IsRequired requires ranges = ranges ≡ None
 
 -- Why a text that is given requires nothing: it spells no registers, or memory ran out.
@@ -59,9 +58,8 @@ IsCheckpointText text known = IsPossible known × (text ≡ checkpoint_text know
 
 -- What is gone on from: the checkpoint of the input, if there is one.
 abbrev pub IsKnown : Inputs → Option Where → Option Checkpoint → Type 0
-IsKnown inputs None None = Unit {0}
-IsKnown inputs (Some place) (Some known) = OfInput inputs place (λ text. IsCheckpointText text known)
-IsKnown inputs resume known = ⊥
+IsKnown inputs resume known =
+    MatchOption resume (known ≡ None) (λ place. IsSomeAnd known (λ known. OfInput inputs place (λ text. IsCheckpointText text known)))
 
 -- What is judged with is what the text requires, and what the inputs have that are asked for.
 pub record IsEvidence (inputs : Inputs) (asked : Compared) (evidence : Evidence) : Type 0 where
@@ -138,20 +136,15 @@ IsNoComparison inputs asked fault =
 -- ---- registers
 
 -- The bytes are a firmware event log, and these are the registers before its events, at their reset values, and after them.
-pub record AreRegistersAfter (log : List ℕ) (start now : Banks) : Type 0 where
-  pub table : List Row
-  pub events : List LogEvent
-  pub log_is : IsLog log table events
-  pub reset : IsReset (algs_in table) (startup_locality events) start
-  pub firmware : IsFirmware (algs_in table) events now
+abbrev pub AreRegistersAfter : List ℕ → Banks → Banks → Type 0
+AreRegistersAfter log start now =
+    (table : List Row) × (events : List LogEvent) × IsLog log table events × IsReset (algs_in table) (startup_locality events) start
+    × IsFirmware (algs_in table) events now
 
 -- The bytes are a list of genuine entries, and these are the registers before it, at their reset values, and after it.
-pub record AreListRegisters (list : List ℕ) (start now : Banks) : Type 0 where
-  pub entries : List ListEntry
-  pub list_is : IsReading list (Ok entries)
-  pub genuine : AreGenuine entries
-  pub reset : IsListStart start
-  pub replayed : IsReplayed start entries now
+abbrev pub AreListRegisters : List ℕ → Banks → Banks → Type 0
+AreListRegisters list start now =
+    (entries : List ListEntry) × IsReading list (Ok entries) × AreGenuine entries × IsListStart start × IsReplayed start entries now
 
 -- The range of registers that is requested: the one that the text spells; all registers without a text.
 abbrev pub IsRequested : Option (List ℕ) → RegisterRange → Type 0
@@ -160,8 +153,7 @@ IsRequested (Some text) range = IsRangeText text range
 
 -- A text is given, and spells no range.
 abbrev pub IsRangeFault : Option (List ℕ) → RunFault → Type 0
-IsRangeFault None fault = ⊥
-IsRangeFault (Some text) fault = (fault ≡ runs.Usage) × ((range : RegisterRange) → IsRangeText text range → ⊥)
+IsRangeFault text fault = (fault ≡ runs.Usage) × IsSomeAnd text (λ text. (range : RegisterRange) → IsRangeText text range → ⊥)
 
 -- The text was printed by tpm2-tools, and states these registers, of which at least one is within the range.
 abbrev pub IsPrintedWithin : RegisterRange → List ℕ → List Expected → Type 0

@@ -8,20 +8,10 @@ use Rattle.judging.proofs.registers.after_list_from.Goals as goal
 pub returns-in-Ok-clause-answer : goal.returns-in-Ok-clause-answer
 returns-in-Ok-clause-answer g c =
     λ inputs gives.
-    let from = c.in-Ok.ensures.registers in (
+    let from = c.in-Ok.ensures.registers in
+    let replayed = starts_alike _ _ _ from.entries from.replay.reset c.list_start.ensures from.replay.replayed in (
       answers.Registers (record { start = c.list_start.result; now = c.in-Ok.now }),
-      (
-        from.list,
-        held gives from.came,
-        record {
-          entries = from.entries;
-          list_is = from.list_is;
-          genuine = from.genuine;
-          reset = c.list_start.ensures;
-          replayed = starts_alike from.replay.start c.list_start.result c.in-Ok.now from.entries from.replay.reset c.list_start.ensures
-              from.replay.replayed;
-        },
-      ),
+      (from.list, held gives from.came, (from.entries, from.list_is, from.genuine, c.list_start.ensures, replayed)),
       c.alone.ensures,
     )
 

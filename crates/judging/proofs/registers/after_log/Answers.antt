@@ -25,18 +25,10 @@ returns-in_err-view-clause-fault g c =
 pub returns-clause-answer : goal.returns-clause-answer
 returns-clause-answer g c =
     let log = rw c.bytes.ensures at c.in_ok-view.ensures.sound in
-    let same = rw c.bytes.ensures at c.in_ok-view.ensures.found in (
+    let same = rw c.bytes.ensures at c.in_ok-view.ensures.found in
+    let reset = rw same at c.reset_registers.ensures log.0 log.1 log.2 in
+    let firmware = rw same at c.registers.ensures log.0 log.1 log.2 in (
       answers.Registers (record { start = c.reset_registers.result; now = c.registers.result }),
-      (
-        held_bytes c.in_ok-log.log,
-        c.in_ok-log.ensures.all,
-        record {
-          table = log.0;
-          events = log.1;
-          log_is = log.2;
-          reset = rw same at c.reset_registers.ensures log.0 log.1 log.2;
-          firmware = rw same at c.registers.ensures log.0 log.1 log.2;
-        },
-      ),
+      (held_bytes c.in_ok-log.log, c.in_ok-log.ensures.all, (log.0, log.1, log.2, reset, firmware)),
       c.alone.ensures,
     )
