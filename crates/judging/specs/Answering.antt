@@ -111,11 +111,7 @@ is_well requires None (answers.ListReport report) = list_matches (list_verdict_o
 is_well requires (Some ranges) (answers.ListReport report) = required_list_matches ranges (list_verdict_of report)
 is_well requires ranges answer = true
 
--- Where to go on: nowhere, unless all is well.
-abbrev pub next_if : Bool → Option Checkpoint → Option Checkpoint
-next_if is_well next = if is_well then next else None
-
--- This is what comes of what is compared, and what it is worth.
+-- This is what comes of what is compared, and what it is worth. Nobody goes on from it, unless all is well.
 pub record IsComparison (inputs : Inputs) (asked : Compared) (given : Answered) : Type 0 where
   pub evidence : Evidence
   pub next : Option Checkpoint
@@ -123,7 +119,7 @@ pub record IsComparison (inputs : Inputs) (asked : Compared) (given : Answered) 
   pub requirement_is : given.requirement ≡ evidence.required
   pub judged : IsJudged inputs asked.judgement asked.list evidence given.answer next
   pub well_is : given.is_well ≡ is_well asked.required given.requirement given.answer
-  pub next_is : given.next ≡ next_if given.is_well next
+  pub next_is : given.next ≡ (if given.is_well then next else None)
 
 -- Why nothing comes of what is compared: the text spells no registers; it spells some or is not given, and there is no evidence; or there
 -- is, and no answer.

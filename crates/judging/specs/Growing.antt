@@ -1,5 +1,6 @@
 -- What is found in a list, also in one that goes on after another, and why nothing is. All of this is this project's choice.
 use Rattle.std.specs.Prelude.{◌≡◌, ℕ, ◌<◌, ◌≤◌, ◌⊎◌, ◌==◌, not, Bool, true, false, List, [], ◌++◌, length, Option, Some, None, Result, Ok, Err, IfSome, IsSomeAnd, MatchResult}
+use Rattle.std.specs.Option.{option_map_or}
 use Rattle.byte_streams.specs.Streams.{SourceState}
 use Rattle.boot_log.specs.declared.header.Row.{Row as TableRow}
 use Rattle.boot_log.specs.Spelling.{IsLog, LogEvent, algs_in}
@@ -60,13 +61,11 @@ IsTaken (Some known) list = IsCheckpoint list known
 
 -- How many entries it has.
 abbrev pub entries_taken : Option Checkpoint → ℕ
-entries_taken None = 0
-entries_taken (Some known) = known.entries
+entries_taken known = option_map_or (λ known. known.entries) known 0
 
 -- How many bytes of the input may follow it.
 abbrev pub most_more : Option Checkpoint → Where → ℕ
-most_more None place = limit_of place
-most_more (Some known) place = most_after known (limit_of place)
+most_more known place = option_map_or (λ known. most_after known (limit_of place)) known (limit_of place)
 
 -- This holds of the list that was taken before and of what the input adds to it, whatever that list was.
 abbrev pub OfMore : Inputs → Where → Option Checkpoint → (List ℕ → List ℕ → Type 0) → Type 0

@@ -2,7 +2,7 @@
 
 ghost use Rattle.std.specs.Prelude.{◌≡◌, option_map};
 ghost use Rattle.boot_verdict.specs.Verdicts.{verdict_of};
-ghost use Rattle.judging.specs.Answering.{alone, is_match, is_well, next_if};
+ghost use Rattle.judging.specs.Answering.{alone, is_match, is_well};
 ghost use Rattle.judging.specs.Asking.{requires_of};
 
 use crate::request::Required;
@@ -101,11 +101,4 @@ fn is_match(required: Required<'_>, report: &Report) -> bool
         Required::Nothing => report.matches(),
         Required::Any | Required::These(_) => report.matches() && !report.rows.is_empty(),
     }
-}
-
-/// Where to go on: nowhere, unless all is well.
-pub(crate) fn next_if(is_well: bool, next: Option<Checkpoint>) -> Option<Checkpoint>
-    ensures { result ≡ next_if is_well next }
-{
-    if is_well { next } else { None }
 }

@@ -6,7 +6,7 @@ ghost use Rattle.judging.specs.Growing.{Finds, FindsFrom};
 ghost use Rattle.judging.specs.Asking.{asked_of, compared_of, held_bytes, judgement_of, log_of, place_of, requires_of, resume_of};
 ghost use Rattle.judging.specs.Inputs.{Holds, IsInputFault, OfInput};
 
-use crate::answer::{Answer, Answered, Answering, is_well, next_if};
+use crate::answer::{Answer, Answered, Answering, is_well};
 use crate::expecting::printed_within;
 use crate::inputs::{Held, Input, limit_of, loaded_at, refused};
 use crate::registers::{after_list, after_log};
@@ -53,7 +53,7 @@ fn compared<F: AgentFiles>(alloc: Global, files: &mut F, asked: Comparison<'_>) 
         answer,
         requirement: evidence.requirement,
         is_well,
-        next: next_if(is_well, next),
+        next: if is_well { next } else { None },
     })
 }
 

@@ -2,6 +2,7 @@ use Rattle.std.proofs.Common.{refl, inl, inr}
 use Rattle.std.proofs.lemmas.Result.{err_from_is_err_and}
 use Rattle.judging.specs.Answering.{evidence_of}
 use Rattle.judging.proofs.answering.compared.Goals as goal
+use Rattle.judging.proofs.answering.compared.Goals.{then-is_well, else-is_well}
 
 pub returns-in_err-evidence-clause-fault : goal.returns-in_err-evidence-clause-fault
 returns-in_err-evidence-clause-fault g c =
@@ -26,5 +27,8 @@ returns-clause-answer g c = record {
   requirement_is = refl;
   judged = rw c.in_ok-evidence.ensures.told at c.in_ok-answer.ensures.found;
   well_is = rw c.as_ref.ensures.value at c.is_well-is_well.ensures;
-  next_is = c.next_if.ensures;
+  next_is = elim c.if-is_well.branch [
+    | then-is_well w ↦ rw w.if-is_well.true w.result-is
+    | else-is_well w ↦ rw w.if-is_well.false w.result-is
+  ];
 }
