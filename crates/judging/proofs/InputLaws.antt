@@ -147,7 +147,8 @@ module _ {inputs : Inputs} {list : Where} {old new : SourceState} (gives : Gives
         → ((log taken : List ℕ) → HasTaken log taken before
         → TakesMore log taken old.remaining new.remaining (most_after before.known (limit_of list)) after)
         → (seeks_front extent evidence.required evidence.expected ≡ true → (log taken : List ℕ) → HasTaken log taken before
-        → TakesUnconfirmed log taken old.remaining new.remaining (most_after before.known (limit_of list)) evidence.expected before.known.entries after)
+        → TakesUnconfirmed log taken old.remaining new.remaining (most_after before.known (limit_of list)) evidence.expected
+        before.known.entries after)
         → ((log all : List ℕ) → HasTaken log all after → IsVerdict log all evidence.expected (verdict_of report))
         → IsJudged inputs (VerdictOf place extent resume) list evidence (answers.Report report) (Some after.known)
     whole_found after report room takes none verdict = (

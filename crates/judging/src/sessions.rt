@@ -62,7 +62,8 @@ impl Evidence<'_> {
         list: Input<'_>,
         extent: Extent,
     ) -> Result<Answer, RunFault>
-        ensures { JudgesFrom extent (place_of list.entry) (evidence_of self.now) (R.state source.old) (R.state source.new) session.old session.new result }
+        ensures { JudgesFrom extent (place_of list.entry) (evidence_of self.now) (R.state source.old) (R.state source.new)
+            session.old session.new result }
     {
         if seeks_front(extent, self.requirement.as_ref(), &self.expected) {
             match session.confirm(alloc, source, limit_of(list), &self.expected) {

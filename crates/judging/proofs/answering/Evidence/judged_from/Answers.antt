@@ -35,7 +35,8 @@ returns-in_ok-report-in-Ok g c =
     λ inputs log resume gives started room.
     whole_found gives log resume c.args.extent (evidence_of c.args.self.now) started _ c.in_ok-report-in-Ok.field-0 room
     (rw c.limit_of-else-seeks_front.ensures at c.in-Ok.ensures.taken)
-    (λ sought. absurd (false≢true (sym c.if-seeks_front.false ∙ rw (c.as_ref.ensures.value, c.deref.ensures.value) at c.seeks_front.ensures ∙ sought)))
+    (λ sought.
+    absurd (false≢true (sym c.if-seeks_front.false ∙ rw (c.as_ref.ensures.value, c.deref.ensures.value) at c.seeks_front.ensures ∙ sought)))
     (rw c.deref-in-Ok.ensures.value at c.in_ok-report-in-Ok.ensures)
 
 pub returns-in-Err-more : goal.returns-in-Err-more
@@ -44,5 +45,6 @@ returns-in-Err-more g c =
     not_found gives log resume c.args.extent (evidence_of c.args.self.now) started c.in-Err-more.fault _
     (source_failed c.more.result c.in-Err-more.fault _ _ c.in-Err-more.is c.more.ensures.counts c.more.ensures.telling)
     (rw c.limit_of-else-seeks_front.ensures at c.in-Err-more.ensures.fault)
-    (λ sought. absurd (false≢true (sym c.if-seeks_front.false ∙ rw (c.as_ref.ensures.value, c.deref.ensures.value) at c.seeks_front.ensures ∙ sought)))
+    (λ sought.
+    absurd (false≢true (sym c.if-seeks_front.false ∙ rw (c.as_ref.ensures.value, c.deref.ensures.value) at c.seeks_front.ensures ∙ sought)))
     c.refused-in-Err-more.ensures
