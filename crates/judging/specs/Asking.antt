@@ -27,12 +27,6 @@ pub data Requires : Type 0 where
   Any : Requires
   These : List ℕ → Requires
 
--- The text that spells registers, if there is one.
-abbrev pub text_of : Requires → Option (List ℕ)
-text_of Nothing = None
-text_of Any = None
-text_of (These text) = Some text
-
 -- What is compared: the result, with what only it is of; where the list is, or what follows the checkpoint, and the text of expected
 -- registers; and what has to be among these.
 pub record Compared : Type 0 where

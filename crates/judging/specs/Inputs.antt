@@ -1,11 +1,11 @@
 -- Where inputs are, what they hold, and why one is not loaded. All of this is this project's choice.
-use Rattle.std.specs.Prelude.{◌≡◌, ℕ, ◌^◌, ◌-◌, List, Option, Some, IfSome, IsTrue}
+use Rattle.std.specs.Prelude.{◌≡◌, ℕ, ◌^◌, ◌-◌, ◌⊎◌, List, Option, Some, IfSome, IsTrue}
 use Rattle.boot_verdict.specs.declared.verifier.VerifyFault.{VerifyFault}
 use Rattle.boot_verdict.specs.declared.verifier.VerifyFault.TheVariants as verdicts
 use Rattle.agent_inputs.specs.declared.fault.RunFault.{RunFault}
 use Rattle.agent_inputs.specs.declared.fault.RunFault.TheVariants as runs
-use Rattle.agent_inputs.specs.Faults.{IsFaultOfVerdict, fault_of_list, fault_of_log}
-use Rattle.agent_inputs.specs.Loading.{Inputs, input_limit}
+use Rattle.agent_inputs.specs.Faults.{fault_of_list, fault_of_log}
+use Rattle.agent_inputs.specs.Loading.{Inputs, IsNotRead, IsTooLong, input_limit}
 use Rattle.agent_inputs.specs.Loading.{IsInputFault as IsFileFault, IsReadFailure as IsFileFailure}
 
 -- Where an input is: in the file of this name, or in memory, where these bytes are all of it.
@@ -46,14 +46,12 @@ abbrev pub IsInputFault : Inputs → Where → RunFault → Type 0
 IsInputFault inputs (FileOf name) fault = IsFileFault inputs (Some name) fault
 IsInputFault inputs (BytesOf all) fault = ⊥
 
--- The program's fault for a verifier's fault of bytes in memory, of which no source fails and no list is too long.
-abbrev pub fault_of_verdict : VerifyFault → RunFault
-fault_of_verdict (verdicts.Log first) = fault_of_log first
-fault_of_verdict (verdicts.List first) = fault_of_list first
-fault_of_verdict (verdicts.Replay first) = runs.Replay first
-fault_of_verdict first = runs.Memory
-
--- The program's fault for a verifier's fault, where the list is this input.
+-- The program's fault for a verifier's fault, where the list is this input: one of its source names the file. Of bytes in memory no source
+-- fails, and no list is too long.
 abbrev pub IsFaultAt : Where → VerifyFault → RunFault → Type 0
-IsFaultAt (FileOf name) first fault = IsFaultOfVerdict name first fault
-IsFaultAt (BytesOf all) first fault = fault ≡ fault_of_verdict first
+IsFaultAt place (verdicts.Log first) fault = fault ≡ fault_of_log first
+IsFaultAt place (verdicts.List first) fault = fault ≡ fault_of_list first
+IsFaultAt place (verdicts.Replay first) fault = fault ≡ runs.Replay first
+IsFaultAt (FileOf name) verdicts.Source fault = IsNotRead name fault ⊎ (fault ≡ runs.Memory)
+IsFaultAt (FileOf name) verdicts.TooLong fault = IsTooLong name fault ⊎ (fault ≡ runs.Memory)
+IsFaultAt place first fault = fault ≡ runs.Memory

@@ -1,26 +1,23 @@
 //! The answer to what is asked for, by one path.
 
-ghost use Rattle.std.specs.Prelude.{◌≡◌, ◌⊎◌, List, None, Option, option_map, IfOk, IfErr};
-ghost use Rattle.boot_verdict.specs.declared.requirement.BankRange.{BankRange as BankRangeOf};
-ghost use Rattle.judging.specs.Answering.{AreGrounds, HasNoGrounds, IsAnswer, IsComparison, IsFound, IsKnown, IsLogIn, IsNoCheckpoint, IsNoComparison, IsNotFound, IsNotIn, IsNotRequired, IsRefusal, IsRequired};
-ghost use Rattle.judging.specs.Asking.{ListVerdictOf, PlacesOf, VerdictOf, asked_of, compared_of, held_bytes, judgement_of, log_of, place_of, resume_of};
-ghost use Rattle.agent_inputs.specs.Loading.{Inputs as InputsOf};
-ghost use Rattle.judging.specs.Inputs.{OfInput, IsReadFailure, Where};
-ghost use Rattle.judging.specs.parts.Growing.{GivesInput};
+ghost use Rattle.std.specs.Prelude.{◌≡◌, ◌⊎◌, [], IfOk, IfErr, IsSomeAnd, MatchOption};
+ghost use Rattle.judging.specs.Answering.{HasNoEvidence, IsAnswer, IsComparison, IsEvidence, IsKnown, IsNoCheckpoint, IsNoComparison, IsNotRequired, IsRefusal, IsRequired, evidence_of};
+ghost use Rattle.judging.specs.Growing.{Finds, FindsFrom};
+ghost use Rattle.judging.specs.Asking.{asked_of, compared_of, held_bytes, judgement_of, log_of, place_of, requires_of, resume_of};
+ghost use Rattle.judging.specs.Inputs.{Holds, IsInputFault, OfInput};
 
-use crate::answer::{Answer, Answered, is_well, next_if};
+use crate::answer::{Answer, Answered, Answering, is_well};
 use crate::expecting::printed_within;
 use crate::inputs::{Held, Input, limit_of, loaded_at, refused};
 use crate::registers::{after_list, after_log};
-use crate::request::{Comparison, Request, Wanted};
-use crate::sessions::{checkpoint_in, judged_from, require_room, seeks_front, session_of};
+use crate::request::{Comparison, Request, Required, Wanted};
+use crate::sessions::checkpoint_in;
 use agent_inputs::{AgentFiles, RunFault, not_read};
 use boot_verdict::{
     Checkpoint, Expected, Requirement, RequirementFault, locate_from, read_expected,
     verify_list_from,
 };
 use byte_streams::{Failed, SliceSource, Source};
-use command_line::Extent;
 use std::alloc::Global;
 
 /// The answer to what is asked for. What is compared is read in this order (only in part by the clauses): what is required; the log, which
@@ -43,35 +40,31 @@ pub fn answered<F: AgentFiles>(
 }
 
 // What comes of what is compared.
-fn compared<F: AgentFiles>(
-    alloc: Global,
-    files: &mut F,
-    asked: Comparison<'_>,
-) -> Result<Answered, RunFault>
+fn compared<F: AgentFiles>(alloc: Global, files: &mut F, asked: Comparison<'_>) -> Answering
     ensures answer { IfOk result (IsComparison (F.told files.old) (compared_of asked.entry)) }
     ensures fault { IfErr result (IsNoComparison (F.told files.old) (compared_of asked.entry)) }
     ensures saved { F.saved files.new ≡ F.saved files.old }
 {
-    let requirement = required_in(alloc, asked.required.text())?;
-    let grounds = grounds_of(alloc, files, asked)?;
-    let found = found_in(alloc, files, asked, requirement.as_ref(), &grounds)?;
-    let is_well = is_well(asked.required, requirement.as_ref(), &found.answer);
+    let requirement = required_in(alloc, asked.required)?;
+    let evidence = evidence_of(alloc, files, asked, requirement)?;
+    let (answer, next) = evidence.find(alloc, files, asked)?;
+    let is_well = is_well(asked.required, evidence.requirement.as_ref(), &answer);
     Ok(Answered {
-        answer: found.answer,
-        requirement,
+        answer,
+        requirement: evidence.requirement,
         is_well,
-        next: next_if(is_well, found.next),
+        next: if is_well { next } else { None },
     })
 }
 
-// What the text requires, if there is one.
-fn required_in(alloc: Global, text: Option<&[u8]>) -> Result<Option<Requirement>, RunFault>
-    ensures required { IfOk result (IsRequired (option_map (λ text. text.now) text.entry)) }
-    ensures fault { IfErr result (IsNotRequired (option_map (λ text. text.now) text.entry)) }
+// What has to be among the expected registers, if a text spells it.
+fn required_in(alloc: Global, required: Required<'_>) -> Result<Option<Requirement>, RunFault>
+    ensures required { IfOk result (IsRequired (requires_of required.entry)) }
+    ensures fault { IfErr result (IsNotRequired (requires_of required.entry)) }
 {
-    match text {
-        None => Ok(None),
-        Some(text) => match Requirement::from_text(alloc, text) {
+    match required {
+        Required::Nothing | Required::Any => Ok(None),
+        Required::These(text) => match Requirement::from_text(alloc, text) {
             Ok(requirement) => Ok(Some(requirement)),
             Err(RequirementFault::Malformed) => Err(RunFault::Usage),
             Err(RequirementFault::Memory) => Err(RunFault::Memory),
@@ -79,26 +72,29 @@ fn required_in(alloc: Global, text: Option<&[u8]>) -> Result<Option<Requirement>
     }
 }
 
-// What an answer is made of beside the list.
+/// What a list is judged with.
 #[derive(Drop)]
-struct Grounds<'a> {
-    // The log; no bytes without one.
-    log: Held<'a>,
-    // The expected registers.
-    expected: Vec<Expected>,
-    // The checkpoint to go on from, if there is one.
-    known: Option<Checkpoint>,
+pub(crate) struct Evidence<'a> {
+    /// The registers that are required, if a text spells some.
+    pub requirement: Option<Requirement>,
+    /// The log; no bytes without one.
+    pub log: Held<'a>,
+    /// The expected registers.
+    pub expected: Vec<Expected>,
+    /// The checkpoint to go on from, if there is one.
+    pub known: Option<Checkpoint>,
 }
 
 // Loads the log, then loads and reads the expected registers, and then the checkpoint.
-fn grounds_of<'a, F: AgentFiles>(
+fn evidence_of<'a, F: AgentFiles>(
     alloc: Global,
     files: &mut F,
     asked: Comparison<'a>,
-) -> Result<Grounds<'a>, RunFault>
-    ensures grounds { IfOk result (λ grounds. AreGrounds (F.told files.old) (compared_of asked.entry) (held_bytes grounds.log)
-        grounds.expected.items grounds.known) }
-    ensures fault { IfErr result (HasNoGrounds (F.told files.old) (compared_of asked.entry)) }
+    requirement: Option<Requirement>,
+) -> Result<Evidence<'a>, RunFault>
+    requires { IsRequired (requires_of asked.required) requirement }
+    ensures evidence { IfOk result (λ evidence. IsEvidence (F.told files.old) (compared_of asked.entry) (evidence_of evidence)) }
+    ensures fault { IfErr result (HasNoEvidence (F.told files.old) (compared_of asked.entry)) }
     ensures told { F.told files.new ≡ F.told files.old }
     ensures saved { F.saved files.new ≡ F.saved files.old }
 {
@@ -106,7 +102,8 @@ fn grounds_of<'a, F: AgentFiles>(
     let text = loaded_at(alloc, files, asked.expected)?;
     let expected = read_expected(alloc, text.bytes())?;
     let known = known_in(alloc, files, asked.wanted)?;
-    Ok(Grounds {
+    Ok(Evidence {
+        requirement,
         log,
         expected,
         known,
@@ -119,8 +116,9 @@ fn log_in<'a, F: AgentFiles>(
     files: &mut F,
     wanted: Wanted<'a>,
 ) -> Result<Held<'a>, RunFault>
-    ensures log { IfOk result (λ log. IsLogIn (F.told files.old) (log_of (judgement_of wanted.entry)) (held_bytes log)) }
-    ensures fault { IfErr result (IsNotIn (F.told files.old) (log_of (judgement_of wanted.entry)) (λ place fault. ⊥)) }
+    ensures log { IfOk result (λ log. MatchOption (log_of (judgement_of wanted.entry)) (held_bytes log ≡ [])
+        (λ place. Holds (F.told files.old) place (held_bytes log))) }
+    ensures fault { IfErr result (λ fault. IsSomeAnd (log_of (judgement_of wanted.entry)) (λ place. IsInputFault (F.told files.old) place fault)) }
     ensures told { F.told files.new ≡ F.told files.old }
     ensures saved { F.saved files.new ≡ F.saved files.old }
 {
@@ -138,8 +136,8 @@ fn known_in<F: AgentFiles>(
     wanted: Wanted<'_>,
 ) -> Result<Option<Checkpoint>, RunFault>
     ensures known { IfOk result (IsKnown (F.told files.old) (resume_of (judgement_of wanted.entry))) }
-    ensures fault { IfErr result (IsNotIn (F.told files.old) (resume_of (judgement_of wanted.entry))
-        (λ place fault. OfInput (F.told files.old) place (λ text. IsNoCheckpoint text fault))) }
+    ensures fault { IfErr result (λ fault. IsSomeAnd (resume_of (judgement_of wanted.entry))
+        (λ place. IsInputFault (F.told files.old) place fault ⊎ OfInput (F.told files.old) place (λ text. IsNoCheckpoint text fault))) }
     ensures told { F.told files.new ≡ F.told files.old }
     ensures saved { F.saved files.new ≡ F.saved files.old }
 {
@@ -155,147 +153,45 @@ fn known_in<F: AgentFiles>(
     }
 }
 
-// What was found in a list.
-#[derive(Drop)]
-struct Found {
-    answer: Answer,
-    next: Option<Checkpoint>,
-}
+/// What was found in a list: the answer, and where to go on.
+pub(crate) type Finding = Result<(Answer, Option<Checkpoint>), RunFault>;
 
-// Opens the list, and finds what is asked for in it.
-fn found_in<F: AgentFiles>(
-    alloc: Global,
-    files: &mut F,
-    asked: Comparison<'_>,
-    requirement: Option<&Requirement>,
-    grounds: &Grounds<'_>,
-) -> Result<Found, RunFault>
-    requires { IsKnown (F.told files.old) (resume_of (judgement_of asked.wanted)) grounds.now.known }
-    ensures found { IfOk result (λ found. IsFound (F.told files.old) (judgement_of asked.entry.wanted) (place_of asked.entry.list) (option_map (λ ranges. ranges.now) requirement.entry)
-        (held_bytes grounds.now.log) grounds.now.expected.items grounds.now.known found.answer found.next) }
-    ensures fault { IfErr result (λ fault. IsReadFailure (F.told files.old) (place_of asked.entry.list) fault
-        ⊎ IsNotFound (F.told files.old) (judgement_of asked.entry.wanted) (place_of asked.entry.list) (option_map (λ ranges. ranges.now) requirement.entry)
-        (held_bytes grounds.now.log) grounds.now.expected.items grounds.now.known fault) }
-    ensures saved { F.saved files.new ≡ F.saved files.old }
-{
-    match asked.list {
-        Input::Bytes(list) => {
-            let mut source = SliceSource::new(list);
-            found_from(alloc, &mut source, asked, requirement, grounds)
+impl Evidence<'_> {
+    // Opens the list, and finds what is asked for in it.
+    fn find<F: AgentFiles>(&self, alloc: Global, files: &mut F, asked: Comparison<'_>) -> Finding
+        ensures found { Finds (F.told files.old) (judgement_of asked.entry.wanted) (place_of asked.entry.list) (evidence_of self.now) result }
+        ensures saved { F.saved files.new ≡ F.saved files.old }
+    {
+        match asked.list {
+            Input::Bytes(list) => self.find_from(alloc, &mut SliceSource::new(list), asked),
+            Input::File(name) => match files.source(Some(name)) {
+                Ok(mut source) => self.find_from(alloc, &mut source, asked),
+                Err(Failed) => Err(not_read(alloc, name)),
+            },
         }
-        Input::File(name) => match files.source(Some(name)) {
-            Ok(mut source) => found_from(alloc, &mut source, asked, requirement, grounds),
-            Err(Failed) => Err(not_read(alloc, name)),
-        },
     }
-}
 
-// Finds what is asked for in the list of this source.
-fn found_from<R: Source>(
-    alloc: Global,
-    source: &mut R,
-    asked: Comparison<'_>,
-    requirement: Option<&Requirement>,
-    grounds: &Grounds<'_>,
-) -> Result<Found, RunFault>
-    ensures found { (inputs : InputsOf) → GivesInput inputs (place_of asked.entry.list) (R.state source.old) (R.state source.new)
-        → IsKnown inputs (resume_of (judgement_of asked.entry.wanted)) grounds.now.known
-        → IfOk result (λ found. IsFound inputs (judgement_of asked.entry.wanted) (place_of asked.entry.list) (option_map (λ ranges. ranges.now) requirement.entry)
-        (held_bytes grounds.now.log) grounds.now.expected.items grounds.now.known found.answer found.next) }
-    ensures fault { (inputs : InputsOf) → GivesInput inputs (place_of asked.entry.list) (R.state source.old) (R.state source.new)
-        → IsKnown inputs (resume_of (judgement_of asked.entry.wanted)) grounds.now.known
-        → IfErr result (IsNotFound inputs (judgement_of asked.entry.wanted) (place_of asked.entry.list) (option_map (λ ranges. ranges.now) requirement.entry)
-        (held_bytes grounds.now.log) grounds.now.expected.items grounds.now.known) }
-{
-    match asked.wanted {
-        Wanted::Verdict { extent, .. } => {
-            verdict_from(alloc, source, asked.list, extent, requirement, grounds)
+    // Finds what is asked for in the list of this source.
+    fn find_from<R: Source>(&self, alloc: Global, source: &mut R, asked: Comparison<'_>) -> Finding
+        ensures { FindsFrom (judgement_of asked.entry.wanted) (place_of asked.entry.list) (evidence_of self.now)
+            (R.state source.old) (R.state source.new) result }
+    {
+        let list = asked.list;
+        match asked.wanted {
+            Wanted::Verdict { extent, .. } => self.verdict_from(alloc, source, list, extent),
+            Wanted::Places { .. } => {
+                let log = self.log.bytes();
+                match locate_from(alloc, log, source, limit_of(list), &self.expected) {
+                    Ok(places) => Ok((Answer::Places(places), None)),
+                    Err(fault) => Err(refused(alloc, list, fault)),
+                }
+            }
+            Wanted::ListVerdict => {
+                match verify_list_from(alloc, source, limit_of(list), &self.expected) {
+                    Ok(report) => Ok((Answer::ListReport(report), None)),
+                    Err(fault) => Err(refused(alloc, list, fault)),
+                }
+            }
         }
-        Wanted::Places { .. } => places_from(alloc, source, asked.list, grounds),
-        Wanted::ListVerdict => list_verdict_from(alloc, source, asked.list, grounds),
-    }
-}
-
-// The verdict, on the whole list or a front.
-fn verdict_from<R: Source>(
-    alloc: Global,
-    source: &mut R,
-    list: Input<'_>,
-    extent: Extent,
-    requirement: Option<&Requirement>,
-    grounds: &Grounds<'_>,
-) -> Result<Found, RunFault>
-    ensures found { (inputs : InputsOf) → GivesInput inputs (place_of list.entry) (R.state source.old) (R.state source.new)
-        → (log : Where) (resume : Option Where) → IsKnown inputs resume grounds.now.known
-        → IfOk result (λ found. IsFound inputs (VerdictOf log extent resume) (place_of list.entry) (option_map (λ ranges. ranges.now) requirement.entry)
-        (held_bytes grounds.now.log) grounds.now.expected.items grounds.now.known found.answer found.next) }
-    ensures fault { (inputs : InputsOf) → GivesInput inputs (place_of list.entry) (R.state source.old) (R.state source.new)
-        → (log : Where) (resume : Option Where) → IsKnown inputs resume grounds.now.known
-        → IfErr result (IsNotFound inputs (VerdictOf log extent resume) (place_of list.entry) (option_map (λ ranges. ranges.now) requirement.entry)
-        (held_bytes grounds.now.log) grounds.now.expected.items grounds.now.known) }
-{
-    let mut session = session_of(grounds.log.bytes(), grounds.known, list)?;
-    let seeks = seeks_front(extent, requirement, &grounds.expected);
-    let answer = judged_from(alloc, &mut session, source, list, &grounds.expected, seeks)?;
-    require_room(&session)?;
-    Ok(Found {
-        answer,
-        next: Some(*session.checkpoint()),
-    })
-}
-
-// Where the registers have their values.
-fn places_from<R: Source>(
-    alloc: Global,
-    source: &mut R,
-    list: Input<'_>,
-    grounds: &Grounds<'_>,
-) -> Result<Found, RunFault>
-    ensures found { (inputs : InputsOf) → GivesInput inputs (place_of list.entry) (R.state source.old) (R.state source.new)
-        → (log : Where) (required : Option (List BankRangeOf)) → IsKnown inputs None grounds.now.known
-        → IfOk result (λ found. IsFound inputs (PlacesOf log) (place_of list.entry) required
-        (held_bytes grounds.now.log) grounds.now.expected.items grounds.now.known found.answer found.next) }
-    ensures fault { (inputs : InputsOf) → GivesInput inputs (place_of list.entry) (R.state source.old) (R.state source.new)
-        → (log : Where) (required : Option (List BankRangeOf)) → IsKnown inputs None grounds.now.known
-        → IfErr result (IsNotFound inputs (PlacesOf log) (place_of list.entry) required
-        (held_bytes grounds.now.log) grounds.now.expected.items grounds.now.known) }
-{
-    match locate_from(
-        alloc,
-        grounds.log.bytes(),
-        source,
-        limit_of(list),
-        &grounds.expected,
-    ) {
-        Ok(places) => Ok(Found {
-            answer: Answer::Places(places),
-            next: None,
-        }),
-        Err(fault) => Err(refused(alloc, list, fault)),
-    }
-}
-
-// The verdict on the list alone.
-fn list_verdict_from<R: Source>(
-    alloc: Global,
-    source: &mut R,
-    list: Input<'_>,
-    grounds: &Grounds<'_>,
-) -> Result<Found, RunFault>
-    ensures found { (inputs : InputsOf) → GivesInput inputs (place_of list.entry) (R.state source.old) (R.state source.new)
-        → (required : Option (List BankRangeOf)) → IsKnown inputs None grounds.now.known
-        → IfOk result (λ found. IsFound inputs ListVerdictOf (place_of list.entry) required
-        (held_bytes grounds.now.log) grounds.now.expected.items grounds.now.known found.answer found.next) }
-    ensures fault { (inputs : InputsOf) → GivesInput inputs (place_of list.entry) (R.state source.old) (R.state source.new)
-        → (required : Option (List BankRangeOf)) → IsKnown inputs None grounds.now.known
-        → IfErr result (IsNotFound inputs ListVerdictOf (place_of list.entry) required
-        (held_bytes grounds.now.log) grounds.now.expected.items grounds.now.known) }
-{
-    match verify_list_from(alloc, source, limit_of(list), &grounds.expected) {
-        Ok(report) => Ok(Found {
-            answer: Answer::ListReport(report),
-            next: None,
-        }),
-        Err(fault) => Err(refused(alloc, list, fault)),
     }
 }

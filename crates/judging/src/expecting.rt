@@ -3,11 +3,10 @@
 ghost use Rattle.std.specs.Prelude.{◌≡◌, option_map, IfOk, IfErr};
 ghost use Rattle.std.specs.List.{list_any};
 ghost use Rattle.boot_verdict.specs.RegisterRanges.{is_within};
-ghost use Rattle.judging.specs.Answering.{IsAnswer, IsRefusal};
+ghost use Rattle.judging.specs.Answering.{IsAnswer, IsNotPrintedWithin, IsPrintedWithin, IsRangeFault, IsRefusal, IsRequested};
 ghost use Rattle.judging.specs.Asking.{ExpectedOf, place_of};
-ghost use Rattle.judging.specs.Expecting.{IsNotPrintedWithin, IsPrintedWithin, IsRangeFault, IsRequested};
 
-use crate::answer::{Answer, Answered};
+use crate::answer::{Answer, Answered, Answering};
 use crate::inputs::{Input, loaded_at};
 use agent_inputs::{AgentFiles, RunFault};
 use boot_verdict::{ExpectFault, Expected, RegisterRange, read_printed};
@@ -20,7 +19,7 @@ pub(crate) fn printed_within<F: AgentFiles>(
     files: &mut F,
     printed: Input<'_>,
     range: Option<&[u8]>,
-) -> Result<Answered, RunFault>
+) -> Answering
     ensures answer { IfOk result (IsAnswer (F.told files.old)
         (ExpectedOf (place_of printed.entry) (option_map (λ text. text.now) range.entry))) }
     ensures fault { IfErr result (IsRefusal (F.told files.old)
@@ -29,7 +28,7 @@ pub(crate) fn printed_within<F: AgentFiles>(
 {
     let range = range_of(range)?;
     let text = loaded_at(alloc, files, printed)?;
-    let expected = stated_within(alloc, text.bytes(), range)?;
+    let expected = stated_in(alloc, text.bytes(), range)?;
     Ok(Answered::alone(Answer::Expected { expected, range }))
 }
 
@@ -45,11 +44,7 @@ fn range_of(text: Option<&[u8]>) -> Result<RegisterRange, RunFault>
 }
 
 // The registers that this text states, of which at least one is within the range.
-fn stated_within(
-    alloc: Global,
-    text: &[u8],
-    range: RegisterRange,
-) -> Result<Vec<Expected>, RunFault>
+fn stated_in(alloc: Global, text: &[u8], range: RegisterRange) -> Result<Vec<Expected>, RunFault>
     ensures expected { IfOk result (λ expected. IsPrintedWithin range text.now expected.items) }
     ensures fault { IfErr result (IsNotPrintedWithin range text.now) }
 {

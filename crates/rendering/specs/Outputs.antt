@@ -1,5 +1,5 @@
 -- What is shown of what is asked for, what is saved with it, and why nothing is. All of this is this project's choice.
-use Rattle.std.specs.Prelude.{◌≡◌, ℕ, ◌⊎◌, List, [], Option, Some, None}
+use Rattle.std.specs.Prelude.{◌≡◌, ℕ, ◌⊎◌, if◌then◌else◌, List, [], Option, Some, None}
 use Rattle.boot_verdict.specs.declared.checkpoint.Checkpoint.{Checkpoint}
 use Rattle.growing_lists.specs.CheckpointTexts.{checkpoint_text}
 use Rattle.agent_inputs.specs.declared.fault.RunFault.{RunFault}
@@ -9,14 +9,14 @@ use Rattle.judging.specs.declared.answer.Answered.{Answered}
 use Rattle.judging.specs.Answering.{IsAnswer, IsRefusal}
 use Rattle.judging.specs.Asking.{Asked}
 use Rattle.command_line.specs.declared.plan.Form.{Form}
-use Rattle.rendering.specs.Rendering.{rendered, status_of}
+use Rattle.rendering.specs.Rendering.{rendered}
 
--- What is shown is the answer to what is asked for, in this form, with its status; and this is where to go on.
+-- What is shown is the answer to what is asked for, in this form; its exit status is 0 if all is well, else 1; and this is where to go on.
 pub record IsShown (inputs : Inputs) (asked : Asked) (form : Form) (shown : List ℕ) (status : ℕ) (next : Option Checkpoint) : Type 0 where
   pub given : Answered
   pub answer : IsAnswer inputs asked given
   pub text_is : shown ≡ rendered form given
-  pub status_is : status ≡ status_of given
+  pub status_is : status ≡ (if given.is_well then 0 else 1)
   pub next_is : next ≡ given.next
 
 -- The file of this name, if one is given, was replaced by the text of this checkpoint, if there is one, and no other was.

@@ -1,12 +1,12 @@
 -- Answers as text or JSON, and their exit statuses. All of this is this project's choice.
-use Rattle.std.specs.Prelude.{ℕ, Bool, if◌then◌else◌, List, ◌++◌, Option, Some, None, flat_map}
+use Rattle.std.specs.Prelude.{ℕ, Bool, List, ◌++◌, Option, Some, None, flat_map}
 use Rattle.boot_verdict.specs.declared.requirement.BankRange.{BankRange}
 use Rattle.boot_verdict.specs.ListVerdicts.{list_report_text, list_verdict_of, required_list_report_text}
 use Rattle.boot_verdict.specs.PlaceTexts.{places_text}
 use Rattle.boot_verdict.specs.RegisterTexts.{registers_text}
 use Rattle.boot_verdict.specs.ReportTexts.{counts_text, outcome_text}
 use Rattle.boot_verdict.specs.RequiredTexts.{required_places_text, required_report_text}
-use Rattle.boot_verdict.specs.Verdicts.{Verdict, verdict_of}
+use Rattle.boot_verdict.specs.Verdicts.{verdict_of}
 use Rattle.boot_verdict.specs.WrittenTexts.{expected_text}
 use Rattle.growing_lists.specs.FrontTexts.{front_report_text, required_front_report_text}
 use Rattle.json.specs.Json.{Json}
@@ -26,13 +26,10 @@ use Rattle.json_texts.specs.ItemLines.{entry_lines}
 use Rattle.measure_book.specs.Books.{exported}
 use Rattle.measuring.specs.declared.recording.Measured.{Measured}
 
--- A report where no registers are required, and its verdict.
-abbrev pub report_lines : Verdict → Bool → List ℕ
-report_lines verdict is_match = counts_text verdict.events verdict.locality verdict.entries ++ outcome_text verdict is_match
-
 -- The lines of an answer, where these registers are required, and whether all is well.
 abbrev pub lines_of : Bool → Option (List BankRange) → Answer → List ℕ
-lines_of well None (Report report) = report_lines (verdict_of report) well
+lines_of well None (Report report) =
+    counts_text (verdict_of report).events (verdict_of report).locality (verdict_of report).entries ++ outcome_text (verdict_of report) well
 lines_of well (Some ranges) (Report report) = required_report_text ranges (verdict_of report)
 lines_of well None (Front front) = front_report_text (verdict_of front.report) front.entries front.unconfirmed
 lines_of well (Some ranges) (Front front) = required_front_report_text ranges (verdict_of front.report) front.entries front.unconfirmed
@@ -56,10 +53,6 @@ json_of well required (Expected expected range) = expected_json range expected.i
 abbrev pub rendered : Form → Answered → List ℕ
 rendered forms.Text given = lines_of given.is_well given.requirement given.answer
 rendered forms.Json given = line_of (json_of given.is_well given.requirement given.answer)
-
--- The exit status: 0 if all is well, else 1.
-abbrev pub status_of : Answered → ℕ
-status_of given = if given.is_well then 0 else 1
 
 -- ---- a measurement
 

@@ -3,8 +3,6 @@
 ghost use Rattle.std.specs.Prelude.{◌≡◌, flat_map, IfOk};
 ghost use Rattle.ima_list.specs.Lines.{line_of};
 ghost use Rattle.json_texts.specs.ItemLines.{entry_lines};
-ghost use Rattle.judging.specs.Judging.{alone};
-ghost use Rattle.judging.specs.declared.answer.Answer.TheVariants as answers;
 ghost use Rattle.measure_book.specs.Books.{exported};
 ghost use Rattle.rendering.specs.Rendering.{printed};
 
@@ -30,23 +28,17 @@ pub fn printed(
     ensures status { IfOk result (λ output. output.status ≡ 0) }
 {
     match (print, form) {
-        (Print::Registers, form) => rendered(alloc, &registers_of(given), form),
+        (Print::Registers, form) => {
+            let (start, now) = (given.reset, *given.book.banks());
+            let registers = Answer::Registers(Registers { start, now });
+            rendered(alloc, &Answered::alone(registers), form)
+        }
         (Print::Ascii, Form::Text) => Ok(Output::done(texts(alloc, given.book.entries())?)),
         (Print::Binary, Form::Text) => Ok(Output::done(exported(alloc, &given.book)?)),
         (Print::Ascii | Print::Binary, Form::Json) => {
             Ok(Output::done(lines(alloc, given.book.entries())?))
         }
     }
-}
-
-// The registers of a measurement, as an answer.
-fn registers_of(given: &Measured) -> Answered
-    ensures { result ≡ alone (answers.Registers (record { start = given.now.reset; now = given.now.book.banks })) }
-{
-    Answered::alone(Answer::Registers(Registers {
-        start: given.reset,
-        now: *given.book.banks(),
-    }))
 }
 
 // The list in its binary form.

@@ -1,10 +1,10 @@
 //! Answers as text or JSON.
 
-ghost use Rattle.std.specs.Prelude.{◌≡◌, ◌++◌, None, IfOk, OnOk};
+ghost use Rattle.std.specs.Prelude.{◌≡◌, ◌++◌, if◌then◌else◌, None, IfOk, OnOk};
 ghost use Rattle.byte_streams.specs.Streams.{Sends};
 ghost use Rattle.json_texts.specs.JsonValues.{line_of};
 ghost use Rattle.judging.specs.declared.answer.Answer.TheVariants as answers;
-ghost use Rattle.rendering.specs.Rendering.{json_of, lines_of, rendered, status_of};
+ghost use Rattle.rendering.specs.Rendering.{json_of, lines_of, rendered};
 
 use crate::output::Output;
 use boot_verdict::{
@@ -24,7 +24,7 @@ use std::alloc::{AllocError, Global};
 /// The output of an answer in this form: its status says whether all is well.
 pub fn rendered(alloc: Global, given: &Answered, form: Form) -> Result<Output, AllocError>
     ensures text { IfOk result (λ output. output.text.items ≡ rendered form given.now) }
-    ensures status { IfOk result (λ output. output.status ≡ status_of given.now) }
+    ensures status { IfOk result (λ output. output.status ≡ (if given.now.is_well then 0 else 1)) }
 {
     let text = match form {
         Form::Text => lines(alloc, given)?,
@@ -38,10 +38,8 @@ fn lines(alloc: Global, given: &Answered) -> Result<Vec<u8>, AllocError>
     ensures { IfOk result (λ text. text.items ≡ lines_of given.now.is_well given.now.requirement given.now.answer) }
 {
     let mut text = VecSink::new(Vec::new(alloc));
-    match write_lines(given, &mut text) {
-        Ok(()) => Ok(text.into_bytes()),
-        Err(Failed) => Err(AllocError),
-    }
+    write_lines(given, &mut text).map_err(|_| AllocError)?;
+    Ok(text.into_bytes())
 }
 
 // Writes the lines of an answer.
@@ -50,22 +48,14 @@ fn write_lines<S: Sink>(given: &Answered, sink: &mut S) -> Result<(), Failed>
 {
     match (&given.answer, given.requirement.as_ref()) {
         (Answer::Report(report), None) => write_report(report, given.is_well, sink),
-        (Answer::Report(report), Some(required)) => write_required_report(report, required, sink),
+        (Answer::Report(report), Some(ranges)) => write_required_report(report, ranges, sink),
         (Answer::Front(front), None) => write_front_report(front, sink),
-        (Answer::Front(front), Some(required)) => write_required_front_report(
-            front, required, sink,
-        ),
+        (Answer::Front(front), Some(ranges)) => write_required_front_report(front, ranges, sink),
         (Answer::Places(places), None) => write_places(places, sink),
-        (Answer::Places(places), Some(required)) => write_required_places(places, required, sink),
-        (Answer::ListReport(report), None) => write_list_report(report, sink),
-        (Answer::ListReport(report), Some(required)) => {
-            write_required_list_report(report, required, sink)
-        }
-        (Answer::Registers(registers), _) => write_registers(
-            &registers.now,
-            &registers.start,
-            sink,
-        ),
+        (Answer::Places(places), Some(ranges)) => write_required_places(places, ranges, sink),
+        (Answer::ListReport(list), None) => write_list_report(list, sink),
+        (Answer::ListReport(list), Some(ranges)) => write_required_list_report(list, ranges, sink),
+        (Answer::Registers(banks), _) => write_registers(&banks.now, &banks.start, sink),
         (Answer::Expected { expected, range }, _) => write_expected(expected, *range, sink),
     }
 }
@@ -98,9 +88,7 @@ fn append_line(alloc: Global, given: &Answered, line: &mut Vec<u8>) -> Result<()
         Answer::Front(front) => append_front_report(alloc, front, requirement, line),
         Answer::Places(places) => append_places(alloc, places, requirement, line),
         Answer::ListReport(report) => append_list_report(alloc, report, requirement, line),
-        Answer::Registers(registers) => {
-            append_registers(alloc, &registers.now, &registers.start, line)
-        }
+        Answer::Registers(banks) => append_registers(alloc, &banks.now, &banks.start, line),
         Answer::Expected { expected, range } => append_expected(alloc, expected, *range, line),
     }
 }

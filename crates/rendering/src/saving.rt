@@ -1,8 +1,6 @@
 //! Saves the checkpoint of what an answer is on.
 
-ghost use Rattle.std.specs.Prelude.{◌≡◌, ◌⊎◌, Some, option_map, IfErr, OnErr, OnOk};
-ghost use Rattle.agent_inputs.specs.Loading.{IsNotWritten};
-ghost use Rattle.agent_inputs.specs.declared.fault.RunFault.TheVariants as runs;
+ghost use Rattle.std.specs.Prelude.{◌≡◌, option_map, IfErr, OnErr, OnOk};
 ghost use Rattle.rendering.specs.Outputs.{HasSaved, IsNotSaved};
 
 use agent_inputs::{AgentFiles, RunFault, not_written};
@@ -23,25 +21,13 @@ pub(crate) fn save<F: AgentFiles>(
     ensures fault { IfErr result (IsNotSaved (option_map (λ name. name.now) name.entry) next) }
 {
     match (name, next) {
-        (Some(name), Some(next)) => save_as(alloc, files, name, &next),
+        (Some(name), Some(next)) => {
+            let text = write_checkpoint(alloc, &next)?;
+            match files.replace(name, &text) {
+                Ok(()) => Ok(()),
+                Err(Failed) => Err(not_written(alloc, name)),
+            }
+        }
         _ => Ok(()),
-    }
-}
-
-// Saves the checkpoint under this name.
-fn save_as<F: AgentFiles>(
-    alloc: Global,
-    files: &mut F,
-    name: &str,
-    known: &Checkpoint,
-) -> Result<(), RunFault>
-    ensures saved { OnOk result (HasSaved (F.saved files.old) (F.saved files.new) (Some name.now) (Some known.now)) }
-    ensures kept { OnErr result (F.saved files.new ≡ F.saved files.old) }
-    ensures fault { IfErr result (λ fault. IsNotWritten name.now fault ⊎ (fault ≡ runs.Memory)) }
-{
-    let text = write_checkpoint(alloc, known)?;
-    match files.replace(name, &text) {
-        Ok(()) => Ok(()),
-        Err(Failed) => Err(not_written(alloc, name)),
     }
 }

@@ -1,6 +1,6 @@
 use Rattle.std.proofs.Common.{inl, inr}
 use Rattle.std.proofs.lemmas.Result.{err_from_is_err_and}
-use Rattle.judging.proofs.answering.grounds_of.Goals as goal
+use Rattle.judging.proofs.answering.evidence_of.Goals as goal
 
 pub returns-in_err-known-clause-fault : goal.returns-in_err-known-clause-fault
 returns-in_err-known-clause-fault g c =
@@ -8,5 +8,5 @@ returns-in_err-known-clause-fault g c =
     rw (p.1, p.2)
     (inr (inr (inr (inl (
       (_, (_, rw c.in_ok-log.ensures.told at c.in_ok-text.ensures.all, rw c.bytes.ensures at c.in_ok-expected.ensures.found)),
-      inl (rw (c.in_ok-text.ensures.told, c.in_ok-log.ensures.told) at c.in_err-known.ensures.fault),
+      rw (c.in_ok-text.ensures.told, c.in_ok-log.ensures.told) at c.in_err-known.ensures.fault,
     )))))
