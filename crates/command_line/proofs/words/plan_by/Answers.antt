@@ -2,27 +2,29 @@ use Rattle.std.proofs.Common.{ap, map, subst, string_bytes, sym, inl, inr, ◌�
 use Rattle.std.proofs.lemmas.Result.{IfOk-weaker}
 use Rattle.clap.specs.Takes.{takes}
 use Rattle.clap.specs.Words.{is_simple, subcommand_of}
-use Rattle.command_line.specs.Commands.{HasValuesIn}
-use Rattle.command_line.specs.Plans.{IsWithinRanges}
+use Rattle.command_line.specs.Plans.{HasValuesIn, IsWithinRanges}
+use Rattle.command_line.specs.Tasks.{IsWithin}
 use Rattle.command_line.proofs.ReadLemmas.{commands_are_simple}
 use Rattle.command_line.proofs.words.plan_by.Goals as goal
 
-pub returns-in-Ok : goal.returns-in-Ok
-returns-in-Ok c =
+pub returns-in_ok-asked_of-in-Ok : goal.returns-in_ok-asked_of-in-Ok
+returns-in_ok-asked_of-in-Ok c =
     let parsers = c.requires.0 in
     let program = c.requires.1 in
-    let found = (c.in-Ok.ensures.matches (ap is_simple program.app_is ∙ commands_are_simple parsers)).1 in
-    IfOk-weaker c.plan_of.result _ _
-    (λ plan is. (
+    let command = c.args.command.now in
+    let found = (c.in-Ok.ensures.matches (ap is_simple program.app_is ∙ commands_are_simple parsers)).1
+    ∙ ap (λ app. subcommand_of app (map string_bytes c.args.words.now)) program.app_is in
+    let task = sym c.of.ensures.task in
+    let is = c.in_ok-asked_of-in-Ok.ensures in (
       inl (
-        is.0,
-        record {
-          parsers = parsers;
-          values = subst (λ matches. HasValuesIn matches plan) (found ∙ ap (λ app. subcommand_of app (map string_bytes c.args.words.now)) program.app_is) is.2;
-        },
-      ),
-      is.1,
-    )) c.plan_of.ensures
+          record {
+            parsers = parsers;
+            values = subst (HasValuesIn command _) task (subst (λ matches. HasValuesIn command matches c.in_ok-asked_of-in-Ok.field-0) found is.0);
+            one = c.of.ensures.one;
+          }
+          ),
+      subst (λ asked. IsWithin asked.1 asked.0) task is.1,
+    )
 
 pub returns-in-Err : goal.returns-in-Err
 returns-in-Err c =
