@@ -48,6 +48,7 @@ fn rows<'a>() -> &'a [CommandRow<'a>]
 
 // The program with the command of this row too. It is a function of its own, since a loop in which commands are dropped is dear to
 // prove.
+#[tactic(auto, using(crate::proofs::CommandLemmas::one_command_more))]
 fn with_row<'a>(
     alloc: Global,
     program: Command<'a>,
@@ -99,6 +100,7 @@ fn command<'a>(alloc: Global, row: &'a CommandRow<'a>, known: KnownNames<'a>) ->
 }
 
 // The command with the argument of this row too.
+#[tactic(auto, using(crate::proofs::CommandLemmas::one_rule_more))]
 fn with_argument_row<'a>(
     alloc: Global,
     command: Command<'a>,
