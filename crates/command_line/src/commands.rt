@@ -61,6 +61,7 @@ fn with_row<'a>(
 }
 
 // The program, without its commands. `read_words` looks for `--version` itself: it is here for the help.
+#[tactic(auto, using(crate::proofs::CommandLemmas::one_rule_more))]
 fn program<'a>(alloc: Global) -> Built<'a>
     ensures { IfOk result (IsCommand program_app) }
 {
@@ -89,6 +90,7 @@ fn version_flag<'a>(alloc: Global) -> Arg<'a>
 }
 
 // The command of this row.
+#[tactic(auto, using(crate::proofs::CommandLemmas::one_row_more))]
 fn command<'a>(alloc: Global, row: &'a CommandRow<'a>, known: KnownNames<'a>) -> Built<'a>
     ensures { IfOk result (IsCommand (app_of_row known.entry row.now)) }
 {

@@ -114,6 +114,7 @@ pub(crate) fn name_of(alloc: Global, matches: &ArgMatches, id: &str) -> Result<S
 }
 
 /// A copy of the first value of this argument, if it is present.
+#[tactic(auto, using(crate::proofs::ReadLemmas::no_values))]
 pub(crate) fn text_if_given(
     alloc: Global,
     matches: &ArgMatches,
