@@ -28,6 +28,7 @@ pub(crate) struct KnownNames<'a> {
 type Built<'a> = Result<Command<'a>, AllocError>;
 
 // The program with all commands.
+#[tactic(auto, using(crate::proofs::CommandLemmas::one_row_more))]
 pub(crate) fn all_commands<'a>(alloc: Global, known: KnownNames<'a>) -> Built<'a>
     ensures { IfOk result (λ program. (parsers : Parsers) × IsCommand (commands parsers) program) }
 {

@@ -33,6 +33,7 @@ const NO_JSON_OF_BYTES: &str = "error: invalid value 'binary' for '--print <P>' 
 /// own definition.
 ///
 /// Fails with `Usage` if the arguments are not those of a command, and with `Memory` if memory runs out.
+#[tactic(auto, using(crate::proofs::ReadLemmas::asked_by))]
 pub fn read_words(alloc: Global, words: &[String]) -> Result<Plan, WordsFault>
     // The first argument is the command, the arguments match its options and names, and these are within their ranges; or they are not
     // taken, and one of them requests help; or the first is `--version`.
