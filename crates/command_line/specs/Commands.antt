@@ -77,20 +77,11 @@ table parsers = (
     ∷ (codes "replay", beside (without_default (codes "require")) ∷ flag (codes "json") ∷ required (codes "LIST") ∷ new_rule (codes "EXPECTED") ∷ [])
     ∷ []
 
--- The flag that asks for the version.
-abbrev pub version_flag : Rule
-version_flag = record (new_rule (codes "version")) { long = Some (codes "version"); action = Some show_version }
-
--- The program without arguments.
-abbrev pub bare_program : App
-bare_program = record {
-  top = record (new_app (codes "ima-agent")).top { no_binary_name = true; disable_help_subcommand = true; subcommand_required = true };
-  subs = [];
-}
-
--- The program, whose first argument is a command's name or asks for the version.
+-- The program, whose first argument is a command's name or the flag that asks for the version.
 abbrev pub program_app : App
-program_app = with_rule bare_program version_flag
+program_app = with_rule
+    (record { top = record (new_app (codes "ima-agent")).top { no_binary_name = true; disable_help_subcommand = true; subcommand_required = true }; subs = [] })
+    (record (new_rule (codes "version")) { long = Some (codes "version"); action = Some show_version })
 
 -- The program with all commands.
 abbrev pub commands : Parsers → App

@@ -5,7 +5,7 @@ ghost use Rattle.std.specs.List.{fold};
 ghost use Rattle.clap.specs.Words.{app_of, new_app};
 ghost use Rattle.command_line.specs.parts.Commands.{IsArgument, IsCommand, app_of_row, parser_of_values, rule_of_form, with_argument_row, with_row};
 ghost use Rattle.command_line.specs.declared.commands.KnownNames.{KnownNames};
-ghost use Rattle.command_line.specs.Commands.{Parsers, bare_program, commands, program_app, version_flag};
+ghost use Rattle.command_line.specs.Commands.{Parsers, commands, program_app};
 
 use crate::command_table::{ArgumentRow, COMMANDS, CommandRow, Form, Values};
 use crate::help_texts::{PROGRAM_ABOUT, PROGRAM_END, help_end_of};
@@ -66,28 +66,16 @@ fn with_row<'a>(
 fn program<'a>(alloc: Global) -> Built<'a>
     ensures { IfOk result (IsCommand program_app) }
 {
-    described_program(alloc)?.arg(version_flag(alloc))
-}
-
-// The program, without its commands and its flag.
-fn described_program<'a>(alloc: Global) -> Built<'a>
-    ensures { IfOk result (IsCommand bare_program) }
-{
+    let version = Arg::new(alloc, "version")
+        .help("Print version")
+        .long("version")
+        .action(ArgAction::Version);
     described(alloc, "ima-agent", PROGRAM_ABOUT, PROGRAM_END)
         .no_binary_name(true)
         .disable_help_subcommand(true)
         .subcommand_required(true)
-        .bin_name("ima-agent")
-}
-
-// The flag that asks for the version.
-fn version_flag<'a>(alloc: Global) -> Arg<'a>
-    ensures { IsArgument version_flag result }
-{
-    Arg::new(alloc, "version")
-        .help("Print version")
-        .long("version")
-        .action(ArgAction::Version)
+        .bin_name("ima-agent")?
+        .arg(version)
 }
 
 // The command of this row.

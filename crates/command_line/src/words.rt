@@ -60,22 +60,11 @@ pub fn refusal_of(alloc: Global, words: &[String]) -> Result<Option<String>, All
     if words.is_empty() {
         return Ok(None);
     }
-    let algs = Alg::ALL.map(Alg::name);
-    let templates = Template::ALL.map(Template::name);
     let known = KnownNames {
-        algs: &algs,
-        templates: &templates,
+        algs: &Alg::ALL.map(Alg::name),
+        templates: &Template::ALL.map(Template::name),
     };
-    refusal_by(alloc, words, all_commands(alloc, known)?)
-}
-
-// What `clap` says of them, by this definition of all commands.
-fn refusal_by<'a>(
-    alloc: Global,
-    words: &'a [String],
-    program: Command<'a>,
-) -> Result<Option<String>, AllocError> {
-    match program.try_get_matches_from(words) {
+    match all_commands(alloc, known)?.try_get_matches_from(words) {
         Ok(matches) if is_json_of_bytes(&matches) => {
             Ok(Some(String::from_str(alloc, NO_JSON_OF_BYTES)?))
         }
