@@ -3,8 +3,6 @@
 ghost use Rattle.std.specs.Prelude.{◌≡◌, [], None, Ok, codes, drop, string_bytes, IfOk};
 ghost use Rattle.clap.specs.Values.{kind_of};
 ghost use Rattle.clap.specs.Words.{Text as Words, found_of, rows_of, subcommand_rows_of};
-ghost use Rattle.command_line.specs.parts.Commands.{IsCommand};
-ghost use Rattle.command_line.specs.Commands.{Parsers, commands};
 ghost use Rattle.std.specs.Vec.Iter.{into_iter_items};
 ghost use Rattle.command_line.specs.Plans.{BeginsWithVersion, HasHelpWord, HasJudged, HasQuestion, HasValues, HasValuesIn, IsAskedBy, IsHelp, IsPlanOrHelp, IsWithinRanges, asks_help};
 ghost use Rattle.command_line.specs.Tasks.{IsWithin};
@@ -19,7 +17,7 @@ use crate::fault::WordsFault;
 use crate::plan::{DataShown, Extent, Form, Judge, Judged, Plan, Question, Task};
 use crate::values::{flag_of, measurement_of, name_of, text_if_given};
 use clap::error::ErrorKind;
-use clap::{ArgMatches, Command, Error};
+use clap::{ArgMatches, Error};
 use ima_list::Template;
 use pcr_banks::Alg;
 use std::alloc::{AllocError, Global};
@@ -100,26 +98,11 @@ pub fn words_after_name(alloc: Global, words: Args) -> Result<Vec<String>, Alloc
 fn plan_in(alloc: Global, words: &[String], command: &str) -> Result<Plan, WordsFault>
     ensures { IfOk result (λ plan. IsPlanOrHelp words.now command.now plan × IsWithinRanges plan) }
 {
-    let algs = Alg::ALL.map(Alg::name);
-    let templates = Template::ALL.map(Template::name);
     let known = KnownNames {
-        algs: &algs,
-        templates: &templates,
+        algs: &Alg::ALL.map(Alg::name),
+        templates: &Template::ALL.map(Template::name),
     };
-    plan_by(alloc, words, command, all_commands(alloc, known)?)
-}
-
-// The plan or the help, by this definition of all commands.
-fn plan_by<'a>(
-    alloc: Global,
-    words: &'a [String],
-    command: &str,
-    program: Command<'a>,
-) -> Result<Plan, WordsFault>
-    requires { (parsers : Parsers) × IsCommand (commands parsers) program }
-    ensures { IfOk result (λ plan. IsPlanOrHelp words.now command.now plan × IsWithinRanges plan) }
-{
-    match program.try_get_matches_from(words) {
+    match all_commands(alloc, known)?.try_get_matches_from(words) {
         Ok(matches) => Ok(Plan::of(asked_of(alloc, command, &matches)?)),
         Err(error) => help_of(alloc, words, &error),
     }
