@@ -11,7 +11,7 @@ use crate::plan::{Form, Measurement, NameEnd, Names, Print};
 use clap::ArgMatches;
 use ima_list::Template;
 use pcr_banks::Alg;
-use std::alloc::{AllocError, Global};
+use std::alloc::Global;
 
 /// The options and names of `measure`. Refuses the binary list as JSON.
 pub(crate) fn measurement_of(
@@ -76,11 +76,15 @@ fn files_of(alloc: Global, matches: &ArgMatches) -> Result<Vec<String>, WordsFau
     ensures names { IfOk result (λ names. unwrap_or (all_of (codes "FILE") (rows_of (found_of matches.now))) [] ≡ map string_bytes names.items) }
     ensures few { IfOk result (λ names. vec_len names < 2 ^ 32) }
 {
-    let files = names_of(alloc, matches.get_strs("FILE").unwrap_or(&[]))?;
-    if files.len() > u32::MAX as usize {
+    let words = matches.get_strs("FILE").unwrap_or(&[]);
+    let mut names = Vec::new(alloc);
+    for word in words {
+        names.push(String::from_str(alloc, word)?)?;
+    }
+    if names.len() > u32::MAX as usize {
         return Err(WordsFault::Usage);
     }
-    Ok(files)
+    Ok(names)
 }
 
 /// What this flag says: `present`, or else `absent`. `clap` gives it the value `true` if it is present, else `false`.
@@ -126,15 +130,4 @@ pub(crate) fn text_if_given(
         return Ok(Some(name_of(alloc, matches, id)?));
     }
     Ok(None)
-}
-
-// A copy of each value.
-fn names_of(alloc: Global, words: &[&str]) -> Result<Vec<String>, AllocError>
-    ensures { IfOk result (λ names. map string_bytes names.items ≡ map (λ word. word.now) words.now) }
-{
-    let mut names = Vec::new(alloc);
-    for word in words {
-        names.push(String::from_str(alloc, word)?)?;
-    }
-    Ok(names)
 }
