@@ -79,28 +79,15 @@ fn program<'a>(alloc: Global) -> Built<'a>
 }
 
 // The command of this row.
-#[tactic(auto, using(crate::proofs::CommandLemmas::one_row_more))]
+#[tactic(auto, using(crate::proofs::CommandLemmas::one_row_more, crate::proofs::CommandLemmas::one_rule_more))]
 fn command<'a>(alloc: Global, row: &'a CommandRow<'a>, known: KnownNames<'a>) -> Built<'a>
     ensures { IfOk result (IsCommand (app_of_row known.entry row.now)) }
 {
     let mut command = described(alloc, row.name, row.about, help_end_of(row.name));
     for argument_row in row.arguments {
-        command = with_argument_row(alloc, command, argument_row, known)?;
+        command = command.arg(argument(alloc, argument_row, known)?)?;
     }
     Ok(command)
-}
-
-// The command with the argument of this row too.
-#[tactic(auto, using(crate::proofs::CommandLemmas::one_rule_more))]
-fn with_argument_row<'a>(
-    alloc: Global,
-    command: Command<'a>,
-    row: &ArgumentRow<'a>,
-    known: KnownNames<'a>,
-) -> Built<'a>
-    ensures { IfOk result (λ more. app_of more ≡ with_argument_row known.entry (app_of command.entry) row.now) }
-{
-    command.arg(argument(alloc, row, known)?)
 }
 
 // A command of this name, without arguments. `end` is the end of its help.
