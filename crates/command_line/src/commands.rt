@@ -28,14 +28,14 @@ pub(crate) struct KnownNames<'a> {
 type Built<'a> = Result<Command<'a>, AllocError>;
 
 // The program with all commands.
-#[tactic(auto, using(crate::proofs::CommandLemmas::one_row_more))]
+#[tactic(auto, using(crate::proofs::CommandLemmas::one_row_more, crate::proofs::CommandLemmas::one_command_more))]
 pub(crate) fn all_commands<'a>(alloc: Global, known: KnownNames<'a>) -> Built<'a>
     ensures { IfOk result (λ program. (parsers : Parsers) × IsCommand (commands parsers) program) }
 {
     let rows = rows();
     let mut program = program(alloc)?;
     for row in rows {
-        program = with_row(alloc, program, row, known)?;
+        program = program.subcommand(command(alloc, row, known)?)?;
     }
     Ok(program)
 }
@@ -45,20 +45,6 @@ fn rows<'a>() -> &'a [CommandRow<'a>]
     ensures { (known : KnownNames) → (parsers : Parsers) × (fold (with_row known) program_app result.now ≡ commands parsers) }
 {
     &COMMANDS
-}
-
-// The program with the command of this row too. It is a function of its own, since a loop in which commands are dropped is dear to
-// prove.
-#[tactic(auto, using(crate::proofs::CommandLemmas::one_command_more))]
-fn with_row<'a>(
-    alloc: Global,
-    program: Command<'a>,
-    row: &'a CommandRow<'a>,
-    known: KnownNames<'a>,
-) -> Built<'a>
-    ensures { IfOk result (λ more. app_of more ≡ with_row known.entry (app_of program.entry) row.now) }
-{
-    program.subcommand(command(alloc, row, known)?)
 }
 
 // The program, without its commands. `read_words` looks for `--version` itself: it is here for the help.
