@@ -275,40 +275,34 @@ impl Plan {
     {
         match asked {
             (Task::Registers, Form::Text) => Plan::Registers,
-            (Task::Measure(measurement), Form::Text) => measure_plan(measurement),
+            (
+                Task::Measure(
+                    Measurement {
+                        alg,
+                        template,
+                        workers,
+                        limit,
+                        print,
+                        log,
+                        files,
+                        names: None,
+                    },
+                ),
+                Form::Text,
+            ) => Plan::Measure {
+                alg,
+                template,
+                workers,
+                limit,
+                print,
+                log,
+                files,
+            },
             (Task::Answer(Question::Judge(judge)), Form::Text) => judge_plan(judge),
             (Task::Entries { list }, Form::Text) => Plan::Show { list },
             (Task::Help(text), Form::Text) => Plan::Help(text),
             (task, form) => Plan::Task(task, form),
         }
-    }
-}
-
-// The plan of this measurement, shown as text: `Measure`, if no text names further files.
-fn measure_plan(measurement: Measurement) -> Plan
-    ensures task { task_of result ≡ (tasks.Measure measurement, Text) }
-    ensures one { IsOneOf result }
-{
-    match measurement {
-        Measurement {
-            alg,
-            template,
-            workers,
-            limit,
-            print,
-            log,
-            files,
-            names: None,
-        } => Plan::Measure {
-            alg,
-            template,
-            workers,
-            limit,
-            print,
-            log,
-            files,
-        },
-        measurement => Plan::Task(Task::Measure(measurement), Form::Text),
     }
 }
 
