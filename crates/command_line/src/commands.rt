@@ -3,7 +3,7 @@
 ghost use Rattle.std.specs.Prelude.{◌≡◌, IfOk};
 ghost use Rattle.std.specs.List.{fold};
 ghost use Rattle.clap.specs.Words.{app_of, new_app};
-ghost use Rattle.command_line.specs.parts.Commands.{IsArgument, IsCommand, app_of_row, parser_of_values, rule_of_form, with_argument_row, with_row};
+ghost use Rattle.command_line.specs.parts.Commands.{IsArgument, IsCommand, app_of_row, parser_of_values, rule_of_form, with_row};
 ghost use Rattle.command_line.specs.declared.commands.KnownNames.{KnownNames};
 ghost use Rattle.command_line.specs.Commands.{Parsers, commands, program_app};
 
