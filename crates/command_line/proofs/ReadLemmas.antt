@@ -1,5 +1,5 @@
 -- clap's matches, and what is read from them.
-use Rattle.std.proofs.Common.{◌≡◌, ◌⊎◌, ℕ, List, [], ◌∷◌, map, true, false, Option, None, Some, Bor, String, string_bytes, refl, sym, ap, subst, ◌∙◌, inl, inr}
+use Rattle.std.proofs.Common.{◌≡◌, List, [], ◌∷◌, map, true, false, Option, None, Some, Bor, String, string_bytes, refl, sym, ap, subst, ◌∙◌, inl}
 use Rattle.std.specs.Prelude.{is_some, option_map, slice_get, unwrap_or}
 use Rattle.std.specs.Global.{Global}
 use Rattle.std.proofs.lemmas.Option.{same_Some}
@@ -8,8 +8,8 @@ use Rattle.clap.specs.declared.parser.matches.Found.{Found}
 use Rattle.clap.specs.declared.parser.matches.MatchedArg.{MatchedArg}
 use Rattle.clap.proofs.OnLiterals.{clap_on_literals}
 use Rattle.clap.proofs.WalkLemmas.{raw_values-rows}
-use Rattle.command_line.specs.Commands.{AreNotTaken, IsMatched, Parsers, commands}
-use Rattle.command_line.specs.Plans.{HasHelpWord, IsAskedBy, IsHelp, IsOfCommand}
+use Rattle.command_line.specs.Commands.{Parsers, commands}
+use Rattle.command_line.specs.Plans.{IsAskedBy, IsPlanOrHelp}
 use Rattle.command_line.specs.declared.plan.Plan.{Plan}
 
 pub commands_are_simple : (parsers : Parsers) → is_simple (commands parsers) ≡ true
@@ -30,13 +30,9 @@ no_values f id missing = sym (raw_values-rows f id) ∙ go (matched_of f id) mis
     go None e = refl
     go (Some found) e = cc
 
--- The first argument is the command, and the plan is of it; or the help is asked for.
-pub asked_by : (words : List (String Global)) (word : String Global) (command : List ℕ) (plan : Plan) → Some word ≡ slice_get words 0
-    → command ≡ string_bytes word
-    → (IsOfCommand command plan × IsMatched (map string_bytes words) plan)
-    ⊎ (HasHelpWord words × IsHelp plan × AreNotTaken (map string_bytes words)) → IsAskedBy words plan
+-- The first argument is the command.
+pub asked_by : (words : List (String Global)) (word : String Global) (command : Text) (plan : Plan) → Some word ≡ slice_get words 0
+    → command ≡ string_bytes word → IsPlanOrHelp words command plan → IsAskedBy words plan
 asked_by [] word command plan first is asked = let clash = first in cc
-asked_by (first ∷ rest) word command plan here is (inl matched) =
-    let named = is ∙ ap string_bytes (same_Some word first here) in
-    inl (subst (λ (name : List ℕ). IsOfCommand name plan) named matched.0, matched.1)
-asked_by (first ∷ rest) word command plan here is (inr help) = inr (inl help)
+asked_by (first ∷ rest) word command plan here is asked =
+    inl (subst (λ (name : Text). IsPlanOrHelp (first ∷ rest) name plan) (is ∙ ap string_bytes (same_Some word first here)) asked)

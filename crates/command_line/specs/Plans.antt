@@ -1,21 +1,131 @@
--- What the arguments of the command line request. All of this is this project's choice.
-use Rattle.std.specs.Prelude.{◌≡◌, ℕ, ◌⊎◌, ◌||◌, ◌==◌, Bool, IsTrue, List, [], ◌∷◌, Some, bytes_eq, codes, map, String, string_bytes}
+-- What the arguments of the command line request: how a plan follows from clap's matches. What arguments match is clap's own
+-- definition (`subcommand_of`). All of this is this project's choice.
+use Rattle.std.specs.Prelude.{◌≡◌, ℕ, ◌⊎◌, ◌||◌, ◌==◌, Bool, IsTrue, true, List, [], ◌∷◌, Option, None, Some, bytes_eq, codes, map, option_map, unwrap_or, String, string_bytes}
 use Rattle.std.specs.List.{list_any, starts_with}
 use Rattle.std.specs.Global.{Global}
-use Rattle.command_line.specs.Commands.{AreNotTaken, IsMatched}
-use Rattle.command_line.specs.Tasks.{IsWithin, command_of, task_of}
+use Rattle.std.specs.Str.Parse.{IsNumeral, digits_value, without_leading_plus}
+use Rattle.clap.specs.Words.{Row, Text, all_of, first_of, subcommand_of}
+use Rattle.clap.specs.Takes.{takes}
+use Rattle.pcr_banks.specs.Hashing.{name_of}
+use Rattle.ima_list.specs.Templates.{template_name}
+use Rattle.command_line.specs.Commands.{Parsers, commands}
+use Rattle.command_line.specs.Tasks.{Form, IsOneOf, IsWithin, Judged, Measurement, Plan, Print, Task, task_of}
+use Rattle.command_line.specs.declared.plan.DataShown.TheVariants.{Size, Bytes}
+use Rattle.command_line.specs.declared.plan.Extent.TheVariants.{Whole, Front}
 use Rattle.command_line.specs.declared.plan.Form.TheVariants as forms
-use Rattle.command_line.specs.declared.plan.Plan.{Plan}
+use Rattle.command_line.specs.declared.plan.Judged.TheVariants as judged
+use Rattle.command_line.specs.declared.plan.NameEnd.TheVariants.{LineFeed, Nul}
+use Rattle.command_line.specs.declared.plan.Names.{Names}
 use Rattle.command_line.specs.declared.plan.Plan.TheVariants as plans
-use Rattle.command_line.specs.declared.plan.Task.TheVariants.{Version}
+use Rattle.command_line.specs.declared.plan.Print.TheVariants as prints
+use Rattle.command_line.specs.declared.plan.Question.{Question}
+use Rattle.command_line.specs.declared.plan.Question.TheVariants as questions
+use Rattle.command_line.specs.declared.plan.Task.TheVariants as tasks
+
+-- ---- the values of arguments
+
+-- The argument of this name has this first value, or it is not present.
+abbrev pub IsGivenAs : Text → List Row → Option (String Global) → Type 0
+IsGivenAs id rows None = all_of id rows ≡ None
+IsGivenAs id rows (Some text) = first_of id rows ≡ Some (string_bytes text)
+
+-- The flag of this name says this: the second of two if it is present, else the first. clap gives it the value `true` or `false`.
+abbrev pub IsFlag : {A : Type 0} → Text → List Row → A → A → A → Type 0
+IsFlag id rows absent present it =
+    ((first_of id rows ≡ Some (codes "true")) × (it ≡ present)) ⊎ ((first_of id rows ≡ Some (codes "false")) × (it ≡ absent))
+
+-- The first value of this name is a number in decimal.
+pub record HasNumber (id : Text) (rows : List Row) (number : ℕ) : Type 0 where
+  pub text : Text
+  pub has : first_of id rows ≡ Some text
+  pub numeral : IsNumeral 10 (without_leading_plus text)
+  pub number_is : digits_value 10 (without_leading_plus text) ≡ number
+
+abbrev pub print_name : Print → Text
+print_name prints.Ascii = codes "ascii"
+print_name prints.Binary = codes "binary"
+print_name prints.Registers = codes "registers"
+
+-- The text of further names has this name, and this ends each in it; or neither `--files-from` nor `--null` is present.
+abbrev pub AreFurtherNames : List Row → Option Names → Type 0
+AreFurtherNames rows None = IsGivenAs (codes "files-from") rows None × IsFlag (codes "null") rows LineFeed Nul LineFeed
+AreFurtherNames rows (Some names) =
+    IsGivenAs (codes "files-from") rows (Some names.text) × IsFlag (codes "null") rows LineFeed Nul names.ends
+
+-- The matches have the options and names of this measurement.
+pub record HasMeasure (rows : List Row) (asked : Measurement) : Type 0 where
+  pub alg_is : first_of (codes "alg") rows ≡ Some (name_of asked.alg)
+  pub template_is : first_of (codes "template") rows ≡ Some (template_name asked.template)
+  pub workers_is : HasNumber (codes "workers") rows asked.workers
+  pub limit_is : HasNumber (codes "limit") rows asked.limit
+  pub print_is : first_of (codes "print") rows ≡ Some (print_name asked.print)
+  pub log_is : IsGivenAs (codes "LOG") rows (Some asked.log)
+  pub files_are : unwrap_or (all_of (codes "FILE") rows) [] ≡ map string_bytes asked.files.items
+  pub names_are : AreFurtherNames rows asked.names
+
+-- ---- commands and their tasks
+
+-- The command of this name judges this, and the matches have the options and names that only this has.
+abbrev pub HasJudged : Text → List Row → Judged → Type 0
+HasJudged command rows (judged.Verdict log extent resume save) =
+    (command ≡ codes "verify")
+    × IsGivenAs (codes "LOG") rows (Some log)
+    × IsFlag (codes "prefix") rows Whole Front extent
+    × IsGivenAs (codes "resume") rows resume
+    × IsGivenAs (codes "save") rows save
+HasJudged command rows (judged.Places log) = (command ≡ codes "locate") × IsGivenAs (codes "LOG") rows (Some log)
+HasJudged command rows judged.ListVerdict = command ≡ codes "replay"
+
+-- The command of this name asks this, and the matches have its options and names. `ListRegisters` requires that neither EXPECTED nor
+-- `--require` is present.
+abbrev pub HasQuestion : Text → List Row → Question → Type 0
+HasQuestion command rows (questions.LogRegisters log) = (command ≡ codes "registers") × IsGivenAs (codes "LOG") rows (Some log)
+HasQuestion command rows (questions.ListRegisters list) =
+    (command ≡ codes "replay")
+    × IsGivenAs (codes "LIST") rows (Some list)
+    × IsGivenAs (codes "EXPECTED") rows None
+    × IsGivenAs (codes "require") rows None
+HasQuestion command rows (questions.Judge judge) =
+    HasJudged command rows judge.judged
+    × IsGivenAs (codes "LIST") rows (Some judge.list)
+    × IsGivenAs (codes "EXPECTED") rows (Some judge.expected)
+    × IsGivenAs (codes "require") rows judge.required
+HasQuestion command rows (questions.Expected printed registers) =
+    (command ≡ codes "expected") × IsGivenAs (codes "PCRREAD") rows (Some printed) × IsGivenAs (codes "registers") rows registers
+
+-- The command of this name does this, and the matches have its options and names.
+abbrev pub HasValues : Text → List Row → Task → Type 0
+HasValues command rows (tasks.Answer question) = HasQuestion command rows question
+HasValues command rows (tasks.Measure asked) = (command ≡ codes "measure") × HasMeasure rows asked
+HasValues command rows (tasks.Events log shown) =
+    (command ≡ codes "events") × IsGivenAs (codes "LOG") rows (Some log) × IsFlag (codes "data") rows Size Bytes shown
+HasValues command rows (tasks.Entries list) = (command ≡ codes "show") × IsGivenAs (codes "LIST") rows (Some list)
+HasValues command rows task = ⊥
+
+-- The matches of the command of this name, which was found, have the options and names of the task. With `--json` the result is shown as
+-- JSON, and without it as text.
+pub record HasValuesIn (command : Text) (found : Option (Text × List Row)) (asked : Task × Form) : Type 0 where
+  pub rows : List Row
+  pub rows_are : option_map (λ match. match.1) found ≡ Some rows
+  pub form_is : IsFlag (codes "json") rows forms.Text forms.Json asked.1
+  pub values : HasValues command rows asked.0
+
+-- ---- plans
+
+-- The plan is of the command of this name, and has the options and names that the arguments match.
+pub record IsMatched (command : Text) (words : List Text) (plan : Plan) : Type 0 where
+  pub parsers : Parsers
+  pub values : HasValuesIn command (subcommand_of (commands parsers) words) (task_of plan)
+  pub one : IsOneOf plan
+
+-- By its own definition clap does not take the arguments. (Of `measure` and `replay`, some of whose options go only with others, that
+-- says nothing.)
+abbrev pub AreNotTaken : List Text → Type 0
+AreNotTaken words = (parsers : Parsers) × (takes (commands parsers) words ≡ true → ⊥)
 
 -- What the plan requests is within its ranges.
 abbrev pub IsWithinRanges : Plan → Type 0
 IsWithinRanges plan = IsWithin (task_of plan).1 (task_of plan).0
-
--- The plan is of the command with this name.
-abbrev pub IsOfCommand : List ℕ → Plan → Type 0
-IsOfCommand command plan = command_of (task_of plan).0 ≡ Some command
 
 -- The argument requests help: it is `--help`, or short options of which the first is `-h`.
 abbrev pub asks_help : List ℕ → Bool
@@ -34,11 +144,15 @@ abbrev pub BeginsWithVersion : List (String Global) → Type 0
 BeginsWithVersion [] = ⊥
 BeginsWithVersion (word ∷ words) = string_bytes word ≡ codes "--version"
 
--- Without arguments the plan is `Registers`: the log on standard input. Otherwise the first argument is the command and all match
--- its options and names; or they are not taken, and one of them requests help; or the first is `--version`.
+-- The plan is of the command of this name, and all arguments match its options and names; or they are not taken, and one of them requests
+-- help.
+abbrev pub IsPlanOrHelp : List (String Global) → Text → Plan → Type 0
+IsPlanOrHelp words command plan =
+    IsMatched command (map string_bytes words) plan ⊎ (HasHelpWord words × IsHelp plan × AreNotTaken (map string_bytes words))
+
+-- Without arguments the plan is `Registers`: the log on standard input. Otherwise the first argument is the command; or it is
+-- `--version`.
 abbrev pub IsAskedBy : List (String Global) → Plan → Type 0
 IsAskedBy [] plan = plan ≡ plans.Registers
 IsAskedBy (word ∷ words) plan =
-    (IsOfCommand (string_bytes word) plan × IsMatched (map string_bytes (word ∷ words)) plan)
-    ⊎ (HasHelpWord (word ∷ words) × IsHelp plan × AreNotTaken (map string_bytes (word ∷ words)))
-    ⊎ (BeginsWithVersion (word ∷ words) × (plan ≡ plans.Task Version forms.Text))
+    IsPlanOrHelp (word ∷ words) (string_bytes word) plan ⊎ (BeginsWithVersion (word ∷ words) × (plan ≡ plans.Task tasks.Version forms.Text))

@@ -1,19 +1,18 @@
 -- What is to be done, and the plans that request it. All of this is this project's choice.
-use Rattle.std.specs.Prelude.{◌≡◌, ℕ, ◌≤◌, ◌<◌, ◌^◌, ◌&&◌, not, Bool, false, true, List, codes, Option, None, Some, is_some, String, vec_len}
+use Rattle.std.specs.Prelude.{◌≡◌, ◌≤◌, ◌<◌, ◌^◌, not, Bool, false, true, Option, None, is_some, String, vec_len}
 use Rattle.std.specs.Global.{Global}
 use Rattle.command_line.specs.declared.plan.Extent.TheVariants.{Whole}
-use Rattle.command_line.specs.declared.plan.Form.{Form}
+pub use Rattle.command_line.specs.declared.plan.Form.{Form}
 use Rattle.command_line.specs.declared.plan.Form.TheVariants.{Text, Json}
-use Rattle.command_line.specs.declared.plan.Judged.{Judged}
+pub use Rattle.command_line.specs.declared.plan.Judged.{Judged}
 use Rattle.command_line.specs.declared.plan.Judged.TheVariants as judged
-use Rattle.command_line.specs.declared.plan.Measurement.{Measurement}
-use Rattle.command_line.specs.declared.plan.Plan.{Plan}
+pub use Rattle.command_line.specs.declared.plan.Measurement.{Measurement}
+pub use Rattle.command_line.specs.declared.plan.Plan.{Plan}
 use Rattle.command_line.specs.declared.plan.Plan.TheVariants as plans
-use Rattle.command_line.specs.declared.plan.Print.{Print}
+pub use Rattle.command_line.specs.declared.plan.Print.{Print}
 use Rattle.command_line.specs.declared.plan.Print.TheVariants.{Binary}
-use Rattle.command_line.specs.declared.plan.Question.{Question}
 use Rattle.command_line.specs.declared.plan.Question.TheVariants as questions
-use Rattle.command_line.specs.declared.plan.Task.{Task}
+pub use Rattle.command_line.specs.declared.plan.Task.{Task}
 use Rattle.command_line.specs.declared.plan.Task.TheVariants as tasks
 
 -- The task that a plan requests, and the form in which its result is shown.
@@ -32,27 +31,23 @@ task_of (plans.Task task form) = (task, form)
 
 -- ---- one plan for each
 
-abbrev pub is_text : Form → Bool
-is_text Text = true
-is_text Json = false
-
 -- The verdict on a whole list, and nothing more.
 abbrev pub is_plain_verdict : Judged → Option (String Global) → Bool
 is_plain_verdict (judged.Verdict log Whole None None) None = true
 is_plain_verdict judged required = false
 
--- Some other plan than `Task` requests this.
-abbrev pub has_plan : Task → Form → Bool
-has_plan tasks.Registers form = is_text form
-has_plan (tasks.Answer (questions.Judge judge)) form = is_plain_verdict judge.judged judge.required && is_text form
-has_plan (tasks.Measure asked) form = not (is_some asked.names) && is_text form
-has_plan (tasks.Entries list) form = is_text form
-has_plan (tasks.Help text) form = is_text form
-has_plan task form = false
+-- Some other plan than `Task` requests this, as text.
+abbrev pub has_plan : Task → Bool
+has_plan tasks.Registers = true
+has_plan (tasks.Answer (questions.Judge judge)) = is_plain_verdict judge.judged judge.required
+has_plan (tasks.Measure asked) = not (is_some asked.names)
+has_plan (tasks.Entries list) = true
+has_plan (tasks.Help text) = true
+has_plan task = false
 
 -- A plan `Task` is only for what no other plan requests.
 abbrev pub IsOneOf : Plan → Type 0
-IsOneOf (plans.Task task form) = has_plan task form ≡ false
+IsOneOf (plans.Task task Text) = has_plan task ≡ false
 IsOneOf plan = Unit {0}
 
 -- ---- ranges
@@ -70,28 +65,3 @@ IsWithinLimits form asked =
 abbrev pub IsWithin : Form → Task → Type 0
 IsWithin form (tasks.Measure asked) = IsWithinLimits form asked
 IsWithin form task = Unit {0}
-
--- ---- commands
-
--- The name of the command that judges this.
-abbrev pub judge_command : Judged → List ℕ
-judge_command (judged.Verdict log extent resume save) = codes "verify"
-judge_command (judged.Places log) = codes "locate"
-judge_command judged.ListVerdict = codes "replay"
-
--- The name of the command that asks this.
-abbrev pub question_command : Question → List ℕ
-question_command (questions.LogRegisters log) = codes "registers"
-question_command (questions.ListRegisters list) = codes "replay"
-question_command (questions.Judge judge) = judge_command judge.judged
-question_command (questions.Expected printed registers) = codes "expected"
-
--- The name of the command that does this, if one does.
-abbrev pub command_of : Task → Option (List ℕ)
-command_of tasks.Registers = None
-command_of (tasks.Answer question) = Some (question_command question)
-command_of (tasks.Measure asked) = Some (codes "measure")
-command_of (tasks.Events log shown) = Some (codes "events")
-command_of (tasks.Entries list) = Some (codes "show")
-command_of (tasks.Help text) = None
-command_of tasks.Version = None

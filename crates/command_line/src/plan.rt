@@ -1,7 +1,10 @@
 //! What the program's arguments request.
 
 ghost use Rattle.std.specs.Prelude.{◌≡◌};
-ghost use Rattle.command_line.specs.Tasks.{task_of};
+ghost use Rattle.command_line.specs.Tasks.{IsOneOf, task_of};
+ghost use Rattle.command_line.specs.declared.plan.Form.TheVariants.{Text};
+ghost use Rattle.command_line.specs.declared.plan.Question.TheVariants as questions;
+ghost use Rattle.command_line.specs.declared.plan.Task.TheVariants as tasks;
 
 use ima_list::Template;
 use pcr_banks::Alg;
@@ -262,6 +265,80 @@ impl Plan {
             Plan::Show { list } => (Task::Entries { list }, Form::Text),
             Plan::Help(text) => (Task::Help(text), Form::Text),
             Plan::Task(task, form) => (task, form),
+        }
+    }
+
+    /// The plan of this task, shown in this form.
+    pub(crate) fn of(asked: (Task, Form)) -> Plan
+        ensures task { task_of result ≡ asked }
+        ensures one { IsOneOf result }
+    {
+        match asked {
+            (Task::Registers, Form::Text) => Plan::Registers,
+            (
+                Task::Measure(
+                    Measurement {
+                        alg,
+                        template,
+                        workers,
+                        limit,
+                        print,
+                        log,
+                        files,
+                        names: None,
+                    },
+                ),
+                Form::Text,
+            ) => Plan::Measure {
+                alg,
+                template,
+                workers,
+                limit,
+                print,
+                log,
+                files,
+            },
+            (Task::Answer(Question::Judge(judge)), Form::Text) => judge_plan(judge),
+            (Task::Entries { list }, Form::Text) => Plan::Show { list },
+            (Task::Help(text), Form::Text) => Plan::Help(text),
+            (task, form) => Plan::Task(task, form),
+        }
+    }
+}
+
+// The plan of this question, shown as text: `Verify`, if it is the verdict on a whole list, and nothing more.
+fn judge_plan(judge: Judge) -> Plan
+    ensures task { task_of result ≡ (tasks.Answer (questions.Judge judge), Text) }
+    ensures one { IsOneOf result }
+{
+    let Judge {
+        judged,
+        list,
+        expected,
+        required,
+    } = judge;
+    match (judged, required) {
+        (
+            Judged::Verdict {
+                log,
+                extent: Extent::Whole,
+                resume: None,
+                save: None,
+            },
+            None,
+        ) => Plan::Verify {
+            log,
+            list,
+            expected,
+        },
+        (judged, required) => {
+            let judge = Judge {
+                judged,
+                list,
+                expected,
+                required,
+            };
+            Plan::Task(Task::Answer(Question::Judge(judge)), Form::Text)
         }
     }
 }

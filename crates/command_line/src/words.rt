@@ -1,29 +1,23 @@
 //! Reads the command line.
 
-ghost use Rattle.std.specs.Prelude.{◌≡◌, ◌⊎◌, List, [], None, Ok, codes, drop, map, string_bytes, IfOk};
+ghost use Rattle.std.specs.Prelude.{◌≡◌, [], None, Ok, codes, drop, string_bytes, IfOk};
 ghost use Rattle.clap.specs.Values.{kind_of};
-ghost use Rattle.clap.specs.Words.{Row, found_of, rows_of, subcommand_rows_of};
-ghost use Rattle.command_line.specs.parts.Commands.{IsCommand};
-ghost use Rattle.command_line.specs.parts.Plans.{IsPlanIn, IsTaskOf};
-ghost use Rattle.command_line.specs.Commands.{AreNotTaken, HasEvidence, HasGrowth, HasMeasure, HasValuesIn, IsGivenAs, IsMatched, Parsers, commands};
+ghost use Rattle.clap.specs.Words.{Text as Words, found_of, rows_of, subcommand_rows_of};
 ghost use Rattle.std.specs.Vec.Iter.{into_iter_items};
-ghost use Rattle.command_line.specs.Plans.{BeginsWithVersion, HasHelpWord, IsAskedBy, IsHelp, IsOfCommand, IsWithinRanges, asks_help};
-ghost use Rattle.command_line.specs.Tasks.{IsWithinLimits};
+ghost use Rattle.command_line.specs.Plans.{BeginsWithVersion, HasHelpWord, HasJudged, HasQuestion, HasValues, HasValuesIn, IsAskedBy, IsHelp, IsPlanOrHelp, IsWithinRanges, asks_help};
+ghost use Rattle.command_line.specs.Tasks.{IsWithin};
 ghost use Rattle.std.specs.List.{list_any};
 ghost use Rattle.command_line.specs.declared.plan.Form.TheVariants.{Text};
 ghost use Rattle.command_line.specs.declared.plan.Plan.TheVariants as plans;
-ghost use Rattle.command_line.specs.declared.plan.Task.TheVariants as tasks;
+ghost use Rattle.command_line.specs.declared.plan.Question.TheVariants as questions;
 ghost use Rattle.command_line.specs.declared.plan.Task.TheVariants.{Version};
 
 use crate::commands::{KnownNames, VERSION, all_commands};
 use crate::fault::WordsFault;
-use crate::plan::{Extent, Form, Judge, Judged, Measurement, Plan, Question, Task};
-use crate::values::{
-    Evidence, Growth, data_of, evidence_of, form_of, growth_of, measurement_of, name_of,
-    text_if_given,
-};
+use crate::plan::{DataShown, Extent, Form, Judge, Judged, Plan, Question, Task};
+use crate::values::{flag_of, measurement_of, name_of, text_if_given};
 use clap::error::ErrorKind;
-use clap::{ArgMatches, Command, Error};
+use clap::{ArgMatches, Error};
 use ima_list::Template;
 use pcr_banks::Alg;
 use std::alloc::{AllocError, Global};
@@ -37,6 +31,7 @@ const NO_JSON_OF_BYTES: &str = "error: invalid value 'binary' for '--print <P>' 
 /// own definition.
 ///
 /// Fails with `Usage` if the arguments are not those of a command, and with `Memory` if memory runs out.
+#[tactic(auto, using(crate::proofs::ReadLemmas::asked_by))]
 pub fn read_words(alloc: Global, words: &[String]) -> Result<Plan, WordsFault>
     // The first argument is the command, the arguments match its options and names, and these are within their ranges; or they are not
     // taken, and one of them requests help; or the first is `--version`.
@@ -63,22 +58,11 @@ pub fn refusal_of(alloc: Global, words: &[String]) -> Result<Option<String>, All
     if words.is_empty() {
         return Ok(None);
     }
-    let algs = Alg::ALL.map(Alg::name);
-    let templates = Template::ALL.map(Template::name);
     let known = KnownNames {
-        algs: &algs,
-        templates: &templates,
+        algs: &Alg::ALL.map(Alg::name),
+        templates: &Template::ALL.map(Template::name),
     };
-    refusal_by(alloc, words, all_commands(alloc, known)?)
-}
-
-// What `clap` says of them, by this definition of all commands.
-fn refusal_by<'a>(
-    alloc: Global,
-    words: &'a [String],
-    program: Command<'a>,
-) -> Result<Option<String>, AllocError> {
-    match program.try_get_matches_from(words) {
+    match all_commands(alloc, known)?.try_get_matches_from(words) {
         Ok(matches) if is_json_of_bytes(&matches) => {
             Ok(Some(String::from_str(alloc, NO_JSON_OF_BYTES)?))
         }
@@ -112,143 +96,97 @@ pub fn words_after_name(alloc: Global, words: Args) -> Result<Vec<String>, Alloc
 
 // The plan of the command of this name, or the help that the arguments request.
 fn plan_in(alloc: Global, words: &[String], command: &str) -> Result<Plan, WordsFault>
-    ensures { IfOk result (λ plan. ((IsOfCommand command.now plan × IsMatched (map string_bytes words.now) plan) ⊎ (HasHelpWord words.now × IsHelp plan × AreNotTaken (map string_bytes words.now))) × IsWithinRanges plan) }
+    ensures { IfOk result (λ plan. IsPlanOrHelp words.now command.now plan × IsWithinRanges plan) }
 {
-    let algs = Alg::ALL.map(Alg::name);
-    let templates = Template::ALL.map(Template::name);
     let known = KnownNames {
-        algs: &algs,
-        templates: &templates,
+        algs: &Alg::ALL.map(Alg::name),
+        templates: &Template::ALL.map(Template::name),
     };
-    plan_by(alloc, words, command, all_commands(alloc, known)?)
-}
-
-// The plan or the help, by this definition of all commands.
-fn plan_by<'a>(
-    alloc: Global,
-    words: &'a [String],
-    command: &str,
-    program: Command<'a>,
-) -> Result<Plan, WordsFault>
-    requires { (parsers : Parsers) × IsCommand (commands parsers) program }
-    ensures { IfOk result (λ plan. ((IsOfCommand command.now plan × IsMatched (map string_bytes words.now) plan) ⊎ (HasHelpWord words.now × IsHelp plan × AreNotTaken (map string_bytes words.now))) × IsWithinRanges plan) }
-{
-    match program.try_get_matches_from(words) {
-        Ok(matches) => plan_of(alloc, command, &matches),
+    match all_commands(alloc, known)?.try_get_matches_from(words) {
+        Ok(matches) => Ok(Plan::of(asked_of(alloc, command, &matches)?)),
         Err(error) => help_of(alloc, words, &error),
     }
 }
 
-// The plan of the command, from clap's matches.
-fn plan_of(alloc: Global, command: &str, matches: &ArgMatches) -> Result<Plan, WordsFault>
-    ensures { IfOk result (λ plan. IsOfCommand command.now plan × IsWithinRanges plan × HasValuesIn (subcommand_rows_of matches.now) plan) }
+// The task of the command, and its form, from clap's matches.
+fn asked_of(alloc: Global, command: &str, matches: &ArgMatches) -> Result<(Task, Form), WordsFault>
+    ensures { IfOk result (λ asked. HasValuesIn command.now (subcommand_rows_of matches.now) asked × IsWithin asked.1 asked.0) }
 {
     let Some(matches) = matches.subcommand_matches(command) else {
         return Err(WordsFault::Usage);
     };
-    plan_in_form(alloc, command, matches, form_of(matches)?)
+    let form = flag_of(matches, "json", Form::Text, Form::Json)?;
+    Ok((task_of(alloc, command, matches, form)?, form))
 }
 
-// The plan of the command of this name, whose result is shown in this form.
-fn plan_in_form(
+// The task of the command of this name, whose result is shown in this form.
+fn task_of(
     alloc: Global,
     command: &str,
     matches: &ArgMatches,
     form: Form,
-) -> Result<Plan, WordsFault>
-    ensures { IfOk result (IsPlanIn form command.now (rows_of (found_of matches.now))) }
+) -> Result<Task, WordsFault>
+    ensures { IfOk result (λ task. HasValues command.now (rows_of (found_of matches.now)) task × IsWithin form task) }
 {
     match command {
-        "verify" => verify_of(alloc, matches, form),
-        "measure" => measure_of(alloc, matches, form),
-        "show" => show_of(alloc, matches, form),
-        "events" => Ok(Plan::Task(events_of(alloc, matches)?, form)),
-        _ => {
-            let question = question_of(alloc, command, matches)?;
-            Ok(Plan::Task(Task::Answer(question), form))
-        }
+        "measure" => Ok(Task::Measure(measurement_of(alloc, matches, form)?)),
+        "events" => Ok(Task::Events {
+            log: name_of(alloc, matches, "LOG")?,
+            data: flag_of(matches, "data", DataShown::Size, DataShown::Bytes)?,
+        }),
+        "show" => Ok(Task::Entries {
+            list: name_of(alloc, matches, "LIST")?,
+        }),
+        _ => Ok(Task::Answer(question_of(alloc, command, matches)?)),
     }
 }
 
-// What a command of this name asks, other than `verify`.
+// What the command of this name asks.
 fn question_of(alloc: Global, command: &str, matches: &ArgMatches) -> Result<Question, WordsFault>
-    ensures { IfOk result (λ question. IsTaskOf command.now (rows_of (found_of matches.now)) (tasks.Answer question)) }
+    ensures { IfOk result (HasQuestion command.now (rows_of (found_of matches.now))) }
 {
     match command {
-        "locate" => locate_of(alloc, matches),
-        "expected" => expected_of(alloc, matches),
-        "registers" => registers_of(alloc, matches),
+        "verify" => {
+            let judged = Judged::Verdict {
+                log: name_of(alloc, matches, "LOG")?,
+                extent: flag_of(matches, "prefix", Extent::Whole, Extent::Front)?,
+                resume: text_if_given(alloc, matches, "resume")?,
+                save: text_if_given(alloc, matches, "save")?,
+            };
+            Ok(Question::Judge(judge_of(alloc, matches, judged)?))
+        }
+        "locate" => {
+            let log = name_of(alloc, matches, "LOG")?;
+            Ok(Question::Judge(judge_of(alloc, matches, Judged::Places { log })?))
+        }
+        "expected" => Ok(Question::Expected {
+            printed: name_of(alloc, matches, "PCRREAD")?,
+            registers: text_if_given(alloc, matches, "registers")?,
+        }),
+        "registers" => Ok(Question::LogRegisters {
+            log: name_of(alloc, matches, "LOG")?,
+        }),
         "replay" => replay_of(alloc, matches),
         _ => Err(WordsFault::Usage),
     }
 }
 
-// The plan of `verify`.
-fn verify_of(alloc: Global, matches: &ArgMatches, form: Form) -> Result<Plan, WordsFault>
-    ensures { IfOk result (IsPlanIn form (codes "verify") (rows_of (found_of matches.now))) }
+// What is asked of a list and expected registers, if this is judged.
+fn judge_of(alloc: Global, matches: &ArgMatches, judged: Judged) -> Result<Judge, WordsFault>
+    ensures { IfOk result (λ judge. (command : Words) → HasJudged command (rows_of (found_of matches.now)) judged
+        → HasQuestion command (rows_of (found_of matches.now)) (questions.Judge judge)) }
 {
-    let evidence = evidence_of(alloc, matches)?;
-    let growth = growth_of(alloc, matches)?;
-    Ok(verdict_on(evidence, growth, form))
-}
-
-// The plan of a verdict: `Verify`, if nothing more is asked for than that requests.
-fn verdict_on(evidence: Evidence, growth: Growth, form: Form) -> Plan
-    ensures { (rows : List Row) → HasEvidence rows (string_bytes evidence.log) (string_bytes evidence.list) (string_bytes evidence.expected)
-        → IsGivenAs (codes "require") rows evidence.required → HasGrowth rows growth.extent growth.resume growth.save
-        → IsPlanIn form (codes "verify") rows result }
-{
-    let Evidence {
-        log,
-        list,
-        expected,
-        required,
-    } = evidence;
-    match (growth.extent, growth.resume, growth.save, required, form) {
-        (Extent::Whole, None, None, None, Form::Text) => Plan::Verify {
-            log,
-            list,
-            expected,
-        },
-        (extent, resume, save, required, form) => {
-            let judged = Judged::Verdict {
-                log,
-                extent,
-                resume,
-                save,
-            };
-            let judge = Judge {
-                judged,
-                list,
-                expected,
-                required,
-            };
-            Plan::Task(Task::Answer(Question::Judge(judge)), form)
-        }
-    }
-}
-
-// What `locate` asks.
-fn locate_of(alloc: Global, matches: &ArgMatches) -> Result<Question, WordsFault>
-    ensures { IfOk result (λ question. IsTaskOf (codes "locate") (rows_of (found_of matches.now)) (tasks.Answer question)) }
-{
-    let Evidence {
-        log,
-        list,
-        expected,
-        required,
-    } = evidence_of(alloc, matches)?;
-    Ok(Question::Judge(Judge {
-        judged: Judged::Places { log },
-        list,
-        expected,
-        required,
-    }))
+    Ok(Judge {
+        judged,
+        list: name_of(alloc, matches, "LIST")?,
+        expected: name_of(alloc, matches, "EXPECTED")?,
+        required: text_if_given(alloc, matches, "require")?,
+    })
 }
 
 // What `replay` asks. Refuses `--require` without EXPECTED.
 fn replay_of(alloc: Global, matches: &ArgMatches) -> Result<Question, WordsFault>
-    ensures { IfOk result (λ question. IsTaskOf (codes "replay") (rows_of (found_of matches.now)) (tasks.Answer question)) }
+    ensures { IfOk result (HasQuestion (codes "replay") (rows_of (found_of matches.now))) }
 {
     let list = name_of(alloc, matches, "LIST")?;
     let expected = text_if_given(alloc, matches, "EXPECTED")?;
@@ -262,92 +200,6 @@ fn replay_of(alloc: Global, matches: &ArgMatches) -> Result<Question, WordsFault
         })),
         (None, None) => Ok(Question::ListRegisters { list }),
         (None, Some(_)) => Err(WordsFault::Usage),
-    }
-}
-
-// The plan of `measure`: `Measure`, if the result is text and no text names further files.
-fn measure_of(alloc: Global, matches: &ArgMatches, form: Form) -> Result<Plan, WordsFault>
-    ensures { IfOk result (IsPlanIn form (codes "measure") (rows_of (found_of matches.now))) }
-{
-    Ok(measured(measurement_of(alloc, matches, form)?, form))
-}
-
-// The plan of this measurement.
-fn measured(asked: Measurement, form: Form) -> Plan
-    ensures { (rows : List Row) → HasMeasure rows asked → IsWithinLimits form asked → IsPlanIn form (codes "measure") rows result }
-{
-    let Measurement {
-        alg,
-        template,
-        workers,
-        limit,
-        print,
-        log,
-        files,
-        names,
-    } = asked;
-    match (names, form) {
-        (None, Form::Text) => Plan::Measure {
-            alg,
-            template,
-            workers,
-            limit,
-            print,
-            log,
-            files,
-        },
-        (names, form) => {
-            let measurement = Measurement {
-                alg,
-                template,
-                workers,
-                limit,
-                print,
-                log,
-                files,
-                names,
-            };
-            Plan::Task(Task::Measure(measurement), form)
-        }
-    }
-}
-
-// What `expected` asks.
-fn expected_of(alloc: Global, matches: &ArgMatches) -> Result<Question, WordsFault>
-    ensures { IfOk result (λ question. IsTaskOf (codes "expected") (rows_of (found_of matches.now)) (tasks.Answer question)) }
-{
-    Ok(Question::Expected {
-        printed: name_of(alloc, matches, "PCRREAD")?,
-        registers: text_if_given(alloc, matches, "registers")?,
-    })
-}
-
-// What `registers` asks.
-fn registers_of(alloc: Global, matches: &ArgMatches) -> Result<Question, WordsFault>
-    ensures { IfOk result (λ question. IsTaskOf (codes "registers") (rows_of (found_of matches.now)) (tasks.Answer question)) }
-{
-    let log = name_of(alloc, matches, "LOG")?;
-    Ok(Question::LogRegisters { log })
-}
-
-// What `events` does.
-fn events_of(alloc: Global, matches: &ArgMatches) -> Result<Task, WordsFault>
-    ensures { IfOk result (IsTaskOf (codes "events") (rows_of (found_of matches.now))) }
-{
-    Ok(Task::Events {
-        log: name_of(alloc, matches, "LOG")?,
-        data: data_of(matches)?,
-    })
-}
-
-// The plan of `show`: `Show`, if the result is text.
-fn show_of(alloc: Global, matches: &ArgMatches, form: Form) -> Result<Plan, WordsFault>
-    ensures { IfOk result (IsPlanIn form (codes "show") (rows_of (found_of matches.now))) }
-{
-    let list = name_of(alloc, matches, "LIST")?;
-    match form {
-        Form::Text => Ok(Plan::Show { list }),
-        Form::Json => Ok(Plan::Task(Task::Entries { list }, form)),
     }
 }
 

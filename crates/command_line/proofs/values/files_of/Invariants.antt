@@ -1,5 +1,5 @@
 use Rattle.std.proofs.Common.{◌≡◌, map, take, string_bytes}
-use Rattle.command_line.proofs.values.names_of.Given as goal
+use Rattle.command_line.proofs.values.files_of.Given as goal
 
 -- The names are copies of the values so far.
 abbrev pub invariant-loop-word : goal.invariant-loop-word
