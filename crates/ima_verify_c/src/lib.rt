@@ -37,12 +37,12 @@ pub extern "C" fn ima_verify_version() -> u32
 /// The verdict on a firmware event log, a measurement list and expected registers, as `verify` writes it: 0 if it is `match`, 1 if it
 /// is `differ`.
 #[unsafe(no_mangle)]
-pub extern "C" fn ima_verify_raw_verdict(
+pub extern "C" fn ima_verify_raw_verdict<'a>(
     alloc: Global,
-    log: &[u8],
-    list: &[u8],
-    expected: &[u8],
-    require: &[u8],
+    log: &'a [u8],
+    list: &'a [u8],
+    expected: &'a [u8],
+    require: &'a [u8],
     json: bool,
     out: &mut [u8],
     told: &mut Told,
@@ -57,12 +57,12 @@ pub extern "C" fn ima_verify_raw_verdict(
 /// Where expected registers first have their values in a firmware event log and a measurement list, as `locate` writes it: 0 if some
 /// register is expected, each value was reached and none is missing, else 1.
 #[unsafe(no_mangle)]
-pub extern "C" fn ima_verify_raw_locate(
+pub extern "C" fn ima_verify_raw_locate<'a>(
     alloc: Global,
-    log: &[u8],
-    list: &[u8],
-    expected: &[u8],
-    require: &[u8],
+    log: &'a [u8],
+    list: &'a [u8],
+    expected: &'a [u8],
+    require: &'a [u8],
     json: bool,
     out: &mut [u8],
     told: &mut Told,
@@ -77,11 +77,11 @@ pub extern "C" fn ima_verify_raw_locate(
 
 /// The verdict on a measurement list without a log, as `replay` writes it with expected registers: 0 if it is `match`, 1 if it is `differ`.
 #[unsafe(no_mangle)]
-pub extern "C" fn ima_verify_raw_replay(
+pub extern "C" fn ima_verify_raw_replay<'a>(
     alloc: Global,
-    list: &[u8],
-    expected: &[u8],
-    require: &[u8],
+    list: &'a [u8],
+    expected: &'a [u8],
+    require: &'a [u8],
     json: bool,
     out: &mut [u8],
     told: &mut Told,
@@ -98,13 +98,13 @@ pub extern "C" fn ima_verify_raw_replay(
 /// them. `require` is `none` if it is enough that some register is expected. With `prefix` the report is on the confirmed front, if there is
 /// one. There is a checkpoint with a verdict `match` alone: else `next_size` is 0.
 #[unsafe(no_mangle)]
-pub extern "C" fn ima_verify_raw_more(
+pub extern "C" fn ima_verify_raw_more<'a>(
     alloc: Global,
-    log: &[u8],
-    state: &[u8],
-    more: &[u8],
-    expected: &[u8],
-    require: &[u8],
+    log: &'a [u8],
+    state: &'a [u8],
+    more: &'a [u8],
+    expected: &'a [u8],
+    require: &'a [u8],
     prefix: bool,
     json: bool,
     next: &mut [u8],
