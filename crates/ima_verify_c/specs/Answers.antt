@@ -48,15 +48,11 @@ abbrev pub told_of : ℕ → Option RunFault → Told
 told_of size None = told_with size 0 None None
 told_of size (Some fault) = head_told size (fault_head fault).kind (fault_head fault).number (fault_head fault).place
 
--- What a call returns if there is too little room.
-abbrev pub too_short : ℤ
-too_short = pos 4
-
 -- ---- what stands in the caller's room
 
--- The text has no room: the call returns that, tells the size and no fault, and wrote nothing.
+-- The text has no room: the call returns 4, tells the size and no fault, and wrote nothing.
 pub record IsTooShort (size : ℕ) (answer : ℤ) (told : Told) (old new : List ℕ) : Type 0 where
-  pub answer_is : answer ≡ too_short
+  pub answer_is : answer ≡ pos 4
   pub told_is : told ≡ told_of size None
   pub same : new ≡ old
 
