@@ -1,7 +1,7 @@
 //! Why the program failed.
 
 ghost use Rattle.std.specs.Prelude.{◌≡◌};
-ghost use Rattle.agent_inputs.specs.Faults.{fault_of_agent, fault_of_expected, fault_of_list, fault_of_log, fault_of_words, not_resumed_number};
+ghost use Rattle.agent_inputs.specs.Faults.{fault_head, fault_of_agent, fault_of_expected, fault_of_list, fault_of_log, fault_of_words, not_resumed_number};
 ghost use Rattle.agent_inputs.specs.declared.fault.RunFault.TheVariants.{Memory};
 
 use boot_log::LogFault;
@@ -80,6 +80,84 @@ pub enum RunFault {
     Gather(GatherFault),
     /// Out of memory.
     Memory,
+}
+
+/// The kinds of faults. Out of memory is one kind, wherever it happens.
+#[derive(Clone, Copy)]
+pub enum FaultKind {
+    Usage,
+    NotHex,
+    Log,
+    List,
+    Replay,
+    Expect,
+    Checkpoint,
+    Book,
+    Outcome,
+    TooLong,
+    Read,
+    Write,
+    NotUtf8,
+    Gather,
+    Memory,
+}
+
+/// What a fault is, beside a name in it.
+#[derive(Clone, Copy)]
+pub struct FaultHead {
+    /// Its kind.
+    pub kind: FaultKind,
+    /// Its number among the faults of its kind, where it has one.
+    pub number: Option<u32>,
+    /// The event, the entry or the line that it names; of a file that the book refused the file's number.
+    pub place: Option<usize>,
+}
+
+impl RunFault {
+    /// Its kind, number and place. Out of memory, even inside another fault, is of the kind `Memory`.
+    pub fn head(&self) -> FaultHead
+        ensures { result ≡ fault_head self.now }
+    {
+        let (kind, number, place) = match self {
+            RunFault::Log(LogFault::Memory)
+            | RunFault::List(ListFault::Memory)
+            | RunFault::Expect(ExpectFault::Memory)
+            | RunFault::Book(BookFault::Memory)
+            | RunFault::Outcome {
+                fault: BookFault::Memory,
+                ..
+            }
+            | RunFault::Gather(GatherFault::Memory)
+            | RunFault::Memory => (FaultKind::Memory, None, None),
+            RunFault::Usage => (FaultKind::Usage, None, None),
+            RunFault::NotHex => (FaultKind::NotHex, None, None),
+            RunFault::Log(fault) => (FaultKind::Log, Some(fault.number()), fault.event()),
+            RunFault::List(fault) => (FaultKind::List, Some(fault.number()), fault.entry()),
+            RunFault::Replay(fault) => {
+                (FaultKind::Replay, Some(fault.number()), Some(fault.entry()))
+            }
+            RunFault::Expect(fault) => (FaultKind::Expect, Some(fault.number()), fault.line()),
+            RunFault::Checkpoint(fault) => (FaultKind::Checkpoint, Some(fault.number()), None),
+            RunFault::Book(fault) => (FaultKind::Book, Some(fault.number()), None),
+            RunFault::Outcome { job, fault } => {
+                (
+                    FaultKind::Outcome,
+                    Some(fault.number()),
+                    Some(*job as usize),
+                )
+            }
+            RunFault::TooLong(_) => (FaultKind::TooLong, None, None),
+            RunFault::Read(_) => (FaultKind::Read, None, None),
+            RunFault::Write(_) => (FaultKind::Write, None, None),
+            RunFault::NotUtf8(_) => (FaultKind::NotUtf8, None, None),
+            RunFault::Gather(fault) => (FaultKind::Gather, Some(fault.number()), None),
+        };
+        FaultHead {
+            kind,
+            number,
+            place,
+        }
+    }
 }
 
 /// What is wrong, in words. `TooLong`, `Read`, `Write` and `NotUtf8` name their file.

@@ -8,7 +8,7 @@ mod inputs;
 mod loading;
 mod system;
 
-pub use fault::{NotResumed, RunFault};
+pub use fault::{FaultHead, FaultKind, NotResumed, RunFault};
 pub use files::{AgentFiles, Files, SharedFiles};
 pub use hashing::hash_from;
 pub use inputs::{INPUT_LIMIT, loaded, not_read, not_utf8, not_written, too_long};

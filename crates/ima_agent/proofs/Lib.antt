@@ -1,4 +1,3 @@
-pub mod FaultLaws
 pub mod ShowingLaws
 pub mod EscapingLaws
 pub mod EntryLineLaws

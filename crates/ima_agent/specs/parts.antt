@@ -1,3 +1,1 @@
-pub mod FaultTexts
-pub mod JsonFaults
 pub mod Streaming

@@ -1,26 +1,58 @@
--- What a caller in C finds after a call. All of this is this project's choice.
-use Rattle.std.specs.Prelude.{◌≡◌, ℕ, ℤ, pos, ◌<◌, ◌≤◌, ◌⊎◌, List, [], ◌++◌, length, drop, Option, None, Some}
+-- What a caller in C finds after a call. All of this is this project's choice; the numbers are those of `bindings/c/ima_verify.h`.
+use Rattle.std.specs.Prelude.{◌≡◌, ℕ, ℤ, pos, ◌<◌, ◌≤◌, ◌⊎◌, false, List, [], ◌++◌, length, drop, Option, None, Some, Result, Ok, Err, unwrap_or}
+use Rattle.agent_inputs.specs.declared.fault.FaultKind.{FaultKind}
+use Rattle.agent_inputs.specs.declared.fault.FaultKind.TheVariants as kinds
 use Rattle.agent_inputs.specs.declared.fault.RunFault.{RunFault}
 use Rattle.agent_inputs.specs.declared.fault.RunFault.TheVariants.{Memory}
+use Rattle.agent_inputs.specs.Faults.{fault_head}
 use Rattle.agent_inputs.specs.Loading.{untold}
 use Rattle.command_line.specs.declared.plan.Form.{Form}
 use Rattle.command_line.specs.declared.plan.Form.TheVariants.{Json, Text}
 use Rattle.judging.specs.Asking.{Asked}
 use Rattle.rendering.specs.Outputs.{GivesAnswer, IsRefusalOn}
+use Rattle.pieces.specs.declared.piece.End.{End}
+use Rattle.pieces.specs.declared.piece.End.TheVariants.{Last, Longer, More}
+use Rattle.pieces.specs.declared.piece.Piece.{Piece}
+use Rattle.pieces.specs.declared.piece.Position.{Position}
+use Rattle.pieces.specs.EntryPieces.{AreEntriesBefore, FailsAfterEntries, IsEntryPiece}
+use Rattle.pieces.specs.EventPieces.{AreEventsBefore, FailsAfterEvents, IsEventPiece}
+use Rattle.pieces.specs.Pieces.{is_within}
 use Rattle.ima_agent.specs.FaultTexts.{fault_line, fault_status}
 use Rattle.ima_agent.specs.JsonFaults.{ToldAsJson}
 use Rattle.ima_verify_c.specs.declared.told.Told.{Told}
-use Rattle.ima_verify_c.specs.Told.{told_of}
 
--- What a call returns if there is too little room.
-abbrev pub too_short : ℤ
-too_short = pos 4
+-- ---- what a caller is told of a text
+
+-- The size of the text; and of its fault the kind, the number, or 0, and the place: 2^64 - 1 where it names none.
+abbrev pub told_with : ℕ → ℕ → Option ℕ → Option ℕ → Told
+told_with size kind number place = record {
+  size = size;
+  fault_kind = kind;
+  fault_number = unwrap_or number 0;
+  fault_place = unwrap_or place 18446744073709551615;
+}
+
+-- The other faults are those of files, which a caller in C does not name.
+abbrev pub head_told : ℕ → FaultKind → Option ℕ → Option ℕ → Told
+head_told size kinds.Usage number place = told_with size 1 number place
+head_told size kinds.Log number place = told_with size 2 number place
+head_told size kinds.List number place = told_with size 3 number place
+head_told size kinds.Replay number place = told_with size 4 number place
+head_told size kinds.Expect number place = told_with size 5 number place
+head_told size kinds.Checkpoint number place = told_with size 6 number place
+head_told size kinds.Memory number place = told_with size 7 number place
+head_told size kind number place = told_with size 0 None None
+
+-- What is told of a text of this size, which is the line of the fault, if there is one.
+abbrev pub told_of : ℕ → Option RunFault → Told
+told_of size None = told_with size 0 None None
+told_of size (Some fault) = head_told size (fault_head fault).kind (fault_head fault).number (fault_head fault).place
 
 -- ---- what stands in the caller's room
 
--- The text has no room: the call returns that, tells the size and no fault, and wrote nothing.
+-- The text has no room: the call returns 4, tells the size and no fault, and wrote nothing.
 pub record IsTooShort (size : ℕ) (answer : ℤ) (told : Told) (old new : List ℕ) : Type 0 where
-  pub answer_is : answer ≡ too_short
+  pub answer_is : answer ≡ pos 4
   pub told_is : told ≡ told_of size None
   pub same : new ≡ old
 
@@ -87,3 +119,47 @@ IsAnswerAndNext asked form text status fault state =
 -- The answer, whatever checkpoint there is.
 abbrev pub IsAnswerTo : Asked → Form → List ℕ → ℕ → Option RunFault → Type 0
 IsAnswerTo asked form text status fault = (state : List ℕ) × IsAnswerAndNext asked form text status fault state
+
+-- ---- lines
+
+-- A piece that ends so was given: its text is written, and the position is where the next lines begin, with 0 if these are the last lines and 5 if
+-- there are more; or its one line has no room, and the position is as it was.
+abbrev pub GivesText : End → List ℕ → Position → Position → Position → ℤ → Told → List ℕ → List ℕ → Type 0
+GivesText Last text next position after answer told old new = (after ≡ next) × IsWritten text 0 None answer told old new
+GivesText More text next position after answer told old new = (after ≡ next) × IsWritten text 5 None answer told old new
+GivesText (Longer size) text next position after answer told old new = (after ≡ position) × IsTooShort size answer told old new
+
+abbrev pub GivesPiece : Piece → Position → Position → ℤ → Told → List ℕ → List ℕ → Type 0
+GivesPiece piece position after answer told old new = GivesText piece.end piece.text.items piece.next position after answer told old new
+
+-- The position is none: nothing was read or written.
+pub record IsMisused (position after : Position) (answer : ℤ) (told : Told) (old new : List ℕ) : Type 0 where
+  pub answer_is : answer ≡ pos 6
+  pub told_is : told ≡ told_of 0 None
+  pub position_is : after ≡ position
+  pub same : new ≡ old
+
+-- What was found was given: a piece; nothing, since the position is none; or the line of the fault.
+abbrev pub GivesFound : Form → Result (Option Piece) RunFault → Position → Position → ℤ → Told → List ℕ → List ℕ → Type 0
+GivesFound form (Ok (Some piece)) position after answer told old new = GivesPiece piece position after answer told old new
+GivesFound form (Ok None) position after answer told old new = IsMisused position after answer told old new
+GivesFound form (Err fault) position after answer told old new =
+    (after ≡ position) × Answers (IsRefusal (λ cause. (cause ≡ fault) ⊎ (cause ≡ Memory)) form) answer told old new
+
+-- What the call gives of so many bytes, from a position on. Where the lines before it have the text `before`: a piece of what comes then, or
+-- the line of the fault that comes, or that memory ran out.
+pub record GivesLines (AreBefore : Position → List ℕ → Type 0) (IsPiece : ℕ → List ℕ → Piece → Type 0) (FailsAfter : List ℕ → RunFault → Type 0)
+    (form : Form) (size : ℕ) (position after : Position) (answer : ℤ) (told : Told) (old new : List ℕ) : Type 0 where
+  pub misused : is_within position size ≡ false → IsMisused position after answer told old new
+  pub gives : (before : List ℕ) → AreBefore position before
+      → ((piece : Piece) × IsPiece (length old) before piece × GivesPiece piece position after answer told old new)
+      ⊎ ((after ≡ position) × Answers (IsRefusal (λ fault. FailsAfter before fault ⊎ (fault ≡ Memory)) form) answer told old new)
+
+abbrev pub GivesEntries : Form → List ℕ → Position → Position → ℤ → Told → List ℕ → List ℕ → Type 0
+GivesEntries form list position after answer told old new =
+    GivesLines (AreEntriesBefore form list) (IsEntryPiece form list) (FailsAfterEntries form list) form (length list) position after answer told
+    old new
+
+abbrev pub GivesEvents : List ℕ → Position → Position → ℤ → Told → List ℕ → List ℕ → Type 0
+GivesEvents log position after answer told old new =
+    GivesLines (AreEventsBefore log) (IsEventPiece log) (FailsAfterEvents log) Json (length log) position after answer told old new

@@ -1,4 +1,2 @@
-pub mod Told
 pub mod Asked
 pub mod Answers
-pub mod Lines

@@ -1,12 +1,10 @@
 //! Gives an answer to the caller: a text in the caller's room, what is told of it, and a number.
 
-ghost use Rattle.std.specs.Prelude.{◌≡◌, ℕ, ◌≤◌, ◌⊎◌, None, List, length, option_map, IfOk};
+ghost use Rattle.std.specs.Prelude.{◌≡◌, ◌≤◌, ◌⊎◌, None, length, option_map, IfOk, IfSome};
 ghost use Rattle.agent_inputs.specs.declared.fault.RunFault.TheVariants.{Memory};
-ghost use Rattle.ima_agent.specs.FaultTexts.{fault_line, fault_status};
+ghost use Rattle.ima_agent.specs.FaultTexts.{fault_status};
 ghost use Rattle.judging.specs.Asking.{asked_of};
-ghost use Rattle.pieces.specs.declared.piece.Position.{Position as APosition};
-ghost use Rattle.ima_verify_c.specs.Answers.{Answers, AnswersMore, AreGiven, IsAnswerAndNext, IsAnswerTo, IsGiven, IsLineOf, IsRefusal};
-ghost use Rattle.ima_verify_c.specs.Lines.{GivesPiece, IsMisused};
+ghost use Rattle.ima_verify_c.specs.Answers.{Answers, AnswersMore, AreGiven, GivesFound, GivesPiece, IsAnswerAndNext, IsAnswerTo, IsGiven, IsLineOf, IsRefusal};
 
 use crate::told::Told;
 use byte_streams::{Failed, VecSink};
@@ -68,8 +66,32 @@ pub(crate) fn give_both(
     }
 }
 
-/// Gives a piece of lines, and sets the position to where the next begin.
-pub(crate) fn give_piece(
+/// Gives a piece of lines, and sets the position to where the next begin; nothing, if there is no piece since the position is none; or the
+/// line of a fault.
+pub(crate) fn give_lines(
+    alloc: Global,
+    form: Form,
+    found: Result<Option<Piece>, RunFault>,
+    offset: &mut usize,
+    number: &mut usize,
+    out: &mut [u8],
+    told: &mut Told,
+) -> i32
+    requires { IfOk found (λ piece. IfSome piece (λ piece. length piece.text.items ≤ length out.old)) }
+    ensures { GivesFound form found (record { offset = offset.old; number = number.old }) (record { offset = offset.new; number = number.new })
+        result told.new out.old out.new }
+{
+    match found {
+        Ok(Some(piece)) => give_piece(&piece, offset, number, out, told),
+        Ok(None) => {
+            *told = Told::of(0, None);
+            MISUSED
+        }
+        Err(fault) => give_fault(alloc, form, &fault, out, told),
+    }
+}
+
+fn give_piece(
     piece: &Piece,
     offset: &mut usize,
     number: &mut usize,
@@ -93,22 +115,8 @@ pub(crate) fn give_piece(
     put(&piece.text, status, None, out, told)
 }
 
-/// Gives nothing, since the position is none.
-pub(crate) fn give_misused(told: &mut Told) -> i32
-    ensures { (position : APosition) (out : List ℕ) → IsMisused position position result told.new out out }
-{
-    *told = Told::of(0, None);
-    MISUSED
-}
-
-/// Gives the line of a fault in this form; that of `Memory`, if there is no memory for it.
-pub(crate) fn give_fault(
-    alloc: Global,
-    form: Form,
-    fault: &RunFault,
-    out: &mut [u8],
-    told: &mut Told,
-) -> i32
+// Gives the line of a fault in this form; that of `Memory`, if there is no memory for it.
+fn give_fault(alloc: Global, form: Form, fault: &RunFault, out: &mut [u8], told: &mut Told) -> i32
     ensures { Answers (IsRefusal (λ cause. (cause ≡ fault.now) ⊎ (cause ≡ Memory)) form) result told.new out.old out.new }
 {
     match line_in(alloc, form, fault) {
@@ -124,9 +132,13 @@ pub(crate) fn give_fault(
 fn line_in(alloc: Global, form: Form, fault: &RunFault) -> Result<Vec<u8>, AllocError>
     ensures { IfOk result (λ line. IsLineOf form fault.now line.items (fault_status fault.now)) }
 {
-    match form {
-        Form::Text => line_of(alloc, fault),
-        Form::Json => json_fault_line(alloc, fault),
+    if let Form::Json = form {
+        return json_fault_line(alloc, fault);
+    }
+    let mut line = VecSink::new(Vec::new(alloc));
+    match write_fault(fault, &mut line) {
+        Ok(()) => Ok(line.into_bytes()),
+        Err(Failed) => Err(AllocError),
     }
 }
 
@@ -137,16 +149,6 @@ fn memory_line(form: Form) -> &'static [u8]
     match form {
         Form::Text => MEMORY_LINE,
         Form::Json => json_memory_line(),
-    }
-}
-
-fn line_of(alloc: Global, fault: &RunFault) -> Result<Vec<u8>, AllocError>
-    ensures { IfOk result (λ line. line.items ≡ fault_line fault.now) }
-{
-    let mut line = VecSink::new(Vec::new(alloc));
-    match write_fault(fault, &mut line) {
-        Ok(()) => Ok(line.into_bytes()),
-        Err(Failed) => Err(AllocError),
     }
 }
 

@@ -1,7 +1,6 @@
 use Rattle.std.proofs.Common.{None, refl, inl, rules, w32}
 use mir.Val.{SFits}
 use Rattle.std.proofs.Math.Facts.{to_z-of_z}
-use Rattle.judging.specs.Asking.{asked_of}
 use Rattle.ima_verify_c.proofs.GivingLaws.{gives_refusal}
 use Rattle.ima_verify_c.proofs.giving.give.Goals as goal
 
@@ -19,6 +18,4 @@ returns-in-Ok c =
 pub returns-in-Err : goal.returns-in-Err
 returns-in-Err c =
     let fits : SFits w32 c.give_fault.result = search rules in
-    rw (to_z-of_z fits)
-    (gives_refusal (asked_of c.args.asked) c.args.form c.in-Err.fault c.give_fault.result c.give_fault.new.told c.args.out.now
-    c.give_fault.new.out c.in-Err.ensures.fault c.give_fault.ensures)
+    rw (to_z-of_z fits) (gives_refusal _ _ c.in-Err.fault _ _ _ _ c.in-Err.ensures.fault c.give_fault.ensures)
