@@ -1,12 +1,22 @@
-use Rattle.ima_agent.proofs.EventShowingLaws.{loaded_written, not_loaded}
-use Rattle.ima_agent.proofs.showing.events_written.Goals as goal
+use Rattle.std.proofs.Common.{List, ℕ, sym, subst}
+use Rattle.boot_log.specs.Spelling.{IsLog}
+use Rattle.ima_agent.proofs.EventShowingLaws.{all_written, no_log, sink_fails}
+use Rattle.ima_agent.proofs.showing.events_of.Goals as goal
 
-pub returns-in-Ok-clause-streams : goal.returns-in-Ok-clause-streams
-returns-in-Ok-clause-streams g c =
-    loaded_written (g.F.Files.told c.args.files.now) c.args.log.now c.args.requested c.in-Ok.bytes.items (g.S.Sink.state c.args.sink.now)
-    (g.S.Sink.state c.events_of.new.sink) c.events_of.result c.in-Ok.ensures.all (rw c.deref.ensures.value at c.events_of.ensures)
+pub returns-in-Err : goal.returns-in-Err
+returns-in-Err g c = no_log c.args.bytes.now c.args.requested (g.S.Sink.state c.args.sink.now) c.in-Err.fault c.in-Err.ensures.fault
 
-pub returns-in-Err-clause-streams : goal.returns-in-Err-clause-streams
-returns-in-Err-clause-streams g c =
-    not_loaded (g.F.Files.told c.args.files.now) c.args.log.now c.args.requested (g.S.Sink.state c.args.sink.now) c.in-Err.fault
-    c.in-Err.ensures.fault
+pub returns-in-Ok-write_events : goal.returns-in-Ok-write_events
+returns-in-Ok-write_events g c =
+    let (table, events, is) = c.in-Ok.ensures.sound in
+    let viewed = subst (λ (bytes : List ℕ). IsLog bytes table events) (sym c.in-Ok.ensures.view) is in
+    all_written c.args.bytes.now c.args.requested table events (g.S.Sink.state c.args.sink.now) (g.S.Sink.state c.write_events.new.sink) is
+    (rw (c.in-Ok-write_events.is, c.data_of.ensures) at (c.write_events.ensures table events viewed))
+
+pub returns-in-Err-write_events : goal.returns-in-Err-write_events
+returns-in-Err-write_events g c =
+    let (table, events, is) = c.in-Ok.ensures.sound in
+    let viewed = subst (λ (bytes : List ℕ). IsLog bytes table events) (sym c.in-Ok.ensures.view) is in
+    sink_fails c.args.bytes.now c.args.requested table events (g.S.Sink.state c.args.sink.now) (g.S.Sink.state c.write_events.new.sink)
+    c.in-Err-write_events.fault is
+    (rw (c.in-Err-write_events.is, c.data_of.ensures) at (c.write_events.ensures table events viewed))
