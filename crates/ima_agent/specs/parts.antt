@@ -1,3 +1,2 @@
 pub mod FaultTexts
 pub mod JsonFaults
-pub mod Streaming
