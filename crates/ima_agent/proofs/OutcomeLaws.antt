@@ -16,9 +16,8 @@ use Rattle.rendering.specs.declared.output.Output.{Output}
 use Rattle.ima_agent.specs.declared.streaming.StreamFault.{StreamFault}
 use Rattle.ima_agent.specs.declared.streaming.StreamFault.TheVariants as streams
 use Rattle.ima_agent.specs.JsonFaults.{IsFailure}
-use Rattle.ima_agent.specs.Program.{Answers, IsFaultOf, IsOutcome, IsOutputFor, status_after}
+use Rattle.ima_agent.specs.Program.{Answers, IsFaultOf, IsOutcome, IsOutputFor, SendsOutput, SendsText, Streams, status_after}
 use Rattle.ima_agent.specs.Showing.{ShowsEntriesOf, ShowsEventsIn, ShowsPlainEventsIn}
-use Rattle.ima_agent.specs.Streaming.{SendsOutput, SendsText, Streams}
 
 -- A sink that failed in a text did not take more.
 sent_less : {A B E F : Type 0} (old new : SinkState) (fault : E) (other : F) (text more : List ℕ)

@@ -1,5 +1,5 @@
 -- Outputs that are sent while their input is read: what was sent is what the program is asked for.
-use Rattle.std.proofs.Common.{◌≡◌, ◌⊎◌, ℕ, ◌<◌, List, [], ◌++◌, length, Option, None, Some, Result, Ok, Err, refl, sym, ap, subst, ◌∙◌, append_assoc, append-nil, arith, inl, inr, codes}
+use Rattle.std.proofs.Common.{◌≡◌, ◌⊎◌, ℕ, ◌<◌, List, [], ◌++◌, length, Option, None, Some, Result, Ok, Err, refl, sym, ap, subst, ◌∙◌, append_assoc, arith, inl, inr, codes}
 use Rattle.std.specs.Prelude.{IfSome, IsTrue}
 use Rattle.std.specs.Io.KnownBytes.{IsAtEnd}
 use Rattle.std.proofs.lemmas.List.{length-append}
@@ -31,7 +31,7 @@ use Rattle.ima_agent.specs.declared.streaming.StreamFault.{StreamFault}
 use Rattle.ima_agent.specs.declared.streaming.StreamFault.TheVariants as streams
 use Rattle.ima_agent.specs.JsonFaults.{IsFailure, ToldAsJson}
 use Rattle.ima_agent.specs.Showing.{AreAllEvents, AreAllInFile, EndsAfterEntries, ShowsEntriesOf, ShowsEventsIn, ShowsToFault, StopsInFile, StopsInLog, entry_lines, log_lines}
-use Rattle.ima_agent.specs.Streaming.{Streams}
+use Rattle.ima_agent.specs.Program.{Streams}
 use Rattle.judging.proofs.InputLaws.{HasAll, held_more, held_whole}
 
 -- The line of `Memory`, of which there is always one.

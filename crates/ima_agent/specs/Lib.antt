@@ -2,7 +2,6 @@ pub mod FaultTexts
 pub mod Escaping
 pub mod Showing
 pub mod JsonFaults
-pub mod Streaming
 pub mod Program
 pub mod parts
 pub use Rattle.agent_inputs.specs.Loading

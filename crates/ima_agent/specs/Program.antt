@@ -1,5 +1,5 @@
--- What the program is asked for, writes and returns. All of this is this project's choice.
-use Rattle.std.specs.Prelude.{◌≡◌, ℕ, ◌⊎◌, List, flat_map, string_bytes, Option, None, Some, option_map, Result, Ok, Err, String}
+-- What the program is asked for, sends and returns. All of this is this project's choice.
+use Rattle.std.specs.Prelude.{◌≡◌, ℕ, ◌⊎◌, List, flat_map, string_bytes, ◌++◌, Option, None, Some, option_map, Result, Ok, Err, String}
 use Rattle.std.specs.Global.{Global, Vec}
 use Rattle.byte_streams.specs.declared.streams.Failed.{Failed}
 use Rattle.byte_streams.specs.Streams.{SinkState, Sends}
@@ -26,8 +26,11 @@ use Rattle.judging.specs.Asking.{Any, Asked, Compared, Compares, ExpectedOf, Jud
 use Rattle.judging.specs.Inputs.{FileOf, Where}
 use Rattle.measuring.specs.declared.recording.Measured.{Measured}
 use Rattle.measuring.specs.Measuring.{IsMeasured, IsMeasuringFault}
+use Rattle.rendering.specs.declared.output.Output.{Output}
 use Rattle.rendering.specs.Outputs.{IsOutputFault, ShowsAnswer}
 use Rattle.rendering.specs.Rendering.{printed}
+use Rattle.ima_agent.specs.declared.streaming.StreamFault.{StreamFault}
+use Rattle.ima_agent.specs.declared.streaming.StreamFault.TheVariants as streams
 use Rattle.ima_agent.specs.FaultTexts.{fault_line, fault_status}
 use Rattle.ima_agent.specs.JsonFaults.{IsFailure, ToldAsJson}
 use Rattle.ima_agent.specs.Showing.{AreAllEntries, AreAllEvents, BreaksOffAfterEntries, EndsWithFault, IsNoListFor, IsNoLogFor, IsRefusedFor, RunsOutAfterEvents, ShowsEntries, ShowsHexadecimal, ShowsJsonEvents, data_of, version_text}
@@ -160,3 +163,35 @@ abbrev pub IsOutputOf : {E : Type 0} → Inputs → Result (Vec (String Global))
 IsOutputOf inputs (Ok words) old new text status = IsOutput inputs words.items old new text status
 IsOutputOf inputs (Err fault) old new text status =
     (text ≡ fault_line runs.Memory) × (status ≡ fault_status runs.Memory) × (new ≡ old)
+
+-- ---- outputs that are sent, some of them while their input is read
+
+-- What the sink says of a call with this result: it failed only at `Sink`.
+abbrev pub as_sent : Result ℕ StreamFault → Result (Unit {0}) Failed
+as_sent (Ok status) = Ok tt
+as_sent (Err (streams.Sink failed)) = Err failed
+as_sent (Err (streams.Run fault)) = Ok tt
+
+-- What is asked for, after this text was sent: the text itself, with the returned status; the text with the line of the fault of the run, in
+-- this form; or the text with more that the sink did not take.
+abbrev pub GoesOn : Form → (List ℕ → ℕ → Type 0) → List ℕ → Result ℕ StreamFault → Type 0
+GoesOn form IsAsked text (Ok status) = IsAsked text status
+GoesOn form IsAsked text (Err (streams.Sink failed)) = (rest : List ℕ) × (status : ℕ) × IsAsked (text ++ rest) status
+GoesOn form IsAsked text (Err (streams.Run fault)) = (last : List ℕ) (status : ℕ) → IsFailure form fault last status → IsAsked (text ++ last) status
+
+-- A text was sent, and with the line of a fault, if there is one, it is what is asked for.
+pub record Streams (form : Form) (IsAsked : List ℕ → ℕ → Type 0) (old new : SinkState) (result : Result ℕ StreamFault) : Type 0 where
+  pub text : List ℕ
+  pub sends : Sends old new (as_sent result) text
+  pub goes_on : GoesOn form IsAsked text result
+
+-- This text was sent, and this is its status.
+abbrev pub SendsText : List ℕ → ℕ → SinkState → SinkState → Result ℕ StreamFault → Type 0
+SendsText text status old new (Ok answer) = Sends {A = Unit {0}} {E = Failed} old new (Ok tt) text × (answer ≡ status)
+SendsText text status old new (Err (streams.Sink failed)) = Sends {A = Unit {0}} old new (Err failed) text
+SendsText text status old new (Err (streams.Run fault)) = ⊥
+
+-- The output was sent; or there is none, and nothing was.
+abbrev pub SendsOutput : Result Output RunFault → SinkState → SinkState → Result ℕ StreamFault → Type 0
+SendsOutput (Ok output) old new result = SendsText output.text.items output.status old new result
+SendsOutput (Err fault) old new result = (new ≡ old) × (result ≡ Err (streams.Run fault))

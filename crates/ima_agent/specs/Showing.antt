@@ -91,7 +91,7 @@ RunsOutAfterEvents log text fault =
     × ((table : List Row) × (events : List LogEvent) × (rest : List ℕ) × logs.BeginsWith log table events rest × (text ≡ log_lines table events))
 
 -- Why no more entries of the file of this name are shown, of which the bytes `came` were read. It could not be opened or read, or it is
--- longer than an input may be and its first bytes came, as many as one may have: then these are all entries of what came (how much of a file
+-- longer than an input may be and its first bytes came, as many as one may have: then these are all entries of what came, of which none was refused (how much of a file
 -- came before a read failed, only json_texts' `SendsEntries` says). Or memory ran out.
 abbrev pub EndsAfterEntries : Inputs → List ℕ → List ℕ → List ListEntry → RunFault → Type 0
 EndsAfterEntries inputs name came entries fault =

@@ -2,13 +2,11 @@
 
 ghost use Rattle.std.specs.Prelude.{◌≡◌, IfOk, IfErr, OnErr};
 ghost use Rattle.std.specs.Process.{exit_status};
-ghost use Rattle.command_line.specs.Plans.{IsWithinRanges};
-ghost use Rattle.command_line.specs.Tasks.{IsWithin, IsWithinLimits, task_of};
+ghost use Rattle.command_line.specs.Tasks.{IsWithin, IsWithinLimits};
 ghost use Rattle.command_line.specs.declared.plan.Task.TheVariants as tasks;
 ghost use Rattle.ima_agent.specs.FaultTexts.{fault_status};
 ghost use Rattle.ima_agent.specs.JsonFaults.{IsFailure};
-ghost use Rattle.ima_agent.specs.Program.{Answers, IsFaultOf, IsOutcome, IsOutput, IsOutputFor, IsOutputOf, status_after};
-ghost use Rattle.ima_agent.specs.Streaming.{Streams};
+ghost use Rattle.ima_agent.specs.Program.{Answers, IsFaultOf, IsOutcome, IsOutput, IsOutputFor, IsOutputOf, Streams, status_after};
 
 use crate::explaining::Failure;
 use crate::progress::{NoProgress, Progress};
@@ -20,7 +18,7 @@ use crate::version::version_text;
 use crate::words::read_words;
 use agent_inputs::{AgentFiles, RunFault};
 use byte_streams::{Failed, Sink, send};
-use command_line::{Form, Measurement, Plan, Task};
+use command_line::{Form, Measurement, Task};
 use measuring::measured;
 use rendering::{output_for, printed};
 use std::alloc::{AllocError, Global};
@@ -105,7 +103,10 @@ pub fn run_with_progress<R: Threads + Wait + Sync, F: AgentFiles, S: Sink, P: Pr
     ensures { Answers (IsOutput (F.told files.old) words.now (F.saved files.old) (F.saved files.new)) result (S.state sink.old) (S.state sink.new) }
 {
     match read_words(alloc, words) {
-        Ok(plan) => run_plan(rt, alloc, plan, files, sink, progress),
+        Ok(plan) => {
+            let (task, form) = plan.into_task();
+            run_task(rt, alloc, &task, form, files, sink, progress)
+        }
         Err(fault) => {
             let status = failed(alloc, Form::Text, &fault, sink);
             progress.explain(
@@ -118,25 +119,6 @@ pub fn run_with_progress<R: Threads + Wait + Sync, F: AgentFiles, S: Sink, P: Pr
             status
         }
     }
-}
-
-// Does what this plan, that of the arguments, requests, and returns the exit status.
-fn run_plan<R: Threads + Wait + Sync, F: AgentFiles, S: Sink, P: Progress>(
-    rt: &R,
-    alloc: Global,
-    plan: Plan,
-    files: &mut F,
-    sink: &mut S,
-    progress: &P,
-) -> u8
-    requires within { IsWithinRanges plan }
-    ensures { Answers (IsOutcome (F.told files.old) (task_of plan).0 (task_of plan).1 (F.saved files.old) (F.saved files.new)) result
-        (S.state sink.old) (S.state sink.new) }
-{
-    let (task, form) = plan.into_task();
-    let status = run_task(rt, alloc, &task, form, files, sink, progress);
-    drop(task);
-    status
 }
 
 // Does this task, whose result is shown in this form, and returns the exit status.

@@ -1,13 +1,12 @@
 //! The registers and the events of a log and the entries of a list, as the program shows them.
 
-ghost use Rattle.std.specs.Prelude.{◌≡◌, ◌⊎◌, ◌++◌, flat_map, None, Some, IfOk, IfErr, OnErr};
+ghost use Rattle.std.specs.Prelude.{◌≡◌, ◌⊎◌, flat_map, None, Some, IfOk, IfErr, OnErr};
 ghost use Rattle.agent_inputs.specs.Loading.{IsInputFault, OfInput};
 ghost use Rattle.command_line.specs.declared.plan.Form.TheVariants.{Text};
 ghost use Rattle.command_line.specs.declared.plan.Task.TheVariants as tasks;
 ghost use Rattle.ima_list.specs.Lines.{line_of};
-ghost use Rattle.ima_agent.specs.Program.{IsFaultOf, IsOutcome, IsOutputFor};
+ghost use Rattle.ima_agent.specs.Program.{IsFaultOf, IsOutcome, IsOutputFor, Streams};
 ghost use Rattle.ima_agent.specs.Showing.{AreAllEntries, IsNoListFor, IsRefusedFor, ShowsHexadecimal, ShowsPlainEventsIn, data_of};
-ghost use Rattle.ima_agent.specs.Streaming.{Streams};
 
 use crate::hexadecimal::decode_hexadecimal;
 use crate::streaming::{DONE, Prepared, Sent, StreamFault, entries_sent, events_sent, sent_output};

@@ -2,8 +2,8 @@
 
 ghost use Rattle.std.specs.Prelude.{◌≡◌};
 ghost use Rattle.command_line.specs.declared.plan.Form.TheVariants.{Json};
+ghost use Rattle.ima_agent.specs.Program.{SendsOutput, SendsText, Streams};
 ghost use Rattle.ima_agent.specs.Showing.{ShowsEntriesOf, ShowsEventsIn};
-ghost use Rattle.ima_agent.specs.Streaming.{SendsOutput, SendsText, Streams};
 
 use agent_inputs::{AgentFiles, INPUT_LIMIT, RunFault, not_read, too_long};
 use byte_streams::{Failed, Sink, send};
