@@ -69,17 +69,14 @@ Appends lines size position old new (Err fault) =
 
 -- ---- pieces
 
--- A line comes next, and after this text it has no more room.
-abbrev pub HasNoRoom : (List ℕ → Type 0) → ℕ → List ℕ → Type 0
-HasNoRoom IsNext room text = (line : List ℕ) × IsNext line × (room < length text + length line)
-
 -- Why a piece with this text ends, after lines with the text `before`. `Last`: they are all lines. `More`: it has some, and the next line has
 -- no more room, or a fault comes next. `Longer`: it has none, and the next line, of this size, has no room.
 abbrev pub EndsSo : Series → ℕ → List ℕ → List ℕ → End → Type 0
 EndsSo lines room before text Last = lines.AreAll (before ++ text)
 EndsSo lines room before text More =
     (0 < length text)
-    × (HasNoRoom (lines.HasLine (before ++ text)) room text ⊎ ((fault : RunFault) × lines.FailsAfter (before ++ text) fault))
+    × (((line : List ℕ) × lines.HasLine (before ++ text) line × (room < length text + length line))
+    ⊎ ((fault : RunFault) × lines.FailsAfter (before ++ text) fault))
 EndsSo lines room before text (Longer size) =
     (text ≡ []) × ((line : List ℕ) × lines.HasLine before line × (size ≡ length line) × (room < size))
 
