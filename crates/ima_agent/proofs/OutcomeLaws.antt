@@ -82,20 +82,20 @@ module _ (inputs : Inputs) (log : String Global) (requested : DataShown) (old ne
   pub events_outcome : (text : List ℕ) (status : ℕ) → ShowsEventsIn bytes text status
       → IsOutcome inputs (tasks.Events log requested) Json old new text status
   events_outcome text status (inl all) = inl ((bytes, held, inl all), kept)
-  events_outcome text status (inr (front, fault, line, inl fails, told, is)) =
-      inl ((bytes, held, inr (front, fault, line, fails, told, is)), kept)
-  events_outcome text status (inr (front, fault, line, inr (inl out), told, is)) =
-      inr (inr ((bytes, held, (front, fault, line, out, told, is)), kept))
-  events_outcome text status (inr (front, fault, line, inr (inr (memory, none)), told, is)) =
+  events_outcome text status (inr (begun, fault, line, inl fails, told, is)) =
+      inl ((bytes, held, inr (begun, fault, line, fails, told, is)), kept)
+  events_outcome text status (inr (begun, fault, line, inr (inl out), told, is)) =
+      inr (inr ((bytes, held, (begun, fault, line, out, told, is)), kept))
+  events_outcome text status (inr (begun, fault, line, inr (inr (memory, none)), told, is)) =
       inr (inl (fault, inr (inr memory), inl (rw (is, none) told), kept))
 
 pub entries_outcome : (inputs : Inputs) (list : String Global) (old new : Saved) → new ≡ old → (text : List ℕ) (status : ℕ)
     → ShowsEntriesOf inputs (string_bytes list) text status → IsOutcome inputs (tasks.Entries list) Json old new text status
 entries_outcome inputs list old new kept text status (inl ((bytes, held, all), done)) = inl ((bytes, held, inl (all, done)), kept)
-entries_outcome inputs list old new kept text status (inr (front, fault, line, inl (bytes, held, fails), told, is)) =
-    inl ((bytes, held, inr (front, fault, line, fails, told, is)), kept)
-entries_outcome inputs list old new kept text status (inr (front, fault, line, inr breaks, told, is)) =
-    inr (inr ((front, fault, line, breaks, told, is), kept))
+entries_outcome inputs list old new kept text status (inr (begun, fault, line, inl (bytes, held, fails), told, is)) =
+    inl ((bytes, held, inr (begun, fault, line, fails, told, is)), kept)
+entries_outcome inputs list old new kept text status (inr (begun, fault, line, inr breaks, told, is)) =
+    inr (inr ((begun, fault, line, breaks, told, is), kept))
 
 -- ---- the answer to what was sent
 

@@ -96,4 +96,4 @@ AreInTurn lines position (piece ∷ pieces) end = IsGiven lines position piece �
 
 -- The fault has this line, and this status after it.
 abbrev pub IsLineOf : RunFault → List ℕ → ℕ → RunFault → List ℕ → ℕ → Type 0
-IsLineOf fault line status cause text answer = (cause ≡ fault) × (text ≡ line) × (answer ≡ status)
+IsLineOf fault line status other text answer = (other ≡ fault) × (text ≡ line) × (answer ≡ status)
