@@ -60,18 +60,11 @@ pub fn explanation<R: FileSystem + io::Input>(
     match failure {
         Failure::Fault { fault, task } => of_fault(rt, alloc, fault, task),
         Failure::Refused { fault, words } => of_refusal(alloc, fault, words),
-        Failure::Words { cause } => of_words(alloc, cause),
+        Failure::Words { cause } => match cause.kind() {
+            io::ErrorKind::InvalidData => shown_line(alloc, "an argument is not UTF-8"),
+            _ => Err(AllocError),
+        },
         Failure::Output => shown_line(alloc, "the output could not be written"),
-    }
-}
-
-// Why there are no arguments.
-fn of_words(alloc: Global, cause: &io::Error) -> Result<String, AllocError>
-    ensures { IfOk result (λ text. list_all is_shown (string_bytes text) ≡ true) }
-{
-    match cause.kind() {
-        io::ErrorKind::InvalidData => shown_line(alloc, "an argument is not UTF-8"),
-        _ => Err(AllocError),
     }
 }
 
@@ -87,9 +80,19 @@ fn of_fault<R: FileSystem + io::Input>(
     match fault {
         RunFault::Memory => Err(AllocError),
         RunFault::Usage => of_value_in(alloc, task),
-        RunFault::Read(name) => of_unread(rt, alloc, name, task),
-        RunFault::TooLong(_) if matches!(task, Task::Registers) => of_long_input(alloc),
-        _ => of_content(alloc, input_of(task, fault), fault),
+        RunFault::Read(_) if matches!(task, Task::Registers) => {
+            of_cause(alloc, STANDARD_INPUT, read_cause(&mut rt.reader()))
+        }
+        RunFault::Read(name) => of_cause(alloc, name, open_cause(rt, name)),
+        RunFault::TooLong(_) if matches!(task, Task::Registers) => {
+            // The fault has no name to tell standard input by.
+            let fault = RunFault::TooLong(String::from_str(alloc, STANDARD_INPUT)?);
+            shown_line(alloc, &format!(in alloc; "{fault}")?)
+        }
+        _ => match input_of(task, fault) {
+            Some(input) => shown_line(alloc, &format!(in alloc; "{input}: {fault}")?),
+            None => shown_line(alloc, &format!(in alloc; "{fault}")?),
+        },
     }
 }
 
@@ -111,55 +114,23 @@ fn of_refusal(alloc: Global, fault: &RunFault, words: &[String]) -> Result<Strin
 fn of_value_in(alloc: Global, task: &Task) -> Result<String, AllocError>
     ensures { IfOk result (λ text. list_all is_shown (string_bytes text) ≡ true) }
 {
-    match task {
-        Task::Answer(
-            Question::Judge(
-                Judge {
-                    required: Some(required),
-                    ..
-                },
-            ),
-        ) => of_value(alloc, required, "--require <BANK:A-B[,BANK:C-D..]>"),
-        Task::Answer(
-            Question::Expected {
-                registers: Some(registers),
-                ..
-            },
-        ) => of_value(alloc, registers, "--registers <A-B>"),
-        _ => shown_line(alloc, TOO_MANY_FILES),
-    }
-}
-
-// That this value of an option is refused.
-fn of_value(alloc: Global, value: &str, option: &str) -> Result<String, AllocError>
-    ensures { IfOk result (λ text. list_all is_shown (string_bytes text) ≡ true) }
-{
+    let (value, option) = match task {
+        Task::Answer(Question::Judge(judge)) => {
+            (
+                judge.required.as_deref(),
+                "--require <BANK:A-B[,BANK:C-D..]>",
+            )
+        }
+        Task::Answer(Question::Expected { registers, .. }) => {
+            (registers.as_deref(), "--registers <A-B>")
+        }
+        _ => (None, ""),
+    };
+    let Some(value) = value else {
+        return shown_line(alloc, TOO_MANY_FILES);
+    };
     let text = format!(in alloc; "error: invalid value '{value}' for '{option}'")?;
     shown_line(alloc, &text)
-}
-
-// That standard input is too long. The fault has no name to tell it by.
-fn of_long_input(alloc: Global) -> Result<String, AllocError>
-    ensures { IfOk result (λ text. list_all is_shown (string_bytes text) ≡ true) }
-{
-    let fault = RunFault::TooLong(String::from_str(alloc, STANDARD_INPUT)?);
-    shown_line(alloc, &format!(in alloc; "{fault}")?)
-}
-
-// Why the input of this name, or else standard input, could not be read.
-fn of_unread<R: FileSystem + io::Input>(
-    rt: &R,
-    alloc: Global,
-    name: &str,
-    task: &Task,
-) -> Result<String, AllocError>
-    ensures { IfOk result (λ text. list_all is_shown (string_bytes text) ≡ true) }
-{
-    if matches!(task, Task::Registers) {
-        of_cause(alloc, STANDARD_INPUT, read_cause(&mut rt.reader()))
-    } else {
-        of_cause(alloc, name, open_cause(rt, name))
-    }
 }
 
 // That the input could not be read, and the system's cause, if it is known.
@@ -196,25 +167,26 @@ fn read_cause<R: Read>(reader: &mut R) -> Option<io::Error> {
     reader.read(&mut byte).err()
 }
 
-// What is wrong with this input, or with none that is known.
-fn of_content(alloc: Global, input: Option<&str>, fault: &RunFault) -> Result<String, AllocError>
-    ensures { IfOk result (λ text. list_all is_shown (string_bytes text) ≡ true) }
-{
-    match input {
-        Some(input) => shown_line(alloc, &format!(in alloc; "{input}: {fault}")?),
-        None => shown_line(alloc, &format!(in alloc; "{fault}")?),
-    }
-}
-
 // The input that has the fault, unless the fault names it itself or is of none.
 fn input_of<'a>(task: &'a Task, fault: &RunFault) -> Option<&'a str> {
-    match fault {
-        RunFault::NotHex => Some(STANDARD_INPUT),
-        RunFault::Log(_) | RunFault::Book(BookFault::NoBank) => log_of(task),
-        RunFault::List(_) | RunFault::Replay(_) => list_of(task),
-        RunFault::Expect(_) => expected_of(task),
-        RunFault::Checkpoint(_) => checkpoint_of(task),
-        RunFault::Outcome { job, .. } => file_of(task, *job),
+    match (fault, task) {
+        (RunFault::NotHex, _) => Some(STANDARD_INPUT),
+        (RunFault::Log(_) | RunFault::Book(BookFault::NoBank), _) => log_of(task),
+        (RunFault::List(_) | RunFault::Replay(_), _) => list_of(task),
+        (RunFault::Expect(_), Task::Answer(Question::Expected { printed, .. })) => {
+            Some(printed.as_str())
+        }
+        (RunFault::Expect(_), Task::Answer(Question::Judge(judge))) => {
+            Some(judge.expected.as_str())
+        }
+        (RunFault::Checkpoint(_), Task::Answer(Question::Judge(judge))) => match &judge.judged {
+            Judged::Verdict { resume, .. } => resume.as_deref(),
+            _ => None,
+        },
+        (RunFault::Outcome { job, .. }, Task::Measure(Measurement { files, .. })) => {
+            let name = files.get(*job as usize)?;
+            Some(name.as_str())
+        }
         _ => None,
     }
 }
@@ -225,15 +197,11 @@ fn log_of(task: &Task) -> Option<&str> {
         Task::Registers => Some(STANDARD_INPUT),
         Task::Measure(Measurement { log, .. })
         | Task::Answer(Question::LogRegisters { log })
-        | Task::Answer(
-            Question::Judge(
-                Judge {
-                    judged: Judged::Verdict { log, .. } | Judged::Places { log },
-                    ..
-                },
-            ),
-        )
         | Task::Events { log, .. } => Some(log.as_str()),
+        Task::Answer(Question::Judge(judge)) => match &judge.judged {
+            Judged::Verdict { log, .. } | Judged::Places { log } => Some(log.as_str()),
+            Judged::ListVerdict => None,
+        },
         _ => None,
     }
 }
@@ -244,41 +212,6 @@ fn list_of(task: &Task) -> Option<&str> {
         Task::Answer(Question::Judge(Judge { list, .. }))
         | Task::Answer(Question::ListRegisters { list })
         | Task::Entries { list } => Some(list.as_str()),
-        _ => None,
-    }
-}
-
-// The text of expected registers of a task, or that from which it makes them.
-fn expected_of(task: &Task) -> Option<&str> {
-    match task {
-        Task::Answer(Question::Judge(Judge { expected, .. })) => Some(expected.as_str()),
-        Task::Answer(Question::Expected { printed, .. }) => Some(printed.as_str()),
-        _ => None,
-    }
-}
-
-// The checkpoint that a task goes on from.
-fn checkpoint_of(task: &Task) -> Option<&str> {
-    match task {
-        Task::Answer(
-            Question::Judge(
-                Judge {
-                    judged: Judged::Verdict { resume, .. },
-                    ..
-                },
-            ),
-        ) => resume.as_deref(),
-        _ => None,
-    }
-}
-
-// The file of this number, if the arguments name it.
-fn file_of(task: &Task, job: u32) -> Option<&str> {
-    match task {
-        Task::Measure(Measurement { files, .. }) => {
-            let name = files.get(job as usize)?;
-            Some(name.as_str())
-        }
         _ => None,
     }
 }

@@ -10,7 +10,6 @@ mod progress;
 mod requests;
 mod showing;
 mod streaming;
-mod streams;
 mod texts;
 mod version;
 mod words;

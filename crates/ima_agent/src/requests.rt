@@ -2,7 +2,7 @@
 
 ghost use Rattle.std.specs.Prelude.{◌≡◌, option_map};
 ghost use Rattle.judging.specs.Asking.{asked_of, compared_of, judgement_of, requires_of};
-ghost use Rattle.ima_agent.specs.Requests.{asked_by, compared_by, judgement_by, requires_by, save_by};
+ghost use Rattle.ima_agent.specs.Program.{asked_by, compared_by, judgement_by, requires_by, save_by};
 
 use command_line::{Extent, Judge, Judged, Question};
 use judging::{Comparison, Input, Request, Required, Wanted};

@@ -1,20 +1,15 @@
 //! The registers and the events of a log and the entries of a list, as the program shows them.
 
-ghost use Rattle.std.specs.Prelude.{◌≡◌, ◌⊎◌, ◌++◌, List, ℕ, None, Some, IfOk, IfErr, OnErr, OnOk};
+ghost use Rattle.std.specs.Prelude.{◌≡◌, ◌⊎◌, flat_map, None, Some, IfOk, IfErr, OnErr};
 ghost use Rattle.agent_inputs.specs.Loading.{IsInputFault, OfInput};
-ghost use Rattle.boot_log.specs.LogViews.{log_bytes};
-ghost use Rattle.boot_log.specs.Spelling.{IsLog, LogEvent};
-ghost use Rattle.boot_log.specs.declared.header.Row.{Row};
 ghost use Rattle.command_line.specs.declared.plan.Form.TheVariants.{Text};
 ghost use Rattle.command_line.specs.declared.plan.Task.TheVariants as tasks;
-ghost use Rattle.ima_agent.specs.Program.{IsFaultOf, IsOutcome, IsOutputFor};
-ghost use Rattle.ima_agent.specs.Showing.{IsNoListFor, IsNoLogFor, IsRefusedFor, ShowsHexadecimal, ShowsList, data_of};
-ghost use Rattle.ima_agent.specs.Streaming.{Streams};
-ghost use Rattle.ima_agent.specs.parts.Streaming.{ShowsPlainEventsIn, ShowsPlainEventsOf};
+ghost use Rattle.ima_list.specs.Lines.{line_of};
+ghost use Rattle.ima_agent.specs.Program.{IsFaultOf, IsOutcome, IsOutputFor, Streams};
+ghost use Rattle.ima_agent.specs.Showing.{AreAllEntries, IsNoListFor, IsRefusedFor, ShowsHexadecimal, ShowsPlainEventsIn, data_of};
 
-use crate::hexadecimal::{HexFault, decode_hexadecimal};
-use crate::streaming::{DONE, StreamFault, sent_output};
-use crate::streams::{entries_sent, events_sent};
+use crate::hexadecimal::decode_hexadecimal;
+use crate::streaming::{DONE, Prepared, Sent, StreamFault, entries_sent, events_sent, sent_output};
 use agent_inputs::{AgentFiles, RunFault, loaded};
 use boot_log::LogView;
 use boot_verdict::{EventData, write_events};
@@ -27,11 +22,7 @@ use rendering::{Output, output_on};
 use std::alloc::Global;
 
 /// The registers that differ from their reset values after the log in hexadecimal on standard input, in this form.
-pub(crate) fn shown_registers<F: AgentFiles>(
-    alloc: Global,
-    files: &mut F,
-    form: Form,
-) -> Result<Output, RunFault>
+pub(crate) fn shown_registers<F: AgentFiles>(alloc: Global, files: &mut F, form: Form) -> Prepared
     ensures shown { IfOk result (λ output. IsOutputFor (F.told files.old) tasks.Registers form (F.saved files.old) (F.saved files.new)
         output.text.items output.status) }
     ensures kept { OnErr result (F.saved files.new ≡ F.saved files.old) }
@@ -42,15 +33,11 @@ pub(crate) fn shown_registers<F: AgentFiles>(
 }
 
 // The registers after this log in hexadecimal.
-fn registers_in(alloc: Global, text: Vec<u8>, form: Form) -> Result<Output, RunFault>
+fn registers_in(alloc: Global, text: Vec<u8>, form: Form) -> Prepared
     ensures shown { IfOk result (λ output. ShowsHexadecimal form text.items output.text.items output.status) }
     ensures refused { IfErr result (IsRefusedFor text.items) }
 {
-    let bytes = match decode_hexadecimal(alloc, text) {
-        Ok(bytes) => bytes,
-        Err(HexFault::NotHex) => return Err(RunFault::NotHex),
-        Err(HexFault::Memory) => return Err(RunFault::Memory),
-    };
+    let bytes = decode_hexadecimal(alloc, text)?;
     let request = Request::LogRegisters {
         log: Input::Bytes(&bytes),
     };
@@ -66,13 +53,17 @@ pub(crate) fn events_for<F: AgentFiles, S: Sink>(
     requested: DataShown,
     form: Form,
     sink: &mut S,
-) -> Result<u8, StreamFault>
+) -> Sent
     ensures { Streams form (IsOutcome (F.told files.old) (tasks.Events log.now requested) form (F.saved files.old) (F.saved files.new))
         (S.state sink.old) (S.state sink.new) result }
 {
+    let bytes = match loaded(alloc, files, Some(log)) {
+        Ok(bytes) => bytes,
+        Err(fault) => return Err(StreamFault::Run(fault)),
+    };
     match form {
-        Form::Text => events_written(alloc, files, log, requested, sink),
-        Form::Json => events_sent(alloc, files, log, sink),
+        Form::Text => events_written(alloc, &bytes, requested, sink),
+        Form::Json => events_sent(alloc, &bytes, sink),
     }
 }
 
@@ -83,7 +74,7 @@ pub(crate) fn entries_for<F: AgentFiles, S: Sink>(
     list: &String,
     form: Form,
     sink: &mut S,
-) -> Result<u8, StreamFault>
+) -> Sent
     ensures { Streams form (IsOutcome (F.told files.old) (tasks.Entries list.now) form (F.saved files.old) (F.saved files.new))
         (S.state sink.old) (S.state sink.new) result }
 {
@@ -93,49 +84,18 @@ pub(crate) fn entries_for<F: AgentFiles, S: Sink>(
     }
 }
 
-// Writes the lines of the header and the events of the log in the file of this name, which is looked through for its fault before.
-fn events_written<F: AgentFiles, S: Sink>(
-    alloc: Global,
-    files: &mut F,
-    log: &str,
-    requested: DataShown,
-    sink: &mut S,
-) -> Result<u8, StreamFault>
-    ensures streams { Streams Text (ShowsPlainEventsOf (F.told files.old) log.now requested) (S.state sink.old) (S.state sink.new) result }
-    ensures saved { F.saved files.new ≡ F.saved files.old }
-{
-    match loaded(alloc, files, Some(log)) {
-        Ok(bytes) => events_of(alloc, &bytes, requested, sink),
-        Err(fault) => Err(StreamFault::Run(fault)),
-    }
-}
-
-// Writes those of the log in these bytes.
-fn events_of<S: Sink>(
-    alloc: Global,
-    bytes: &[u8],
-    requested: DataShown,
-    sink: &mut S,
-) -> Result<u8, StreamFault>
+// Writes the lines of the header and the events of the log in these bytes, which is looked through for its fault before.
+fn events_written<S: Sink>(alloc: Global, bytes: &[u8], requested: DataShown, sink: &mut S) -> Sent
     ensures { Streams Text (ShowsPlainEventsIn bytes.now requested) (S.state sink.old) (S.state sink.new) result }
 {
-    let log = match viewed(bytes) {
+    let log = match LogView::new(bytes) {
         Ok(log) => log,
-        Err(fault) => return Err(StreamFault::Run(fault)),
+        Err(fault) => return Err(StreamFault::Run(fault.into())),
     };
     match write_events(alloc, &log, data_of(requested), sink) {
         Ok(()) => Ok(DONE),
         Err(fault) => Err(StreamFault::Sink(fault)),
     }
-}
-
-// The log in these bytes, looked through.
-fn viewed(bytes: &[u8]) -> Result<LogView<'_>, RunFault>
-    ensures view { IfOk result (λ view. log_bytes view ≡ bytes.now) }
-    ensures sound { IfOk result (λ _. (table : List Row) × (events : List LogEvent) × IsLog bytes.now table events) }
-    ensures fault { IfErr result (IsNoLogFor bytes.now) }
-{
-    Ok(LogView::new(bytes)?)
 }
 
 // What an event's line has of its data, as the arguments request it.
@@ -149,9 +109,9 @@ fn data_of(requested: DataShown) -> EventData
 }
 
 // The lines of the entries of the list in the file of this name.
-fn shown_list<F: AgentFiles>(alloc: Global, files: &mut F, list: &str) -> Result<Output, RunFault>
-    ensures shown { IfOk result (λ output. OfInput (F.told files.old) (Some list.now) (λ bytes. ShowsList bytes output.text.items)
-        × (output.status ≡ 0)) }
+fn shown_list<F: AgentFiles>(alloc: Global, files: &mut F, list: &str) -> Prepared
+    ensures shown { IfOk result (λ output. OfInput (F.told files.old) (Some list.now)
+        (λ bytes. AreAllEntries (flat_map line_of) bytes output.text.items) × (output.status ≡ 0)) }
     ensures fault { IfErr result (λ fault. IsInputFault (F.told files.old) (Some list.now) fault
         ⊎ OfInput (F.told files.old) (Some list.now) (λ bytes. IsNoListFor bytes fault)) }
     ensures saved { F.saved files.new ≡ F.saved files.old }
@@ -162,7 +122,7 @@ fn shown_list<F: AgentFiles>(alloc: Global, files: &mut F, list: &str) -> Result
 
 // The lines of the entries of this measurement list.
 fn entries_on(alloc: Global, list: &[u8]) -> Result<Vec<u8>, RunFault>
-    ensures shown { IfOk result (λ shown. ShowsList list.now shown.items) }
+    ensures shown { IfOk result (λ shown. AreAllEntries (flat_map line_of) list.now shown.items) }
     ensures fault { IfErr result (IsNoListFor list.now) }
 {
     entries_to_the_end_are_the_reading();

@@ -6,6 +6,7 @@ pub mod ReportJson
 pub mod PlaceJson
 pub mod EventJson
 pub mod ItemLines
+pub mod ShownItems
 pub mod SentEntries
 pub mod SentEvents
 pub mod parts

@@ -1,4 +1,3 @@
 pub mod Pieces
 pub mod EntryPieces
 pub mod EventPieces
-pub mod parts

@@ -1,8 +1,8 @@
 use Rattle.std.proofs.lemmas.Result.{IfOk-weaker}
 use Rattle.command_line.specs.declared.plan.Form.TheVariants.{Text}
 use Rattle.command_line.specs.declared.plan.Task.TheVariants as tasks
-use Rattle.ima_agent.proofs.OutcomeLaws.{kept_so, outcome_sent}
-use Rattle.ima_agent.proofs.StreamingLaws.{entries_outcome, streams_so}
+use Rattle.ima_agent.proofs.OutcomeLaws.{entries_outcome, kept_so, outcome_sent}
+use Rattle.ima_agent.proofs.StreamingLaws.{streams_so}
 use Rattle.ima_agent.proofs.showing.entries_for.Goals as goal
 
 pub returns-in-Text : goal.returns-in-Text

@@ -1,18 +1,27 @@
-use Rattle.ima_agent.proofs.EventShowingLaws.{plain_outcome}
-use Rattle.ima_agent.proofs.EventStreamingLaws.{events_outcome}
+use Rattle.command_line.specs.declared.plan.Task.TheVariants as tasks
+use Rattle.ima_agent.proofs.OutcomeLaws.{events_outcome, none_sent, not_loaded, plain_outcome}
 use Rattle.ima_agent.proofs.StreamingLaws.{streams_so}
 use Rattle.ima_agent.proofs.showing.events_for.Goals as goal
+
+pub returns-in-Err : goal.returns-in-Err
+returns-in-Err g c =
+    let told = g.F.Files.told c.args.files.now in
+    none_sent told (tasks.Events c.args.log.now c.args.requested) c.args.form _ _ _ c.in-Err.fault
+    (not_loaded told c.args.log.now c.args.requested c.args.form c.in-Err.fault (rw c.deref.ensures at c.in-Err.ensures.fault))
+    c.loaded.ensures.saved
 
 pub returns-in-Text : goal.returns-in-Text
 returns-in-Text g c =
     rw c.in-Text.is
     (streams_so _ _ _ _ c.events_written.result
-    (plain_outcome (g.F.Files.told c.args.files.now) c.args.log.now c.args.requested _ _ c.events_written.ensures.saved)
-    (rw c.deref.ensures at c.events_written.ensures.streams))
+    (plain_outcome (g.F.Files.told c.args.files.now) c.args.log.now c.args.requested _ _ c.in-Ok.bytes.items
+    (rw c.deref.ensures at c.in-Ok.ensures.all) c.loaded.ensures.saved)
+    (rw c.deref-in-Text.ensures.value at c.events_written.ensures))
 
-pub returns-in-Json : goal.returns-in-Json
-returns-in-Json g c =
+pub returns : goal.returns
+returns g c =
     rw c.in-Json.is
     (streams_so _ _ _ _ c.events_sent.result
-    (events_outcome (g.F.Files.told c.args.files.now) c.args.log.now c.args.requested _ _ c.events_sent.ensures.saved)
-    (rw c.deref-in-Json.ensures at c.events_sent.ensures.streams))
+    (events_outcome (g.F.Files.told c.args.files.now) c.args.log.now c.args.requested _ _ c.in-Ok.bytes.items
+    (rw c.deref.ensures at c.in-Ok.ensures.all) c.loaded.ensures.saved)
+    (rw c.deref-in-Json.ensures.value at c.events_sent.ensures))

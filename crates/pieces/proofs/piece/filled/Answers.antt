@@ -9,7 +9,7 @@ returns-in-Err-clause-piece g c =
     let L = g.L.Lines in
     let lines = c.args.lines.now in
     IfOk-weaker c.stopped.result _ _
-    (λ piece ok. stopped_piece (L.are_before lines) (L.has_line lines) (L.are_all lines) (L.fails_after lines) (L.size lines) c.args.room c.args.start
+    (λ piece ok. stopped_piece (L.series lines) (L.size lines) c.args.room c.args.start
     c.loop-after.next c.loop-after.text.items c.in-Err.fault piece c.loop-after.invariant ok.2
     (subst (λ (t : List ℕ). 0 < length t) c.in-Err.ensures.0 ok.1) c.in-Err.ensures.1
     (ap (λ (p : Piece). p.text.items) ok.0 ∙ c.in-Err.ensures.0) (ap (λ (p : Piece). p.next) ok.0) (ap (λ (p : Piece). p.end) ok.0))
@@ -28,7 +28,7 @@ returns-in-Err-clause-fault g c =
     let L = g.L.Lines in
     let lines = c.args.lines.now in
     IfErr-weaker c.stopped.result _ _
-    (λ cause err. fails_first (L.are_before lines) (L.has_line lines) (L.are_all lines) (L.fails_after lines) (L.size lines) c.args.room c.args.start
+    (λ cause err. fails_first (L.series lines) (L.size lines) c.args.room c.args.start
     c.loop-after.next c.loop-after.text.items c.in-Err.fault cause c.loop-after.invariant err.0 (rw c.in-Err.ensures.0 at err.1)
     c.in-Err.ensures.1)
     c.stopped.ensures.err

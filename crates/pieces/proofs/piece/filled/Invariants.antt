@@ -3,8 +3,7 @@ use Rattle.pieces.proofs.PieceLaws.{HasGathered}
 use Rattle.pieces.proofs.piece.filled.Given as goal
 
 abbrev pub invariant-loop-after : goal.invariant-loop-after
-invariant-loop-after g l =
-    HasGathered (g.L.Lines.are_before l.lines) (g.L.Lines.size l.lines) l.room l.fn.start l.next l.text.items
+invariant-loop-after g l = HasGathered (g.L.Lines.series l.lines) (g.L.Lines.size l.lines) l.room l.fn.start l.next l.text.items
 
 abbrev pub decreases-loop-after : goal.decreases-loop-after
 decreases-loop-after g l = g.L.Lines.size l.lines - l.next.offset
