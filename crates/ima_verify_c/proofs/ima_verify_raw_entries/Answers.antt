@@ -7,5 +7,6 @@ use Rattle.ima_verify_c.proofs.ima_verify_raw_entries.Goals as goal
 pub returns : goal.returns
 returns c =
     let fits : SFits w32 c.give_lines.result = search rules in
-    rw (to_z-of_z fits, ← c.form_of-form.ensures) (gives_lines _ _ _ _ _ _ _ _ _ _ _ c.entry_lines-found.result c.entry_lines-found.ensures.piece
-    c.entry_lines-found.ensures.within c.entry_lines-found.ensures.reached c.entry_lines-found.ensures.none c.entry_lines-found.ensures.fault c.give_lines.ensures)
+    let found = c.entry_lines-found.ensures in
+    rw (to_z-of_z fits, ← c.form_of-form.ensures) (gives_lines _ _ _ _ _ _ _ _ _ _ _ c.entry_lines-found.result
+    found.piece found.within found.reached found.none found.fault c.give_lines.ensures)
