@@ -88,7 +88,7 @@ pub drained_all : {A : Type 0} (limit : ℕ) (old new : SourceState) {content : 
 drained_all limit old new {content} value has end = record {
   end = end;
   too_long = λ is. absurd (cc);
-  front = record { front = content; lost = has.lost };
+  prefix = record { prefix = content; lost = has.lost };
   telling = has.telling;
   counts = has.failures;
 }
@@ -98,7 +98,7 @@ pub drained_more : {A : Type 0} (limit : ℕ) (old new : SourceState) {content :
 drained_more limit old new {content} has more = record {
   end = tt;
   too_long = λ _. over old.remaining new.remaining limit content has.lost more;
-  front = record { front = content; lost = has.lost };
+  prefix = record { prefix = content; lost = has.lost };
   telling = has.telling;
   counts = has.failures;
 }
@@ -109,8 +109,8 @@ pub drained_failed : {A : Type 0} (limit : ℕ) (old mid new : SourceState) {con
 drained_failed {A} limit old mid new {content} fault has kept telling counts = record {
   end = tt;
   too_long = λ is. absurd (read_fault_is_not_too_long fault (cc));
-  front = record {
-    front = content;
+  prefix = record {
+    prefix = content;
     lost = Consumes-kept old.remaining mid.remaining new.remaining content has.lost kept;
   };
   telling = telling ∙ has.telling;

@@ -4,7 +4,7 @@ use Rattle.std.specs.Io.KnownBytes.{IsAtEnd}
 use Rattle.std.specs.Global.{Global}
 use Rattle.byte_streams.specs.declared.pieces.ReadFault.{ReadFault}
 use Rattle.byte_streams.specs.declared.pieces.ReadFault.TheVariants as reads
-use Rattle.byte_streams.specs.Streams.{LosesFront, SourceState, failures_after}
+use Rattle.byte_streams.specs.Streams.{LosesPrefix, SourceState, failures_after}
 use Rattle.agent_inputs.specs.declared.loading.LoadFault.{LoadFault}
 use Rattle.agent_inputs.specs.declared.loading.LoadFault.TheVariants.{TooLong, Source, Memory}
 use Rattle.agent_inputs.specs.declared.fault.RunFault.{RunFault}
@@ -27,11 +27,11 @@ LosesMoreThan count (Some left) None = ⊥
 LosesMoreThan count (Some left) (Some rest) = count + length rest < length left
 
 -- What loading or hashing, within a limit, takes of a source: after `Ok` all that it has left, after `TooLong` more bytes than the limit, and in
--- any case some from its front. `Source` is one failure more. Whether the source tells its bytes never changes.
+-- any case some from its start. `Source` is one failure more. Whether the source tells its bytes never changes.
 pub record Drains {A : Type 0} (limit : ℕ) (old new : SourceState) (result : Result A LoadFault) : Type 0 where
   pub end : OnOk result (IsAtEnd new.remaining)
   pub too_long : IsErrOf result TooLong → LosesMoreThan limit old.remaining new.remaining
-  pub front : LosesFront old.remaining new.remaining
+  pub prefix : LosesPrefix old.remaining new.remaining
   pub telling : is_some new.remaining ≡ is_some old.remaining
   pub counts : new.failures ≡ failures_after_load result old.failures
 

@@ -16,15 +16,15 @@ use Rattle.boot_verdict.specs.PcrReadTexts.{Begins, GivesValue, IsBankLine, IsSk
 use Rattle.boot_verdict.specs.parts.StatedLines.{SaysOnce}
 use Rattle.boot_verdict.proofs.StatedLaws.{same_expected}
 
--- ---- fronts
+-- ---- prefixes
 
--- Two texts of one length at the front of the same text are the same.
-pub same_fronts : (a b x y : List ℕ) → length a ≡ length b → a ++ x ≡ b ++ y → (a ≡ b) × (x ≡ y)
-same_fronts [] [] x y size e = (refl, e)
-same_fronts [] (second ∷ b) x y size e = absurd (omega (arith, size))
-same_fronts (first ∷ a) [] x y size e = absurd (omega (arith, size))
-same_fronts (first ∷ a) (second ∷ b) x y size e =
-    let others = same_fronts a b x y (omega (arith, size)) (ap (λ (l : List ℕ). drop 1 l) e) in
+-- Two texts of one length at the start of the same text are the same.
+pub same_prefixes : (a b x y : List ℕ) → length a ≡ length b → a ++ x ≡ b ++ y → (a ≡ b) × (x ≡ y)
+same_prefixes [] [] x y size e = (refl, e)
+same_prefixes [] (second ∷ b) x y size e = absurd (omega (arith, size))
+same_prefixes (first ∷ a) [] x y size e = absurd (omega (arith, size))
+same_prefixes (first ∷ a) (second ∷ b) x y size e =
+    let others = same_prefixes a b x y (omega (arith, size)) (ap (λ (l : List ℕ). drop 1 l) e) in
     let head : first ≡ second = ap (λ (l : List ℕ). slice_index l 0) e in
     (rw (head, others.0) refl, others.1)
 
@@ -91,14 +91,14 @@ columns_injective n m n-lt m-lt same =
 
 -- What is left of two columns without a space at their end is the number.
 pub columns_stripped : (number : Bor (List ℕ)) (found : Option (Bor (List ℕ))) (n : ℕ) → n < 24 → number.now ≡ two_columns n
-    → IfSome found (λ front. number.now ≡ front.now ++ codes " ") → IfNone found ((front : List ℕ) → number.now ≡ front ++ codes " " → ⊥)
+    → IfSome found (λ prefix. number.now ≡ prefix.now ++ codes " ") → IfNone found ((prefix : List ℕ) → number.now ≡ prefix ++ codes " " → ⊥)
     → (unwrap_or found number).now ≡ decimal n
-columns_stripped number (Some front) n lt is cut none =
+columns_stripped number (Some prefix) n lt is cut none =
     let p = in_columns n lt in
-    let e : front.now ++ 32 ∷ [] ≡ (p.first ∷ []) ++ p.second ∷ [] = sym cut ∙ is ∙ p.are in
-    let sizes : length (front.now ++ 32 ∷ []) ≡ 2 = ap length e in
-    let parts = same_fronts front.now (p.first ∷ []) (32 ∷ []) (p.second ∷ [])
-    (omega (arith, sizes, length-append front.now (32 ∷ []))) e in
+    let e : prefix.now ++ 32 ∷ [] ≡ (p.first ∷ []) ++ p.second ∷ [] = sym cut ∙ is ∙ p.are in
+    let sizes : length (prefix.now ++ 32 ∷ []) ≡ 2 = ap length e in
+    let parts = same_prefixes prefix.now (p.first ∷ []) (32 ∷ []) (p.second ∷ [])
+    (omega (arith, sizes, length-append prefix.now (32 ∷ []))) e in
     let space : p.second ≡ 32 = sym (ap (λ (l : List ℕ). slice_index l 0) parts.1) in
     elim p.kind [
       | inl short ↦ parts.0 ∙ sym short.1
@@ -111,9 +111,9 @@ columns_stripped number None n lt is cut none =
       | inr long ↦ is ∙ p.are ∙ sym long.1
     ]
 
--- The two columns at the front of a text.
-pub columns_front : (text rest : List ℕ) (n : ℕ) → n < 24 → text ≡ two_columns n ++ rest → take 2 text ≡ two_columns n
-columns_front text rest n lt is =
+-- The two columns at the start of a text.
+pub columns_prefix : (text rest : List ℕ) (n : ℕ) → n < 24 → text ≡ two_columns n ++ rest → take 2 text ≡ two_columns n
+columns_prefix text rest n lt is =
     let p = in_columns n lt in
     ap (take 2) (is ∙ ap (λ (l : List ℕ). l ++ rest) p.are) ∙ sym p.are
 
@@ -144,7 +144,7 @@ pub one_value : (bank line : List ℕ) (e other : Expected) → IsValueLine bank
 one_value bank line e other is another =
     let rest : two_columns e.register ++ (codes ": 0x" ++ is.digits) ≡ two_columns other.register ++ (codes ": 0x" ++ another.digits) =
     ap (λ (l : List ℕ). drop 4 l) (sym is.spelled ∙ another.spelled) in
-    let parts = same_fronts (two_columns e.register) (two_columns other.register) (codes ": 0x" ++ is.digits) (codes ": 0x" ++ another.digits)
+    let parts = same_prefixes (two_columns e.register) (two_columns other.register) (codes ": 0x" ++ is.digits) (codes ": 0x" ++ another.digits)
     (columns_length e.register is.exists ∙ sym (columns_length other.register another.exists)) rest in
     same_expected e other is.digits another.digits (same_name_is e.alg other.alg (is.bank_is ∙ sym another.bank_is))
     (columns_injective e.register other.register is.exists another.exists parts.0) (ap (λ (l : List ℕ). drop 4 l) parts.1)
@@ -224,7 +224,7 @@ pub after_columns : (bank line text rest : List ℕ) (n : ℕ) (e : Expected) �
 after_columns bank line text rest n e lt below columns is =
     let same : two_columns n ++ rest ≡ two_columns e.register ++ (codes ": 0x" ++ is.digits) =
     sym columns ∙ ap (λ (l : List ℕ). drop 4 l) (sym below ∙ is.spelled) in
-    (same_fronts (two_columns n) (two_columns e.register) rest (codes ": 0x" ++ is.digits)
+    (same_prefixes (two_columns n) (two_columns e.register) rest (codes ": 0x" ++ is.digits)
     (columns_length n lt ∙ sym (columns_length e.register is.exists)) same).1
 
 -- A line whose digits are no value of this algorithm gives none.

@@ -1,4 +1,4 @@
--- The places of expected registers: the least front of the steps after which a value is reached.
+-- The places of expected registers: the least prefix of the steps after which a value is reached.
 use Rattle.std.proofs.Common.{◌≡◌, ℕ, ◌+◌, ◌<◌, Bool, true, false, eqb, leb, List, [], ◌∷◌, ◌++◌, length, map, take, drop, Option, Some, None, refl, sym, ap, subst, ◌∙◌, arith, inl, inr}
 use Rattle.std.specs.Prelude.{fold}
 use Rattle.std.specs.Global.{Vec}
@@ -22,8 +22,8 @@ use Rattle.boot_verdict.specs.declared.places.Place.TheVariants.{Reset, Event, E
 use Rattle.boot_verdict.specs.declared.places.Watch.{Watch}
 use Rattle.boot_verdict.specs.declared.report.State.TheVariants as states
 use Rattle.boot_verdict.specs.declared.list_replay.ListReplay.{ListReplay}
-use Rattle.boot_verdict.specs.Places.{AreLocated, first_place, is_found, is_reached, located_on, pcr_after, place_after, place_of_front, place_on, reached_after}
-use Rattle.boot_verdict.specs.Steps.{Step, OfEvent, OfEntry, entries_as_steps, events_as_steps, has_register, least_front, pcr_at_reset, stepped, steps_of, value_after}
+use Rattle.boot_verdict.specs.Places.{AreLocated, first_place, is_found, is_reached, located_on, pcr_after, place_after, place_of_prefix, place_on, reached_after}
+use Rattle.boot_verdict.specs.Steps.{Step, OfEvent, OfEntry, entries_as_steps, events_as_steps, has_register, least_prefix, pcr_at_reset, stepped, steps_of, value_after}
 use Rattle.boot_verdict.specs.Verdicts.{is_value, pcr_after_log_and_list, row_state, state_matches}
 use Rattle.boot_verdict.specs.Following.{AreAfter, register_of}
 use Rattle.boot_verdict.specs.parts.Watches.{IsWatchAfter, located_after}
@@ -66,7 +66,7 @@ steps_back events steps = elim (eqb_tells steps 0) [
 -- ---- what a place says
 
 abbrev reaches : Expected → List ℕ → List Step → Bool
-reaches e v front = is_value e (fold (stepped e.alg e.register) v front)
+reaches e v prefix = is_value e (fold (stepped e.alg e.register) v prefix)
 
 -- The place is that of the least number of steps after which the value is reached; after none it is, if the place is not found.
 abbrev TellsPlace : ℕ → (ℕ → Bool) → Place → Type 0
@@ -78,17 +78,17 @@ pub place_tells : (events : ℕ) (e : Expected) (start : Option (List ℕ)) (all
     → TellsPlace events (λ n. is_reached e (value_after e.alg e.register start (take n all))) (first_place events e start all)
 place_tells events e None all =
     (λ steps same. absurd (two_ways (is_found (place_after events steps)) (is_place events steps) (sym (ap is_found same))), λ none steps. refl)
-place_tells events e (Some v) all = by (least_front (reaches e v) all) (least_tells (reaches e v) all)
+place_tells events e (Some v) all = by (least_prefix (reaches e v) all) (least_tells (reaches e v) all)
   where
-    by : (found : Option (List Step)) → TellsLeast (reaches e v) all found → TellsPlace events (λ n. reaches e v (take n all)) (place_of_front events found)
+    by : (found : Option (List Step)) → TellsLeast (reaches e v) all found → TellsPlace events (λ n. reaches e v (take n all)) (place_of_prefix events found)
     by None tells =
         (λ steps same. absurd (two_ways (is_found (place_after events steps)) (is_place events steps) (sym (ap is_found same))), λ none. tells)
-    by (Some front) tells = (
+    by (Some prefix) tells = (
       λ steps same.
-          let many : length front ≡ steps = sym (steps_back events (length front)) ∙ ap (steps_to events) same ∙ steps_back events steps in
-          let taken : front ≡ take steps all = tells.0 ∙ ap (λ (n : ℕ). take n all) many in
+          let many : length prefix ≡ steps = sym (steps_back events (length prefix)) ∙ ap (steps_to events) same ∙ steps_back events steps in
+          let taken : prefix ≡ take steps all = tells.0 ∙ ap (λ (n : ℕ). take n all) many in
           (subst (λ (l : List Step). reaches e v l ≡ true) taken tells.1, λ fewer lt. tells.2 fewer (omega (arith, many, lt))),
-      λ none. absurd (two_ways (is_found (place_after events (length front))) (is_place events (length front)) none),
+      λ none. absurd (two_ways (is_found (place_after events (length prefix))) (is_place events (length prefix)) none),
     )
 
 -- After all steps the register is that of the log and the list.
@@ -137,11 +137,11 @@ found_stays Nowhere next reached found = absurd cc
 found_stays Absent next reached found = absurd cc
 
 placed : (events : ℕ) (found : Option (List Step)) (steps : List Step) (passes : Bool)
-    → place_of_front events (or_all found steps passes) ≡ place_with (place_of_front events found) (place_after events (length steps)) passes
+    → place_of_prefix events (or_all found steps passes) ≡ place_with (place_of_prefix events found) (place_after events (length steps)) passes
 placed events None steps true = refl
 placed events None steps false = refl
-placed events (Some front) steps passes =
-    sym (found_stays (place_after events (length front)) (place_after events (length steps)) passes (is_place events (length front)))
+placed events (Some prefix) steps passes =
+    sym (found_stays (place_after events (length prefix)) (place_after events (length steps)) passes (is_place events (length prefix)))
 
 -- The place with one more step: the old one, or that after all the steps if the value is reached now.
 place_more : (events : ℕ) (e : Expected) (start : Option (List ℕ)) (steps : List Step) (step : Step)
@@ -150,22 +150,22 @@ place_more : (events : ℕ) (e : Expected) (start : Option (List ℕ)) (steps : 
     (is_reached e (value_after e.alg e.register start (steps ++ step ∷ [])))
 place_more events e None steps step = refl
 place_more events e (Some v) steps step =
-    ap (place_of_front events) (least_more (reaches e v) steps step)
-    ∙ placed events (least_front (reaches e v) steps) (steps ++ step ∷ []) (reaches e v (steps ++ step ∷ []))
+    ap (place_of_prefix events) (least_more (reaches e v) steps step)
+    ∙ placed events (least_prefix (reaches e v) steps) (steps ++ step ∷ []) (reaches e v (steps ++ step ∷ []))
 
 -- A step of another register changes no place.
 kept : (events : ℕ) (found : Option (List Step)) (steps : List Step) (passes : Bool) → (found ≡ None → passes ≡ false)
-    → place_of_front events (or_all found steps passes) ≡ place_of_front events found
+    → place_of_prefix events (or_all found steps passes) ≡ place_of_prefix events found
 kept events None steps true quiet = let fails = quiet refl in absurd cc
 kept events None steps false quiet = refl
-kept events (Some front) steps passes quiet = refl
+kept events (Some prefix) steps passes quiet = refl
 
 place_quiet : (events : ℕ) (e : Expected) (start : Option (List ℕ)) (steps : List Step) (step : Step) → eqb e.register (register_of step) ≡ false
     → first_place events e start (steps ++ step ∷ []) ≡ first_place events e start steps
 place_quiet events e None steps step other = refl
 place_quiet events e (Some v) steps step other =
-    ap (place_of_front events) (least_more (reaches e v) steps step)
-    ∙ kept events (least_front (reaches e v) steps) (steps ++ step ∷ []) (reaches e v (steps ++ step ∷ []))
+    ap (place_of_prefix events) (least_more (reaches e v) steps step)
+    ∙ kept events (least_prefix (reaches e v) steps) (steps ++ step ∷ []) (reaches e v (steps ++ step ∷ []))
     (λ none. ap (is_value e) (value_quiet e.alg e.register v steps step other)
     ∙ ap (reaches e v) (sym (take_all (length steps) steps (omega arith)))
     ∙ subst (TellsLeast (reaches e v) steps) none (least_tells (reaches e v) steps) (length steps))

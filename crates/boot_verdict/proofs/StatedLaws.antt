@@ -52,18 +52,18 @@ distinct_more (x ∷ expected) e distinct none =
     let both = both_false (same_register x e) (list_any (λ y. same_register y e) expected) none in
     (all_more x e expected distinct.0 both.0, distinct_more expected e distinct.1 both.1)
 
-all_at : (x e : Expected) (front back : List Expected) → AllByRecursion (λ y. same_register x y ≡ false) (front ++ e ∷ back)
+all_at : (x e : Expected) (prefix back : List Expected) → AllByRecursion (λ y. same_register x y ≡ false) (prefix ++ e ∷ back)
     → same_register x e ≡ false
 all_at x e [] back all = all.0
-all_at x e (y ∷ front) back all = all_at x e front back all.1
+all_at x e (y ∷ prefix) back all = all_at x e prefix back all.1
 
-distinct_apart : (front : List Expected) (e : Expected) (back : List Expected) → IsDistinct same_register (front ++ e ∷ back)
-    → list_any (λ x. same_register x e) front ≡ false
+distinct_apart : (prefix : List Expected) (e : Expected) (back : List Expected) → IsDistinct same_register (prefix ++ e ∷ back)
+    → list_any (λ x. same_register x e) prefix ≡ false
 unfolding IsDistinct
 distinct_apart [] e back distinct = refl
-distinct_apart (x ∷ front) e back distinct =
-    ap (λ (b : Bool). b || list_any (λ y. same_register y e) front) (all_at x e front back distinct.0)
-    ∙ distinct_apart front e back distinct.1
+distinct_apart (x ∷ prefix) e back distinct =
+    ap (λ (b : Bool). b || list_any (λ y. same_register y e) prefix) (all_at x e prefix back distinct.0)
+    ∙ distinct_apart prefix e back distinct.1
 
 -- ---- one more line
 
@@ -101,15 +101,15 @@ module _ {Place : Type 0} (Says : Saying Place) where
   )
 
   -- What the others say, where the first lines lead to this place and state these registers.
-  say_parted : SaysOnce Says → (before rest : List (List ℕ)) (start place end : Place) (expected front : List Expected)
-      → SayAll Says start (before ++ rest) end expected → SayAll Says start before place front
-      → (back : List Expected) × (expected ≡ front ++ back) × SayAll Says place rest end back
-  say_parted one [] rest start place end expected front all some = (
+  say_parted : SaysOnce Says → (before rest : List (List ℕ)) (start place end : Place) (expected prefix : List Expected)
+      → SayAll Says start (before ++ rest) end expected → SayAll Says start before place prefix
+      → (back : List Expected) × (expected ≡ prefix ++ back) × SayAll Says place rest end back
+  say_parted one [] rest start place end expected prefix all some = (
     expected,
     ap (λ (l : List Expected). l ++ expected) (sym some.1),
     subst (λ (p : Place). SayAll Says p rest end expected) (sym some.0) all,
   )
-  say_parted one (line ∷ before) rest start place end expected front all some =
+  say_parted one (line ∷ before) rest start place end expected prefix all some =
       let same = one.once start all.0 some.0 line all.1 some.1 all.3 some.3 in
       let others = say_parted one before rest some.0 place end all.2 some.2
       (subst (λ (p : Place). SayAll Says p (before ++ rest) end all.2) same.0 all.4) some.4 in (

@@ -127,9 +127,9 @@ decimal_above n small = digits_above (decimal n) ((decimal_is_IsNumeral n small)
 abbrev pub AllShown : List ℕ → Type 0
 AllShown bytes = AllByRecursion (λ byte. 13 < byte) bytes
 
-pub shown_join : (front rest : List ℕ) → AllAbove front → AllShown rest → AllShown (front ++ rest)
+pub shown_join : (prefix rest : List ℕ) → AllAbove prefix → AllShown rest → AllShown (prefix ++ rest)
 shown_join [] rest all others = others
-shown_join (first ∷ front) rest all others = (omega (arith, all.0), shown_join front rest all.1 others)
+shown_join (first ∷ prefix) rest all others = (omega (arith, all.0), shown_join prefix rest all.1 others)
 
 pub shown : (bytes : List ℕ) → AllAbove bytes → AllShown bytes
 shown [] all = tt

@@ -14,10 +14,10 @@ use Rattle.boot_verdict.specs.declared.places.Located.{Located}
 use Rattle.boot_verdict.specs.declared.places.Place.{Place}
 use Rattle.boot_verdict.specs.declared.places.Place.TheVariants.{Reset, Event, Entry, Nowhere, Absent}
 use Rattle.boot_verdict.specs.ListSources.{CameWhole}
-use Rattle.boot_verdict.specs.Steps.{Step, least_front, pcr_at_reset, stepped, steps_of, value_after}
+use Rattle.boot_verdict.specs.Steps.{Step, least_prefix, pcr_at_reset, stepped, steps_of, value_after}
 use Rattle.boot_verdict.specs.Verdicts.{is_value}
 
--- ---- registers after a front of the steps
+-- ---- registers after a prefix of the steps
 
 -- The register after the first `steps` of the log's events and then of the list's entries.
 abbrev pub pcr_after : AlgSet → List LogEvent → List ListEntry → Alg → ℕ → ℕ → Option (List ℕ)
@@ -41,15 +41,15 @@ abbrev pub place_after : ℕ → ℕ → Place
 place_after events steps =
     if steps == 0 then Reset else if nat_le steps events then Event steps else Entry (steps - events - 1)
 
-abbrev pub place_of_front : ℕ → Option (List Step) → Place
-place_of_front events None = Nowhere
-place_of_front events (Some front) = place_after events (length front)
+abbrev pub place_of_prefix : ℕ → Option (List Step) → Place
+place_of_prefix events None = Nowhere
+place_of_prefix events (Some prefix) = place_after events (length prefix)
 
--- The place of the least front of the steps after which a register that begins with this value has the expected one.
+-- The place of the least prefix of the steps after which a register that begins with this value has the expected one.
 abbrev pub first_place : ℕ → Expected → Option (List ℕ) → List Step → Place
 first_place events expected None steps = Absent
 first_place events expected (Some start) steps =
-    place_of_front events (least_front (λ front. is_value expected (fold (stepped expected.alg expected.register) start front)) steps)
+    place_of_prefix events (least_prefix (λ prefix. is_value expected (fold (stepped expected.alg expected.register) start prefix)) steps)
 
 -- The place where the register first has the expected value.
 abbrev pub place_on : AlgSet → List LogEvent → List ListEntry → Expected → Place

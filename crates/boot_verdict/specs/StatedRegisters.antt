@@ -8,7 +8,7 @@ use Rattle.boot_verdict.specs.declared.expected.ExpectFault.TheVariants.{BadLine
 
 -- ---- lines
 
--- The lines, with this byte put in front of the first one.
+-- The lines, with this byte put before the first one.
 abbrev pub onto_first : ℕ → List (List ℕ) → List (List ℕ)
 onto_first byte [] = []
 onto_first byte (line ∷ lines) = (byte ∷ line) ∷ lines
@@ -44,7 +44,7 @@ SayAll {Place} Says before (line ∷ lines) after expected =
 abbrev pub same_register : Expected → Expected → Bool
 same_register first second = same_alg first.alg second.alg && (first.register == second.register)
 
--- The lines at the front of a text lead from its beginning to this place and state these registers, and no register of a bank
+-- The lines at the start of a text lead from its beginning to this place and state these registers, and no register of a bank
 -- occurs twice.
 pub record AreStated {Place : Type 0} (Says : Saying Place) (start : Place) (lines : List (List ℕ)) (place : Place) (expected : List Expected)
     : Type 0 where

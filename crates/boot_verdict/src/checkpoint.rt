@@ -1,7 +1,7 @@
 //! Where a verification stopped, and how it goes on.
 
 ghost use Rattle.std.specs.Prelude.{◌≡◌, ◌+◌, ◌^◌, ◌<◌, ℕ, is_some, List, [], length, Ok, IsOk, IfOk, IfErr, IsErrOf};
-ghost use Rattle.byte_streams.specs.Streams.{LosesFront};
+ghost use Rattle.byte_streams.specs.Streams.{LosesPrefix};
 ghost use Rattle.ima_list.specs.ListEntry.{ListEntry};
 ghost use Rattle.ima_list.specs.Spelling.{IsReading};
 ghost use Rattle.ima_list.specs.Replaying.{AreGenuine};
@@ -76,7 +76,7 @@ impl Checkpoint {
         ensures before { IfOk result (λ next. next.before ≡ self.now.before) }
         ensures fault { IfErr result (λ fault. (list : List ℕ) → IsCheckpoint list self.now
             → IsMoreFault list (R.state source.old).remaining (R.state source.new).remaining limit fault) }
-        ensures front { LosesFront (R.state source.old).remaining (R.state source.new).remaining }
+        ensures prefix { LosesPrefix (R.state source.old).remaining (R.state source.new).remaining }
         ensures telling { is_some (R.state source.new).remaining ≡ is_some (R.state source.old).remaining }
         ensures counts { (R.state source.new).failures ≡ failures_after_list result (R.state source.old).failures }
     {

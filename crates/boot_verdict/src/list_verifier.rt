@@ -2,7 +2,7 @@
 
 ghost use Rattle.std.specs.Prelude.{◌≡◌, ◌⊎◌, List, is_some, Ok, IfOk, IfErr, IsErrOf};
 ghost use Rattle.byte_fields.specs.Reading.{ReadsInMemory};
-ghost use Rattle.byte_streams.specs.Streams.{LosesFront};
+ghost use Rattle.byte_streams.specs.Streams.{LosesPrefix};
 ghost use Rattle.ima_list.specs.ListEntry.{ListEntry};
 ghost use Rattle.boot_verdict.specs.ListSources.{HoldsGenuineList, failures_after_list};
 ghost use Rattle.boot_verdict.specs.ListVerdicts.{IsListVerdictFrom, list_matches, list_verdict_of, list_verdict_on, required_list_matches};
@@ -62,8 +62,8 @@ pub fn verify_list_from<R: Source>(
         ⊎ ReadsInMemory VerifyFault.Memory list_verdict_of result (Ok (list_verdict_on entries expected.now)) }
     // Any fault is the first cause.
     ensures fault { IfErr result (IsListReplayFault (R.state list.old).remaining (R.state list.new).remaining limit) }
-    // In any case the source loses bytes from its front, and nothing else.
-    ensures front { LosesFront (R.state list.old).remaining (R.state list.new).remaining }
+    // In any case the source loses bytes from its start, and nothing else.
+    ensures prefix { LosesPrefix (R.state list.old).remaining (R.state list.new).remaining }
     ensures telling { is_some (R.state list.new).remaining ≡ is_some (R.state list.old).remaining }
     ensures counts { (R.state list.new).failures ≡ failures_after_list result (R.state list.old).failures }
 {

@@ -6,7 +6,7 @@ ghost use Rattle.pcr_banks.specs.declared.sets.AlgSet.{AlgSet};
 ghost use Rattle.boot_verdict.specs.declared.expected.Expected.{Expected};
 ghost use Rattle.pcr_banks.specs.Digests.{digest_of};
 ghost use Rattle.byte_fields.specs.Reading.{ReadsInMemory};
-ghost use Rattle.byte_streams.specs.Streams.{LosesFront};
+ghost use Rattle.byte_streams.specs.Streams.{LosesPrefix};
 ghost use Rattle.boot_log.specs.declared.header.Row.{Row as TableRow};
 ghost use Rattle.boot_log.specs.LogViews.{HasLent, log_bytes};
 ghost use Rattle.boot_log.specs.Spelling.{LogEvent, IsLog, algs_in};
@@ -76,8 +76,8 @@ pub fn locate_from<R: Source>(
     // Any fault is the first cause.
     ensures fault { IfErr result (IsVerifyFaultFrom log.now (R.state list.old).remaining (R.state list.new).remaining limit) }
     ensures memory { IsErrOf result VerifyFault.Memory → IsSomeLog log.now }
-    // In any case the source loses bytes from its front, and nothing else.
-    ensures front { LosesFront (R.state list.old).remaining (R.state list.new).remaining }
+    // In any case the source loses bytes from its start, and nothing else.
+    ensures prefix { LosesPrefix (R.state list.old).remaining (R.state list.new).remaining }
     ensures telling { is_some (R.state list.new).remaining ≡ is_some (R.state list.old).remaining }
     ensures counts { (R.state list.new).failures ≡ failures_after_list result (R.state list.old).failures }
 {

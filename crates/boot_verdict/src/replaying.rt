@@ -3,7 +3,7 @@
 ghost use Rattle.std.specs.Prelude.{◌≡◌, ◌⊎◌, List, is_some, IfOk, IfErr, IsErrOf, IsOkAnd};
 ghost use Rattle.pcr_banks.specs.declared.alg.Alg.{Alg};
 ghost use Rattle.pcr_banks.specs.Sets.{has_alg};
-ghost use Rattle.byte_streams.specs.Streams.{LosesFront};
+ghost use Rattle.byte_streams.specs.Streams.{LosesPrefix};
 ghost use Rattle.ima_list.specs.ListEntry.{ListEntry};
 ghost use Rattle.boot_verdict.specs.ListSources.{HoldsGenuineList, failures_after_list};
 ghost use Rattle.boot_verdict.specs.Replays.{IsListReplay, IsListReplayFault, IsListReplayFrom, IsListStart, every_alg};
@@ -48,8 +48,8 @@ pub fn replay_from<R: Source>(alloc: Global, list: &mut R, limit: u64) -> Result
         → IsErrOf result VerifyFault.Source ⊎ (IsErrOf result VerifyFault.Memory ⊎ IsOkAnd result (IsListReplay entries)) }
     // Any fault is the first cause.
     ensures fault { IfErr result (IsListReplayFault (R.state list.old).remaining (R.state list.new).remaining limit) }
-    // In any case the source loses bytes from its front, and nothing else.
-    ensures front { LosesFront (R.state list.old).remaining (R.state list.new).remaining }
+    // In any case the source loses bytes from its start, and nothing else.
+    ensures prefix { LosesPrefix (R.state list.old).remaining (R.state list.new).remaining }
     ensures telling { is_some (R.state list.new).remaining ≡ is_some (R.state list.old).remaining }
     ensures counts { (R.state list.new).failures ≡ failures_after_list result (R.state list.old).failures }
 {

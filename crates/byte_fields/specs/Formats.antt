@@ -1,11 +1,11 @@
--- Formats as values: which values a format can spell, how it spells them, how it reads one from the front of bytes, and which
+-- Formats as values: which values a format can spell, how it spells them, how it reads one from the start of bytes, and which
 -- bytes fail with which fault. That the four agree is proved once for each way to build a format from others.
 use Rattle.std.specs.Prelude.{◌≡◌, ℕ, zero, suc, ◌^◌, ◌*◌, ◌<◌, ◌⊎◌, Bool, true, false, if◌then◌else◌, ◌==◌, List, [], ◌∷◌, ◌++◌, length, Option, ok_or, Result, Ok, Err}
 use Rattle.std.specs.Int.{Width, w32, byte_len, to_le_bytes}
 use Rattle.byte_fields.specs.Reading.{◌>>=◌, number_at, part_at, byte_at, sized_at, items_at}
 
 pub record Format (X E : Type 0) : Type 1 where
-  -- the value at the front of the bytes and the remaining bytes, or the fault
+  -- the value at the start of the bytes and the remaining bytes, or the fault
   pub at : List ℕ → Result (X × List ℕ) E
   -- the value has a spelling
   pub Is : X → Type 0
@@ -108,7 +108,7 @@ abbrev pub either : {X E : Type 0} → Bool → Format X E → Format X E → Fo
 either true this other = this
 either false this other = other
 
--- A value at the front of the next `count` bytes, and the rest of these bytes.
+-- A value at the start of the next `count` bytes, and the rest of these bytes.
 abbrev pub within : {X E : Type 0} → E → ℕ → Format X E → Format (X × List ℕ) E
 within fault count format = record {
   at = λ bytes. part_at fault count bytes >>= λ region. format.at region.0 >>= λ x. Ok (x, region.1);

@@ -11,6 +11,6 @@ mod sending;
 mod streams;
 
 pub use memory::{SliceSource, VecSink};
-pub use pieces::{PieceReader, ReadFault, remove_front};
+pub use pieces::{PieceReader, ReadFault, remove_prefix};
 pub use sending::{send, send_pieces};
 pub use streams::{Failed, Sink, Source};

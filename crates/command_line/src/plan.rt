@@ -43,8 +43,8 @@ pub enum DataShown {
 pub enum Extent {
     /// The whole list.
     Whole,
-    /// The shortest front of the list that matches; if none does, the whole list.
-    Front,
+    /// The shortest prefix of the list that matches; if none does, the whole list.
+    Prefix,
 }
 
 /// In which form a result is shown.

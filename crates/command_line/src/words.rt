@@ -149,7 +149,7 @@ fn question_of(alloc: Global, command: &str, matches: &ArgMatches) -> Result<Que
         "verify" => {
             let judged = Judged::Verdict {
                 log: name_of(alloc, matches, "LOG")?,
-                extent: flag_of(matches, "prefix", Extent::Whole, Extent::Front)?,
+                extent: flag_of(matches, "prefix", Extent::Whole, Extent::Prefix)?,
                 resume: text_if_given(alloc, matches, "resume")?,
                 save: text_if_given(alloc, matches, "save")?,
             };

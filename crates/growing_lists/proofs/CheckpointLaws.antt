@@ -52,10 +52,10 @@ after_word word line rest text left is found =
     append_cancel_left word left (line ++ 10 ∷ rest) (sym found ∙ is ∙ word_first word line rest)
 
 -- The line after a word is cut where it ends.
-pub cut_line : (word line rest text left front after : List ℕ) → Lacks 10 line → text ≡ (word ++ (line ++ 10 ∷ [])) ++ rest
-    → text ≡ word ++ left → IsSplitOnce 10 left front after → (front ≡ line) × (after ≡ rest)
-cut_line word line rest text left front after lacks is found cut =
-    one_cut 10 front line after rest (lacks_from 10 front cut.lacks) lacks (sym cut.parts ∙ after_word word line rest text left is found)
+pub cut_line : (word line rest text left prefix after : List ℕ) → Lacks 10 line → text ≡ (word ++ (line ++ 10 ∷ [])) ++ rest
+    → text ≡ word ++ left → IsSplitOnce 10 left prefix after → (prefix ≡ line) × (after ≡ rest)
+cut_line word line rest text left prefix after lacks is found cut =
+    one_cut 10 prefix line after rest (lacks_from 10 prefix cut.lacks) lacks (sym cut.parts ∙ after_word word line rest text left is found)
 
 pub has_line : (word line rest text left : List ℕ) → text ≡ (word ++ (line ++ 10 ∷ [])) ++ rest → text ≡ word ++ left → LacksByte 10 left → ⊥
 has_line word line rest text left is found lacks =

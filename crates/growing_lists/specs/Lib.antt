@@ -1,6 +1,6 @@
 pub mod CheckpointData
 pub mod CheckpointTexts
-pub mod FrontTexts
+pub mod PrefixTexts
 pub mod Sessions
-pub mod Fronts
+pub mod Prefixes
 pub mod parts

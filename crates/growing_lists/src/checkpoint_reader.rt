@@ -162,7 +162,7 @@ fn is_text_of(alloc: Global, checkpoint: &Checkpoint, text: &[u8]) -> Result<boo
     Ok(written.as_slice() == text)
 }
 
-// The data that lines at the front state, which may be those of no checkpoint.
+// The data that lines at the start state, which may be those of no checkpoint.
 fn data_at(text: &[u8]) -> Option<Checkpoint>
     ensures { (known : Checkpoint) (rest : List ℕ) → IsPossible known → text.now ≡ data_lines known ++ rest
         → IsSomeAnd result (λ found. SameData found known) }
@@ -200,7 +200,7 @@ fn number_named(digits: &[u8]) -> Option<u64>
     }
 }
 
-// The boot aggregate on the line at the front, and what follows the line.
+// The boot aggregate on the line at the start, and what follows the line.
 fn stated_at(text: &[u8]) -> Option<(Option<Digest>, &[u8])>
     ensures { (stated : Option Digest) (rest : List ℕ) → IfSome stated (λ digest. IsHash (alg_of digest) (bytes_of digest))
         → text.now ≡ stated_line stated ++ rest → IsSomeAnd result (λ x. (x.0 ≡ stated) × (x.1.now ≡ rest)) }
@@ -236,7 +236,7 @@ fn section_at<'a>(word: &[u8], text: &'a [u8]) -> Option<(Banks, &'a [u8])>
     banks_at(after_prefix(word, text)?)
 }
 
-// The banks whose lines are at the front, and what follows them.
+// The banks whose lines are at the start, and what follows them.
 fn banks_at(text: &[u8]) -> Option<(Banks, &[u8])>
     ensures { (known : Banks) (rest : List ℕ) → HaveValues known → text.now ≡ banks_lines known ++ rest
         → IsSomeAnd result (λ x. SameValues x.0 known × (x.1.now ≡ rest)) }
@@ -247,7 +247,7 @@ fn banks_at(text: &[u8]) -> Option<(Banks, &[u8])>
     bank_at(banks, Alg::Sha512, rest)
 }
 
-// These banks with one whose lines are at the front, and what follows the lines.
+// These banks with one whose lines are at the start, and what follows the lines.
 fn bank_at(banks: Banks, alg: Alg, text: &[u8]) -> Option<(Banks, &[u8])>
     ensures { (known : Banks) (rest : List ℕ) → HaveValues known → HasBank banks alg
         → text.now ≡ bank_lines known alg ++ rest
@@ -259,7 +259,7 @@ fn bank_at(banks: Banks, alg: Alg, text: &[u8]) -> Option<(Banks, &[u8])>
     }
 }
 
-// What follows the line that says that the bank is not active, if this line is at the front.
+// What follows the line that says that the bank is not active, if this line is at the start.
 fn after_none(alg: Alg, text: &[u8]) -> Option<&[u8]>
     ensures found { IfSome result (λ rest. text.now ≡ name_of alg ++ (codes " none\n" ++ rest.now)) }
     ensures none { IfNone result ((rest : List ℕ) → text.now ≡ name_of alg ++ (codes " none\n" ++ rest) → ⊥) }
@@ -267,7 +267,7 @@ fn after_none(alg: Alg, text: &[u8]) -> Option<&[u8]>
     after_prefix(b" none\n", after_prefix(alg.name().as_bytes(), text)?)
 }
 
-// These banks with the registers whose lines are at the front, as many as a bank has, and what follows the lines.
+// These banks with the registers whose lines are at the start, as many as a bank has, and what follows the lines.
 fn values_at(start: Banks, text: &[u8]) -> Option<(Banks, &[u8])>
     ensures { (known : Banks) (alg : Alg) (rest : List ℕ) → HaveValues known → HasBank start alg
         → IsTrue (is_active known alg) → text.now ≡ flat_map (value_line known alg) all_registers ++ rest
@@ -283,7 +283,7 @@ fn values_at(start: Banks, text: &[u8]) -> Option<(Banks, &[u8])>
     Some((banks, rest))
 }
 
-// These banks with the register whose line is at the front, and what follows the line.
+// These banks with the register whose line is at the start, and what follows the line.
 fn value_at(banks: Banks, text: &[u8]) -> Option<(Banks, &[u8])>
     ensures { (alg : Alg) (register : ℕ) (value rest : List ℕ) → register < register_count → IsHash alg value
         → text.now ≡ register_line alg register value ++ rest

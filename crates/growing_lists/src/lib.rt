@@ -1,11 +1,11 @@
 //! The verification of a measurement list that grows: sessions, which take the list as it comes and report on what they have taken;
-//! the front of the list that the expected registers confirm; and the text of where a session stopped, from which another goes on.
+//! the prefix of the list that the expected registers confirm; and the text of where a session stopped, from which another goes on.
 #![tactic(auto)]
 
 mod checkpoint_reader;
 mod confirming;
-mod front_report;
-mod fronts;
+mod prefix_report;
+mod prefixes;
 mod same_banks;
 mod session;
 mod texts;
@@ -14,6 +14,6 @@ pub use checkpoint_reader::{
     CheckpointFault, counted_checkpoint_is_possible, leaves_room, read_checkpoint,
     same_data_is_of_the_same_lists,
 };
-pub use front_report::{FrontReport, Unconfirmed};
+pub use prefix_report::{PrefixReport, Unconfirmed};
 pub use session::{ResumeFault, Session};
-pub use texts::{write_checkpoint, write_front_report, write_required_front_report};
+pub use texts::{write_checkpoint, write_prefix_report, write_required_prefix_report};

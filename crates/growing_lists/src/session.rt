@@ -1,7 +1,7 @@
 //! A verification of a list that grows: of a log, it takes the list's bytes as they come, and reports on what it has taken.
 
 ghost use Rattle.std.specs.Prelude.{◌≡◌, List, [], Some, is_some, IsOk, IfOk, IfErr, IsErrOf, OnOk, OnErr, ℕ};
-ghost use Rattle.byte_streams.specs.Streams.{LosesFront};
+ghost use Rattle.byte_streams.specs.Streams.{LosesPrefix};
 ghost use Rattle.boot_log.specs.Reading.{log_fault};
 ghost use Rattle.boot_log.specs.declared.header.Row.{Row as TableRow};
 ghost use Rattle.boot_log.specs.LogViews.{log_bytes};
@@ -99,8 +99,8 @@ impl<'a> Session<'a> {
         // Any fault is the first cause.
         ensures fault { IfErr result (λ fault. (log list : List ℕ) → HasTaken log list self.old
             → IsMoreFault list (R.state source.old).remaining (R.state source.new).remaining (most_after self.old.known limit) fault) }
-        // In any case the source loses bytes from its front, and nothing else.
-        ensures front { LosesFront (R.state source.old).remaining (R.state source.new).remaining }
+        // In any case the source loses bytes from its start, and nothing else.
+        ensures prefix { LosesPrefix (R.state source.old).remaining (R.state source.new).remaining }
         ensures telling { is_some (R.state source.new).remaining ≡ is_some (R.state source.old).remaining }
         ensures counts { (R.state source.new).failures ≡ failures_after_list result (R.state source.old).failures }
     {

@@ -1,7 +1,7 @@
-//! The texts of checkpoints, and of reports on confirmed fronts.
+//! The texts of checkpoints, and of reports on confirmed prefixes.
 
 mod checkpoint;
-mod front_report;
+mod prefix_report;
 
 pub use checkpoint::write_checkpoint;
-pub use front_report::{write_front_report, write_required_front_report};
+pub use prefix_report::{write_prefix_report, write_required_prefix_report};

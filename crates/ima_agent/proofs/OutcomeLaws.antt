@@ -25,9 +25,9 @@ sent_less : {A B E F : Type 0} (old new : SinkState) (fault : E) (other : F) (te
 sent_less old new fault other text more sends = record {
   ok = tt;
   part = record {
-    front = sends.part.front;
+    prefix = sends.part.prefix;
     rest = sends.part.rest ++ more;
-    whole = ap (λ (t : List ℕ). t ++ more) sends.part.whole ∙ append_assoc sends.part.front sends.part.rest more;
+    whole = ap (λ (t : List ℕ). t ++ more) sends.part.whole ∙ append_assoc sends.part.prefix sends.part.rest more;
     taken = sends.part.taken;
   };
   telling = sends.telling;

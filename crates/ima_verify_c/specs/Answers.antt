@@ -56,7 +56,7 @@ pub record IsTooShort (size : ℕ) (answer : ℤ) (told : Told) (old new : List 
   pub told_is : told ≡ told_of size None
   pub same : new ≡ old
 
--- The text stands at the front of the room, the rest of which is as it was. The call returns the status, and tells the size of the text and its
+-- The text stands at the start of the room, the rest of which is as it was. The call returns the status, and tells the size of the text and its
 -- fault, if it is the line of one.
 pub record IsWritten (text : List ℕ) (status : ℕ) (fault : Option RunFault) (answer : ℤ) (told : Told) (old new : List ℕ) : Type 0 where
   pub answer_is : answer ≡ pos status

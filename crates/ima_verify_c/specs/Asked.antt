@@ -1,6 +1,6 @@
 -- What a call with these bytes asks for. All of this is this project's choice.
 use Rattle.std.specs.Prelude.{ℕ, ◌==◌, if◌then◌else◌, Bool, List, bytes_eq, codes, length, Option, None, Some, option_map}
-use Rattle.command_line.specs.declared.plan.Extent.TheVariants.{Front, Whole}
+use Rattle.command_line.specs.declared.plan.Extent.TheVariants.{Prefix, Whole}
 use Rattle.command_line.specs.declared.plan.Form.{Form}
 use Rattle.command_line.specs.declared.plan.Form.TheVariants.{Json, Text}
 use Rattle.judging.specs.Asking.{Any, Asked, Compares, Judgement, ListRegistersOf, ListVerdictOf, LogRegistersOf, Nothing, PlacesOf, Requires, These, VerdictOf}
@@ -30,10 +30,10 @@ asked_by none judgement list expected require = Compares (record {
   required = required_by none require;
 })
 
--- The verdict on a log and a list, or on its confirmed front, from a checkpoint on, if it has bytes.
+-- The verdict on a log and a list, or on its confirmed prefix, from a checkpoint on, if it has bytes.
 abbrev pub verdict_of : List ℕ → List ℕ → Bool → Judgement
 verdict_of log state prefix =
-    VerdictOf (BytesOf log) (if prefix then Front else Whole) (option_map BytesOf (given_bytes state))
+    VerdictOf (BytesOf log) (if prefix then Prefix else Whole) (option_map BytesOf (given_bytes state))
 
 -- The verdict on a log and a list; where the registers have their values; and the verdict on a list alone. `none` requires nothing.
 abbrev pub asked_of_verdict : List ℕ → List ℕ → List ℕ → List ℕ → Asked

@@ -21,7 +21,7 @@ pub(crate) fn given_bytes(bytes: &[u8]) -> Option<&[u8]>
     if bytes.is_empty() { None } else { Some(bytes) }
 }
 
-/// The verdict on a log and a list, or on its confirmed front, from a checkpoint on, if there is one.
+/// The verdict on a log and a list, or on its confirmed prefix, from a checkpoint on, if there is one.
 pub(crate) fn verdict_of<'a>(log: &'a [u8], state: &'a [u8], prefix: bool) -> Wanted<'a>
     ensures { judgement_of result ≡ verdict_of log.now state.now prefix }
 {
@@ -31,7 +31,7 @@ pub(crate) fn verdict_of<'a>(log: &'a [u8], state: &'a [u8], prefix: bool) -> Wa
     };
     Wanted::Verdict {
         log: Input::Bytes(log),
-        extent: if prefix { Extent::Front } else { Extent::Whole },
+        extent: if prefix { Extent::Prefix } else { Extent::Whole },
         resume,
     }
 }

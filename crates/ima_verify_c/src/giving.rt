@@ -152,7 +152,7 @@ fn memory_line(form: Form) -> &'static [u8]
     }
 }
 
-// Writes a text at the front of the caller's room, if it fits, and tells its size and the fault that it is the line of.
+// Writes a text at the start of the caller's room, if it fits, and tells its size and the fault that it is the line of.
 fn put(text: &[u8], status: u8, fault: Option<&RunFault>, out: &mut [u8], told: &mut Told) -> i32
     ensures { IsGiven text.now status (option_map (λ fault. fault.now) fault.entry) result told.new out.old out.new }
 {
@@ -165,7 +165,7 @@ fn put(text: &[u8], status: u8, fault: Option<&RunFault>, out: &mut [u8], told: 
     i32::from(status)
 }
 
-// Writes an answer and the text of a checkpoint each at the front of its room, if both fit.
+// Writes an answer and the text of a checkpoint each at the start of its room, if both fit.
 fn put_both(
     given: &Given,
     next: &mut [u8],

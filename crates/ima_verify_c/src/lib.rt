@@ -95,7 +95,7 @@ pub extern "C" fn ima_verify_raw_replay<'a>(
 
 /// The verdict on a list that grows, as `verify` writes it with `--prefix` and `--resume`, and in `next` the checkpoint that it saves with
 /// `--save`. `state` is the text of the checkpoint to go on from, and `more` are the list's bytes from there on; without `state`, all of
-/// them. `require` is `none` if it is enough that some register is expected. With `prefix` the report is on the confirmed front, if there is
+/// them. `require` is `none` if it is enough that some register is expected. With `prefix` the report is on the confirmed prefix, if there is
 /// one. There is a checkpoint with a verdict `match` alone: else `next_size` is 0.
 #[unsafe(no_mangle)]
 pub extern "C" fn ima_verify_raw_more<'a>(

@@ -2,12 +2,12 @@
 use Rattle.std.specs.Prelude.{ℕ, Bool, true, false, List, [], ◌∷◌, ◌++◌, codes, Option, Some, None, option_map}
 use Rattle.json.specs.Json.{Json, string}
 use Rattle.pcr_banks.specs.Digests.{bytes_of}
-use Rattle.growing_lists.specs.declared.front_report.Unconfirmed.{Unconfirmed}
+use Rattle.growing_lists.specs.declared.prefix_report.Unconfirmed.{Unconfirmed}
 use Rattle.boot_verdict.specs.declared.report.Row.{Row}
 use Rattle.boot_verdict.specs.declared.report.State.{State}
 use Rattle.boot_verdict.specs.declared.report.State.TheVariants.{Match, Differ, Absent}
 use Rattle.boot_verdict.specs.declared.requirement.BankRange.{BankRange}
-use Rattle.growing_lists.specs.FrontTexts.{unconfirmed_entry, unconfirmed_kind, unconfirmed_message, unconfirmed_number}
+use Rattle.growing_lists.specs.PrefixTexts.{unconfirmed_entry, unconfirmed_kind, unconfirmed_message, unconfirmed_number}
 use Rattle.boot_verdict.specs.ListVerdicts.{ListVerdict, list_matches, required_list_matches}
 use Rattle.boot_verdict.specs.ReportTexts.{aggregate_word}
 use Rattle.boot_verdict.specs.Requirements.{required_matches}
@@ -57,9 +57,9 @@ abbrev pub report_json : Option (List BankRange) → Bool → Verdict → Json
 report_json required is_match verdict =
     object_of (count_members verdict.events verdict.locality verdict.entries ++ outcome_members required is_match verdict)
 
--- ---- a report on a confirmed front
+-- ---- a report on a confirmed prefix
 
--- What is wrong after the front, told as a fault is.
+-- What is wrong after the prefix, told as a fault is.
 abbrev pub unconfirmed_members : Option Unconfirmed → List Member
 unconfirmed_members None = []
 unconfirmed_members (Some fault) = (
@@ -69,12 +69,12 @@ unconfirmed_members (Some fault) = (
 )
     ∷ []
 
--- The counts of the whole list, of which the front has the verdict; how much of it is confirmed, and what is wrong after that; then what
--- comes after the counts of a report on the front.
-abbrev pub front_report_json : Option (List BankRange) → Verdict → ℕ → Option Unconfirmed → Json
-front_report_json required front entries unconfirmed =
-    object_of (count_members front.events front.locality entries ++ (codes "confirmed", number_json front.entries)
-    ∷ (unconfirmed_members unconfirmed ++ outcome_members required (meets required front) front))
+-- The counts of the whole list, of which the prefix has the verdict; how much of it is confirmed, and what is wrong after that; then what
+-- comes after the counts of a report on the prefix.
+abbrev pub prefix_report_json : Option (List BankRange) → Verdict → ℕ → Option Unconfirmed → Json
+prefix_report_json required prefix entries unconfirmed =
+    object_of (count_members prefix.events prefix.locality entries ++ (codes "confirmed", number_json prefix.entries)
+    ∷ (unconfirmed_members unconfirmed ++ outcome_members required (meets required prefix) prefix))
 
 -- ---- a report on a list alone
 

@@ -1,13 +1,13 @@
 //! The lines of reports.
 
 ghost use Rattle.std.specs.Prelude.{◌≡◌, option_copied, option_map};
-ghost use Rattle.growing_lists.specs.FrontTexts.{unconfirmed_entry};
+ghost use Rattle.growing_lists.specs.PrefixTexts.{unconfirmed_entry};
 ghost use Rattle.boot_verdict.specs.declared.report.State.TheVariants.{Differ};
 ghost use Rattle.boot_verdict.specs.ListVerdicts.{list_verdict_of};
 ghost use Rattle.boot_verdict.specs.Verdicts.{verdict_of};
 ghost use Rattle.json_texts.specs.declared.faults.FaultPlace.TheVariants.{Entry};
 ghost use Rattle.json_texts.specs.JsonValues.{AppendsLine};
-ghost use Rattle.json_texts.specs.ReportJson.{count_members, front_report_json, list_meets, list_report_json, meets, outcome_members, report_json, state_members, unconfirmed_members, verdict_word};
+ghost use Rattle.json_texts.specs.ReportJson.{count_members, prefix_report_json, list_meets, list_report_json, meets, outcome_members, report_json, state_members, unconfirmed_members, verdict_word};
 ghost use Rattle.json_texts.specs.parts.WrittenParts.{WritesMembers, WritesValue};
 
 use crate::faults::{FaultPlace, FaultText, write_fault_member};
@@ -15,7 +15,7 @@ use crate::lines::{Written, begin_line, end_line};
 use crate::members::{write_hex, write_number, write_text};
 use crate::rows::{Says, write_rows};
 use boot_verdict::{ListReport, Report, Requirement, Row, State, aggregate_word};
-use growing_lists::{FrontReport, Unconfirmed};
+use growing_lists::{PrefixReport, Unconfirmed};
 use json::Writer;
 use pcr_banks::Digest;
 use std::alloc::Global;
@@ -61,25 +61,25 @@ pub fn append_list_report(
     end_line(written, writer, start, line)
 }
 
-/// Appends the line of a report on a confirmed front, in the words of [`growing_lists::write_front_report`], or of
-/// [`growing_lists::write_required_front_report`] where registers are required.
+/// Appends the line of a report on a confirmed prefix, in the words of [`growing_lists::write_prefix_report`], or of
+/// [`growing_lists::write_required_prefix_report`] where registers are required.
 ///
 /// Its members are those of [`append_report`], of which `entries` has the number of entries of the whole list. After it is
-/// `confirmed`, the number of entries of the front, and if something is wrong after the front `unconfirmed`, an object with `kind`, which is
+/// `confirmed`, the number of entries of the prefix, and if something is wrong after the prefix `unconfirmed`, an object with `kind`, which is
 /// `list` or `replay`; `number`; `entry`, where the fault names one; and `message`, the fault in words.
 ///
 /// Fails only if memory runs out; the vector then is as before.
-pub fn append_front_report(
+pub fn append_prefix_report(
     alloc: Global,
-    front: &FrontReport,
+    prefix: &PrefixReport,
     requirement: Option<&Requirement>,
     line: &mut Vec<u8>,
 ) -> Written
     ensures { AppendsLine result line.old.items line.new.items
-        (front_report_json (option_copied requirement.entry) (verdict_of front.now.report) front.now.entries front.now.unconfirmed) }
+        (prefix_report_json (option_copied requirement.entry) (verdict_of prefix.now.report) prefix.now.entries prefix.now.unconfirmed) }
 {
     let (mut writer, start) = begin_line(alloc, line);
-    let written = write_front_report(alloc, front, requirement, &mut writer);
+    let written = write_prefix_report(alloc, prefix, requirement, &mut writer);
     end_line(written, writer, start, line)
 }
 
@@ -153,27 +153,27 @@ fn write_list_report(
     Ok(())
 }
 
-fn write_front_report(
+fn write_prefix_report(
     alloc: Global,
-    front: &FrontReport,
+    prefix: &PrefixReport,
     requirement: Option<&Requirement>,
     writer: &mut Writer,
 ) -> Written
     ensures { WritesValue result writer.old writer.new
-        (front_report_json (option_copied requirement.entry) (verdict_of front.now.report) front.now.entries front.now.unconfirmed) }
+        (prefix_report_json (option_copied requirement.entry) (verdict_of prefix.now.report) prefix.now.entries prefix.now.unconfirmed) }
 {
-    let report = &front.report;
+    let report = &prefix.report;
     let is_met = meets(report, requirement);
     writer.begin_object()?;
-    write_counts(report.events, report.locality, front.entries, writer)?;
+    write_counts(report.events, report.locality, prefix.entries, writer)?;
     write_number("confirmed", report.entries as u64, writer)?;
-    write_unconfirmed(alloc, front.unconfirmed, writer)?;
+    write_unconfirmed(alloc, prefix.unconfirmed, writer)?;
     write_outcome(alloc, report, requirement, is_met, writer)?;
     writer.end_object()?;
     Ok(())
 }
 
-// Writes the member of what is wrong after the front, if anything.
+// Writes the member of what is wrong after the prefix, if anything.
 fn write_unconfirmed(alloc: Global, after: Option<Unconfirmed>, writer: &mut Writer) -> Written
     ensures { WritesMembers result writer.old writer.new (unconfirmed_members after) }
 {

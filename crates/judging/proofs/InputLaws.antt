@@ -14,12 +14,12 @@ use Rattle.boot_verdict.specs.declared.verifier.VerifyFault.TheVariants as verdi
 use Rattle.boot_verdict.specs.Checkpoints.{IsMoreFault, most_after}
 use Rattle.boot_verdict.specs.ListSources.{CameFrom, CameWhole, FailsFor, IsListFaultAfter}
 use Rattle.boot_verdict.specs.Verdicts.{IsSomeLog, IsVerdict, IsVerifyFaultFrom, verdict_of}
-use Rattle.growing_lists.specs.declared.front_report.FrontReport.{FrontReport}
-use Rattle.growing_lists.specs.declared.front_report.Unconfirmed.{Unconfirmed}
-use Rattle.growing_lists.specs.declared.front_report.Unconfirmed.TheVariants as unconfirmed
+use Rattle.growing_lists.specs.declared.prefix_report.PrefixReport.{PrefixReport}
+use Rattle.growing_lists.specs.declared.prefix_report.Unconfirmed.{Unconfirmed}
+use Rattle.growing_lists.specs.declared.prefix_report.Unconfirmed.TheVariants as unconfirmed
 use Rattle.growing_lists.specs.declared.session.Session.{Session}
 use Rattle.growing_lists.specs.CheckpointData.{IsPossible}
-use Rattle.growing_lists.specs.Fronts.{IsFrontReport, IsUnconfirmedFault, IsWrongWith, TakesUnconfirmed}
+use Rattle.growing_lists.specs.Prefixes.{IsPrefixReport, IsUnconfirmedFault, IsWrongWith, TakesUnconfirmed}
 use Rattle.growing_lists.specs.Sessions.{HasTaken, TakesMore}
 use Rattle.command_line.specs.declared.plan.Extent.{Extent}
 use Rattle.agent_inputs.specs.declared.fault.RunFault.{RunFault}
@@ -27,7 +27,7 @@ use Rattle.agent_inputs.specs.declared.fault.RunFault.TheVariants as runs
 use Rattle.agent_inputs.specs.Faults.{HasLogFault}
 use Rattle.agent_inputs.specs.Loading.{HasFailed, Inputs}
 use Rattle.judging.specs.declared.answer.Answer.TheVariants as answers
-use Rattle.judging.specs.Growing.{CanBeReadBack, Evidence, GivesInput, IsJudged, IsNext, IsNotFound, IsRefusedAfter, IsRefusedList, IsStarted, IsUnconfirmedIn, IsWrongIn, seeks_front}
+use Rattle.judging.specs.Growing.{CanBeReadBack, Evidence, GivesInput, IsJudged, IsNext, IsNotFound, IsRefusedAfter, IsRefusedList, IsStarted, IsUnconfirmedIn, IsWrongIn, seeks_prefix}
 use Rattle.judging.specs.Asking.{VerdictOf}
 use Rattle.judging.specs.Inputs.{Holds, IsFaultAt, OfInput, Where, held_in, limit_of}
 
@@ -142,11 +142,11 @@ module _ {inputs : Inputs} {list : Where} {old new : SourceState} (gives : Gives
 
   module _ (place : Where) (resume : Option Where) (extent : Extent) (evidence : Evidence) {before : Session}
       (started : IsStarted evidence.log evidence.known before) where
-    -- All of the list was taken, and if a front is sought, none is confirmed.
+    -- All of the list was taken, and if a prefix is sought, none is confirmed.
     pub whole_found : (after : Session) (report : Report) → CanBeReadBack after.known
         → ((log taken : List ℕ) → HasTaken log taken before
         → TakesMore log taken old.remaining new.remaining (most_after before.known (limit_of list)) after)
-        → (seeks_front extent evidence.required evidence.expected ≡ true → (log taken : List ℕ) → HasTaken log taken before
+        → (seeks_prefix extent evidence.required evidence.expected ≡ true → (log taken : List ℕ) → HasTaken log taken before
         → TakesUnconfirmed log taken old.remaining new.remaining (most_after before.known (limit_of list)) evidence.expected
         before.known.entries after)
         → ((log all : List ℕ) → HasTaken log all after → IsVerdict log all evidence.expected (verdict_of report))
@@ -168,26 +168,26 @@ module _ {inputs : Inputs} {list : Where} {old new : SourceState} (gives : Gives
           (n.takes.more, held n.takes.came, (n.entries, n.list_is, n.none)),
     )
 
-    pub front_found : (after : Session) (report : FrontReport) → CanBeReadBack after.known
-        → seeks_front extent evidence.required evidence.expected ≡ true
-        → ((log taken : List ℕ) → HasTaken log taken before → IsFrontReport log taken old.remaining new.remaining
+    pub prefix_found : (after : Session) (report : PrefixReport) → CanBeReadBack after.known
+        → seeks_prefix extent evidence.required evidence.expected ≡ true
+        → ((log taken : List ℕ) → HasTaken log taken before → IsPrefixReport log taken old.remaining new.remaining
         (most_after before.known (limit_of list)) evidence.expected before.known.entries after report)
-        → IsJudged inputs (VerdictOf place extent resume) list evidence (answers.Front report) (Some after.known)
-    front_found after report room sought fronts = (
+        → IsJudged inputs (VerdictOf place extent resume) list evidence (answers.Prefix report) (Some after.known)
+    prefix_found after report room sought prefixes = (
       started.boot,
       sought,
       λ taken take.
-          let f = rw started.count at (fronts evidence.log taken (started.takes taken take)) in
+          let f = rw started.count at (prefixes evidence.log taken (started.takes taken take)) in
           let more = begun f.came_is in (
             f.came ++ more.0,
             more.1,
             record {
               table = f.table;
               events = f.events;
-              front = f.front;
+              prefix = f.prefix;
               rest = f.rest ++ more.0;
               log_is = f.log_is;
-              begins = goes_on taken f.came more.0 f.front f.rest f.begins;
+              begins = goes_on taken f.came more.0 f.prefix f.rest f.begins;
               confirmed = f.confirmed;
               verdict_is = f.verdict_is;
               next_is = next_of f.taken (room _ f.taken.checkpoint);
@@ -195,7 +195,7 @@ module _ {inputs : Inputs} {list : Where} {old new : SourceState} (gives : Gives
           ),
       λ taken take.
           wrong_with taken (most_after before.known (limit_of list)) report.entries report.unconfirmed
-          (fronts evidence.log taken (started.takes taken take)).wrong,
+          (prefixes evidence.log taken (started.takes taken take)).wrong,
     )
 
     unconfirmed_in : (first : VerifyFault) → ((log taken : List ℕ) → HasTaken log taken before → IsUnconfirmedFault log taken old.remaining
@@ -227,7 +227,7 @@ module _ {inputs : Inputs} {list : Where} {old new : SourceState} (gives : Gives
     pub not_found : (first : VerifyFault) (fault : RunFault) → (first ≡ verdicts.Source → HasFailed old new)
         → ((log taken : List ℕ) → HasTaken log taken before
         → IsMoreFault taken old.remaining new.remaining (most_after before.known (limit_of list)) first)
-        → (seeks_front extent evidence.required evidence.expected ≡ true → (log taken : List ℕ) → HasTaken log taken before
+        → (seeks_prefix extent evidence.required evidence.expected ≡ true → (log taken : List ℕ) → HasTaken log taken before
         → IsUnconfirmedFault log taken old.remaining new.remaining (most_after before.known (limit_of list)) evidence.expected
         before.known.entries first) → IsFaultAt list first fault → IsNotFound inputs (VerdictOf place extent resume) list evidence fault
     not_found first fault failed is unconfirmed says =

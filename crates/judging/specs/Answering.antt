@@ -99,12 +99,12 @@ is_match Nothing verdict = matches verdict
 is_match requires verdict = matches verdict && not (length verdict.rows == 0)
 
 -- Whether all is well: the verdict is 'match', or each register was located; and no register is missing of those that are required, if a
--- text spells some. (A front is confirmed only where some register is expected.) So it is with registers, which are compared with none.
+-- text spells some. (A prefix is confirmed only where some register is expected.) So it is with registers, which are compared with none.
 abbrev pub is_well : Requires → Option (List BankRange) → Answer → Bool
 is_well requires None (answers.Report report) = is_match requires (verdict_of report)
 is_well requires (Some ranges) (answers.Report report) = required_matches ranges (verdict_of report)
-is_well requires None (answers.Front front) = matches (verdict_of front.report)
-is_well requires (Some ranges) (answers.Front front) = required_matches ranges (verdict_of front.report)
+is_well requires None (answers.Prefix prefix) = matches (verdict_of prefix.report)
+is_well requires (Some ranges) (answers.Prefix prefix) = required_matches ranges (verdict_of prefix.report)
 is_well requires None (answers.Places places) = all_found places.items
 is_well requires (Some ranges) (answers.Places places) = required_found ranges places.items
 is_well requires None (answers.ListReport report) = list_matches (list_verdict_of report)

@@ -14,7 +14,7 @@ use Rattle.judging.specs.declared.request.Required.TheVariants as required
 use Rattle.judging.specs.declared.request.Wanted.{Wanted}
 use Rattle.judging.specs.declared.request.Wanted.TheVariants as wanted
 
--- What the answer is: the verdict on a log and a list, or on a front of it, which may go on from a checkpoint; where the registers have
+-- What the answer is: the verdict on a log and a list, or on a prefix of it, which may go on from a checkpoint; where the registers have
 -- their values in a log and a list; or the verdict on a list alone.
 pub data Judgement : Type 0 where
   VerdictOf : Where → Extent → Option Where → Judgement

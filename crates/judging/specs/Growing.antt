@@ -19,15 +19,15 @@ use Rattle.boot_verdict.specs.ListVerdicts.{IsListVerdict, list_verdict_of}
 use Rattle.boot_verdict.specs.Places.{AreLocated}
 use Rattle.boot_verdict.specs.Requirements.{is_complete}
 use Rattle.boot_verdict.specs.Verdicts.{IsForged, IsSomeLog, IsVerdict, verdict_of, verdict_on}
-use Rattle.growing_lists.specs.declared.front_report.FrontReport.{FrontReport}
-use Rattle.growing_lists.specs.declared.front_report.Unconfirmed.{Unconfirmed}
-use Rattle.growing_lists.specs.declared.front_report.Unconfirmed.TheVariants as unconfirmed
+use Rattle.growing_lists.specs.declared.prefix_report.PrefixReport.{PrefixReport}
+use Rattle.growing_lists.specs.declared.prefix_report.Unconfirmed.{Unconfirmed}
+use Rattle.growing_lists.specs.declared.prefix_report.Unconfirmed.TheVariants as unconfirmed
 use Rattle.growing_lists.specs.declared.session.Session.{Session}
 use Rattle.growing_lists.specs.CheckpointData.{IsPossible}
-use Rattle.growing_lists.specs.Fronts.{AreUnconfirmed, IsConfirmed}
+use Rattle.growing_lists.specs.Prefixes.{AreUnconfirmed, IsConfirmed}
 use Rattle.growing_lists.specs.Sessions.{HasTaken, IsOfBoot}
 use Rattle.command_line.specs.declared.plan.Extent.{Extent}
-use Rattle.command_line.specs.declared.plan.Extent.TheVariants.{Whole, Front}
+use Rattle.command_line.specs.declared.plan.Extent.TheVariants.{Whole, Prefix}
 use Rattle.agent_inputs.specs.declared.fault.NotResumed.TheVariants.{OtherBoot}
 use Rattle.agent_inputs.specs.declared.fault.RunFault.{RunFault}
 use Rattle.agent_inputs.specs.declared.fault.RunFault.TheVariants as runs
@@ -46,11 +46,11 @@ pub record Evidence : Type 0 where
   pub expected : List Expected
   pub known : Option Checkpoint
 
--- A front is asked for, and one can be confirmed: some register is expected, and all that is required.
-abbrev pub seeks_front : Extent → Option (List BankRange) → List Expected → Bool
-seeks_front Whole required expected = false
-seeks_front Front None expected = not (length expected == 0)
-seeks_front Front (Some ranges) expected = is_complete ranges expected
+-- A prefix is asked for, and one can be confirmed: some register is expected, and all that is required.
+abbrev pub seeks_prefix : Extent → Option (List BankRange) → List Expected → Bool
+seeks_prefix Whole required expected = false
+seeks_prefix Prefix None expected = not (length expected == 0)
+seeks_prefix Prefix (Some ranges) expected = is_complete ranges expected
 
 -- ---- what is gone on from
 
@@ -83,15 +83,15 @@ pub record IsNext (log list : List ℕ) (next : Checkpoint) : Type 0 where
   pub boot : IsOfBoot log next
   pub possible : IsPossible next
 
--- No front of these entries is confirmed, with as many of them as were taken before, or more.
+-- No prefix of these entries is confirmed, with as many of them as were taken before, or more.
 abbrev pub AreUnconfirmedAfter : Evidence → List ListEntry → Type 0
 AreUnconfirmedAfter evidence entries =
     (table : List TableRow) (events : List LogEvent) → IsLog evidence.log table events
     → AreUnconfirmed (algs_in table) events evidence.expected (entries_taken evidence.known) entries
 
--- No front of the list is confirmed.
-abbrev pub HasNoFront : Evidence → List ℕ → Type 0
-HasNoFront evidence list = (entries : List ListEntry) × IsReading list (Ok entries) × AreUnconfirmedAfter evidence entries
+-- No prefix of the list is confirmed.
+abbrev pub HasNoPrefix : Evidence → List ℕ → Type 0
+HasNoPrefix evidence list = (entries : List ListEntry) × IsReading list (Ok entries) × AreUnconfirmedAfter evidence entries
 
 -- The list has so many entries, and this is wrong with it, if anything: the fault of its bytes, which has so many entries before it; or
 -- else that of its entries.
@@ -101,38 +101,38 @@ IsWrongIn list count (Some (unconfirmed.Replay fault)) =
     (entries : List ListEntry) × IsReading list (Ok entries) × IsReplayFault entries fault × (count ≡ length entries)
 IsWrongIn list count (Some (unconfirmed.List fault)) = IsReading list (Err fault) × (list_fault_entry fault ≡ Some count)
 
--- The report is on the confirmed front of the list, no shorter than what was taken before; and this is the checkpoint of the front.
-pub record IsFrontOf (evidence : Evidence) (list : List ℕ) (report : FrontReport) (next : Checkpoint) : Type 0 where
+-- The report is on the confirmed prefix of the list, no shorter than what was taken before; and this is the checkpoint of the prefix.
+pub record IsPrefixOf (evidence : Evidence) (list : List ℕ) (report : PrefixReport) (next : Checkpoint) : Type 0 where
   pub table : List TableRow
   pub events : List LogEvent
-  pub front : List ListEntry
+  pub prefix : List ListEntry
   pub rest : List ℕ
   pub log_is : IsLog evidence.log table events
-  pub begins : BeginsWith list front rest
-  pub confirmed : IsConfirmed (algs_in table) events evidence.expected (entries_taken evidence.known) front
-  pub verdict_is : verdict_of report.report ≡ verdict_on (algs_in table) events front evidence.expected
-  pub next_is : IsNext evidence.log (list_spelling front) next
+  pub begins : BeginsWith list prefix rest
+  pub confirmed : IsConfirmed (algs_in table) events evidence.expected (entries_taken evidence.known) prefix
+  pub verdict_is : verdict_of report.report ≡ verdict_on (algs_in table) events prefix evidence.expected
+  pub next_is : IsNext evidence.log (list_spelling prefix) next
 
--- The list is refused only if no front is confirmed: of the entries before the one that the fault names, or of all.
+-- The list is refused only if no prefix is confirmed: of the entries before the one that the fault names, or of all.
 abbrev pub IsUnconfirmedIn : Inputs → Where → Evidence → VerifyFault → Type 0
 IsUnconfirmedIn inputs place evidence (verdicts.List first) = OfList inputs place evidence.known (λ list.
     (entries : List ListEntry) × (rest : List ℕ) × (list_fault_entry first ≡ Some (length entries)) × BeginsWith list entries rest
     × AreUnconfirmedAfter evidence entries)
-IsUnconfirmedIn inputs place evidence (verdicts.Replay first) = OfList inputs place evidence.known (HasNoFront evidence)
+IsUnconfirmedIn inputs place evidence (verdicts.Replay first) = OfList inputs place evidence.known (HasNoPrefix evidence)
 IsUnconfirmedIn inputs place evidence first = Unit {0}
 
 -- The answer is on this evidence and the list of this input; and this is where to go on. A verdict is on a log that leaves the registers
--- before what is gone on from, and on the whole list, of which no front is confirmed, if one is sought; or on its confirmed front.
+-- before what is gone on from, and on the whole list, of which no prefix is confirmed, if one is sought; or on its confirmed prefix.
 abbrev pub IsJudged : Inputs → Judgement → Where → Evidence → Answer → Option Checkpoint → Type 0
 IsJudged inputs (VerdictOf place extent resume) list evidence (answers.Report report) (Some next) =
     IfSome evidence.known (IsOfBoot evidence.log)
     × OfMore inputs list evidence.known (λ taken more. (length more ≤ most_more evidence.known list)
     × IsVerdict evidence.log (taken ++ more) evidence.expected (verdict_of report) × IsNext evidence.log (taken ++ more) next)
-    × (seeks_front extent evidence.required evidence.expected ≡ true → OfList inputs list evidence.known (HasNoFront evidence))
-IsJudged inputs (VerdictOf place extent resume) list evidence (answers.Front report) (Some next) =
+    × (seeks_prefix extent evidence.required evidence.expected ≡ true → OfList inputs list evidence.known (HasNoPrefix evidence))
+IsJudged inputs (VerdictOf place extent resume) list evidence (answers.Prefix report) (Some next) =
     IfSome evidence.known (IsOfBoot evidence.log)
-    × (seeks_front extent evidence.required evidence.expected ≡ true)
-    × OfList inputs list evidence.known (λ all. IsFrontOf evidence all report next)
+    × (seeks_prefix extent evidence.required evidence.expected ≡ true)
+    × OfList inputs list evidence.known (λ all. IsPrefixOf evidence all report next)
     × OfList inputs list evidence.known (λ all. IsWrongIn all report.entries report.unconfirmed)
 IsJudged inputs (PlacesOf place) list evidence (answers.Places located) None =
     OfInput inputs list (λ all. AreLocated evidence.log all evidence.expected located.items)
@@ -154,7 +154,7 @@ IsRefusedAfter inputs place most taken (verdicts.List first) = OfInput inputs pl
 IsRefusedAfter inputs place most taken (verdicts.Replay first) = OfInput inputs place (λ more. IsForged (taken ++ more) first)
 IsRefusedAfter inputs place most taken verdicts.Source = MayFail inputs place
 IsRefusedAfter inputs place most taken verdicts.TooLong = OfInput inputs place (λ more.
-    (front : List ℕ) × (over : List ℕ) × (more ≡ front ++ over) × (length front ≡ most) × (0 < length over) × IsSound (taken ++ front))
+    (prefix : List ℕ) × (over : List ℕ) × (more ≡ prefix ++ over) × (length prefix ≡ most) × (0 < length over) × IsSound (taken ++ prefix))
 IsRefusedAfter inputs place most taken verdicts.Memory = Unit {0}
 
 -- The list of this input is refused: the first cause, or memory ran out.
@@ -162,14 +162,14 @@ abbrev pub IsRefusedList : Inputs → Where → RunFault → Type 0
 IsRefusedList inputs list fault =
     (first : VerifyFault) × IsRefusedAfter inputs list (limit_of list) [] first × IsFaultAt list first fault
 
--- The log is valid, and what the input adds to a list is refused: the first cause, or memory ran out. If a front is sought, none is
+-- The log is valid, and what the input adds to a list is refused: the first cause, or memory ran out. If a prefix is sought, none is
 -- confirmed before what is refused.
 pub record IsNotTaken (inputs : Inputs) (extent : Extent) (list : Where) (evidence : Evidence) (fault : RunFault) : Type 0 where
   pub first : VerifyFault
   pub log_is : IsSomeLog evidence.log
   pub boot : IfSome evidence.known (IsOfBoot evidence.log)
   pub first_is : (taken : List ℕ) → IsTaken evidence.known taken → IsRefusedAfter inputs list (most_more evidence.known list) taken first
-  pub unconfirmed : seeks_front extent evidence.required evidence.expected ≡ true → IsUnconfirmedIn inputs list evidence first
+  pub unconfirmed : seeks_prefix extent evidence.required evidence.expected ≡ true → IsUnconfirmedIn inputs list evidence first
   pub says : IsFaultAt list first fault
 
 -- Why there is no answer on this evidence and what the list has: the log is refused, or of another boot than the checkpoint; or the list

@@ -11,7 +11,7 @@ use boot_verdict::{
     Checkpoint, Expected, ListReport, Located, RegisterRange, Report, Requirement, all_found,
     required_found,
 };
-use growing_lists::FrontReport;
+use growing_lists::PrefixReport;
 use pcr_banks::Banks;
 
 /// What is answered.
@@ -19,8 +19,8 @@ use pcr_banks::Banks;
 pub enum Answer {
     /// A report on all of a list.
     Report(Report),
-    /// A report on its confirmed front.
-    Front(FrontReport),
+    /// A report on its confirmed prefix.
+    Prefix(PrefixReport),
     /// Where registers have their values.
     Places(Vec<Located>),
     /// A report on a list alone.
@@ -83,8 +83,8 @@ pub(crate) fn is_well(required: Required<'_>, ranges: Option<&Requirement>, answ
     match (answer, ranges) {
         (Answer::Report(report), None) => is_match(required, report),
         (Answer::Report(report), Some(requirement)) => report.meets(requirement),
-        (Answer::Front(front), None) => front.report.matches(),
-        (Answer::Front(front), Some(requirement)) => front.report.meets(requirement),
+        (Answer::Prefix(prefix), None) => prefix.report.matches(),
+        (Answer::Prefix(prefix), Some(requirement)) => prefix.report.meets(requirement),
         (Answer::Places(places), None) => all_found(places),
         (Answer::Places(places), Some(requirement)) => required_found(places, requirement),
         (Answer::ListReport(report), None) => report.matches(),

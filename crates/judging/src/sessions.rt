@@ -5,7 +5,7 @@ ghost use Rattle.boot_verdict.specs.Verdicts.{IsVerdict, verdict_of};
 ghost use Rattle.growing_lists.specs.Sessions.{HasTaken};
 ghost use Rattle.agent_inputs.specs.declared.fault.RunFault.TheVariants as runs;
 ghost use Rattle.judging.specs.Answering.{IsCheckpointText, IsNoCheckpoint, evidence_of};
-ghost use Rattle.judging.specs.Growing.{CanBeReadBack, FindsFrom, IsLogRefused, IsStarted, JudgesFrom, seeks_front};
+ghost use Rattle.judging.specs.Growing.{CanBeReadBack, FindsFrom, IsLogRefused, IsStarted, JudgesFrom, seeks_prefix};
 ghost use Rattle.judging.specs.Asking.{VerdictOf, place_of};
 ghost use Rattle.judging.specs.Inputs.{Where};
 
@@ -37,7 +37,7 @@ pub(crate) fn checkpoint_in(alloc: Global, text: &[u8]) -> Result<Checkpoint, Ru
 }
 
 impl Evidence<'_> {
-    /// The verdict on the whole list of this source, or on its confirmed front.
+    /// The verdict on the whole list of this source, or on its confirmed prefix.
     pub(crate) fn verdict_from<R: Source>(
         &self,
         alloc: Global,
@@ -53,7 +53,7 @@ impl Evidence<'_> {
         Ok((answer, Some(next_of(&session)?)))
     }
 
-    // Has the session take the list, or its confirmed front if that is sought, and reports on it.
+    // Has the session take the list, or its confirmed prefix if that is sought, and reports on it.
     fn judged_from<R: Source>(
         &self,
         alloc: Global,
@@ -65,9 +65,9 @@ impl Evidence<'_> {
         ensures { JudgesFrom extent (place_of list.entry) (evidence_of self.now) (R.state source.old) (R.state source.new)
             session.old session.new result }
     {
-        if seeks_front(extent, self.requirement.as_ref(), &self.expected) {
+        if seeks_prefix(extent, self.requirement.as_ref(), &self.expected) {
             match session.confirm(alloc, source, limit_of(list), &self.expected) {
-                Ok(Some(front)) => Ok(Answer::Front(front)),
+                Ok(Some(prefix)) => Ok(Answer::Prefix(prefix)),
                 Ok(None) => Ok(Answer::Report(report(alloc, session, &self.expected)?)),
                 Err(fault) => Err(refused(alloc, list, fault)),
             }
@@ -100,14 +100,14 @@ fn session_of(log: &[u8], known: Option<Checkpoint>) -> Result<Session<'_>, RunF
     }
 }
 
-// Whether a front is asked for that can be confirmed: some register is expected, and all that is required.
-fn seeks_front(extent: Extent, ranges: Option<&Requirement>, expected: &[Expected]) -> bool
-    ensures { result ≡ seeks_front extent (option_map (λ ranges. ranges.now) ranges.entry) expected.now }
+// Whether a prefix is asked for that can be confirmed: some register is expected, and all that is required.
+fn seeks_prefix(extent: Extent, ranges: Option<&Requirement>, expected: &[Expected]) -> bool
+    ensures { result ≡ seeks_prefix extent (option_map (λ ranges. ranges.now) ranges.entry) expected.now }
 {
     match (extent, ranges) {
         (Extent::Whole, _) => false,
-        (Extent::Front, None) => !expected.is_empty(),
-        (Extent::Front, Some(requirement)) => requirement.is_met(expected),
+        (Extent::Prefix, None) => !expected.is_empty(),
+        (Extent::Prefix, Some(requirement)) => requirement.is_met(expected),
     }
 }
 

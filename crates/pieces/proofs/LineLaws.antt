@@ -41,15 +41,15 @@ next_item Begin show line_of bytes position before after left item are begins la
       },
     )
 
--- What follows a front is the part of the bytes from where the front ends.
-pub part_is : (bytes front rest : List ℕ) (offset : ℕ) → bytes ≡ front ++ rest → offset + length rest ≡ length bytes
+-- What follows a prefix is the part of the bytes from where the prefix ends.
+pub part_is : (bytes prefix rest : List ℕ) (offset : ℕ) → bytes ≡ prefix ++ rest → offset + length rest ≡ length bytes
     → take (length bytes - offset) (drop offset bytes) ≡ rest
-part_is bytes front rest offset parts ends =
-    let size : length bytes ≡ length front + length rest = ap length parts ∙ length-append front rest in
-    let at : offset ≡ length front = omega (arith, size, ends) in
+part_is bytes prefix rest offset parts ends =
+    let size : length bytes ≡ length prefix + length rest = ap length parts ∙ length-append prefix rest in
+    let at : offset ≡ length prefix = omega (arith, size, ends) in
     let left : length bytes - offset ≡ length rest = omega (arith, ends) in
     let dropped : drop offset bytes ≡ rest =
-    ap (λ (n : ℕ). drop n bytes) at ∙ ap (drop (length front)) parts ∙ drop-append_seam front rest in
+    ap (λ (n : ℕ). drop n bytes) at ∙ ap (drop (length prefix)) parts ∙ drop-append_seam prefix rest in
     rw (left, dropped) (take_all (length rest) rest (omega arith))
 
 pub part_size : (bytes : List ℕ) (offset : ℕ) → offset ≤ length bytes

@@ -8,14 +8,14 @@ use Rattle.boot_verdict.specs.ReportTexts.{counts_text, outcome_text}
 use Rattle.boot_verdict.specs.RequiredTexts.{required_places_text, required_report_text}
 use Rattle.boot_verdict.specs.Verdicts.{verdict_of}
 use Rattle.boot_verdict.specs.WrittenTexts.{expected_text}
-use Rattle.growing_lists.specs.FrontTexts.{front_report_text, required_front_report_text}
+use Rattle.growing_lists.specs.PrefixTexts.{prefix_report_text, required_prefix_report_text}
 use Rattle.json.specs.Json.{Json}
 use Rattle.json_texts.specs.JsonValues.{line_of}
 use Rattle.json_texts.specs.PlaceJson.{places_json}
 use Rattle.json_texts.specs.RegisterJson.{expected_json, registers_json}
-use Rattle.json_texts.specs.ReportJson.{front_report_json, list_report_json, report_json}
+use Rattle.json_texts.specs.ReportJson.{prefix_report_json, list_report_json, report_json}
 use Rattle.judging.specs.declared.answer.Answer.{Answer}
-use Rattle.judging.specs.declared.answer.Answer.TheVariants.{Report, Front, Places, ListReport, Registers, Expected}
+use Rattle.judging.specs.declared.answer.Answer.TheVariants.{Report, Prefix, Places, ListReport, Registers, Expected}
 use Rattle.judging.specs.declared.answer.Answered.{Answered}
 use Rattle.command_line.specs.declared.plan.Form.{Form}
 use Rattle.command_line.specs.declared.plan.Form.TheVariants as forms
@@ -31,8 +31,8 @@ abbrev pub lines_of : Bool → Option (List BankRange) → Answer → List ℕ
 lines_of well None (Report report) =
     counts_text (verdict_of report).events (verdict_of report).locality (verdict_of report).entries ++ outcome_text (verdict_of report) well
 lines_of well (Some ranges) (Report report) = required_report_text ranges (verdict_of report)
-lines_of well None (Front front) = front_report_text (verdict_of front.report) front.entries front.unconfirmed
-lines_of well (Some ranges) (Front front) = required_front_report_text ranges (verdict_of front.report) front.entries front.unconfirmed
+lines_of well None (Prefix prefix) = prefix_report_text (verdict_of prefix.report) prefix.entries prefix.unconfirmed
+lines_of well (Some ranges) (Prefix prefix) = required_prefix_report_text ranges (verdict_of prefix.report) prefix.entries prefix.unconfirmed
 lines_of well None (Places places) = places_text places.items
 lines_of well (Some ranges) (Places places) = required_places_text ranges places.items
 lines_of well None (ListReport report) = list_report_text (list_verdict_of report)
@@ -43,7 +43,7 @@ lines_of well required (Expected expected range) = expected_text range expected.
 -- An answer as JSON.
 abbrev pub json_of : Bool → Option (List BankRange) → Answer → Json
 json_of well required (Report report) = report_json required well (verdict_of report)
-json_of well required (Front front) = front_report_json required (verdict_of front.report) front.entries front.unconfirmed
+json_of well required (Prefix prefix) = prefix_report_json required (verdict_of prefix.report) prefix.entries prefix.unconfirmed
 json_of well required (Places places) = places_json required places.items
 json_of well required (ListReport report) = list_report_json required (list_verdict_of report)
 json_of well required (Registers registers) = registers_json registers.now registers.start

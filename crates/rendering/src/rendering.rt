@@ -13,9 +13,9 @@ use boot_verdict::{
 };
 use byte_streams::{Failed, Sink, VecSink};
 use command_line::Form;
-use growing_lists::{write_front_report, write_required_front_report};
+use growing_lists::{write_prefix_report, write_required_prefix_report};
 use json_texts::{
-    append_expected, append_front_report, append_list_report, append_places, append_registers,
+    append_expected, append_prefix_report, append_list_report, append_places, append_registers,
     append_report,
 };
 use judging::{Answer, Answered};
@@ -49,8 +49,8 @@ fn write_lines<S: Sink>(given: &Answered, sink: &mut S) -> Result<(), Failed>
     match (&given.answer, given.requirement.as_ref()) {
         (Answer::Report(report), None) => write_report(report, given.is_well, sink),
         (Answer::Report(report), Some(ranges)) => write_required_report(report, ranges, sink),
-        (Answer::Front(front), None) => write_front_report(front, sink),
-        (Answer::Front(front), Some(ranges)) => write_required_front_report(front, ranges, sink),
+        (Answer::Prefix(prefix), None) => write_prefix_report(prefix, sink),
+        (Answer::Prefix(prefix), Some(ranges)) => write_required_prefix_report(prefix, ranges, sink),
         (Answer::Places(places), None) => write_places(places, sink),
         (Answer::Places(places), Some(ranges)) => write_required_places(places, ranges, sink),
         (Answer::ListReport(list), None) => write_list_report(list, sink),
@@ -85,7 +85,7 @@ fn append_line(alloc: Global, given: &Answered, line: &mut Vec<u8>) -> Result<()
     let requirement = given.requirement.as_ref();
     match &given.answer {
         Answer::Report(report) => append_report(alloc, report, requirement, given.is_well, line),
-        Answer::Front(front) => append_front_report(alloc, front, requirement, line),
+        Answer::Prefix(prefix) => append_prefix_report(alloc, prefix, requirement, line),
         Answer::Places(places) => append_places(alloc, places, requirement, line),
         Answer::ListReport(report) => append_list_report(alloc, report, requirement, line),
         Answer::Registers(banks) => append_registers(alloc, &banks.now, &banks.start, line),

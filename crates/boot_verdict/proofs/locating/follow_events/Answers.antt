@@ -16,7 +16,7 @@ loop-event-preserved g c =
     λ start bytes table all none is first.
     let before = c.loop-event.invariant start bytes table all none is first in
     let lent = (rw c.in-Some.is at c.next_event.ensures.event) bytes before.0 before.1 in
-    let later = (rw c.in-Some.is at c.next_event.ensures.front) bytes table before.0 all before.1 is in
+    let later = (rw c.in-Some.is at c.next_event.ensures.prefix) bytes table before.0 all before.1 is in
     let many = ap (λ (l : List LogEvent). length l) later.1 in
     let size : length (events_as_steps before.0) ≡ length before.0 = length-map before.0 (λ (event : LogEvent). OfEvent event) in
     let number = c.count.ensures bytes (before.0 ++ event ∷ []) lent in

@@ -1,7 +1,7 @@
 use Rattle.std.proofs.Common.{arith, ap, Err, ◌∙◌}
 use Rattle.std.proofs.lemmas.Result.{err_from_is_err_and}
 use Rattle.growing_lists.specs.parts.Confirming.{search_before}
-use Rattle.growing_lists.proofs.FrontLaws.{searches_part, searches_whole}
+use Rattle.growing_lists.proofs.PrefixLaws.{searches_part, searches_whole}
 use Rattle.growing_lists.proofs.confirming.searched.Goals as goal
 use Rattle.growing_lists.proofs.confirming.searched.Goals.{in-Ok, in-Err+in_ok-unconfirmed_of-in-Err}
 
@@ -21,12 +21,12 @@ returns-clause-found g c =
     let start = search_before known c.args.expected in
     elim c.match-follow.branch [
       | in-Ok w ↦
-          rw (w.whole-is, w.whole_after.ensures) (searches_whole known c.args.expected list _ _ c.room.result c.follow.new.self c.front_in.result is
-          c.room.ensures.bytes c.front_in.ensures.counted c.front_in.ensures.front
+          rw (w.whole-is, w.whole_after.ensures) (searches_whole known c.args.expected list _ _ c.room.result c.follow.new.self c.prefix_in.result is
+          c.room.ensures.bytes c.prefix_in.ensures.counted c.prefix_in.ensures.prefix
           ((rw w.in-Ok.is at c.follow.ensures.replays) start list all).0)
       | in-Err+in_ok-unconfirmed_of-in-Err w ↦
           let wrong = w.in_ok-unconfirmed_of-in-Err.ensures.wrong in
           let why = (rw (w.in-Err.is ∙ ap Err wrong) at c.follow.ensures.fault) start list all in
-          rw w.whole-is (searches_part known c.args.expected list _ _ c.room.result c.follow.new.self c.front_in.result is
-          c.room.ensures.bytes c.front_in.ensures.counted c.front_in.ensures.front _ why.0 why.1)
+          rw w.whole-is (searches_part known c.args.expected list _ _ c.room.result c.follow.new.self c.prefix_in.result is
+          c.room.ensures.bytes c.prefix_in.ensures.counted c.prefix_in.ensures.prefix _ why.0 why.1)
     ])

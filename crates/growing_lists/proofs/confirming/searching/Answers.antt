@@ -1,4 +1,4 @@
-use Rattle.growing_lists.proofs.FrontLaws.{known_search}
+use Rattle.growing_lists.proofs.PrefixLaws.{known_search}
 use Rattle.growing_lists.proofs.confirming.searching.Goals as goal
 
 pub returns-clause-replays : goal.returns-clause-replays

@@ -41,12 +41,12 @@ returns c = record {
           ((verdict.entries, entries, refl), (tt, (report_plain required verdict.rows rows, (tt, tt)))),
         ),
       );
-  front_report = λ required front entries unconfirmed events locality confirmed all after rows.
+  prefix_report = λ required prefix entries unconfirmed events locality confirmed all after rows.
       let told = members_joined 2 (unconfirmed_members unconfirmed) _ (unconfirmed_plain unconfirmed after)
-      (tt, (report_plain required front.rows rows, (tt, tt))) in
+      (tt, (report_plain required prefix.rows rows, (tt, tt))) in
       one_line _ (
-        (front.events, events, refl),
-        ((front.locality, locality, refl), ((entries, all, refl), ((front.entries, confirmed, refl), told))),
+        (prefix.events, events, refl),
+        ((prefix.locality, locality, refl), ((entries, all, refl), ((prefix.entries, confirmed, refl), told))),
       );
   list_report = λ required verdict entries rows.
       one_line _ ((verdict.entries, entries, refl), (report_plain required verdict.rows rows, (tt, tt)));

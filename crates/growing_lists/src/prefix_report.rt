@@ -1,14 +1,14 @@
-//! The report on the front of a list that the expected registers confirm.
+//! The report on the prefix of a list that the expected registers confirm.
 
 ghost use Rattle.std.specs.Prelude.{◌≡◌, ◌++◌, IfOk, string_bytes};
-ghost use Rattle.growing_lists.specs.FrontTexts.{entry_words, unconfirmed_entry, unconfirmed_kind, unconfirmed_message, unconfirmed_number};
+ghost use Rattle.growing_lists.specs.PrefixTexts.{entry_words, unconfirmed_entry, unconfirmed_kind, unconfirmed_message, unconfirmed_number};
 
 use boot_verdict::Report;
 use ima_list::{ListFault, ReplayFault};
 use itoa::Buffer;
 use std::alloc::{AllocError, Global};
 
-/// Why what follows a confirmed front is no list of genuine entries.
+/// Why what follows a confirmed prefix is no list of genuine entries.
 #[derive(Clone, Copy, PartialEq, Eq)]
 pub enum Unconfirmed {
     /// The bytes are no list.
@@ -48,7 +48,7 @@ impl Unconfirmed {
         }
     }
 
-    /// The fault in words, as [`crate::write_front_report`] writes them, without a line feed: `unconfirmed: replay fault 1 at entry 98`.
+    /// The fault in words, as [`crate::write_prefix_report`] writes them, without a line feed: `unconfirmed: replay fault 1 at entry 98`.
     ///
     /// Fails only if memory runs out.
     pub fn message(self, alloc: Global) -> Result<String, AllocError>
@@ -76,13 +76,13 @@ fn with_entry(words: String, entry: Option<usize>) -> Result<String, AllocError>
     Ok(text)
 }
 
-/// The report on the shortest front of a list whose verdict is `match`, and what comes after it.
+/// The report on the shortest prefix of a list whose verdict is `match`, and what comes after it.
 #[derive(Drop)]
-pub struct FrontReport {
-    /// The report on the front.
+pub struct PrefixReport {
+    /// The report on the prefix.
     pub report: Report,
     /// How many entries the whole list has; if it has a fault, those before the fault.
     pub entries: usize,
-    /// What is wrong after the front, if anything.
+    /// What is wrong after the prefix, if anything.
     pub unconfirmed: Option<Unconfirmed>,
 }

@@ -1,14 +1,14 @@
--- The text of a report on a confirmed front. All of this is this project's choice.
+-- The text of a report on a confirmed prefix. All of this is this project's choice.
 use Rattle.std.specs.Prelude.{ℕ, List, [], ◌++◌, codes, decimal, Option, Some, None}
 use Rattle.ima_list.specs.ListFaults.{list_fault_number, list_fault_entry, replay_fault_number, replay_fault_entry}
-use Rattle.growing_lists.specs.declared.front_report.Unconfirmed.{Unconfirmed}
-use Rattle.growing_lists.specs.declared.front_report.Unconfirmed.TheVariants as faults
+use Rattle.growing_lists.specs.declared.prefix_report.Unconfirmed.{Unconfirmed}
+use Rattle.growing_lists.specs.declared.prefix_report.Unconfirmed.TheVariants as faults
 use Rattle.boot_verdict.specs.declared.requirement.BankRange.{BankRange}
 use Rattle.boot_verdict.specs.ReportTexts.{counts_text, outcome_text}
 use Rattle.boot_verdict.specs.RequiredTexts.{required_outcome_text}
 use Rattle.boot_verdict.specs.Verdicts.{Verdict, matches}
 
--- ---- what is wrong after the front
+-- ---- what is wrong after the prefix
 
 -- The kind of the fault, in one word.
 abbrev pub unconfirmed_kind : Unconfirmed → List ℕ
@@ -42,20 +42,20 @@ unconfirmed_line (Some fault) = unconfirmed_message fault ++ codes "\n"
 
 -- ---- the report
 
--- The line of how many of the list's entries the front has, as `confirmed 97 of 99 entries`.
+-- The line of how many of the list's entries the prefix has, as `confirmed 97 of 99 entries`.
 abbrev pub confirmed_line : ℕ → ℕ → List ℕ
-confirmed_line front entries = codes "confirmed " ++ (decimal front ++ (codes " of " ++ (decimal entries ++ codes " entries\n")))
+confirmed_line prefix entries = codes "confirmed " ++ (decimal prefix ++ (codes " of " ++ (decimal entries ++ codes " entries\n")))
 
--- The counts of the whole list, of which the front has the verdict; how much of it is confirmed, and what is wrong after that.
-abbrev pub front_counts_text : Verdict → ℕ → Option Unconfirmed → List ℕ
-front_counts_text front entries unconfirmed =
-    counts_text front.events front.locality entries ++ (confirmed_line front.entries entries ++ unconfirmed_line unconfirmed)
+-- The counts of the whole list, of which the prefix has the verdict; how much of it is confirmed, and what is wrong after that.
+abbrev pub prefix_counts_text : Verdict → ℕ → Option Unconfirmed → List ℕ
+prefix_counts_text prefix entries unconfirmed =
+    counts_text prefix.events prefix.locality entries ++ (confirmed_line prefix.entries entries ++ unconfirmed_line unconfirmed)
 
--- The report: these counts, and then what comes after the counts of a report on the front.
-abbrev pub front_report_text : Verdict → ℕ → Option Unconfirmed → List ℕ
-front_report_text front entries unconfirmed = front_counts_text front entries unconfirmed ++ outcome_text front (matches front)
+-- The report: these counts, and then what comes after the counts of a report on the prefix.
+abbrev pub prefix_report_text : Verdict → ℕ → Option Unconfirmed → List ℕ
+prefix_report_text prefix entries unconfirmed = prefix_counts_text prefix entries unconfirmed ++ outcome_text prefix (matches prefix)
 
 -- The same where registers are required.
-abbrev pub required_front_report_text : List BankRange → Verdict → ℕ → Option Unconfirmed → List ℕ
-required_front_report_text ranges front entries unconfirmed =
-    front_counts_text front entries unconfirmed ++ required_outcome_text ranges front
+abbrev pub required_prefix_report_text : List BankRange → Verdict → ℕ → Option Unconfirmed → List ℕ
+required_prefix_report_text ranges prefix entries unconfirmed =
+    prefix_counts_text prefix entries unconfirmed ++ required_outcome_text ranges prefix

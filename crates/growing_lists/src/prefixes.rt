@@ -1,7 +1,7 @@
-//! The search for the shortest front of a list after which each expected register has its value.
+//! The search for the shortest prefix of a list after which each expected register has its value.
 
 ghost use Rattle.std.specs.Prelude.{◌≡◌};
-ghost use Rattle.growing_lists.specs.parts.Confirming.{IsConfirmingAfter, are_reached, front_at, search_after, size_of_step};
+ghost use Rattle.growing_lists.specs.parts.Confirming.{IsConfirmingAfter, are_reached, prefix_at, search_after, size_of_step};
 ghost use Rattle.boot_verdict.specs.Following.{step_of};
 
 use boot_verdict::{Checkpoint, Expected, Follow, Place, Step, is_reached};
@@ -9,7 +9,7 @@ use pcr_banks::Banks;
 
 /// A point after an entry of the list.
 #[derive(Clone, Copy)]
-pub(crate) struct Front {
+pub(crate) struct Prefix {
     /// The registers there.
     pub registers: Banks,
     /// The number of the last entry before it.
@@ -18,23 +18,23 @@ pub(crate) struct Front {
     pub bytes: u64,
 }
 
-/// Registers, and the first front at which each expected one had its value.
+/// Registers, and the first prefix at which each expected one had its value.
 #[derive(Drop)]
 pub(crate) struct Confirming<'a> {
     /// The registers.
     pub banks: Banks,
     /// How many bytes the entries so far have.
     pub bytes: u64,
-    /// The number of the first entry that may be the last of a front.
+    /// The number of the first entry that may be the last of a prefix.
     pub first: usize,
     /// The expected registers.
     pub expected: &'a [Expected],
-    /// The front, if there is one so far.
-    pub front: Option<Front>,
+    /// The prefix, if there is one so far.
+    pub prefix: Option<Prefix>,
 }
 
 impl<'a> Confirming<'a> {
-    /// After the list of this checkpoint: its end may be the front.
+    /// After the list of this checkpoint: its end may be the prefix.
     pub fn after(known: &Checkpoint, expected: &'a [Expected]) -> Self
         ensures { result ≡ search_after known.now expected.entry }
     {
@@ -43,26 +43,26 @@ impl<'a> Confirming<'a> {
             bytes: known.bytes,
             first: known.entries.saturating_sub(1),
             expected,
-            front: None,
+            prefix: None,
         };
         if known.entries == 0 {
             return search;
         }
         Confirming {
-            front: search.front_at(Place::Entry(search.first)),
+            prefix: search.prefix_at(Place::Entry(search.first)),
             ..search
         }
     }
 
-    // The front that ends at this place, if it is that of an entry that may be the last, and each expected register has its value now.
-    fn front_at(&self, place: Place) -> Option<Front>
-        ensures { result ≡ front_at self.now place }
+    // The prefix that ends at this place, if it is that of an entry that may be the last, and each expected register has its value now.
+    fn prefix_at(&self, place: Place) -> Option<Prefix>
+        ensures { result ≡ prefix_at self.now place }
     {
         let Place::Entry(last) = place else {
             return None;
         };
         if last >= self.first && are_reached(self.expected, &self.banks) {
-            Some(Front {
+            Some(Prefix {
                 registers: self.banks,
                 last,
                 bytes: self.bytes,
@@ -76,12 +76,12 @@ impl<'a> Confirming<'a> {
 impl Follow for Confirming<'_> {
     ghost is_after = { IsConfirmingAfter };
 
-    // Replays the step, and looks at the registers, if there is no front yet.
+    // Replays the step, and looks at the registers, if there is no prefix yet.
     fn step(&mut self, step: &Step<'_>, place: Place) {
         step.replay_into(&mut self.banks);
         self.bytes = self.bytes.saturating_add(size_of(step));
-        if self.front.is_none() {
-            self.front = self.front_at(place);
+        if self.prefix.is_none() {
+            self.prefix = self.prefix_at(place);
         }
     }
 }

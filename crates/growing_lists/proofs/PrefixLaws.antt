@@ -1,4 +1,4 @@
--- The search for the confirmed front: one more step, and what is found at the end.
+-- The search for the confirmed prefix: one more step, and what is found at the end.
 use Rattle.std.proofs.Common.{◌≡◌, ℕ, zero, suc, ◌+◌, ◌-◌, ◌^◌, ◌<◌, ◌≤◌, min, Bool, true, false, cond, leb, List, [], ◌∷◌, ◌++◌, length, take, drop, Option, Some, None, option_map, Ok, Err, refl, sym, ap, subst, ◌∙◌, append_assoc, append-nil, arith, inl, inr}
 use Rattle.std.specs.Prelude.{◌&&◌}
 use Rattle.std.specs.Borrow.{Bor}
@@ -24,28 +24,28 @@ use Rattle.ima_list.specs.Replaying.{AreGenuine, digests_of}
 use Rattle.ima_list.proofs.PieceLaws.{reading_to_the_end}
 use Rattle.boot_verdict.specs.declared.checkpoint.Checkpoint.{Checkpoint}
 use Rattle.boot_verdict.specs.declared.expected.Expected.{Expected}
-use Rattle.growing_lists.specs.declared.front_report.Unconfirmed.{Unconfirmed}
-use Rattle.growing_lists.specs.declared.front_report.Unconfirmed.TheVariants as unconfirmed
-use Rattle.growing_lists.specs.declared.fronts.Confirming.{Confirming}
-use Rattle.growing_lists.specs.declared.fronts.Front.{Front}
+use Rattle.growing_lists.specs.declared.prefix_report.Unconfirmed.{Unconfirmed}
+use Rattle.growing_lists.specs.declared.prefix_report.Unconfirmed.TheVariants as unconfirmed
+use Rattle.growing_lists.specs.declared.prefixes.Confirming.{Confirming}
+use Rattle.growing_lists.specs.declared.prefixes.Prefix.{Prefix}
 use Rattle.boot_verdict.specs.declared.list_replay.ListReplay.{ListReplay}
 use Rattle.boot_verdict.specs.declared.places.Place.{Place}
 use Rattle.boot_verdict.specs.declared.places.Place.TheVariants.{Reset, Event, Entry, Nowhere, Absent}
 use Rattle.boot_verdict.specs.Checkpoints.{IsCheckpoint, IsMoreFault}
 use Rattle.boot_verdict.specs.ListSources.{CameFrom}
 use Rattle.boot_verdict.specs.Places.{is_reached, place_after}
-use Rattle.boot_verdict.specs.Steps.{Step, OfEntry, entries_as_steps, least_front, value_after}
+use Rattle.boot_verdict.specs.Steps.{Step, OfEntry, entries_as_steps, least_prefix, value_after}
 use Rattle.boot_verdict.specs.Verdicts.{aggregate_of, is_good, is_match, matches, pcr_after_log_and_list, row_on, stated_aggregate, verdict_on}
-use Rattle.growing_lists.specs.parts.Confirming.{FrontIs, IsConfirmingAfter, IsFrontAt, are_reached, confirms, front_at, is_late, reached_after_steps, search_after, search_before, size_after, size_more}
+use Rattle.growing_lists.specs.parts.Confirming.{PrefixIs, IsConfirmingAfter, IsPrefixAt, are_reached, confirms, prefix_at, is_late, reached_after_steps, search_after, search_before, size_after, size_more}
 use Rattle.boot_verdict.specs.Following.{AreAfter}
 use Rattle.boot_verdict.specs.ListReplays.{IsReplayedOrForged, Replays, ReplaysAll, ReplaysMore, StopsAt}
-use Rattle.growing_lists.specs.parts.Searches.{FindsFront, IsConfirmedAt, Searches, checkpoint_at, fault_in, front_after, front_with, whole_after}
+use Rattle.growing_lists.specs.parts.Searches.{FindsPrefix, IsConfirmedAt, Searches, checkpoint_at, fault_in, prefix_after, prefix_with, whole_after}
 use Rattle.boot_verdict.proofs.PlaceLaws.{row_matches, steps_back, steps_to, two_ways}
 use Rattle.boot_verdict.proofs.StepLaws.{TellsLeast, banks_joined, entries_value, followed_by, fun_same, least_more, least_tells, none_taken, or_all, place_of_entry, replayed_after}
 
 -- ---- places
 
--- Whether an entry may be the last of a front, by the steps up to it.
+-- Whether an entry may be the last of a prefix, by the steps up to it.
 early : (first events n : ℕ) → n ≤ events + first → is_late first (place_after events n) ≡ false
 early first events n few = elim (eqb_tells n 0) [
   | inl same ↦ rw same.0 refl
@@ -73,46 +73,46 @@ reached_same : (start now : Banks) (expected : List Expected) (steps : List Step
 reached_same start now expected steps after =
     ap (λ (p : Expected → Bool). list_all p expected) (fun_same _ _ (λ e. ap (is_reached e) (after.values e.alg e.register)))
 
-front_by : {start : Confirming} {events : ℕ} {steps : List Step} {front : Front} (passes : Bool) → IsFrontAt start events steps front
-    → FrontIs start events (cond passes (Some steps) None) (cond passes (Some front) None)
-front_by true is = is
-front_by false is = tt
+prefix_by : {start : Confirming} {events : ℕ} {steps : List Step} {prefix : Prefix} (passes : Bool) → IsPrefixAt start events steps prefix
+    → PrefixIs start events (cond passes (Some steps) None) (cond passes (Some prefix) None)
+prefix_by true is = is
+prefix_by false is = tt
 
 -- After an entry the registers are looked at.
-front_here : (start now : Confirming) (events : ℕ) (steps : List Step) (last : ℕ) → place_after events (length steps) ≡ Entry last
+prefix_here : (start now : Confirming) (events : ℕ) (steps : List Step) (last : ℕ) → place_after events (length steps) ≡ Entry last
     → AreAfter start.banks steps now.banks → now.bytes ≡ size_after start.bytes steps → now.first ≡ start.first → now.expected ≡ start.expected
-    → FrontIs start events (cond (confirms start events steps) (Some steps) None) (front_at now (Entry last))
-front_here start now events steps last place banks bytes first expected =
+    → PrefixIs start events (cond (confirms start events steps) (Some steps) None) (prefix_at now (Entry last))
+prefix_here start now events steps last place banks bytes first expected =
     let from = sym first in
     let those = sym expected in
     let passes : confirms start events steps ≡ (leb now.first last && are_reached now.banks now.expected.now) =
     ap (λ (p : Place). is_late start.first p && reached_after_steps start.banks start.expected.now steps) place
     ∙ (λ i. leb (from i) last && reached_after_steps start.banks (those i).now steps)
     ∙ ap (λ (b : Bool). leb now.first last && b) (sym (reached_same start.banks now.banks now.expected.now steps banks)) in
-    rw passes (front_by (leb now.first last && are_reached now.banks now.expected.now) (record { place = place; registers = banks; size = bytes }))
+    rw passes (prefix_by (leb now.first last && are_reached now.banks now.expected.now) (record { place = place; registers = banks; size = bytes }))
 
 module _ (start : Confirming) (events : ℕ) (before : List Step) (step : Step) where
   abbrev all : List Step
   all = before ++ step ∷ []
 
-  front_next : (now : Confirming) (place : Place) → place_after events (length all) ≡ place → AreAfter start.banks all now.banks
+  prefix_next : (now : Confirming) (place : Place) → place_after events (length all) ≡ place → AreAfter start.banks all now.banks
       → now.bytes ≡ size_after start.bytes all → now.first ≡ start.first → now.expected ≡ start.expected
-      → (found : Option (List Step)) (old : Option Front) → FrontIs start events found old
-      → FrontIs start events (or_all found all (confirms start events all)) (option_or old (front_at now place))
-  front_next now place at banks bytes first expected (Some steps) (Some front) is = is
-  front_next now place at banks bytes first expected (Some steps) None is = absurd is
-  front_next now place at banks bytes first expected None (Some front) is = absurd is
-  front_next now (Entry last) at banks bytes first expected None None is = front_here start now events all last at banks bytes first expected
-  front_next now Reset at banks bytes first expected None None is = rw at tt
-  front_next now (Event number) at banks bytes first expected None None is = rw at tt
-  front_next now Nowhere at banks bytes first expected None None is = rw at tt
-  front_next now Absent at banks bytes first expected None None is = rw at tt
+      → (found : Option (List Step)) (old : Option Prefix) → PrefixIs start events found old
+      → PrefixIs start events (or_all found all (confirms start events all)) (option_or old (prefix_at now place))
+  prefix_next now place at banks bytes first expected (Some steps) (Some prefix) is = is
+  prefix_next now place at banks bytes first expected (Some steps) None is = absurd is
+  prefix_next now place at banks bytes first expected None (Some prefix) is = absurd is
+  prefix_next now (Entry last) at banks bytes first expected None None is = prefix_here start now events all last at banks bytes first expected
+  prefix_next now Reset at banks bytes first expected None None is = rw at tt
+  prefix_next now (Event number) at banks bytes first expected None None is = rw at tt
+  prefix_next now Nowhere at banks bytes first expected None None is = rw at tt
+  prefix_next now Absent at banks bytes first expected None None is = rw at tt
 
   -- After any step.
   pub search_more : (old now : Confirming) (place : Place) → IsConfirmingAfter start events before old → AreAfter old.banks (step ∷ []) now.banks
       → now.bytes ≡ size_more old.bytes step → now.first ≡ old.first → now.expected ≡ old.expected → place ≡ place_after events (length before + 1)
-      → now.front ≡ option_or old.front (front_at now place) → IsConfirmingAfter start events all now
-  search_more old now place earlier one bytes first expected at front =
+      → now.prefix ≡ option_or old.prefix (prefix_at now place) → IsConfirmingAfter start events all now
+  search_more old now place earlier one bytes first expected at prefix =
       let banks = banks_joined start.banks old.banks now.banks before (step ∷ []) earlier.banks one in
       let size : now.bytes ≡ size_after start.bytes all =
       bytes ∙ ap (λ (n : ℕ). size_more n step) earlier.bytes ∙ sym (fold-append size_more start.bytes before (step ∷ [])) in
@@ -122,9 +122,9 @@ module _ (start : Confirming) (events : ℕ) (before : List Step) (step : Step) 
         bytes = size;
         first = first ∙ earlier.first;
         expected = expected ∙ earlier.expected;
-        front = rw (front, least_more (confirms start events) before step)
-            (front_next now place at_all banks size (first ∙ earlier.first) (expected ∙ earlier.expected) (least_front (confirms start events) before)
-            old.front earlier.front);
+        prefix = rw (prefix, least_more (confirms start events) before step)
+            (prefix_next now place at_all banks size (first ∙ earlier.first) (expected ∙ earlier.expected) (least_prefix (confirms start events) before)
+            old.prefix earlier.prefix);
       }
 
 -- ---- bytes
@@ -142,19 +142,19 @@ sized (entry ∷ entries) n few =
 
 -- ---- a checkpoint is searched
 
--- The least front is all of the steps, if no other passes.
+-- The least prefix is all of the steps, if no other passes.
 only_whole : (test : List Step → Bool) (steps : List Step) → ((n : ℕ) → n < length steps → test (take n steps) ≡ false)
-    → least_front test steps ≡ cond (test steps) (Some steps) None
-only_whole test steps fails = by (least_front test steps) (least_tells test steps)
+    → least_prefix test steps ≡ cond (test steps) (Some steps) None
+only_whole test steps fails = by (least_prefix test steps) (least_tells test steps)
   where
     by : (found : Option (List Step)) → TellsLeast test steps found → found ≡ cond (test steps) (Some steps) None
     by None tells = rw (ap test (sym (take_all (length steps) steps (omega arith))) ∙ tells (length steps)) refl
-    by (Some front) tells = elim (leb_tells (length steps) (length front)) [
+    by (Some prefix) tells = elim (leb_tells (length steps) (length prefix)) [
       | inl le ↦
           let long = le.1 in
-          let same : front ≡ steps = tells.0 ∙ take_all (length front) steps (omega (arith, long)) in
+          let same : prefix ≡ steps = tells.0 ∙ take_all (length prefix) steps (omega (arith, long)) in
           rw (ap test (sym same) ∙ tells.1, same) refl
-      | inr gt ↦ let short = gt.1 in absurd (two_ways (test front) tells.1 (ap test tells.0 ∙ fails (length front) short))
+      | inr gt ↦ let short = gt.1 in absurd (two_ways (test prefix) tells.1 (ap test tells.0 ∙ fails (length prefix) short))
     ]
 
 -- After the list of a checkpoint, whose end is looked at.
@@ -182,10 +182,10 @@ module _ (list : List ℕ) (known : Checkpoint) (expected : Bor (List Expected))
       let listed = length-map is.entries (λ (entry : ListEntry). OfEntry entry) in
       omega (arith, size, is.count, listed, length-append log (entries_as_steps is.entries))
 
-  known_front : FrontIs origin events (least_front (confirms origin events) steps) (search_after known expected).front
-  known_front =
+  known_prefix : PrefixIs origin events (least_prefix (confirms origin events) steps) (search_after known expected).prefix
+  known_prefix =
       let first = after.first in
-      let only : least_front (confirms origin events) steps ≡ cond (confirms origin events steps) (Some steps) None =
+      let only : least_prefix (confirms origin events) steps ≡ cond (confirms origin events steps) (Some steps) None =
       only_whole (confirms origin events) steps (λ n lt.
       rw (early origin.first events (length (take n steps)) (omega (arith, length-take-le n steps (omega (arith, lt)), lt, first, known_count))) refl) in
       elim (eqb_tells known.entries 0) [
@@ -197,13 +197,13 @@ module _ (list : List ℕ) (known : Checkpoint) (expected : Bor (List Expected))
             let some = other.1 in
             let place : place_after events (length steps) ≡ Entry (known.entries - 1) =
             place_of_entry events (length steps) (known.entries - 1) (omega (arith, known_count, some)) in
-            rw (other.0, only) (front_here origin
-            (record { banks = known.after; bytes = known.bytes; first = known.entries - 1; expected = expected; front = None })
+            rw (other.0, only) (prefix_here origin
+            (record { banks = known.after; bytes = known.bytes; first = known.entries - 1; expected = expected; prefix = None })
             events steps (known.entries - 1) place known_banks known_bytes first after.expected)
       ]
 
   known_after : IsConfirmingAfter origin events steps (search_after known expected)
-  known_after = record { banks = known_banks; bytes = known_bytes; first = after.first; expected = after.expected; front = known_front }
+  known_after = record { banks = known_banks; bytes = known_bytes; first = after.first; expected = after.expected; prefix = known_prefix }
 
 pub known_search : (list : List ℕ) (known : Checkpoint) (expected : Bor (List Expected)) → IsCheckpoint list known → known.bytes < 2 ^ 64
     → ReplaysAll IsConfirmingAfter (search_before known expected) list
@@ -247,7 +247,7 @@ module _ (algs : AlgSet) (events : List LogEvent) (start : Banks) (expected : Li
       ∙ ap (λ (p : Expected → Bool). list_all p expected) (fun_same _ _ (λ e.
       sym (ap (is_reached e) (value_reached entries e) ∙ row_matches e (pcr_after_log_and_list algs events entries e.alg e.register)))))
 
--- The genuine entries at the front of those that were searched.
+-- The genuine entries at the start of those that were searched.
 pub record IsSearched (known : Checkpoint) (expected : Bor (List Expected)) (entries : List ListEntry) (now : Confirming) : Type 0 where
   pub genuine : List ListEntry
   pub others : List ListEntry
@@ -257,9 +257,9 @@ pub record IsSearched (known : Checkpoint) (expected : Bor (List Expected)) (ent
   pub after : IsConfirmingAfter (search_before known expected) 0 (entries_as_steps genuine) now
 
 search_none : (known : Checkpoint) (expected : Bor (List Expected)) → IsConfirmingAfter (search_before known expected) 0 [] (search_before known expected)
-search_none known expected = record { banks = none_taken known.before; bytes = refl; first = refl; expected = refl; front = tt }
+search_none known expected = record { banks = none_taken known.before; bytes = refl; first = refl; expected = refl; prefix = tt }
 
--- No genuine front goes on beyond an entry that is not.
+-- No genuine prefix goes on beyond an entry that is not.
 within_genuine : (before after : List ListEntry) (forged : ListEntry) (n : ℕ) → (IsGenuine forged → ⊥) → AreGenuine (take n (before ++ forged ∷ after))
     → n ≤ length before
 within_genuine before after forged zero no_is are = omega arith
@@ -287,7 +287,7 @@ searched known expected entries now (Some place) (first, followed) = record {
   after = followed (search_before known expected) 0 [] refl (search_none known expected);
 }
 
--- ---- the front
+-- ---- the prefix
 
 module _ (known : Checkpoint) (expected : Bor (List Expected)) (bytes : List ℕ) (entries : List ListEntry) (rest : List ℕ) (replay : ListReplay Confirming)
     (begins : BeginsWith bytes entries rest) (replays : Replays IsConfirmingAfter (search_before known expected) entries replay)
@@ -301,27 +301,27 @@ module _ (known : Checkpoint) (expected : Bor (List Expected)) (bytes : List ℕ
   abbrev test : List Step → Bool
   test = confirms (search_before known expected) 0
 
-  -- A front of the genuine entries is one of all.
-  same_front : (n : ℕ) → n ≤ length found.genuine → take n entries ≡ take n found.genuine
-  same_front n le = ap (take n) found.parts ∙ take-append-le n found.genuine found.others le
+  -- A prefix of the genuine entries is one of all.
+  same_prefix : (n : ℕ) → n ≤ length found.genuine → take n entries ≡ take n found.genuine
+  same_prefix n le = ap (take n) found.parts ∙ take-append-le n found.genuine found.others le
 
-  front_steps : (n : ℕ) → n ≤ length found.genuine → take n steps_found ≡ entries_as_steps (take n entries)
-  front_steps n le =
+  prefix_steps : (n : ℕ) → n ≤ length found.genuine → take n steps_found ≡ entries_as_steps (take n entries)
+  prefix_steps n le =
       take-map (λ (entry : ListEntry). OfEntry entry) n found.genuine
-      ∙ ap (λ (l : List ListEntry). entries_as_steps l) (sym (same_front n le))
+      ∙ ap (λ (l : List ListEntry). entries_as_steps l) (sym (same_prefix n le))
 
-  front_size : (n : ℕ) → n ≤ length found.genuine → length (take n entries) ≡ n
-  front_size n le =
+  prefix_size : (n : ℕ) → n ≤ length found.genuine → length (take n entries) ≡ n
+  prefix_size n le =
       length-take-le n entries (omega (arith, le, ap (λ (l : List ListEntry). length l) found.parts, length-append found.genuine found.others))
 
   step_count : (n : ℕ) → n ≤ length found.genuine → length (entries_as_steps (take n entries)) ≡ n
-  step_count n le = length-map (take n entries) (λ (entry : ListEntry). OfEntry entry) ∙ front_size n le
+  step_count n le = length-map (take n entries) (λ (entry : ListEntry). OfEntry entry) ∙ prefix_size n le
 
-  front_genuine : (n : ℕ) → n ≤ length found.genuine → AreGenuine (take n entries)
-  front_genuine n le = subst AreGenuine (sym (same_front n le)) (all_take IsGenuine n found.genuine found.are)
+  prefix_genuine : (n : ℕ) → n ≤ length found.genuine → AreGenuine (take n entries)
+  prefix_genuine n le = subst AreGenuine (sym (same_prefix n le)) (all_take IsGenuine n found.genuine found.are)
 
-  front_parts : (n : ℕ) → BeginsWith bytes (take n entries) (list_spelling (drop n entries) ++ rest)
-  front_parts n = record {
+  prefix_parts : (n : ℕ) → BeginsWith bytes (take n entries) (list_spelling (drop n entries) ++ rest)
+  prefix_parts n = record {
     are = all_take IsEntry n entries begins.are;
     parts = begins.parts
         ∙ ap (λ (l : List ListEntry). list_spelling l ++ rest) (sym (take-append-drop n entries))
@@ -329,115 +329,115 @@ module _ (known : Checkpoint) (expected : Bor (List Expected)) (bytes : List ℕ
         ∙ append_assoc (list_spelling (take n entries)) (list_spelling (drop n entries)) rest;
   }
 
-  front_few : (n : ℕ) → length (list_spelling (take n entries)) < 2 ^ 64
-  front_few n =
-      let size = ap (λ (l : List ℕ). length l) (front_parts n).parts in
+  prefix_few : (n : ℕ) → length (list_spelling (take n entries)) < 2 ^ 64
+  prefix_few n =
+      let size = ap (λ (l : List ℕ). length l) (prefix_parts n).parts in
       omega (arith, few, size, length-append (list_spelling (take n entries)) (list_spelling (drop n entries) ++ rest))
 
-  -- The checkpoint of a front that is found.
-  abbrev front_checkpoint : (n : ℕ) (front : Front) → n ≤ length found.genuine → n ≡ 0 + 1 + front.last
-      → IsFrontAt (search_before known expected) 0 (entries_as_steps (take n entries)) front
-      → IsCheckpoint (list_spelling (take n entries)) (checkpoint_at known replay front)
-  front_checkpoint n front within last at =
-      let listed = front_size n within in
+  -- The checkpoint of a prefix that is found.
+  abbrev prefix_checkpoint : (n : ℕ) (prefix : Prefix) → n ≤ length found.genuine → n ≡ 0 + 1 + prefix.last
+      → IsPrefixAt (search_before known expected) 0 (entries_as_steps (take n entries)) prefix
+      → IsCheckpoint (list_spelling (take n entries)) (checkpoint_at known replay prefix)
+  prefix_checkpoint n prefix within last at =
+      let listed = prefix_size n within in
       let all = ap (λ (l : List ListEntry). length l) found.parts in
       record {
         entries = take n entries;
         list_is = reading_to_the_end (list_spelling (take n entries)) (take n entries)
             (record { are = all_take IsEntry n entries begins.are; parts = sym (append-nil (list_spelling (take n entries))) });
-        genuine = front_genuine n within;
-        replayed = replayed_after known.before front.registers (take n entries) at.registers;
+        genuine = prefix_genuine n within;
+        replayed = replayed_after known.before prefix.registers (take n entries) at.registers;
         count = omega (arith, last, listed, within, all, length-append found.genuine found.others, replays.count, counted);
-        size = at.size ∙ sized (take n entries) 0 (omega (arith, front_few n)) ∙ omega arith;
+        size = at.size ∙ sized (take n entries) 0 (omega (arith, prefix_few n)) ∙ omega arith;
         stated = replays.stated ∙ sym (stated_take n entries (omega (arith, last)));
       }
 
   module _ (algs : AlgSet) (events : List LogEvent) (firmware : IsFirmware algs events known.before) (good : Bool)
       (tells : good ≡ is_good (aggregate_of algs events (stated_aggregate entries))) where
-    -- Whether the verdict on a front is 'match'.
+    -- Whether the verdict on a prefix is 'match'.
     confirms_is : (n : ℕ) → known.entries ≤ n → n ≤ length found.genuine
         → matches (verdict_on algs events (take n entries) expected.now) ≡ (good && test (take n steps_found))
     confirms_is zero enough le = sym (and-false good)
     confirms_is (suc k) enough le =
         let steps = entries_as_steps (take (suc k) entries) in
         let tested : test (take (suc k) steps_found) ≡ reached_after_steps known.before expected.now steps =
-        ap test (front_steps (suc k) le) ∙ rw (late (known.entries - 1) 0 (length steps) (omega (arith, step_count (suc k) le, enough))) refl in
+        ap test (prefix_steps (suc k) le) ∙ rw (late (known.entries - 1) 0 (length steps) (omega (arith, step_count (suc k) le, enough))) refl in
         matched_by algs events known.before expected.now firmware (take (suc k) entries)
         ∙ ap (λ (stated : Option (Alg × List ℕ)). is_good (aggregate_of algs events stated) && reached_after_steps known.before expected.now steps)
         (stated_take (suc k) entries (omega arith))
         ∙ ap (λ (b : Bool). b && reached_after_steps known.before expected.now steps) (sym tells) ∙ ap (λ (b : Bool). good && b) (sym tested)
 
-    front_confirmed : (steps : List Step) (front : Front) → TellsLeast test steps_found (Some steps)
-        → IsFrontAt (search_before known expected) 0 steps front → good ≡ true → IsConfirmedAt algs events expected.now known bytes (checkpoint_at known replay front)
-    front_confirmed steps front least at yes_is =
+    prefix_confirmed : (steps : List Step) (prefix : Prefix) → TellsLeast test steps_found (Some steps)
+        → IsPrefixAt (search_before known expected) 0 steps prefix → good ≡ true → IsConfirmedAt algs events expected.now known bytes (checkpoint_at known replay prefix)
+    prefix_confirmed steps prefix least at yes_is =
         let n = length steps in
         let size = ap (λ (l : List Step). length l) least.0 in
         let within : n ≤ length found.genuine =
         omega (arith, size, length-take n steps_found, length-map found.genuine (λ (entry : ListEntry). OfEntry entry)) in
-        let listed = front_size n within in
+        let listed = prefix_size n within in
         let enough : known.entries ≤ n = elim (leb_tells known.entries n) [
           | inl le ↦ le.1
           | inr gt ↦ let less = gt.1 in absurd (two_ways (test steps) least.1 (rw (early (known.entries - 1) 0 n (omega (arith, less))) refl))
         ] in
         record {
-          front = take n entries;
+          prefix = take n entries;
           rest = list_spelling (drop n entries) ++ rest;
-          begins = front_parts n;
+          begins = prefix_parts n;
           confirmed = record {
-            genuine = front_genuine n within;
+            genuine = prefix_genuine n within;
             enough = omega (arith, enough, listed);
             is_match = confirms_is n enough within ∙ ap (λ (l : List Step). good && test l) (sym least.0) ∙ (λ i. yes_is i && least.1 i);
             shortest = λ m more lt.
                 ap (λ (l : List ListEntry). matches (verdict_on algs events l expected.now)) (take-take m n entries (omega (arith, lt, listed)))
                 ∙ confirms_is m more (omega (arith, lt, listed, within)) ∙ ap (λ (b : Bool). good && b) (least.2 m (omega (arith, lt, listed))) ∙ and-false good;
           };
-          checkpoint = front_checkpoint n front within (sym (steps_back 0 n) ∙ ap (steps_to 0) at.place)
-              (subst (λ (l : List Step). IsFrontAt (search_before known expected) 0 l front) (least.0 ∙ front_steps n within) at);
+          checkpoint = prefix_checkpoint n prefix within (sym (steps_back 0 n) ∙ ap (steps_to 0) at.place)
+              (subst (λ (l : List Step). IsPrefixAt (search_before known expected) 0 l prefix) (least.0 ∙ prefix_steps n within) at);
           same = refl;
           before = refl;
         }
 
-    pub front_is : FindsFront algs events expected.now known bytes entries (front_after good known replay)
-    front_is = by (least_front test steps_found) replay.follower.front (least_tells test steps_found) found.after.front
+    pub prefix_is : FindsPrefix algs events expected.now known bytes entries (prefix_after good known replay)
+    prefix_is = by (least_prefix test steps_found) replay.follower.prefix (least_tells test steps_found) found.after.prefix
       where
-        by_good : (b : Bool) (steps : List Step) (front : Front) → TellsLeast test steps_found (Some steps) → IsFrontAt (search_before known expected) 0 steps front
-            → good ≡ b → FindsFront algs events expected.now known bytes entries (cond b (Some (checkpoint_at known replay front)) None)
-        by_good true steps front least at is = front_confirmed steps front least at is
-        by_good false _ front least at is = λ n enough le are.
+        by_good : (b : Bool) (steps : List Step) (prefix : Prefix) → TellsLeast test steps_found (Some steps) → IsPrefixAt (search_before known expected) 0 steps prefix
+            → good ≡ b → FindsPrefix algs events expected.now known bytes entries (cond b (Some (checkpoint_at known replay prefix)) None)
+        by_good true steps prefix least at is = prefix_confirmed steps prefix least at is
+        by_good false _ prefix least at is = λ n enough le are.
             confirms_is n enough (found.most n le are) ∙ ap (λ (b : Bool). b && test (take n steps_found)) is
 
-        by : (least : Option (List Step)) (front : Option Front) → TellsLeast test steps_found least → FrontIs (search_before known expected) 0 least front
-            → FindsFront algs events expected.now known bytes entries (front_with good known replay front)
-        by (Some steps) (Some front) least at = by_good good steps front least at refl
+        by : (least : Option (List Step)) (prefix : Option Prefix) → TellsLeast test steps_found least → PrefixIs (search_before known expected) 0 least prefix
+            → FindsPrefix algs events expected.now known bytes entries (prefix_with good known replay prefix)
+        by (Some steps) (Some prefix) least at = by_good good steps prefix least at refl
         by (Some _) None least at = absurd at
-        by None (Some front) none at = absurd at
+        by None (Some prefix) none at = absurd at
         by None None none at = λ n enough le are.
             confirms_is n enough (found.most n le are) ∙ ap (λ (b : Bool). good && b) (none n) ∙ and-false good
 
 -- ---- what a search found
 
 abbrev GoodOf : Checkpoint → ListReplay Confirming → Option Checkpoint → Type 0
-GoodOf known replay front =
+GoodOf known replay prefix =
     (algs : AlgSet) (events : List LogEvent) → IsFirmware algs events known.before
-    → front ≡ front_after (is_good (aggregate_of algs events (option_map (λ digest. (alg_of digest, bytes_of digest)) replay.stated))) known replay
+    → prefix ≡ prefix_after (is_good (aggregate_of algs events (option_map (λ digest. (alg_of digest, bytes_of digest)) replay.stated))) known replay
 
 module _ (known : Checkpoint) (expected : Bor (List Expected)) (list : List ℕ) (old new : Option (List ℕ)) (limit : ℕ) (replay : ListReplay Confirming)
-    (front : Option Checkpoint) (is : IsCheckpoint list known) (room : known.bytes + limit < 2 ^ 64) (counted : replay.entries < 2 ^ 64)
-    (good : GoodOf known replay front) where
+    (prefix : Option Checkpoint) (is : IsCheckpoint list known) (room : known.bytes + limit < 2 ^ 64) (counted : replay.entries < 2 ^ 64)
+    (good : GoodOf known replay prefix) where
   few_bytes : (came over : List ℕ) → CameFrom old new limit came over → length (list ++ came) < 2 ^ 64
   few_bytes came over from = let within = from.within in omega (arith, room, is.size, within, length-append list came)
 
   finds : (bytes : List ℕ) (entries : List ListEntry) (rest : List ℕ) → BeginsWith bytes entries rest
       → Replays IsConfirmingAfter (search_before known expected) entries replay → length bytes < 2 ^ 64
       → (algs : AlgSet) (events : List LogEvent) → IsFirmware algs events known.before
-      → FindsFront algs events expected.now known bytes entries front
+      → FindsPrefix algs events expected.now known bytes entries prefix
   finds bytes entries rest begins replays few algs events firmware =
-      rw (good algs events firmware) (front_is known expected bytes entries rest replay begins replays few counted algs events firmware _
+      rw (good algs events firmware) (prefix_is known expected bytes entries rest replay begins replays few counted algs events firmware _
       (ap (λ (stated : Option (Alg × List ℕ)). is_good (aggregate_of algs events stated)) replays.stated))
 
   -- All that came is a list of genuine entries.
   pub searches_whole : ReplaysMore IsConfirmingAfter (search_before known expected) list old new limit replay
-      → Searches known list old new limit expected.now (record { front = front; entries = replay.entries; whole = Ok (whole_after known replay) })
+      → Searches known list old new limit expected.now (record { prefix = prefix; entries = replay.entries; whole = Ok (whole_after known replay) })
   searches_whole more =
       let all = more.all in
       let entries = all.entries in
@@ -461,7 +461,7 @@ module _ (known : Checkpoint) (expected : Bor (List Expected)) (list : List ℕ)
         rest = [];
         came_is = more.came.came;
         begins = all.reading.begins;
-        front = finds (list ++ more.more) entries [] all.reading.begins all.replays few;
+        prefix = finds (list ++ more.more) entries [] all.reading.begins all.replays few;
         count = sym all.replays.count;
         wrong = (more.more, entries, more.came, all.reading, all.genuine, all.replays.count);
         whole = (more.more, more.came, all.reading, checkpoint, refl);
@@ -470,7 +470,7 @@ module _ (known : Checkpoint) (expected : Bor (List Expected)) (list : List ℕ)
   -- Something is wrong with what came.
   pub searches_part : (wrong : Unconfirmed) → IsMoreFault list old new limit (fault_in wrong)
       → StopsAt IsConfirmingAfter (search_before known expected) list old new limit replay (fault_in wrong)
-      → Searches known list old new limit expected.now (record { front = front; entries = replay.entries; whole = Err wrong })
+      → Searches known list old new limit expected.now (record { prefix = prefix; entries = replay.entries; whole = Err wrong })
   searches_part (unconfirmed.List fault) why (came, over, from, number, (rest, stops)) = record {
     came = came;
     over = over;
@@ -478,7 +478,7 @@ module _ (known : Checkpoint) (expected : Bor (List Expected)) (list : List ℕ)
     rest = rest;
     came_is = from;
     begins = stops.begins;
-    front = finds (list ++ came) stops.entries rest stops.begins stops.replays (few_bytes came over from);
+    prefix = finds (list ++ came) stops.entries rest stops.begins stops.replays (few_bytes came over from);
     count = sym stops.replays.count;
     wrong = (why, number);
     whole = tt;
@@ -490,7 +490,7 @@ module _ (known : Checkpoint) (expected : Bor (List Expected)) (list : List ℕ)
     rest = [];
     came_is = whole.came;
     begins = forged.reading.begins;
-    front = finds (list ++ came) forged.entries [] forged.reading.begins forged.replays (few_bytes came [] whole.came);
+    prefix = finds (list ++ came) forged.entries [] forged.reading.begins forged.replays (few_bytes came [] whole.came);
     count = sym forged.replays.count;
     wrong = (came, forged.entries, whole, forged.reading, forged.first, forged.replays.count);
     whole = (came, whole, forged.reading);
