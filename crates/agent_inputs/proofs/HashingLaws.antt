@@ -24,7 +24,7 @@ pub hashed_nothing : (old : SourceState) (alg : Alg) (limit : ℕ) (hasher : Has
     → HasHashed old old alg limit limit hasher
 hashed_nothing old alg limit hasher taken = record { content = []; has = lost_nothing old [] refl; taken = taken; size = omega arith }
 
--- The vector that was lent as a buffer holds what was read.
+-- The vector that was borrowed as a buffer holds what was read.
 pub read_back : (buffer items : List ℕ) (size : ℕ) → length buffer ≡ size → take size (buffer ++ drop (length buffer) items) ≡ buffer
 read_back buffer items size e = rw (← e) (take-append_seam buffer (drop (length buffer) items))
 

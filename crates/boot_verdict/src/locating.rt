@@ -8,7 +8,7 @@ ghost use Rattle.pcr_banks.specs.Digests.{digest_of};
 ghost use Rattle.byte_fields.specs.Reading.{ReadsInMemory};
 ghost use Rattle.byte_streams.specs.Streams.{LosesPrefix};
 ghost use Rattle.boot_log.specs.declared.header.Row.{Row as TableRow};
-ghost use Rattle.boot_log.specs.LogViews.{HasLent, log_bytes};
+ghost use Rattle.boot_log.specs.LogViews.{HasBorrowed, log_bytes};
 ghost use Rattle.boot_log.specs.Spelling.{LogEvent, IsLog, algs_in};
 ghost use Rattle.ima_list.specs.ListEntry.{ListEntry};
 ghost use Rattle.ima_list.specs.Spelling.{IsReading};
@@ -101,7 +101,7 @@ fn follow_log(alloc: Global, log: &LogView<'_>, expected: &[Expected]) -> Result
 
 // Takes the events, in order.
 fn follow_events<F: Follow>(follower: &mut F, mut events: LogEvents<'_>)
-    ensures { (start : F) (bytes : List ℕ) (table : List TableRow) (all : List LogEvent) → HasLent bytes [] events.entry → IsLog bytes table all
+    ensures { (start : F) (bytes : List ℕ) (table : List TableRow) (all : List LogEvent) → HasBorrowed bytes [] events.entry → IsLog bytes table all
         → F.is_after start (length all) [] follower.old → F.is_after start (length all) (events_as_steps all) follower.new }
 {
     while let Some(event) = events.next_event() {

@@ -26,7 +26,7 @@ use Rattle.agent_inputs.specs.declared.fault.RunFault.TheVariants.{Memory}
 use Rattle.agent_inputs.specs.Hashing.{IsHashOfAll}
 use Rattle.agent_inputs.specs.Loading.{Holds, Inputs, input_limit}
 use Rattle.measuring.specs.Measuring.{AreDone, AreNames, Contents, HasFile, HasFiles, IsFileFault, IsFileMeasure, IsInputLog, IsMeasuringFault, IsNamesFault, IsNotRecorded, IsRecordingFault, IsSetOut, IsUnhashed, failing_in, files_in}
-use Rattle.measuring.specs.parts.{names_lent}
+use Rattle.measuring.specs.parts.{names_borrowed}
 
 -- One more job was not refused.
 pub one_more_done : (given : List Outcome) (i : ℕ) (outcome : Outcome) (receipt : Receipt) → slice_get given i ≡ Some outcome
@@ -39,16 +39,16 @@ one_more_done given i outcome receipt at is before = λ job cause below has. eli
       let done = ap book_outcome_of is in cc
 ]
 
--- The name of this number, where there are as many as are lent.
-pub name_at : (names : List (Bor (List ℕ))) (number : ℕ) (default : Bor (List ℕ)) → number < length (names_lent names)
+-- The name of this number, where there are as many as are borrowed.
+pub name_at : (names : List (Bor (List ℕ))) (number : ℕ) (default : Bor (List ℕ)) → number < length (names_borrowed names)
     → slice_get names number ≡ Some (get_or names number default)
 name_at names number default within =
     slice_get-get_or names number default (omega (arith, length-map names (λ (name : Bor (List ℕ)). name.now)))
 
--- What holds of a lent name holds of the name of this number.
-pub of_lent : (names : List (Bor (List ℕ))) (number : ℕ) (name : Bor (List ℕ)) (P : List ℕ → Type 0) → slice_get names number ≡ Some name
-    → P name.now → IfSome (slice_get (names_lent names) number) P
-of_lent names number name P has holds = rw (at_map (λ (n : Bor (List ℕ)). n.now) names number name has) holds
+-- What holds of a borrowed name holds of the name of this number.
+pub of_borrowed : (names : List (Bor (List ℕ))) (number : ℕ) (name : Bor (List ℕ)) (P : List ℕ → Type 0) → slice_get names number ≡ Some name
+    → P name.now → IfSome (slice_get (names_borrowed names) number) P
+of_borrowed names number name P has holds = rw (at_map (λ (n : Bor (List ℕ)). n.now) names number name has) holds
 
 measured_of_hash : (alg : Alg) (content path : List ℕ)
     → measured (digest_of alg (hash_of alg content)) path [] ≡ record { alg = alg; digest = hash_of alg content; path = path; sig = [] }
@@ -58,7 +58,7 @@ measured_of_hash alg content path = search rules
 pub file_measure : (held : Contents) (names : List (Bor (List ℕ))) (alg : Alg) (number : ℕ) (name : Bor (List ℕ)) (digest : Digest)
     (path sig : List ℕ) → slice_get names number ≡ Some name
     → IsHashOfAll (held name.now) alg input_limit digest → path ≡ name.now → sig ≡ []
-    → IsFileMeasure held (names_lent names) alg number (measure (measured digest path sig))
+    → IsFileMeasure held (names_borrowed names) alg number (measure (measured digest path sig))
 file_measure held names alg number name digest path sig has hashed path_is sig_is = record {
   file = record {
     name = name.now;

@@ -7,9 +7,9 @@ use Rattle.command_line.specs.declared.plan.Measurement.{Measurement}
 use Rattle.agent_inputs.specs.Loading.{Holds, Inputs, input_limit}
 use Rattle.measuring.specs.Measuring.{Contents}
 
--- The names that are lent.
-abbrev pub names_lent : List (Bor (List ℕ)) → List (List ℕ)
-names_lent names = map (λ name. name.now) names
+-- The names that are borrowed.
+abbrev pub names_borrowed : List (Bor (List ℕ)) → List (List ℕ)
+names_borrowed names = map (λ name. name.now) names
 
 -- The text of further names, if there is one, holds these bytes.
 abbrev pub IsTextFor : Inputs → Measurement → List ℕ → Type 0

@@ -2,7 +2,7 @@
 
 ghost use Rattle.std.specs.Prelude.{◌<◌, ◌^◌, length, slice_get, IfErr, IfSome, OnOk};
 ghost use Rattle.measuring.specs.Measuring.{HasFiles, IsFileFault, IsFileMeasure, IsUnhashed};
-ghost use Rattle.measuring.specs.parts.{IsFileFailure, names_lent};
+ghost use Rattle.measuring.specs.parts.{IsFileFailure, names_borrowed};
 
 use crate::progress::FileProgress;
 use agent_inputs::{INPUT_LIMIT, LoadFault, RunFault, SharedFiles, not_read, too_long};
@@ -22,11 +22,11 @@ pub(crate) struct NamedFiles<'a, S> {
 }
 
 impl<S: SharedFiles> Jobs for NamedFiles<'_, S> {
-    ghost total = { λ jobs. length (names_lent jobs.names.now) };
+    ghost total = { λ jobs. length (names_borrowed jobs.names.now) };
 
-    ghost makes = { λ jobs. IsFileMeasure (S.held jobs.files.now) (names_lent jobs.names.now) };
+    ghost makes = { λ jobs. IsFileMeasure (S.held jobs.files.now) (names_borrowed jobs.names.now) };
 
-    ghost fails = { λ jobs. IsFileFailure (S.held jobs.files.now) (S.fails jobs.files.now) (names_lent jobs.names.now) };
+    ghost fails = { λ jobs. IsFileFailure (S.held jobs.files.now) (S.fails jobs.files.now) (names_borrowed jobs.names.now) };
 
     fn count(&self) -> usize {
         self.names.len()
@@ -52,8 +52,8 @@ impl<S: SharedFiles> NamedFiles<'_, S> {
     /// The fault of the file of this number, which has no operation for this cause.
     pub fn fault_of(&self, alloc: Global, job: u32, fault: JobFault) -> RunFault
         requires number { job < length self.now.names.now }
-        requires cause { IsFileFailure (S.held self.now.files.now) (S.fails self.now.files.now) (names_lent self.now.names.now) job fault }
-        ensures { IfSome (slice_get (names_lent self.now.names.now) job) (λ name.
+        requires cause { IsFileFailure (S.held self.now.files.now) (S.fails self.now.files.now) (names_borrowed self.now.names.now) job fault }
+        ensures { IfSome (slice_get (names_borrowed self.now.names.now) job) (λ name.
             IsUnhashed (S.held self.now.files.now) (S.fails self.now.files.now) name result) }
     {
         let name = self.names[job as usize];
@@ -68,8 +68,8 @@ impl<S: SharedFiles> NamedFiles<'_, S> {
     /// and so no worker read them.
     pub fn check(&self, alloc: Global, alg: Alg) -> Result<(), RunFault>
         requires { length self.now.names.now < 2 ^ 32 }
-        ensures read { OnOk result (HasFiles (S.held self.now.files.now) (names_lent self.now.names.now) (length (names_lent self.now.names.now))) }
-        ensures fault { IfErr result (IsFileFault (S.held self.now.files.now) (S.fails self.now.files.now) (names_lent self.now.names.now)) }
+        ensures read { OnOk result (HasFiles (S.held self.now.files.now) (names_borrowed self.now.names.now) (length (names_borrowed self.now.names.now))) }
+        ensures fault { IfErr result (IsFileFault (S.held self.now.files.now) (S.fails self.now.files.now) (names_borrowed self.now.names.now)) }
     {
         for index in 0..self.names.len() {
             if let Err(fault) = self.operation(alloc, index as u32, alg) {

@@ -6,7 +6,7 @@ ghost use Rattle.measure_book.specs.Operations.{book_outcome_of};
 ghost use Rattle.agent_inputs.specs.Faults.{fault_of_job};
 ghost use Rattle.measuring.specs.Measuring.{AreDone, AreLog, HasRecorded, IsFileFault, IsFirstRefusal};
 ghost use Rattle.measuring.specs.Measuring.{IsMeasuredOver, IsNotRecorded, IsRecordingFault};
-ghost use Rattle.measuring.specs.parts.{names_lent};
+ghost use Rattle.measuring.specs.parts.{names_borrowed};
 
 use crate::named_files::{NamedFiles, ProgressGate};
 use crate::progress::FileProgress;
@@ -41,9 +41,9 @@ pub(crate) fn measured_over<R: Threads + Wait + Sync, S: SharedFiles + Sync, P: 
 ) -> Result<Measured, RunFault>
     requires small { length names.now < 2 ^ 32 }
     requires read { AreLog (log_bytes log.now) }
-    ensures measured { IfOk result (IsMeasuredOver (S.held files.now) (log_bytes log.now) asked.now (names_lent names.now)) }
-    ensures fault { IfErr result (λ fault. IsFileFault (S.held files.now) (S.fails files.now) (names_lent names.now) fault
-        ⊎ IsNotRecorded (S.held files.now) (log_bytes log.now) asked.now (names_lent names.now) fault) }
+    ensures measured { IfOk result (IsMeasuredOver (S.held files.now) (log_bytes log.now) asked.now (names_borrowed names.now)) }
+    ensures fault { IfErr result (λ fault. IsFileFault (S.held files.now) (S.fails files.now) (names_borrowed names.now) fault
+        ⊎ IsNotRecorded (S.held files.now) (log_bytes log.now) asked.now (names_borrowed names.now) fault) }
 {
     let origin = Origin {
         start: log.registers(),
@@ -69,10 +69,10 @@ fn recorded<R: Threads + Wait + Sync, S: SharedFiles + Sync, P: FileProgress>(
     progress: &P,
 ) -> Result<Book, RunFault>
     requires small { length jobs.now.names.now < 2 ^ 32 }
-    ensures measured { IfOk result (HasRecorded (S.held jobs.now.files.now) (names_lent jobs.now.names.now) origin workers None) }
+    ensures measured { IfOk result (HasRecorded (S.held jobs.now.files.now) (names_borrowed jobs.now.names.now) origin workers None) }
     ensures fault { IfErr result (λ fault.
-        IsFileFault (S.held jobs.now.files.now) (S.fails jobs.now.files.now) (names_lent jobs.now.names.now) fault
-        ⊎ IsRecordingFault (S.held jobs.now.files.now) (names_lent jobs.now.names.now) origin workers fault) }
+        IsFileFault (S.held jobs.now.files.now) (S.fails jobs.now.files.now) (names_borrowed jobs.now.names.now) fault
+        ⊎ IsRecordingFault (S.held jobs.now.files.now) (names_borrowed jobs.now.names.now) origin workers fault) }
 {
     let gate = ProgressGate::new(progress, jobs.names.len() as u32);
     let recorded = record_jobs(rt, alloc, origin, jobs, workers, &gate);

@@ -67,7 +67,7 @@ fn lines(alloc: Global, entries: &[Entry]) -> Result<Vec<u8>, AllocError>
 {
     let mut text = Vec::new(alloc);
     for number in 0..entries.len() {
-        append_entry(alloc, number, &entries[number].lent(), &mut text)?;
+        append_entry(alloc, number, &entries[number].borrowed(), &mut text)?;
     }
     Ok(text)
 }

@@ -8,21 +8,21 @@ use Rattle.boot_verdict.proofs.StepLaws.{event_place, events_joined}
 use Rattle.boot_verdict.proofs.locating.follow_events.Goals as goal
 
 pub loop-event-init : goal.loop-event-init
-loop-event-init g c = λ start bytes table all lent is none. ([], lent, none)
+loop-event-init g c = λ start bytes table all borrowed is none. ([], borrowed, none)
 
 pub loop-event-preserved : goal.loop-event-preserved
 loop-event-preserved g c =
     let event = log_event_of c.in-Some.event in
     λ start bytes table all none is first.
     let before = c.loop-event.invariant start bytes table all none is first in
-    let lent = (rw c.in-Some.is at c.next_event.ensures.event) bytes before.0 before.1 in
+    let borrowed = (rw c.in-Some.is at c.next_event.ensures.event) bytes before.0 before.1 in
     let later = (rw c.in-Some.is at c.next_event.ensures.prefix) bytes table before.0 all before.1 is in
     let many = ap (λ (l : List LogEvent). length l) later.1 in
     let size : length (events_as_steps before.0) ≡ length before.0 = length-map before.0 (λ (event : LogEvent). OfEvent event) in
-    let number = c.count.ensures bytes (before.0 ++ event ∷ []) lent in
+    let number = c.count.ensures bytes (before.0 ++ event ∷ []) borrowed in
     let place : c.count.result ≡ length (events_as_steps before.0) + 1 = omega (arith, number, size, length-append before.0 (event ∷ [])) in (
       before.0 ++ event ∷ [],
-      lent,
+      borrowed,
       subst (λ (steps : List Step). g.F.Follow.is_after start (length all) steps c.step.new.self) (events_joined before.0 event)
           (c.step.ensures start (length all) (events_as_steps before.0)
           (ap (λ (n : ℕ). Event n) place ∙ event_place (length all) (length (events_as_steps before.0)) (events_as_steps before.0) refl

@@ -1,7 +1,7 @@
 use Rattle.std.proofs.Common.{Some, ap, ◌∙◌, inl, arith}
 use Rattle.std.proofs.Math.Path.{fun_ext}
 use Rattle.std.proofs.lemmas.Result.{IfErr-weaker, IfOk-weaker, err_from_is_err_and}
-use Rattle.measuring.specs.parts.{names_lent}
+use Rattle.measuring.specs.parts.{names_borrowed}
 use Rattle.measuring.proofs.MeasuringLaws.{no_names, not_all}
 use Rattle.measuring.proofs.measuring.measured.Goals as goal
 
@@ -34,7 +34,7 @@ returns-clause-measured g c =
     let told_is = c.in_ok-text.ensures.told ∙ c.in_ok-bytes.ensures.told in
     let same = fun_ext (λ name. c.shared.ensures.held name ∙ ap (λ inputs. inputs.held (Some name)) told_is) in
     IfOk-weaker c.measured_over.result _ _
-    (λ given over. (c.in_ok-bytes.bytes.items, rw c.deref.ensures at c.in_ok-bytes.ensures.all, (names_lent c.in_ok-names.names.items, are, over)))
+    (λ given over. (c.in_ok-bytes.bytes.items, rw c.deref.ensures at c.in_ok-bytes.ensures.all, (names_borrowed c.in_ok-names.names.items, are, over)))
     (rw (c.deref-4.ensures.value, c.in_ok-log.ensures.found, c.deref-2.ensures.value, same) at c.measured_over.ensures.measured)
 
 pub returns-clause-fault : goal.returns-clause-fault
@@ -46,6 +46,6 @@ returns-clause-fault g c =
     IfErr-weaker c.measured_over.result _ _
     (not_all told c.args.asked.now c.in_ok-bytes.bytes.items (rw c.deref.ensures at c.in_ok-bytes.ensures.all)
     (omega (arith, c.in_ok-bytes.ensures.within), rw c.deref-2.ensures.value at c.in_ok-log.ensures.sound)
-    (names_lent c.in_ok-names.names.items) are _ _ same
+    (names_borrowed c.in_ok-names.names.items) are _ _ same
     (λ name fails. rw told_is at c.shared.ensures.fails name fails))
     (rw (c.deref-4.ensures.value, c.in_ok-log.ensures.found, c.deref-2.ensures.value) at c.measured_over.ensures.fault)

@@ -9,7 +9,7 @@ pub loop-number-preserved : goal.loop-number-preserved
 loop-number-preserved c =
     c.in_ok-append_entry.ensures.ok
     ∙ ap (λ (entry : ListEntry). c.loop-number.text.items ++ line_of (entry_json c.loop-number.number entry))
-    (c.lent.ensures ∙ c.index-entries-number.is)
+    (c.borrowed.ensures ∙ c.index-entries-number.is)
     ∙ ap (λ (text : List ℕ). text ++ line_of (entry_json c.loop-number.number
     (get_or c.args.entries.now c.loop-number.number c.index-entries-number.result))) c.loop-number.invariant
     ∙ numbered_more (λ number entry. line_of (entry_json number entry)) c.args.entries.now c.loop-number.number c.index-entries-number.result
