@@ -74,7 +74,7 @@ fault_of_agent (agents.Book fault) = runs.Book fault
 fault_of_agent (agents.Gather fault) = runs.Gather fault
 fault_of_agent agents.Memory = runs.Memory
 
--- The file of this number was refused for this cause.
+-- The file of this number was refused for this reason.
 abbrev pub fault_of_job : ℕ → BookFault → RunFault
 fault_of_job job books.Memory = runs.Memory
 fault_of_job job fault = runs.Outcome job fault

@@ -185,7 +185,7 @@ impl fmt::Display for RunFault {
     }
 }
 
-// Words, and the fault that is their cause.
+// Words, and the fault that is their reason.
 fn say_fault<D: fmt::Display, W: fmt::Write>(
     words: &str,
     fault: &D,

@@ -79,7 +79,7 @@ ok_same a b e = ap (got a) e
 
 pub log_first : (log list : List ℕ) (fault : LogFault) → (fault ≡ logs.Memory) ⊎ (log_fault log ≡ Some fault)
     → IsVerifyFault log list (fault_of_log fault)
-log_first log list logs.Memory cause = tt
+log_first log list logs.Memory reason = tt
 log_first log list (logs.Truncated event) (inr first) = first
 log_first log list (logs.Truncated event) (inl e) = absurd cc
 log_first log list logs.NotCryptoAgile (inr first) = first

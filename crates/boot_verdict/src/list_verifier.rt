@@ -60,7 +60,7 @@ pub fn verify_list_from<R: Source>(
     ensures only { (entries : List ListEntry) → HoldsGenuineList (R.state list.old).remaining limit entries
         → IsErrOf result VerifyFault.Source
         ⊎ ReadsInMemory VerifyFault.Memory list_verdict_of result (Ok (list_verdict_on entries expected.now)) }
-    // Any fault is the first cause.
+    // Any fault is the first reason.
     ensures fault { IfErr result (IsListReplayFault (R.state list.old).remaining (R.state list.new).remaining limit) }
     // In any case the source loses bytes from its start, and nothing else.
     ensures prefix { LosesPrefix (R.state list.old).remaining (R.state list.new).remaining }

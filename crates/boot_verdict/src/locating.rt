@@ -46,7 +46,7 @@ pub fn locate(
     ensures only { (table : List TableRow) (events : List LogEvent) (entries : List ListEntry)
         → IsLog log.now table events → IsReading list.now (Ok entries) → AreGenuine entries
         → ReadsInMemory VerifyFault.Memory (λ located. located.items) result (Ok (located_on (algs_in table) events entries expected.now)) }
-    // Any other fault is the first cause.
+    // Any other fault is the first reason.
     ensures fault { IfErr result (IsVerifyFault log.now list.now) }
     ensures memory { IsErrOf result VerifyFault.Memory → IsSomeLog log.now }
 {
@@ -73,7 +73,7 @@ pub fn locate_from<R: Source>(
         → IsLog log.now table events → HoldsGenuineList (R.state list.old).remaining limit entries
         → IsErrOf result VerifyFault.Source
         ⊎ ReadsInMemory VerifyFault.Memory (λ located. located.items) result (Ok (located_on (algs_in table) events entries expected.now)) }
-    // Any fault is the first cause.
+    // Any fault is the first reason.
     ensures fault { IfErr result (IsVerifyFaultFrom log.now (R.state list.old).remaining (R.state list.new).remaining limit) }
     ensures memory { IsErrOf result VerifyFault.Memory → IsSomeLog log.now }
     // In any case the source loses bytes from its start, and nothing else.

@@ -46,7 +46,7 @@ pub fn replay_from<R: Source>(alloc: Global, list: &mut R, limit: u64) -> Result
     // A list of genuine entries within the limit is replayed, unless the source fails or memory runs out.
     ensures only { (entries : List ListEntry) → HoldsGenuineList (R.state list.old).remaining limit entries
         → IsErrOf result VerifyFault.Source ⊎ (IsErrOf result VerifyFault.Memory ⊎ IsOkAnd result (IsListReplay entries)) }
-    // Any fault is the first cause.
+    // Any fault is the first reason.
     ensures fault { IfErr result (IsListReplayFault (R.state list.old).remaining (R.state list.new).remaining limit) }
     // In any case the source loses bytes from its start, and nothing else.
     ensures prefix { LosesPrefix (R.state list.old).remaining (R.state list.new).remaining }

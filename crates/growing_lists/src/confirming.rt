@@ -50,7 +50,7 @@ impl Session<'_> {
             → TakesUnconfirmed log list (R.state source.old).remaining (R.state source.new).remaining (most_after self.old.known limit) expected.now
             self.old.known.entries self.new)) }
         ensures kept { OnErr result (self.new ≡ self.old) }
-        // Any fault is the first cause, and the list is refused only if no prefix is confirmed.
+        // Any fault is the first reason, and the list is refused only if no prefix is confirmed.
         ensures fault { IfErr result (λ fault. (log list : List ℕ) → HasTaken log list self.old
             → IsMoreFault list (R.state source.old).remaining (R.state source.new).remaining (most_after self.old.known limit) fault) }
         ensures unconfirmed { IfErr result (λ fault. (log list : List ℕ) → HasTaken log list self.old

@@ -96,7 +96,7 @@ impl<'a> Session<'a> {
         ensures taken { OnOk result ((log list : List ℕ) → HasTaken log list self.old
             → TakesMore log list (R.state source.old).remaining (R.state source.new).remaining (most_after self.old.known limit) self.new) }
         ensures kept { OnErr result (self.new ≡ self.old) }
-        // Any fault is the first cause.
+        // Any fault is the first reason.
         ensures fault { IfErr result (λ fault. (log list : List ℕ) → HasTaken log list self.old
             → IsMoreFault list (R.state source.old).remaining (R.state source.new).remaining (most_after self.old.known limit) fault) }
         // In any case the source loses bytes from its start, and nothing else.

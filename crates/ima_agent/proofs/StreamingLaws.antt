@@ -141,9 +141,9 @@ module _ (inputs : Inputs) (name : List ℕ) where
   -- The input was not opened.
   pub not_opened : (sink : SinkState) (fault : RunFault) → IsReading [] (Ok []) → IsNotRead name fault ⊎ (fault ≡ runs.Memory)
       → IsTrue (inputs.may_fail (Some name)) → Streams Json (ShowsEntriesOf inputs name) sink sink (Err (streams.Run fault))
-  not_opened sink fault nothing cause may =
+  not_opened sink fault nothing reason may =
       fault_sent (AreAllInFile inputs name) (StopsInFile inputs name) sink sink [] fault (Sends-none {E = Failed} sink tt)
-      (came_none fault (source_ends [] [] fault may (inl nothing) cause)) (came_none runs.Memory (inr (inr refl))) where
+      (came_none fault (source_ends [] [] fault may (inl nothing) reason)) (came_none runs.Memory (inr (inr refl))) where
         came_none : (fault : RunFault) → EndsAfterEntries inputs name [] [] fault → StopsInFile inputs name [] fault
         came_none fault ends = let any = held_any (inputs.held (Some name)) in inr (record {
           came = [];
@@ -244,9 +244,9 @@ module _ (inputs : Inputs) (name : List ℕ) where
     pub entries_unread : (fault : RunFault) → IsTrue (inputs.may_fail (Some name)) → IsNotRead name fault ⊎ (fault ≡ runs.Memory)
         → SendsEntries old new input_limit sink_old sink_new (Err entries.Source)
         → Streams Json (ShowsEntriesOf inputs name) sink_old sink_new (Err (streams.Run fault))
-    entries_unread fault may cause sends =
+    entries_unread fault may reason sends =
         fault_sent (AreAllInFile inputs name) (StopsInFile inputs name) sink_old sink_new (entry_lines sends.entries) fault sends.sends
-        (breaks_off (Err entries.Source) sends fault (source_ends sends.list sends.entries fault may sends.ends.1 cause))
+        (breaks_off (Err entries.Source) sends fault (source_ends sends.list sends.entries fault may sends.ends.1 reason))
         (breaks_off (Err entries.Source) sends runs.Memory (inr (inr refl)))
 
     long_ends : (sends : SendsEntries old new input_limit sink_old sink_new (Err entries.TooLong)) (fault : RunFault)
@@ -260,9 +260,9 @@ module _ (inputs : Inputs) (name : List ℕ) where
     pub entries_too_long : (fault : RunFault) → IsTooLong name fault ⊎ (fault ≡ runs.Memory)
         → SendsEntries old new input_limit sink_old sink_new (Err entries.TooLong)
         → Streams Json (ShowsEntriesOf inputs name) sink_old sink_new (Err (streams.Run fault))
-    entries_too_long fault cause sends =
+    entries_too_long fault reason sends =
         fault_sent (AreAllInFile inputs name) (StopsInFile inputs name) sink_old sink_new (entry_lines sends.entries) fault sends.sends
-        (breaks_off (Err entries.TooLong) sends fault (long_ends sends fault cause))
+        (breaks_off (Err entries.TooLong) sends fault (long_ends sends fault reason))
         (breaks_off (Err entries.TooLong) sends runs.Memory (inr (inr refl)))
 
     pub entries_run_out : SendsEntries old new input_limit sink_old sink_new (Err entries.Memory)

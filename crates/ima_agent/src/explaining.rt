@@ -37,17 +37,17 @@ pub enum Failure<'a> {
         /// The program's arguments, without its name.
         words: &'a [String],
     },
-    /// The line of a program that is out of memory: its arguments could not be obtained, for this cause.
+    /// The line of a program that is out of memory: its arguments could not be obtained, for this reason.
     Words {
-        /// The cause.
-        cause: &'a io::Error,
+        /// The reason.
+        reason: &'a io::Error,
     },
     /// A part of the output, or nothing.
     Output,
 }
 
 /// Why the run failed, in lines for a person: the input that is at fault, and what is wrong with it; for wrong arguments what `clap`
-/// says of them. Of an input that could not be read it asks once more, to learn the system's cause.
+/// says of them. Of an input that could not be read it asks once more, to learn the system's reason.
 ///
 /// Fails if memory runs out, and if the run failed because it did.
 pub fn explanation<R: FileSystem + io::Input>(
@@ -60,7 +60,7 @@ pub fn explanation<R: FileSystem + io::Input>(
     match failure {
         Failure::Fault { fault, task } => of_fault(rt, alloc, fault, task),
         Failure::Refused { fault, words } => of_refusal(alloc, fault, words),
-        Failure::Words { cause } => match cause.kind() {
+        Failure::Words { reason } => match reason.kind() {
             io::ErrorKind::InvalidData => shown_line(alloc, "an argument is not UTF-8"),
             _ => Err(AllocError),
         },
@@ -81,9 +81,9 @@ fn of_fault<R: FileSystem + io::Input>(
         RunFault::Memory => Err(AllocError),
         RunFault::Usage => of_value_in(alloc, task),
         RunFault::Read(_) if matches!(task, Task::Registers) => {
-            of_cause(alloc, STANDARD_INPUT, read_cause(&mut rt.reader()))
+            of_reason(alloc, STANDARD_INPUT, read_reason(&mut rt.reader()))
         }
-        RunFault::Read(name) => of_cause(alloc, name, open_cause(rt, name)),
+        RunFault::Read(name) => of_reason(alloc, name, open_reason(rt, name)),
         RunFault::TooLong(_) if matches!(task, Task::Registers) => {
             // The fault has no name to tell standard input by.
             let fault = RunFault::TooLong(String::from_str(alloc, STANDARD_INPUT)?);
@@ -133,36 +133,36 @@ fn of_value_in(alloc: Global, task: &Task) -> Result<String, AllocError>
     shown_line(alloc, &text)
 }
 
-// That the input could not be read, and the system's cause, if it is known.
-fn of_cause(alloc: Global, input: &str, cause: Option<io::Error>) -> Result<String, AllocError>
+// That the input could not be read, and the system's reason, if it is known.
+fn of_reason(alloc: Global, input: &str, reason: Option<io::Error>) -> Result<String, AllocError>
     ensures { IfOk result (λ text. list_all is_shown (string_bytes text) ≡ true) }
 {
-    let Some(cause) = cause else {
+    let Some(reason) = reason else {
         return shown_line(alloc, &format!(in alloc; "cannot read {input}")?);
     };
-    let cause = format!(in alloc; "{cause}")?;
-    let cause = without_number(&cause);
-    shown_line(alloc, &format!(in alloc; "cannot read {input}: {cause}")?)
+    let reason = format!(in alloc; "{reason}")?;
+    let reason = without_number(&reason);
+    shown_line(alloc, &format!(in alloc; "cannot read {input}: {reason}")?)
 }
 
 // The system's words for an error, without its number.
-fn without_number(cause: &str) -> &str {
-    match cause.split_once(" (os error ") {
+fn without_number(reason: &str) -> &str {
+    match reason.split_once(" (os error ") {
         Some((words, _)) => words,
-        None => cause,
+        None => reason,
     }
 }
 
 // Why the file of this name cannot be opened or read, if that fails now.
-fn open_cause<R: FileSystem>(rt: &R, name: &str) -> Option<io::Error> {
+fn open_reason<R: FileSystem>(rt: &R, name: &str) -> Option<io::Error> {
     match File::open(rt, name) {
-        Ok(mut file) => read_cause(&mut file),
-        Err(cause) => Some(cause),
+        Ok(mut file) => read_reason(&mut file),
+        Err(reason) => Some(reason),
     }
 }
 
 // Why nothing can be read, if that fails now.
-fn read_cause<R: Read>(reader: &mut R) -> Option<io::Error> {
+fn read_reason<R: Read>(reader: &mut R) -> Option<io::Error> {
     let mut byte = [0];
     reader.read(&mut byte).err()
 }

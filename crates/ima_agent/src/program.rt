@@ -45,9 +45,9 @@ pub fn exit_code<R: Threads + Wait + Sync, F: AgentFiles, S: Sink, P: Progress>(
 {
     match words {
         Ok(words) => exits_with(run_with_progress(rt, alloc, &words, files, sink, progress)),
-        Err(cause) => {
+        Err(reason) => {
             let status = failed(alloc, Form::Text, &RunFault::Memory, sink);
-            progress.explain(alloc, Failure::Words { cause: &cause });
+            progress.explain(alloc, Failure::Words { reason: &reason });
             exits_with(status)
         }
     }

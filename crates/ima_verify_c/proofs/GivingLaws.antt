@@ -10,26 +10,26 @@ use Rattle.rendering.specs.Outputs.{IsRefusalOn}
 use Rattle.ima_verify_c.specs.declared.told.Told.{Told}
 use Rattle.ima_verify_c.specs.Answers.{Answers, AnswersMore, HasNoAnswerOn, IsAnswerAndNext, IsAnswerTo, IsRefusal}
 
--- The line of a fault or of `Memory` is that of a fault with a cause that both have.
-pub refused : (Cause : RunFault → Type 0) (form : Form) (fault : RunFault) (answer : ℤ) (told : Told) (old new : List ℕ)
-    → Cause fault → Cause Memory → Answers (IsRefusal (λ cause. (cause ≡ fault) ⊎ (cause ≡ Memory)) form) answer told old new
-    → Answers (IsRefusal Cause form) answer told old new
-refused Cause form fault answer told old new here memory given = record {
+-- The line of a fault or of `Memory` is that of a fault with a reason that both have.
+pub refused : (Reason : RunFault → Type 0) (form : Form) (fault : RunFault) (answer : ℤ) (told : Told) (old new : List ℕ)
+    → Reason fault → Reason Memory → Answers (IsRefusal (λ reason. (reason ≡ fault) ⊎ (reason ≡ Memory)) form) answer told old new
+    → Answers (IsRefusal Reason form) answer told old new
+refused Reason form fault answer told old new here memory given = record {
   text = given.text;
   status = given.status;
   fault = given.fault;
   is_answer = caused given.is_answer;
   given = given.given;
 } where
-  caused : IsRefusal (λ cause. (cause ≡ fault) ⊎ (cause ≡ Memory)) form given.text given.status given.fault
-      → IsRefusal Cause form given.text given.status given.fault
-  caused (cause, is, inl same, line) = (cause, is, subst Cause (sym same) here, line)
-  caused (cause, is, inr same, line) = (cause, is, subst Cause (sym same) memory, line)
+  caused : IsRefusal (λ reason. (reason ≡ fault) ⊎ (reason ≡ Memory)) form given.text given.status given.fault
+      → IsRefusal Reason form given.text given.status given.fault
+  caused (reason, is, inl same, line) = (reason, is, subst Reason (sym same) here, line)
+  caused (reason, is, inr same, line) = (reason, is, subst Reason (sym same) memory, line)
 
-module _ (asked : Asked) (form : Form) (fault : RunFault) (answer : ℤ) (told : Told) (old new : List ℕ) (cause : IsRefusalOn untold asked fault)
-    (given : Answers (IsRefusal (λ cause. (cause ≡ fault) ⊎ (cause ≡ Memory)) form) answer told old new) where
+module _ (asked : Asked) (form : Form) (fault : RunFault) (answer : ℤ) (told : Told) (old new : List ℕ) (reason : IsRefusalOn untold asked fault)
+    (given : Answers (IsRefusal (λ reason. (reason ≡ fault) ⊎ (reason ≡ Memory)) form) answer told old new) where
   refusal : Answers (IsRefusal (HasNoAnswerOn asked) form) answer told old new
-  refusal = refused (HasNoAnswerOn asked) form fault answer told old new (inl cause) (inr refl) given
+  refusal = refused (HasNoAnswerOn asked) form fault answer told old new (inl reason) (inr refl) given
 
   -- The line of a fault was given.
   pub gives_refusal : Answers (IsAnswerTo asked form) answer told old new

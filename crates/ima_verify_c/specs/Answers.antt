@@ -101,9 +101,9 @@ abbrev pub IsLineOf : Form → RunFault → List ℕ → ℕ → Type 0
 IsLineOf Text fault text status = (text ≡ fault_line fault) × (status ≡ fault_status fault)
 IsLineOf Json fault text status = ToldAsJson fault text status
 
--- It is that of a fault with this cause, which is told.
+-- It is that of a fault with this reason, which is told.
 abbrev pub IsRefusal : (RunFault → Type 0) → Form → List ℕ → ℕ → Option RunFault → Type 0
-IsRefusal HasCause form text status fault = (cause : RunFault) × (fault ≡ Some cause) × HasCause cause × IsLineOf form cause text status
+IsRefusal HasReason form text status fault = (reason : RunFault) × (fault ≡ Some reason) × HasReason reason × IsLineOf form reason text status
 
 -- Why there is no answer to what is asked, or memory ran out for what is to be given.
 abbrev pub HasNoAnswerOn : Asked → RunFault → Type 0
@@ -144,7 +144,7 @@ abbrev pub GivesFound : Form → Result (Option Piece) RunFault → Position →
 GivesFound form (Ok (Some piece)) position after answer told old new = GivesPiece piece position after answer told old new
 GivesFound form (Ok None) position after answer told old new = IsMisused position after answer told old new
 GivesFound form (Err fault) position after answer told old new =
-    (after ≡ position) × Answers (IsRefusal (λ cause. (cause ≡ fault) ⊎ (cause ≡ Memory)) form) answer told old new
+    (after ≡ position) × Answers (IsRefusal (λ reason. (reason ≡ fault) ⊎ (reason ≡ Memory)) form) answer told old new
 
 -- What the call gives of so many bytes, from a position on. Where the lines before it have the text `before`: a piece of what comes then, or
 -- the line of the fault that comes, or that memory ran out.

@@ -117,7 +117,7 @@ fn give_piece(
 
 // Gives the line of a fault in this form; that of `Memory`, if there is no memory for it.
 fn give_fault(alloc: Global, form: Form, fault: &RunFault, out: &mut [u8], told: &mut Told) -> i32
-    ensures { Answers (IsRefusal (λ cause. (cause ≡ fault.now) ⊎ (cause ≡ Memory)) form) result told.new out.old out.new }
+    ensures { Answers (IsRefusal (λ reason. (reason ≡ fault.now) ⊎ (reason ≡ Memory)) form) result told.new out.old out.new }
 {
     match line_in(alloc, form, fault) {
         Ok(line) => put(&line, status_of(fault), Some(fault), out, told),

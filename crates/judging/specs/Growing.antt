@@ -157,12 +157,12 @@ IsRefusedAfter inputs place most taken verdicts.TooLong = OfInput inputs place (
     (prefix : List ℕ) × (over : List ℕ) × (more ≡ prefix ++ over) × (length prefix ≡ most) × (0 < length over) × IsSound (taken ++ prefix))
 IsRefusedAfter inputs place most taken verdicts.Memory = Unit {0}
 
--- The list of this input is refused: the first cause, or memory ran out.
+-- The list of this input is refused: the first reason, or memory ran out.
 abbrev pub IsRefusedList : Inputs → Where → RunFault → Type 0
 IsRefusedList inputs list fault =
     (first : VerifyFault) × IsRefusedAfter inputs list (limit_of list) [] first × IsFaultAt list first fault
 
--- The log is valid, and what the input adds to a list is refused: the first cause, or memory ran out. If a prefix is sought, none is
+-- The log is valid, and what the input adds to a list is refused: the first reason, or memory ran out. If a prefix is sought, none is
 -- confirmed before what is refused.
 pub record IsNotTaken (inputs : Inputs) (extent : Extent) (list : Where) (evidence : Evidence) (fault : RunFault) : Type 0 where
   pub first : VerifyFault

@@ -31,8 +31,8 @@ use Rattle.measuring.specs.parts.{names_borrowed}
 -- One more job was not refused.
 pub one_more_done : (given : List Outcome) (i : ℕ) (outcome : Outcome) (receipt : Receipt) → slice_get given i ≡ Some outcome
     → outcome ≡ Done receipt → AreDone (map book_outcome_of given) i → AreDone (map book_outcome_of given) (i + 1)
-one_more_done given i outcome receipt at is before = λ job cause below has. elim (cases_lt job i) [
-  | inl less ↦ before job cause less has
+one_more_done given i outcome receipt at is before = λ job reason below has. elim (cases_lt job i) [
+  | inl less ↦ before job reason less has
   | inr more ↦
       let same : job ≡ i = omega arith in
       let here = at_map book_outcome_of given i outcome at in
@@ -83,7 +83,7 @@ pub file_fault : (held : Contents) (Fails : List ℕ → Type 0) (names : List (
     → IfSome (slice_get names number) (λ name. IsUnhashed held Fails name fault) → HasFiles held names number → IsFileFault held Fails names fault
 file_fault held Fails names number fault within unhashed before =
     let at = within_at names number within in
-    record { index = number; name = at.0; has = at.1; cause = rw at.1 at unhashed; before = before }
+    record { index = number; name = at.0; has = at.1; reason = rw at.1 at unhashed; before = before }
 
 -- A fault of files of which some may fail is one of files of which more may.
 module _ (held : Contents) (Fails Others : List ℕ → Type 0) (more : (name : List ℕ) → Fails name → Others name) where
@@ -97,7 +97,7 @@ module _ (held : Contents) (Fails Others : List ℕ → Type 0) (more : (name : 
     index = file.index;
     name = file.name;
     has = file.has;
-    cause = unhashed file.name fault file.cause;
+    reason = unhashed file.name fault file.reason;
     before = file.before;
   }
 
@@ -113,7 +113,7 @@ pub not_recorded : (held : Contents) (Fails : List ℕ → Type 0) (log : List �
     → IsFileFault held Fails names fault ⊎ IsRecordingFault held names origin asked.workers fault
     → IsFileFault held Fails names fault ⊎ IsNotRecorded held log asked names fault
 not_recorded held Fails log asked names origin fault out (inl file) = inl file
-not_recorded held Fails log asked names origin fault out (inr cause) = inr (origin, out, cause)
+not_recorded held Fails log asked names origin fault out (inr reason) = inr (origin, out, reason)
 
 -- Why nothing is measured of inputs that hold this log.
 module _ (inputs : Inputs) (asked : Measurement) (log : List ℕ) (has : Holds inputs (Some (string_bytes asked.log)) log) (is : IsInputLog log) where

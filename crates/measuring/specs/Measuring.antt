@@ -17,7 +17,7 @@ use Rattle.hash_workers.specs.declared.fault.AgentFault.{AgentFault}
 use Rattle.hash_workers.specs.declared.fault.AgentFault.TheVariants as agents
 use Rattle.hash_workers.specs.Batches.{IsBatchOf}
 use Rattle.hash_workers.specs.Faults.{IsAgentFaultOf}
-use Rattle.hash_workers.specs.Causes.{IsCauseOf}
+use Rattle.hash_workers.specs.Reasons.{IsReasonOf}
 use Rattle.command_line.specs.declared.plan.Measurement.{Measurement}
 use Rattle.command_line.specs.declared.plan.NameEnd.{NameEnd}
 use Rattle.command_line.specs.declared.plan.NameEnd.TheVariants.{LineFeed, Nul}
@@ -76,10 +76,10 @@ AreDone outcomes count = (job : ℕ) (fault : BookFault) → job < count → sli
 -- The fault is that of the first refused job.
 pub record IsFirstRefusal (outcomes : List BookOutcome) (fault : RunFault) : Type 0 where
   pub job : ℕ
-  pub cause : BookFault
-  pub is_refused : slice_get outcomes job ≡ Some (refused cause)
+  pub reason : BookFault
+  pub is_refused : slice_get outcomes job ≡ Some (refused reason)
   pub before : AreDone outcomes job
-  pub says : fault ≡ fault_of_job job cause
+  pub says : fault ≡ fault_of_job job reason
 
 -- The workers recorded the files of these names in this book, whose records are a legal history, each as its measurement. The fault is that of
 -- the first file that the book refused; there is none if it refused none.
@@ -142,19 +142,19 @@ pub record IsFileFault (held : Contents) (Fails : List ℕ → Type 0) (names : 
   pub index : ℕ
   pub name : List ℕ
   pub has : slice_get names index ≡ Some name
-  pub cause : IsUnhashed held Fails name fault
+  pub reason : IsUnhashed held Fails name fault
   pub before : HasFiles held names index
 
 -- If the fault is that no book could be opened, each of these files could be read: it comes after the faults of files.
 abbrev pub IsAfterFiles : Contents → List (List ℕ) → RunFault → Type 0
-IsAfterFiles held names fault = (cause : BookFault) → fault ≡ runs.Book cause → HasFiles held names (length names)
+IsAfterFiles held names fault = (reason : BookFault) → fault ≡ runs.Book reason → HasFiles held names (length names)
 
--- Why the workers returned no batch. If their outcomes do not account for the book, this is the first cause against them.
+-- Why the workers returned no batch. If their outcomes do not account for the book, this is the first reason against them.
 pub record IsNoBatch (held : Contents) (names : List (List ℕ)) (origin : Origin) (workers : ℕ) (fault : RunFault) : Type 0 where
   pub first : AgentFault
   pub first_is : IsAgentFaultOf workers origin first
-  pub among : (cause : GatherFault) → first ≡ agents.Gather cause
-      → IsCauseOf workers origin (length names) (IsFileMeasure held names origin.alg) cause
+  pub among : (reason : GatherFault) → first ≡ agents.Gather reason
+      → IsReasonOf workers origin (length names) (IsFileMeasure held names origin.alg) reason
   pub says : fault ≡ fault_of_agent first
   pub after_files : IsAfterFiles held names fault
 

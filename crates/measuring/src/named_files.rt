@@ -49,10 +49,10 @@ impl<S: SharedFiles> Jobs for NamedFiles<'_, S> {
 }
 
 impl<S: SharedFiles> NamedFiles<'_, S> {
-    /// The fault of the file of this number, which has no operation for this cause.
+    /// The fault of the file of this number, which has no operation for this reason.
     pub fn fault_of(&self, alloc: Global, job: u32, fault: JobFault) -> RunFault
         requires number { job < length self.now.names.now }
-        requires cause { IsFileFailure (S.held self.now.files.now) (S.fails self.now.files.now) (names_borrowed self.now.names.now) job fault }
+        requires reason { IsFileFailure (S.held self.now.files.now) (S.fails self.now.files.now) (names_borrowed self.now.names.now) job fault }
         ensures { IfSome (slice_get (names_borrowed self.now.names.now) job) (λ name.
             IsUnhashed (S.held self.now.files.now) (S.fails self.now.files.now) name result) }
     {

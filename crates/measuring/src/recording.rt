@@ -105,7 +105,7 @@ fn first_refusal(outcomes: &[Outcome]) -> Option<RunFault>
     None
 }
 
-// The fault for a job of this number that was refused for this cause.
+// The fault for a job of this number that was refused for this reason.
 fn refused(job: u32, fault: BookFault) -> RunFault
     ensures { result ≡ fault_of_job job fault }
 {

@@ -83,13 +83,13 @@ module _ (lines : Series) (size room : ℕ) (start : Position) where
       let are = gathered.are before starts in
       piece_of before text next More piece same_text same_next same_end are (some, inr (fault, fails (before ++ text) are))
 
-  pub fails_first : (next : Position) (text : List ℕ) (fault cause : RunFault) → HasGathered lines size room start next text
-      → cause ≡ fault → (text ≡ []) ⊎ (fault ≡ Memory)
+  pub fails_first : (next : Position) (text : List ℕ) (fault reason : RunFault) → HasGathered lines size room start next text
+      → reason ≡ fault → (text ≡ []) ⊎ (fault ≡ Memory)
       → (fault ≡ Memory) ⊎ ((before : List ℕ) → lines.AreBefore next before → lines.FailsAfter before fault)
-      → (cause ≡ Memory) ⊎ ((before : List ℕ) → lines.AreBefore start before → lines.FailsAfter before cause)
-  fails_first next text fault cause gathered same (inr memory) fails = inl (same ∙ memory)
-  fails_first next text fault cause gathered same (inl none) (inl memory) = inl (same ∙ memory)
-  fails_first next text fault cause gathered same (inl none) (inr fails) = inr (λ before starts.
+      → (reason ≡ Memory) ⊎ ((before : List ℕ) → lines.AreBefore start before → lines.FailsAfter before reason)
+  fails_first next text fault reason gathered same (inr memory) fails = inl (same ∙ memory)
+  fails_first next text fault reason gathered same (inl none) (inl memory) = inl (same ∙ memory)
+  fails_first next text fault reason gathered same (inl none) (inr fails) = inr (λ before starts.
       let whole : before ++ text ≡ before = ap (λ (t : List ℕ). before ++ t) none ∙ append-nil before in
       rw same (subst (λ (t : List ℕ). lines.FailsAfter t fault) whole (fails (before ++ text) (gathered.are before starts))))
 

@@ -107,7 +107,7 @@ pub(crate) fn filled<L: Lines>(
 fn stopped(fault: RunFault, text: Vec<u8>, next: Position) -> Result<Piece, RunFault>
     ensures ok { IfOk result (λ piece. (piece ≡ record { text = text; next = next; end = More }) × (0 < length text.items)
         × (fault ≡ Memory → ⊥)) }
-    ensures err { IfErr result (λ cause. (cause ≡ fault) × ((text.items ≡ []) ⊎ (fault ≡ Memory))) }
+    ensures err { IfErr result (λ reason. (reason ≡ fault) × ((text.items ≡ []) ⊎ (fault ≡ Memory))) }
 {
     if text.is_empty() || matches!(&fault, RunFault::Memory) {
         return Err(fault);

@@ -34,7 +34,7 @@ impl AllWork {
     /// each job was taken once if no worker stopped; if one stopped for a job's operation, each job before the first such one.
     ///
     /// Fails where a worker ran out of memory, or where there is none for the lists and places. Nothing else tells how a worker
-    /// ended, so any other cause comes after memory.
+    /// ended, so any other reason comes after memory.
     pub(crate) fn of(
         alloc: Global,
         claims: Claims,

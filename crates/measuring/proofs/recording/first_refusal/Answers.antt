@@ -12,5 +12,5 @@ loop-job-preserved c =
     one_more_done c.args.outcomes.now c.loop-job.job c.index-outcomes-job.result c.in_default.field-0 at c.in_default.is c.loop-job.invariant
 
 pub returns-clause-none : goal.returns-clause-none
-returns-clause-none c = λ job cause below has.
-    c.loop-job.invariant job cause (omega (arith, length-map c.args.outcomes.now book_outcome_of)) has
+returns-clause-none c = λ job reason below has.
+    c.loop-job.invariant job reason (omega (arith, length-map c.args.outcomes.now book_outcome_of)) has

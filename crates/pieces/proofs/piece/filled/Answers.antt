@@ -28,7 +28,7 @@ returns-in-Err-clause-fault g c =
     let L = g.L.Lines in
     let lines = c.args.lines.now in
     IfErr-weaker c.stopped.result _ _
-    (λ cause err. fails_first (L.series lines) (L.size lines) c.args.room c.args.start
-    c.loop-after.next c.loop-after.text.items c.in-Err.fault cause c.loop-after.invariant err.0 (rw c.in-Err.ensures.0 at err.1)
+    (λ reason err. fails_first (L.series lines) (L.size lines) c.args.room c.args.start
+    c.loop-after.next c.loop-after.text.items c.in-Err.fault reason c.loop-after.invariant err.0 (rw c.in-Err.ensures.0 at err.1)
     c.in-Err.ensures.1)
     c.stopped.ensures.err

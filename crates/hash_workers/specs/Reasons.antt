@@ -1,4 +1,4 @@
--- Whether the operations of jobs were made, the first job whose operation could not be made, and the first cause against what the
+-- Whether the operations of jobs were made, the first job whose operation could not be made, and the first reason against what the
 -- workers got.
 use Rattle.std.specs.Prelude.{◌≡◌, ◌⊎◌, ℕ, ◌<◌, List, length, Some}
 use Rattle.measure_book.specs.declared.origin.Origin.{Origin}
@@ -18,15 +18,15 @@ IsMadeUnlessMemory Makes Fails job = ((op : BookOp) × Makes job op) ⊎ Fails j
 pub record AllMadeUnlessMemory (count : ℕ) (Makes : ℕ → BookOp → Type 0) (Fails : ℕ → JobFault → Type 0) : Type 0 where
   pub each : (job : ℕ) → job < count → IsMadeUnlessMemory Makes Fails job
 
--- This job, one of `count`, has no operation, for this cause, and each job before it has one.
+-- This job, one of `count`, has no operation, for this reason, and each job before it has one.
 pub record IsFirstUnmade (count : ℕ) (Makes : ℕ → BookOp → Type 0) (Fails : ℕ → JobFault → Type 0) (job : ℕ) (fault : JobFault) : Type 0 where
   pub within : job < count
-  pub cause : Fails job fault
+  pub reason : Fails job fault
   pub before : (earlier : ℕ) → earlier < job → (op : BookOp) × Makes earlier op
 
--- This is the first cause against some book and a group for each of these workers, of outcomes of distinct jobs: `job_of` has the
+-- This is the first reason against some book and a group for each of these workers, of outcomes of distinct jobs: `job_of` has the
 -- job of each outcome, by worker and index.
-pub record IsCauseOf (workers : ℕ) (origin : Origin) (count : ℕ) (Makes : ℕ → BookOp → Type 0) (cause : GatherFault) : Type 0 where
+pub record IsReasonOf (workers : ℕ) (origin : Origin) (count : ℕ) (Makes : ℕ → BookOp → Type 0) (reason : GatherFault) : Type 0 where
   pub book : BookState
   pub is_book : IsBook book
   pub groups : List (List BookOutcome)
@@ -36,8 +36,8 @@ pub record IsCauseOf (workers : ℕ) (origin : Origin) (count : ℕ) (Makes : �
       → IsOutcomeOf origin count Makes (job_of worker index) outcome
   pub distinct : (worker other index at : ℕ) (outcome another : BookOutcome) → outcome_at groups worker index ≡ Some outcome
       → outcome_at groups other at ≡ Some another → job_of worker index ≡ job_of other at → (worker ≡ other) × (index ≡ at)
-  pub first : IsFirstFault book origin groups cause
+  pub first : IsFirstFault book origin groups reason
 
 -- The same of jobs that become these operations.
-abbrev pub IsCauseAmong : ℕ → Origin → List BookOp → GatherFault → Type 0
-IsCauseAmong workers origin ops cause = IsCauseOf workers origin (length ops) (IsAt ops) cause
+abbrev pub IsReasonAmong : ℕ → Origin → List BookOp → GatherFault → Type 0
+IsReasonAmong workers origin ops reason = IsReasonOf workers origin (length ops) (IsAt ops) reason
