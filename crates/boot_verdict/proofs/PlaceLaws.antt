@@ -19,17 +19,17 @@ use Rattle.boot_verdict.specs.declared.expected.Expected.{Expected}
 use Rattle.boot_verdict.specs.declared.places.Located.{Located}
 use Rattle.boot_verdict.specs.declared.places.Place.{Place}
 use Rattle.boot_verdict.specs.declared.places.Place.TheVariants.{Reset, Event, Entry, Nowhere, Absent}
-use Rattle.boot_verdict.specs.declared.places.Watch.{Watch}
+use Rattle.boot_verdict.specs.declared.places.RowTracker.{RowTracker}
 use Rattle.boot_verdict.specs.declared.report.State.TheVariants as states
 use Rattle.boot_verdict.specs.declared.list_replay.ListReplay.{ListReplay}
 use Rattle.boot_verdict.specs.Places.{AreLocated, first_place, is_found, is_reached, located_on, pcr_after, place_after, place_of_prefix, place_on, reached_after}
 use Rattle.boot_verdict.specs.Steps.{Step, OfEvent, OfEntry, entries_as_steps, events_as_steps, has_register, least_prefix, pcr_at_reset, stepped, steps_of, value_after}
 use Rattle.boot_verdict.specs.Verdicts.{is_value, pcr_after_log_and_list, row_state, state_matches}
-use Rattle.boot_verdict.specs.Following.{AreAfter, register_of}
-use Rattle.boot_verdict.specs.parts.Watches.{IsWatchAfter, located_after}
-use Rattle.boot_verdict.specs.ListReplays.{AreFollowed, ReplaysAll}
-use Rattle.boot_verdict.specs.parts.LogPlaces.{IsFollowed, place_at_reset, row_at_reset}
-use Rattle.boot_verdict.specs.parts.Watches.{looked_at, place_with}
+use Rattle.boot_verdict.specs.Tracking.{AreAfter, register_of}
+use Rattle.boot_verdict.specs.parts.RowTrackers.{IsRowTrackerAfter, located_after}
+use Rattle.boot_verdict.specs.ListReplays.{AreTracked, ReplaysAll}
+use Rattle.boot_verdict.specs.parts.LogPlaces.{IsTracked, place_at_reset, row_at_reset}
+use Rattle.boot_verdict.specs.parts.RowTrackers.{looked_at, place_with}
 use Rattle.boot_verdict.proofs.StepLaws.{TellsLeast, banks_joined, fun_same, least_more, least_tells, none_taken, or_all, steps_value, value_quiet}
 
 pub two_ways : (b : Bool) → b ≡ true → b ≡ false → ⊥
@@ -186,11 +186,11 @@ row_more events start now steps step e register place of at value = elim (cases_
 ]
 
 -- The watch after one more step.
-pub watch_more : (start : Watch) (events : ℕ) (before : List Step) (step : Step) (old new : Watch) (register : ℕ) (place : Place)
+pub tracker_more : (start : RowTracker) (events : ℕ) (before : List Step) (step : Step) (old new : RowTracker) (register : ℕ) (place : Place)
     → register ≡ register_of step → place ≡ place_after events (length before + 1) → AreAfter old.banks (step ∷ []) new.banks
     → new.rows.items ≡ map (looked_at new.banks register place) old.rows.items
-    → IsWatchAfter start events before old → IsWatchAfter start events (before ++ step ∷ []) new
-watch_more start events before step old new register place of at one look after =
+    → IsRowTrackerAfter start events before old → IsRowTrackerAfter start events (before ++ step ∷ []) new
+tracker_more start events before step old new register place of at one look after =
     let banks = banks_joined start.banks old.banks new.banks before (step ∷ []) after.banks one in
     let at_all : place ≡ place_after events (length (before ++ step ∷ [])) = at ∙ ap (place_after events) (sym (length-append before (step ∷ []))) in
     record {
@@ -220,9 +220,9 @@ at_reset events e (Some v) = elim (cases_Bool (is_value e v)) [
   | inr other ↦ rw other refl
 ]
 
-pub watch_none : (start : Banks) (events : ℕ) (expected : List Expected) (rows : Vec Located) → rows.items ≡ map (row_at_reset start) expected
-    → IsWatchAfter (record { banks = start; rows = rows }) events [] (record { banks = start; rows = rows })
-watch_none start events expected rows are = record {
+pub tracker_none : (start : Banks) (events : ℕ) (expected : List Expected) (rows : Vec Located) → rows.items ≡ map (row_at_reset start) expected
+    → IsRowTrackerAfter (record { banks = start; rows = rows }) events [] (record { banks = start; rows = rows })
+tracker_none start events expected rows are = record {
   banks = none_taken start;
   rows = are ∙ ap (λ (f : Expected → Located). map f expected)
       (fun_same _ _ (λ e. ap (located e) (at_reset events e (value_at start e.alg e.register))))
@@ -233,8 +233,8 @@ watch_none start events expected rows are = record {
 -- ---- a log and a list
 
 -- The rows after the list.
-pub located_all : {algs : AlgSet} {events : List LogEvent} {expected : List Expected} {start now : Watch} (entries : List ListEntry)
-    → IsFollowed algs events expected start → AreFollowed IsWatchAfter start entries now → now.rows.items ≡ located_on algs events entries expected
+pub located_all : {algs : AlgSet} {events : List LogEvent} {expected : List Expected} {start now : RowTracker} (entries : List ListEntry)
+    → IsTracked algs events expected start → AreTracked IsRowTrackerAfter start entries now → now.rows.items ≡ located_on algs events entries expected
 located_all {events = events} {expected = expected} entries log list =
     let steps = steps_of events entries in
     let count = length events in
@@ -245,15 +245,15 @@ located_all {events = events} {expected = expected} entries log list =
     ∙ ap (λ (f : Expected → Located). map f expected)
     (fun_same _ _ (λ e. ap (λ (v : Option (List ℕ)). located e (first_place count e v steps)) (log.reset.values e.alg e.register)))
 
-pub located_in : {log list : List ℕ} {table : List TableRow} {events : List LogEvent} {expected : List Expected} {start : Watch} {replay : ListReplay Watch}
-    → IsLog log table events → IsFollowed (algs_in table) events expected start → ReplaysAll IsWatchAfter start list replay
-    → AreLocated log list expected replay.follower.rows.items
-located_in {table = table} {events = events} is followed all = record {
+pub located_in : {log list : List ℕ} {table : List TableRow} {events : List LogEvent} {expected : List Expected} {start : RowTracker} {replay : ListReplay RowTracker}
+    → IsLog log table events → IsTracked (algs_in table) events expected start → ReplaysAll IsRowTrackerAfter start list replay
+    → AreLocated log list expected replay.tracker.rows.items
+located_in {table = table} {events = events} is tracked all = record {
   table = table;
   events = events;
   entries = all.entries;
   log_is = is;
   list_is = all.reading;
   genuine = all.genuine;
-  located_are = located_all all.entries followed all.followed;
+  located_are = located_all all.entries tracked all.tracked;
 }

@@ -21,8 +21,8 @@ use Rattle.ima_list.specs.Replaying.{IsReplayed, digests_of}
 use Rattle.boot_verdict.specs.declared.places.Place.TheVariants.{Event, Entry}
 use Rattle.boot_verdict.specs.Places.{place_after}
 use Rattle.boot_verdict.specs.Steps.{Step, OfEvent, OfEntry, digest_of_step, entries_as_steps, events_as_steps, prefixes, least_prefix, stepped, steps_of, value_after}
-use Rattle.boot_verdict.specs.Following.{AreAfter, BanksAfter, register_of}
-use Rattle.boot_verdict.specs.ListReplays.{AreFollowed}
+use Rattle.boot_verdict.specs.Tracking.{AreAfter, BanksAfter, register_of}
+use Rattle.boot_verdict.specs.ListReplays.{AreTracked}
 
 -- ---- registers
 
@@ -138,7 +138,7 @@ replayed_after start now entries after = record {
 }
 
 -- The replay of a list follows it.
-pub followed_by : (start now : Banks) (entries : List ListEntry) → IsReplayed start entries now → AreFollowed BanksAfter start entries now
+pub followed_by : (start now : Banks) (entries : List ListEntry) → IsReplayed start entries now → AreTracked BanksAfter start entries now
 followed_by start now entries replayed = λ origin events log size after.
     banks_joined origin start now log (entries_as_steps entries) after (entries_after start now entries replayed)
 

@@ -19,6 +19,6 @@ pub mod Requirements
 pub mod RequiredTexts
 pub mod ListVerdicts
 pub mod WrittenTexts
-pub mod Following
+pub mod Tracking
 pub mod ListReplays
 pub mod Checkpoints

@@ -4,5 +4,5 @@ pub mod Rows
 pub mod WrittenLines
 pub mod RangeEnds
 pub mod RequirementParts
-pub mod Watches
+pub mod RowTrackers
 pub mod Gathering

@@ -6,7 +6,7 @@ ghost use Rattle.ima_list.specs.ListEntry.{ListEntry};
 ghost use Rattle.ima_list.specs.Spelling.{IsReading};
 ghost use Rattle.ima_list.specs.Replaying.{AreGenuine};
 ghost use Rattle.boot_verdict.specs.ListSources.{failures_after_list};
-ghost use Rattle.boot_verdict.specs.Following.{BanksAfter};
+ghost use Rattle.boot_verdict.specs.Tracking.{BanksAfter};
 ghost use Rattle.boot_verdict.specs.ListReplays.{ReplaysAll};
 ghost use Rattle.boot_verdict.specs.Verdicts.{IsSomeLog, IsVerifyFault};
 ghost use Rattle.boot_verdict.specs.Checkpoints.{GoesOn, IsCheckpoint, IsMoreFault, most_after};
@@ -81,7 +81,7 @@ impl Checkpoint {
         ensures counts { (R.state source.new).failures ≡ failures_after_list result (R.state source.old).failures }
     {
         let mut replay = self.replay();
-        let count = replay.follow(alloc, source, limit)?;
+        let count = replay.replay_more(alloc, source, limit)?;
         Ok(Checkpoint::after(self.before, replay, self.bytes + count))
     }
 
@@ -94,7 +94,7 @@ impl Checkpoint {
     {
         Checkpoint {
             before,
-            after: replay.follower,
+            after: replay.tracker,
             entries: replay.entries,
             bytes,
             stated: replay.stated,
@@ -107,7 +107,7 @@ impl Checkpoint {
         ensures entries { result.entries ≡ self.now.entries }
     {
         ListReplay {
-            follower: self.after,
+            tracker: self.after,
             entries: self.entries,
             stated: self.stated,
             forged: None,

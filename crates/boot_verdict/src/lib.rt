@@ -35,7 +35,7 @@ pub use register_range::RegisterRange;
 pub use replaying::{list_start, replay_from};
 pub use report::{Aggregate, Report, Row, State};
 pub use requirement::{BankRange, HasExpected, Requirement, RequirementFault};
-pub use steps::{Follow, Step};
+pub use steps::{Tracker, Step};
 pub use texts::{
     EventData, aggregate_word, algorithm_with, digits_of, write_change, write_counts, write_events,
     write_expected, write_list_report, write_outcome, write_places, write_registers, write_report,

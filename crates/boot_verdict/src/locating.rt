@@ -17,12 +17,12 @@ ghost use Rattle.boot_verdict.specs.ListSources.{HoldsGenuineList, failures_afte
 ghost use Rattle.boot_verdict.specs.Steps.{events_as_steps};
 ghost use Rattle.boot_verdict.specs.Places.{AreLocated, AreLocatedFrom, located_on};
 ghost use Rattle.boot_verdict.specs.Verdicts.{IsSomeLog, IsVerifyFault, IsVerifyFaultFrom};
-ghost use Rattle.boot_verdict.specs.parts.LogPlaces.{IsFollowed, place_at_reset, row_at_reset};
+ghost use Rattle.boot_verdict.specs.parts.LogPlaces.{IsTracked, place_at_reset, row_at_reset};
 
 use crate::expected::Expected;
 use crate::list_replay::ListReplay;
-use crate::places::{Located, Place, Watch};
-use crate::steps::{Follow, Step};
+use crate::places::{Located, Place, RowTracker};
+use crate::steps::{Tracker, Step};
 use crate::verifier::VerifyFault;
 use boot_log::{LogEvents, LogView};
 use byte_streams::Source;
@@ -51,9 +51,9 @@ pub fn locate(
     ensures memory { IsErrOf result VerifyFault.Memory → IsSomeLog log.now }
 {
     let firmware = LogView::new(log)?;
-    let start = follow_log(alloc, &firmware, expected)?;
+    let start = track_log(alloc, &firmware, expected)?;
     let replay = ListReplay::of_list(start, list)?;
-    Ok(replay.follower.rows)
+    Ok(replay.tracker.rows)
 }
 
 /// As [`locate`], for a list of at most `limit` bytes that is read from a source, with the faults of [`crate::verify_from`]. Each
@@ -82,30 +82,30 @@ pub fn locate_from<R: Source>(
     ensures counts { (R.state list.new).failures ≡ failures_after_list result (R.state list.old).failures }
 {
     let firmware = LogView::new(log)?;
-    let start = follow_log(alloc, &firmware, expected)?;
+    let start = track_log(alloc, &firmware, expected)?;
     let replay = ListReplay::of_source(alloc, start, list, limit)?;
-    Ok(replay.follower.rows)
+    Ok(replay.tracker.rows)
 }
 
 // The registers after the log's events, and the places of the expected values among them.
-fn follow_log(alloc: Global, log: &LogView<'_>, expected: &[Expected]) -> Result<Watch, AllocError>
+fn track_log(alloc: Global, log: &LogView<'_>, expected: &[Expected]) -> Result<RowTracker, AllocError>
     ensures { (table : List TableRow) (events : List LogEvent) → IsLog (log_bytes log.now) table events
-        → IfOk result (IsFollowed (algs_in table) events expected.now) }
+        → IfOk result (IsTracked (algs_in table) events expected.now) }
 {
     let banks = log.reset_registers();
     let rows = rows_at_reset(alloc, &banks, expected)?;
-    let mut watch = Watch { banks, rows };
-    follow_events(&mut watch, log.events());
-    Ok(watch)
+    let mut tracker = RowTracker { banks, rows };
+    track_events(&mut tracker, log.events());
+    Ok(tracker)
 }
 
 // Takes the events, in order.
-fn follow_events<F: Follow>(follower: &mut F, mut events: LogEvents<'_>)
+fn track_events<F: Tracker>(tracker: &mut F, mut events: LogEvents<'_>)
     ensures { (start : F) (bytes : List ℕ) (table : List TableRow) (all : List LogEvent) → HasBorrowed bytes [] events.entry → IsLog bytes table all
-        → F.is_after start (length all) [] follower.old → F.is_after start (length all) (events_as_steps all) follower.new }
+        → F.is_after start (length all) [] tracker.old → F.is_after start (length all) (events_as_steps all) tracker.new }
 {
     while let Some(event) = events.next_event() {
-        follower.step(&Step::Event(&event), Place::Event(events.count()));
+        tracker.step(&Step::Event(&event), Place::Event(events.count()));
     }
 }
 

@@ -6,7 +6,7 @@ ghost use Rattle.pcr_banks.specs.Digests.{digest_of};
 ghost use Rattle.pcr_banks.specs.Registers.{value_at};
 ghost use Rattle.boot_verdict.specs.Places.{all_found, is_found, is_reached};
 ghost use Rattle.boot_verdict.specs.Requirements.{required_found};
-ghost use Rattle.boot_verdict.specs.parts.Watches.{looked, looked_at};
+ghost use Rattle.boot_verdict.specs.parts.RowTrackers.{looked, looked_at};
 
 use crate::expected::Expected;
 use crate::requirement::Requirement;
@@ -71,7 +71,7 @@ pub fn required_found(located: &[Located], requirement: &Requirement) -> bool
 
 /// Registers, and the rows whose values are watched for in them.
 #[derive(Drop)]
-pub(crate) struct Watch {
+pub(crate) struct RowTracker {
     /// The registers.
     pub banks: Banks,
     /// The expected registers and their places so far.

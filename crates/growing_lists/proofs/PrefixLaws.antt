@@ -37,7 +37,7 @@ use Rattle.boot_verdict.specs.Places.{is_reached, place_after}
 use Rattle.boot_verdict.specs.Steps.{Step, OfEntry, entries_as_steps, least_prefix, value_after}
 use Rattle.boot_verdict.specs.Verdicts.{aggregate_of, is_good, is_match, matches, pcr_after_log_and_list, row_on, stated_aggregate, verdict_on}
 use Rattle.growing_lists.specs.parts.Confirming.{PrefixIs, IsConfirmingAfter, IsPrefixAt, are_reached, confirms, prefix_at, is_late, reached_after_steps, search_after, search_before, size_after, size_more}
-use Rattle.boot_verdict.specs.Following.{AreAfter}
+use Rattle.boot_verdict.specs.Tracking.{AreAfter}
 use Rattle.boot_verdict.specs.ListReplays.{IsReplayedOrForged, Replays, ReplaysAll, ReplaysMore, StopsAt}
 use Rattle.growing_lists.specs.parts.Searches.{FindsPrefix, IsConfirmedAt, Searches, checkpoint_at, fault_in, prefix_after, prefix_with, whole_after}
 use Rattle.boot_verdict.proofs.PlaceLaws.{row_matches, steps_back, steps_to, two_ways}
@@ -207,15 +207,15 @@ module _ (list : List ℕ) (known : Checkpoint) (expected : Bor (List Expected))
 
 pub known_search : (list : List ℕ) (known : Checkpoint) (expected : Bor (List Expected)) → IsCheckpoint list known → known.bytes < 2 ^ 64
     → ReplaysAll IsConfirmingAfter (search_before known expected) list
-    (record { follower = search_after known expected; entries = known.entries; stated = known.stated; forged = None })
+    (record { tracker = search_after known expected; entries = known.entries; stated = known.stated; forged = None })
 known_search list known expected is few =
-    let followed = known_after list known expected is few in
+    let tracked = known_after list known expected is few in
     record {
       entries = is.entries;
       reading = is.list_is;
-      replays = record { count = is.count; stated = is.stated; replayed = (is.genuine, followed) };
+      replays = record { count = is.count; stated = is.stated; replayed = (is.genuine, tracked) };
       genuine = is.genuine;
-      followed = followed;
+      tracked = tracked;
     }
 
 -- ---- at the end
@@ -277,14 +277,14 @@ searched known expected entries now None is = record {
   most = λ n le are. le;
   after = is.1 (search_before known expected) 0 [] refl (search_none known expected);
 }
-searched known expected entries now (Some place) (first, followed) = record {
+searched known expected entries now (Some place) (first, tracked) = record {
   genuine = first.before;
   others = first.forged ∷ first.after;
   parts = first.parts;
   are = first.genuine_before;
   most = λ n le are. within_genuine first.before first.after first.forged n first.is_forged
       (subst (λ (l : List ListEntry). AreGenuine (take n l)) first.parts are);
-  after = followed (search_before known expected) 0 [] refl (search_none known expected);
+  after = tracked (search_before known expected) 0 [] refl (search_none known expected);
 }
 
 -- ---- the prefix
@@ -292,8 +292,8 @@ searched known expected entries now (Some place) (first, followed) = record {
 module _ (known : Checkpoint) (expected : Bor (List Expected)) (bytes : List ℕ) (entries : List ListEntry) (rest : List ℕ) (replay : ListReplay Confirming)
     (begins : BeginsWith bytes entries rest) (replays : Replays IsConfirmingAfter (search_before known expected) entries replay)
     (few : length bytes < 2 ^ 64) (counted : replay.entries < 2 ^ 64) where
-  abbrev found : IsSearched known expected entries replay.follower
-  found = searched known expected entries replay.follower replay.forged replays.replayed
+  abbrev found : IsSearched known expected entries replay.tracker
+  found = searched known expected entries replay.tracker replay.forged replays.replayed
 
   abbrev steps_found : List Step
   steps_found = entries_as_steps found.genuine
@@ -398,7 +398,7 @@ module _ (known : Checkpoint) (expected : Bor (List Expected)) (bytes : List ℕ
         }
 
     pub prefix_is : FindsPrefix algs events expected.now known bytes entries (prefix_after good known replay)
-    prefix_is = by (least_prefix test steps_found) replay.follower.prefix (least_tells test steps_found) found.after.prefix
+    prefix_is = by (least_prefix test steps_found) replay.tracker.prefix (least_tells test steps_found) found.after.prefix
       where
         by_good : (b : Bool) (steps : List Step) (prefix : Prefix) → TellsLeast test steps_found (Some steps) → IsPrefixAt (search_before known expected) 0 steps prefix
             → good ≡ b → FindsPrefix algs events expected.now known bytes entries (cond b (Some (checkpoint_at known replay prefix)) None)
@@ -441,7 +441,7 @@ module _ (known : Checkpoint) (expected : Bor (List Expected)) (list : List ℕ)
   searches_whole more =
       let all = more.all in
       let entries = all.entries in
-      let after = all.followed (search_before known expected) 0 [] refl (search_none known expected) in
+      let after = all.tracked (search_before known expected) 0 [] refl (search_none known expected) in
       let few = few_bytes more.more [] more.came.came in
       let listed : length (list ++ more.more) ≡ length (list_spelling entries) =
       ap (λ (l : List ℕ). length l) (all.reading.begins.parts ∙ append-nil (list_spelling entries)) in
@@ -449,7 +449,7 @@ module _ (known : Checkpoint) (expected : Bor (List Expected)) (list : List ℕ)
         entries = entries;
         list_is = all.reading;
         genuine = all.genuine;
-        replayed = replayed_after known.before replay.follower.banks entries after.banks;
+        replayed = replayed_after known.before replay.tracker.banks entries after.banks;
         count = all.replays.count;
         size = after.bytes ∙ sized entries 0 (omega (arith, few, listed)) ∙ omega arith ∙ sym listed;
         stated = all.replays.stated;

@@ -105,7 +105,7 @@ fn searched<R: Source>(
     ensures counts { (R.state source.new).failures ≡ failures_after_list result (R.state source.old).failures }
 {
     let mut replay = searching(known, expected);
-    let whole = match replay.follow(alloc, source, known.room(limit)) {
+    let whole = match replay.replay_more(alloc, source, known.room(limit)) {
         Ok(_count) => Ok(whole_after(known, &replay)),
         Err(fault) => Err(unconfirmed_of(fault)?),
     };
@@ -123,7 +123,7 @@ fn searching<'a>(known: &Checkpoint, expected: &'a [Expected]) -> ListReplay<Con
     ensures entries { result.entries ≡ known.now.entries }
 {
     ListReplay {
-        follower: Confirming::after(known, expected),
+        tracker: Confirming::after(known, expected),
         entries: known.entries,
         stated: known.stated,
         forged: None,
@@ -136,9 +136,9 @@ fn whole_after(known: &Checkpoint, replay: &ListReplay<Confirming<'_>>) -> Check
 {
     Checkpoint {
         before: known.before,
-        after: replay.follower.banks,
+        after: replay.tracker.banks,
         entries: replay.entries,
-        bytes: replay.follower.bytes,
+        bytes: replay.tracker.bytes,
         stated: replay.stated,
     }
 }
@@ -151,7 +151,7 @@ fn prefix_in(known: &Checkpoint, replay: &ListReplay<Confirming<'_>>) -> Option<
     ensures counted { replay.now.entries < 2 ^ 64 }
 {
     let _entries = replay.entries;
-    let prefix = replay.follower.prefix?;
+    let prefix = replay.tracker.prefix?;
     if !is_good(aggregate_of(&known.before, replay.stated)) {
         return None;
     }

@@ -2,9 +2,9 @@
 
 ghost use Rattle.std.specs.Prelude.{◌≡◌};
 ghost use Rattle.growing_lists.specs.parts.Confirming.{IsConfirmingAfter, are_reached, prefix_at, search_after, size_of_step};
-ghost use Rattle.boot_verdict.specs.Following.{step_of};
+ghost use Rattle.boot_verdict.specs.Tracking.{step_of};
 
-use boot_verdict::{Checkpoint, Expected, Follow, Place, Step, is_reached};
+use boot_verdict::{Checkpoint, Expected, Tracker, Place, Step, is_reached};
 use pcr_banks::Banks;
 
 /// A point after an entry of the list.
@@ -73,7 +73,7 @@ impl<'a> Confirming<'a> {
     }
 }
 
-impl Follow for Confirming<'_> {
+impl Tracker for Confirming<'_> {
     ghost is_after = { IsConfirmingAfter };
 
     // Replays the step, and looks at the registers, if there is no prefix yet.

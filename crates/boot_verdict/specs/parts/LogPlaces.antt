@@ -9,10 +9,10 @@ use Rattle.boot_verdict.specs.declared.expected.Expected.{Expected}
 use Rattle.boot_verdict.specs.declared.places.Located.{Located}
 use Rattle.boot_verdict.specs.declared.places.Place.{Place}
 use Rattle.boot_verdict.specs.declared.places.Place.TheVariants.{Reset, Nowhere, Absent}
-use Rattle.boot_verdict.specs.declared.places.Watch.{Watch}
+use Rattle.boot_verdict.specs.declared.places.RowTracker.{RowTracker}
 use Rattle.boot_verdict.specs.Verdicts.{is_value}
 use Rattle.boot_verdict.specs.Steps.{events_as_steps}
-use Rattle.boot_verdict.specs.parts.Watches.{IsWatchAfter}
+use Rattle.boot_verdict.specs.parts.RowTrackers.{IsRowTrackerAfter}
 
 -- The place of a register with this reset value.
 abbrev pub place_at_reset : Expected → Option (List ℕ) → Place
@@ -25,8 +25,8 @@ row_at_reset start expected =
     record { expected = expected; place = place_at_reset expected (value_at start expected.alg expected.register) }
 
 -- The log's events were followed from the reset values.
-pub record IsFollowed (algs : AlgSet) (events : List LogEvent) (expected : List Expected) (watch : Watch) : Type 0 where
-  pub start : Watch
+pub record IsTracked (algs : AlgSet) (events : List LogEvent) (expected : List Expected) (tracker : RowTracker) : Type 0 where
+  pub start : RowTracker
   pub reset : IsReset algs (startup_locality events) start.banks
   pub rows : start.rows.items ≡ map (row_at_reset start.banks) expected
-  pub after : IsWatchAfter start (length events) (events_as_steps events) watch
+  pub after : IsRowTrackerAfter start (length events) (events_as_steps events) tracker

@@ -13,7 +13,7 @@ use Rattle.boot_verdict.specs.declared.places.Place.{Place}
 use Rattle.boot_verdict.specs.declared.places.Place.TheVariants.{Reset, Event, Entry, Nowhere, Absent}
 use Rattle.boot_verdict.specs.Places.{is_reached, place_after}
 use Rattle.boot_verdict.specs.Steps.{Step, OfEvent, OfEntry, least_prefix, value_after}
-use Rattle.boot_verdict.specs.Following.{AreAfter}
+use Rattle.boot_verdict.specs.Tracking.{AreAfter}
 
 -- Whether each expected register has its value in these banks.
 abbrev pub are_reached : Banks → List Expected → Bool

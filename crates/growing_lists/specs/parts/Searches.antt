@@ -65,9 +65,9 @@ pub record Searches (known : Checkpoint) (list : List ℕ) (old new : Option (Li
 abbrev pub whole_after : Checkpoint → ListReplay Confirming → Checkpoint
 whole_after known replay = record {
   before = known.before;
-  after = replay.follower.banks;
+  after = replay.tracker.banks;
   entries = replay.entries;
-  bytes = replay.follower.bytes;
+  bytes = replay.tracker.bytes;
   stated = replay.stated;
 }
 
@@ -86,7 +86,7 @@ prefix_with good known replay None = None
 prefix_with good known replay (Some prefix) = if good then Some (checkpoint_at known replay prefix) else None
 
 abbrev pub prefix_after : Bool → Checkpoint → ListReplay Confirming → Option Checkpoint
-prefix_after good known replay = prefix_with good known replay replay.follower.prefix
+prefix_after good known replay = prefix_with good known replay replay.tracker.prefix
 
 -- The fault of a list with which this is wrong.
 abbrev pub fault_in : Unconfirmed → VerifyFault

@@ -59,5 +59,5 @@ returns-clause-only c =
     let all = c.in_ok-replay.ensures.replays in
     λ table events entries is list genuine.
     let same = one_list list all.reading in
-    let rows = located_all all.entries (c.in_ok-start.ensures table events (log_viewed c.in_ok-firmware.ensures.found is)) all.followed in
+    let rows = located_all all.entries (c.in_ok-start.ensures table events (log_viewed c.in_ok-firmware.ensures.found is)) all.tracked in
     ap Ok (ap (λ (those : List ListEntry). located_on (algs_in table) events those c.args.expected.now) same ∙ sym rows)

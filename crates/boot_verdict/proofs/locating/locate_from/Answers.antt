@@ -67,5 +67,5 @@ returns-clause-only g c =
     let more = c.in_ok-replay.ensures.replays in
     λ table events entries is holds.
     let same = same_entries _ holds more.more more.all.entries more.came more.all.reading in
-    let rows = located_all more.all.entries (c.in_ok-start.ensures table events (log_viewed c.in_ok-firmware.ensures.found is)) more.all.followed in
+    let rows = located_all more.all.entries (c.in_ok-start.ensures table events (log_viewed c.in_ok-firmware.ensures.found is)) more.all.tracked in
     inr (ap Ok (ap (λ (those : List ListEntry). located_on (algs_in table) events those c.args.expected.now) same ∙ sym rows))

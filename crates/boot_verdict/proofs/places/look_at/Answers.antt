@@ -6,7 +6,7 @@ use Rattle.std.proofs.lemmas.List.Edits.{map_over_more}
 use Rattle.pcr_banks.specs.declared.banks.Banks.{Banks}
 use Rattle.boot_verdict.specs.declared.places.Located.{Located}
 use Rattle.boot_verdict.specs.declared.places.Place.{Place}
-use Rattle.boot_verdict.specs.parts.Watches.{looked, looked_at}
+use Rattle.boot_verdict.specs.parts.RowTrackers.{looked, looked_at}
 use Rattle.boot_verdict.proofs.places.look_at.Goals as goal
 use Rattle.boot_verdict.proofs.places.look_at.Goals.{then-row-register, else-row-register}
 

@@ -6,8 +6,8 @@ use Rattle.boot_verdict.specs.declared.expected.Expected.{Expected}
 use Rattle.boot_verdict.specs.declared.places.Located.{Located}
 use Rattle.boot_verdict.specs.declared.places.Place.{Place}
 use Rattle.boot_verdict.specs.declared.places.Place.TheVariants.{Reset, Event, Entry, Nowhere, Absent}
-use Rattle.boot_verdict.specs.declared.places.Watch.{Watch}
-use Rattle.boot_verdict.specs.Following.{AreAfter}
+use Rattle.boot_verdict.specs.declared.places.RowTracker.{RowTracker}
+use Rattle.boot_verdict.specs.Tracking.{AreAfter}
 use Rattle.boot_verdict.specs.Places.{first_place, is_reached}
 use Rattle.boot_verdict.specs.Steps.{Step}
 
@@ -36,6 +36,6 @@ located_after events start steps expected =
     record { expected = expected; place = first_place events expected (value_at start expected.alg expected.register) steps }
 
 -- The banks are those of `start` after these steps, and each of its rows has its place among them.
-pub record IsWatchAfter (start : Watch) (events : ℕ) (steps : List Step) (now : Watch) : Type 0 where
+pub record IsRowTrackerAfter (start : RowTracker) (events : ℕ) (steps : List Step) (now : RowTracker) : Type 0 where
   pub banks : AreAfter start.banks steps now.banks
   pub rows : now.rows.items ≡ map (λ row. located_after events start.banks steps row.expected) start.rows.items

@@ -34,7 +34,7 @@ pub record AreAfter (start : Banks) (steps : List Step) (now : Banks) : Type 0 w
 
 -- What follows a boot, before and after some steps of it, where the log has so many events.
 abbrev pub After : Type 0 → Type 1
-After Following = Following → ℕ → List Step → Following → Type 0
+After Tracking = Tracking → ℕ → List Step → Tracking → Type 0
 
 -- The banks that follow a boot.
 abbrev pub BanksAfter : After Banks

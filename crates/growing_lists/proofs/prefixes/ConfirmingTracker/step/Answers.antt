@@ -3,9 +3,9 @@ use Rattle.std.specs.Prelude.{is_some, not}
 use Rattle.std.specs.Option.{option_or}
 use Rattle.growing_lists.specs.declared.prefixes.Confirming.{Confirming}
 use Rattle.growing_lists.specs.declared.prefixes.Prefix.{Prefix}
-use Rattle.boot_verdict.specs.Following.{step_of}
+use Rattle.boot_verdict.specs.Tracking.{step_of}
 use Rattle.growing_lists.proofs.PrefixLaws.{search_more}
-use Rattle.growing_lists.proofs.prefixes.ConfirmingFollow.step.Goals as goal
+use Rattle.growing_lists.proofs.prefixes.ConfirmingTracker.step.Goals as goal
 
 none_yet : (old next : Option Prefix) → is_some old ≡ false → next ≡ option_or old next
 none_yet None next is = refl

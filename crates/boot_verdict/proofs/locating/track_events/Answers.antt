@@ -5,7 +5,7 @@ use Rattle.boot_log.specs.Spelling.{LogEvent, log_event_of}
 use Rattle.boot_verdict.specs.declared.places.Place.TheVariants.{Event}
 use Rattle.boot_verdict.specs.Steps.{Step, OfEvent, events_as_steps}
 use Rattle.boot_verdict.proofs.StepLaws.{event_place, events_joined}
-use Rattle.boot_verdict.proofs.locating.follow_events.Goals as goal
+use Rattle.boot_verdict.proofs.locating.track_events.Goals as goal
 
 pub loop-event-init : goal.loop-event-init
 loop-event-init g c = λ start bytes table all borrowed is none. ([], borrowed, none)
@@ -23,7 +23,7 @@ loop-event-preserved g c =
     let place : c.count.result ≡ length (events_as_steps before.0) + 1 = omega (arith, number, size, length-append before.0 (event ∷ [])) in (
       before.0 ++ event ∷ [],
       borrowed,
-      subst (λ (steps : List Step). g.F.Follow.is_after start (length all) steps c.step.new.self) (events_joined before.0 event)
+      subst (λ (steps : List Step). g.F.Tracker.is_after start (length all) steps c.step.new.self) (events_joined before.0 event)
           (c.step.ensures start (length all) (events_as_steps before.0)
           (ap (λ (n : ℕ). Event n) place ∙ event_place (length all) (length (events_as_steps before.0)) (events_as_steps before.0) refl
           (omega (arith, size, many, length-append before.0 (event ∷ later.0)))) before.2),
@@ -34,5 +34,5 @@ returns g c =
     λ start bytes table all none is first.
     let before = c.loop-event.invariant start bytes table all none is first in
     let whole = (rw c.in_default.is at c.next_event.ensures.end) bytes before.0 before.1 in
-    subst (λ (es : List LogEvent). g.F.Follow.is_after start (length all) (events_as_steps es) c.loop-event.follower)
+    subst (λ (es : List LogEvent). g.F.Tracker.is_after start (length all) (events_as_steps es) c.loop-event.tracker)
     (one_reading bytes whole.0 table before.0 all whole.1 is).1 before.2
