@@ -71,24 +71,24 @@ aggregate_in None = None
 aggregate_in (Some fields) = if bytes_eq fields.path boot_aggregate_path then Some (fields.alg, fields.digest) else None
 
 -- The boot aggregate that this entry states as the first of a list; a violation states none.
-abbrev pub stated_in : ListEntry → Option (Alg × List ℕ)
-stated_in first = if is_violation first then None else aggregate_in (fields_of first)
+abbrev pub recorded_in : ListEntry → Option (Alg × List ℕ)
+recorded_in first = if is_violation first then None else aggregate_in (fields_of first)
 
-abbrev pub stated_aggregate : List ListEntry → Option (Alg × List ℕ)
-stated_aggregate [] = None
-stated_aggregate (first ∷ entries) = stated_in first
+abbrev pub recorded_aggregate : List ListEntry → Option (Alg × List ℕ)
+recorded_aggregate [] = None
+recorded_aggregate (first ∷ entries) = recorded_in first
 
 -- The boot aggregate of the log's registers: the hash of the bank's first ones, joined.
 abbrev pub booted_aggregate : AlgSet → List LogEvent → Alg → Option (List ℕ)
 booted_aggregate algs events alg = option_map (hash_of alg) (joined_values (pcr_after_log algs events alg) (aggregate_register_count alg))
 
 abbrev pub aggregate_state : List ℕ → Option (List ℕ) → Aggregate
-aggregate_state stated None = NoBank
-aggregate_state stated (Some value) = if bytes_eq stated value then Good else Wrong
+aggregate_state recorded None = NoBank
+aggregate_state recorded (Some value) = if bytes_eq recorded value then Good else Wrong
 
 abbrev pub aggregate_of : AlgSet → List LogEvent → Option (Alg × List ℕ) → Aggregate
 aggregate_of algs events None = Missing
-aggregate_of algs events (Some stated) = aggregate_state stated.1 (booted_aggregate algs events stated.0)
+aggregate_of algs events (Some recorded) = aggregate_state recorded.1 (booted_aggregate algs events recorded.0)
 
 -- ---- the verdict
 
@@ -105,7 +105,7 @@ verdict_on algs events entries expected = record {
   events = length events;
   locality = startup_locality events;
   entries = length entries;
-  aggregate = aggregate_of algs events (stated_aggregate entries);
+  aggregate = aggregate_of algs events (recorded_aggregate entries);
   rows = map (row_on algs events entries) expected;
 }
 

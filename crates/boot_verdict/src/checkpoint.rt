@@ -33,7 +33,7 @@ pub struct Checkpoint {
     /// How many bytes it had.
     pub bytes: u64,
     /// The boot aggregate that its first entry states, if any.
-    pub stated: Option<Digest>,
+    pub recorded: Option<Digest>,
 }
 
 impl Checkpoint {
@@ -97,7 +97,7 @@ impl Checkpoint {
             after: replay.tracker,
             entries: replay.entries,
             bytes,
-            stated: replay.stated,
+            recorded: replay.recorded,
         }
     }
 
@@ -109,7 +109,7 @@ impl Checkpoint {
         ListReplay {
             tracker: self.after,
             entries: self.entries,
-            stated: self.stated,
+            recorded: self.recorded,
             forged: None,
         }
     }

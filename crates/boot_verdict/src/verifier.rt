@@ -179,7 +179,7 @@ pub fn report_on(
         events: log.count(),
         locality: log.locality(),
         entries: known.entries,
-        aggregate: aggregate_of(&known.before, known.stated),
+        aggregate: aggregate_of(&known.before, known.recorded),
         rows: rows_on(alloc, &known.after, expected)?,
     })
 }
@@ -220,23 +220,23 @@ fn state_of(expected: &Expected, value: Option<Digest>) -> State
 }
 
 /// The state of the boot aggregate that the list states, if any. `start` has the log's registers.
-pub fn aggregate_of(start: &Banks, stated: Option<Digest>) -> Aggregate
+pub fn aggregate_of(start: &Banks, recorded: Option<Digest>) -> Aggregate
     ensures { (algs : AlgSet) (events : List LogEvent) → IsFirmware algs events start.now
-        → result ≡ aggregate_of algs events (option_map (λ digest. (alg_of digest, bytes_of digest)) stated) }
+        → result ≡ aggregate_of algs events (option_map (λ digest. (alg_of digest, bytes_of digest)) recorded) }
 {
-    match stated {
+    match recorded {
         None => Aggregate::Missing,
-        Some(stated) => aggregate_state(&stated, boot_aggregate(start, stated.alg())),
+        Some(recorded) => aggregate_state(&recorded, boot_aggregate(start, recorded.alg())),
     }
 }
 
-// Compares a stated boot aggregate with that of the log's registers, if the log has the bank.
-fn aggregate_state(stated: &Digest, value: Option<Digest>) -> Aggregate
-    ensures { result ≡ aggregate_state (bytes_of stated.now) (option_map bytes_of value) }
+// Compares a recorded boot aggregate with that of the log's registers, if the log has the bank.
+fn aggregate_state(recorded: &Digest, value: Option<Digest>) -> Aggregate
+    ensures { result ≡ aggregate_state (bytes_of recorded.now) (option_map bytes_of value) }
 {
     match value {
         None => Aggregate::NoBank,
-        Some(value) if value.bytes() == stated.bytes() => Aggregate::Good,
+        Some(value) if value.bytes() == recorded.bytes() => Aggregate::Good,
         Some(_) => Aggregate::Wrong,
     }
 }

@@ -35,7 +35,7 @@ use Rattle.boot_verdict.specs.Checkpoints.{IsCheckpoint, IsMoreFault}
 use Rattle.boot_verdict.specs.ListSources.{CameFrom}
 use Rattle.boot_verdict.specs.Places.{is_reached, place_after}
 use Rattle.boot_verdict.specs.Steps.{Step, OfEntry, entries_as_steps, least_prefix, value_after}
-use Rattle.boot_verdict.specs.Verdicts.{aggregate_of, is_good, is_match, matches, pcr_after_log_and_list, row_on, stated_aggregate, verdict_on}
+use Rattle.boot_verdict.specs.Verdicts.{aggregate_of, is_good, is_match, matches, pcr_after_log_and_list, row_on, recorded_aggregate, verdict_on}
 use Rattle.growing_lists.specs.parts.Confirming.{PrefixIs, IsConfirmingAfter, IsPrefixAt, are_reached, confirms, prefix_at, is_late, reached_after_steps, search_after, search_before, size_after, size_more}
 use Rattle.boot_verdict.specs.Tracking.{AreAfter}
 use Rattle.boot_verdict.specs.ListReplays.{IsReplayedOrForged, Replays, ReplaysAll, ReplaysMore, StopsAt}
@@ -207,13 +207,13 @@ module _ (list : List ℕ) (known : Checkpoint) (expected : Bor (List Expected))
 
 pub known_search : (list : List ℕ) (known : Checkpoint) (expected : Bor (List Expected)) → IsCheckpoint list known → known.bytes < 2 ^ 64
     → ReplaysAll IsConfirmingAfter (search_before known expected) list
-    (record { tracker = search_after known expected; entries = known.entries; stated = known.stated; forged = None })
+    (record { tracker = search_after known expected; entries = known.entries; recorded = known.recorded; forged = None })
 known_search list known expected is few =
     let tracked = known_after list known expected is few in
     record {
       entries = is.entries;
       reading = is.list_is;
-      replays = record { count = is.count; stated = is.stated; replayed = (is.genuine, tracked) };
+      replays = record { count = is.count; recorded = is.recorded; replayed = (is.genuine, tracked) };
       genuine = is.genuine;
       tracked = tracked;
     }
@@ -225,10 +225,10 @@ all_take P zero xs each = tt
 all_take P (suc n) [] each = tt
 all_take P (suc n) (x ∷ xs) each = (each.0, all_take P n xs each.1)
 
-stated_take : (n : ℕ) (entries : List ListEntry) → 0 < n → stated_aggregate (take n entries) ≡ stated_aggregate entries
-stated_take zero entries some = absurd (omega (arith, some))
-stated_take (suc n) [] some = refl
-stated_take (suc n) (entry ∷ entries) some = refl
+recorded_take : (n : ℕ) (entries : List ListEntry) → 0 < n → recorded_aggregate (take n entries) ≡ recorded_aggregate entries
+recorded_take zero entries some = absurd (omega (arith, some))
+recorded_take (suc n) [] some = refl
+recorded_take (suc n) (entry ∷ entries) some = refl
 
 module _ (algs : AlgSet) (events : List LogEvent) (start : Banks) (expected : List Expected) (firmware : IsFirmware algs events start) where
   value_reached : (entries : List ListEntry) (e : Expected)
@@ -240,9 +240,9 @@ module _ (algs : AlgSet) (events : List LogEvent) (start : Banks) (expected : Li
 
   -- The verdict on entries is 'match' if the boot aggregate is good, and each value is reached.
   matched_by : (entries : List ListEntry) → matches (verdict_on algs events entries expected)
-      ≡ (is_good (aggregate_of algs events (stated_aggregate entries)) && reached_after_steps start expected (entries_as_steps entries))
+      ≡ (is_good (aggregate_of algs events (recorded_aggregate entries)) && reached_after_steps start expected (entries_as_steps entries))
   matched_by entries =
-      ap (λ (b : Bool). is_good (aggregate_of algs events (stated_aggregate entries)) && b)
+      ap (λ (b : Bool). is_good (aggregate_of algs events (recorded_aggregate entries)) && b)
       (list_all-map is_match (row_on algs events entries) expected
       ∙ ap (λ (p : Expected → Bool). list_all p expected) (fun_same _ _ (λ e.
       sym (ap (is_reached e) (value_reached entries e) ∙ row_matches e (pcr_after_log_and_list algs events entries e.alg e.register)))))
@@ -349,11 +349,11 @@ module _ (known : Checkpoint) (expected : Bor (List Expected)) (bytes : List ℕ
         replayed = replayed_after known.before prefix.registers (take n entries) at.registers;
         count = omega (arith, last, listed, within, all, length-append found.genuine found.others, replays.count, counted);
         size = at.size ∙ sized (take n entries) 0 (omega (arith, prefix_few n)) ∙ omega arith;
-        stated = replays.stated ∙ sym (stated_take n entries (omega (arith, last)));
+        recorded = replays.recorded ∙ sym (recorded_take n entries (omega (arith, last)));
       }
 
   module _ (algs : AlgSet) (events : List LogEvent) (firmware : IsFirmware algs events known.before) (good : Bool)
-      (tells : good ≡ is_good (aggregate_of algs events (stated_aggregate entries))) where
+      (tells : good ≡ is_good (aggregate_of algs events (recorded_aggregate entries))) where
     -- Whether the verdict on a prefix is 'match'.
     confirms_is : (n : ℕ) → known.entries ≤ n → n ≤ length found.genuine
         → matches (verdict_on algs events (take n entries) expected.now) ≡ (good && test (take n steps_found))
@@ -363,8 +363,8 @@ module _ (known : Checkpoint) (expected : Bor (List Expected)) (bytes : List ℕ
         let tested : test (take (suc k) steps_found) ≡ reached_after_steps known.before expected.now steps =
         ap test (prefix_steps (suc k) le) ∙ rw (late (known.entries - 1) 0 (length steps) (omega (arith, step_count (suc k) le, enough))) refl in
         matched_by algs events known.before expected.now firmware (take (suc k) entries)
-        ∙ ap (λ (stated : Option (Alg × List ℕ)). is_good (aggregate_of algs events stated) && reached_after_steps known.before expected.now steps)
-        (stated_take (suc k) entries (omega arith))
+        ∙ ap (λ (recorded : Option (Alg × List ℕ)). is_good (aggregate_of algs events recorded) && reached_after_steps known.before expected.now steps)
+        (recorded_take (suc k) entries (omega arith))
         ∙ ap (λ (b : Bool). b && reached_after_steps known.before expected.now steps) (sym tells) ∙ ap (λ (b : Bool). good && b) (sym tested)
 
     prefix_confirmed : (steps : List Step) (prefix : Prefix) → TellsLeast test steps_found (Some steps)
@@ -419,7 +419,7 @@ module _ (known : Checkpoint) (expected : Bor (List Expected)) (bytes : List ℕ
 abbrev GoodOf : Checkpoint → ListReplay Confirming → Option Checkpoint → Type 0
 GoodOf known replay prefix =
     (algs : AlgSet) (events : List LogEvent) → IsFirmware algs events known.before
-    → prefix ≡ prefix_after (is_good (aggregate_of algs events (option_map (λ digest. (alg_of digest, bytes_of digest)) replay.stated))) known replay
+    → prefix ≡ prefix_after (is_good (aggregate_of algs events (option_map (λ digest. (alg_of digest, bytes_of digest)) replay.recorded))) known replay
 
 module _ (known : Checkpoint) (expected : Bor (List Expected)) (list : List ℕ) (old new : Option (List ℕ)) (limit : ℕ) (replay : ListReplay Confirming)
     (prefix : Option Checkpoint) (is : IsCheckpoint list known) (room : known.bytes + limit < 2 ^ 64) (counted : replay.entries < 2 ^ 64)
@@ -433,7 +433,7 @@ module _ (known : Checkpoint) (expected : Bor (List Expected)) (list : List ℕ)
       → FindsPrefix algs events expected.now known bytes entries prefix
   finds bytes entries rest begins replays few algs events firmware =
       rw (good algs events firmware) (prefix_is known expected bytes entries rest replay begins replays few counted algs events firmware _
-      (ap (λ (stated : Option (Alg × List ℕ)). is_good (aggregate_of algs events stated)) replays.stated))
+      (ap (λ (recorded : Option (Alg × List ℕ)). is_good (aggregate_of algs events recorded)) replays.recorded))
 
   -- All that came is a list of genuine entries.
   pub searches_whole : ReplaysMore IsConfirmingAfter (search_before known expected) list old new limit replay
@@ -452,7 +452,7 @@ module _ (known : Checkpoint) (expected : Bor (List Expected)) (list : List ℕ)
         replayed = replayed_after known.before replay.tracker.banks entries after.banks;
         count = all.replays.count;
         size = after.bytes ∙ sized entries 0 (omega (arith, few, listed)) ∙ omega arith ∙ sym listed;
-        stated = all.replays.stated;
+        recorded = all.replays.recorded;
       } in
       record {
         came = more.more;

@@ -38,7 +38,7 @@ LeavesRoom checkpoint = checkpoint.bytes + 2 ^ 26 < 2 ^ 63
 -- Nothing was taken: no byte, no boot aggregate, and no register is another.
 pub record HasTakenNothing (checkpoint : Checkpoint) : Type 0 where
   pub bytes : checkpoint.bytes ≡ 0
-  pub stated : checkpoint.stated ≡ None
+  pub recorded : checkpoint.recorded ≡ None
   pub same : AreSameBanks checkpoint.before checkpoint.after
 
 -- The counts, the boot aggregate and the active banks are such as a list leaves, each of whose entries has 32 bytes or more.
@@ -53,12 +53,12 @@ pub record IsPossible (checkpoint : Checkpoint) : Type 0 where
   pub counted : IsCounted checkpoint
   pub before : HaveValues checkpoint.before
   pub after : HaveValues checkpoint.after
-  pub stated : IfSome checkpoint.stated (λ digest. IsHash (alg_of digest) (bytes_of digest))
+  pub recorded : IfSome checkpoint.recorded (λ digest. IsHash (alg_of digest) (bytes_of digest))
 
 -- Two checkpoints of the same data.
 pub record SameData (first second : Checkpoint) : Type 0 where
   pub entries : first.entries ≡ second.entries
   pub bytes : first.bytes ≡ second.bytes
-  pub stated : first.stated ≡ second.stated
+  pub recorded : first.recorded ≡ second.recorded
   pub before : SameValues first.before second.before
   pub after : SameValues first.after second.after

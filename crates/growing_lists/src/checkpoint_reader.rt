@@ -13,7 +13,7 @@ ghost use Rattle.boot_verdict.specs.Checkpoints.{IsCheckpoint};
 ghost use Rattle.boot_verdict.specs.RegisterTexts.{all_registers, register_line};
 ghost use Rattle.growing_lists.specs.declared.checkpoint_reader.CheckpointFault.TheVariants.{Memory};
 ghost use Rattle.growing_lists.specs.CheckpointData.{HasTakenNothing, HaveValues, IsCounted, IsHash, IsPossible, LeavesRoom, SameData, SameValues};
-ghost use Rattle.growing_lists.specs.CheckpointTexts.{IsOfOtherVersion, bank_lines, banks_lines, checkpoint_text, data_lines, number_line, stated_line, stated_words, value_line};
+ghost use Rattle.growing_lists.specs.CheckpointTexts.{IsOfOtherVersion, bank_lines, banks_lines, checkpoint_text, data_lines, number_line, recorded_line, recorded_words, value_line};
 ghost use Rattle.growing_lists.specs.Sessions.{IsOfBoot};
 ghost use Rattle.growing_lists.specs.parts.CheckpointParts.{HasBank, Sets, TakesBank};
 
@@ -33,7 +33,7 @@ pub fn counted_checkpoint_is_possible(checkpoint: &Checkpoint)
 {
     banks_have_values(&checkpoint.before);
     banks_have_values(&checkpoint.after);
-    if let Some(digest) = &checkpoint.stated {
+    if let Some(digest) = &checkpoint.recorded {
         digest_is_a_hash(digest);
     }
 }
@@ -150,7 +150,7 @@ fn has_taken_nothing(checkpoint: &Checkpoint) -> bool
     ensures { IsTrue result ↔ HasTakenNothing checkpoint.now }
 {
     checkpoint.bytes == 0
-        && checkpoint.stated.is_none()
+        && checkpoint.recorded.is_none()
         && are_same_banks(&checkpoint.before, &checkpoint.after)
 }
 
@@ -169,7 +169,7 @@ fn data_at(text: &[u8]) -> Option<Checkpoint>
 {
     let (entries, rest) = number_at(b"entries ", text)?;
     let (bytes, rest) = number_at(b"bytes ", rest)?;
-    let (stated, rest) = stated_at(rest)?;
+    let (recorded, rest) = recorded_at(rest)?;
     let (before, rest) = section_at(b"before\n", rest)?;
     let (after, _) = section_at(b"after\n", rest)?;
     Some(Checkpoint {
@@ -177,7 +177,7 @@ fn data_at(text: &[u8]) -> Option<Checkpoint>
         after,
         entries: entries as usize,
         bytes,
-        stated,
+        recorded,
     })
 }
 
@@ -201,18 +201,18 @@ fn number_named(digits: &[u8]) -> Option<u64>
 }
 
 // The boot aggregate on the line at the start, and what follows the line.
-fn stated_at(text: &[u8]) -> Option<(Option<Digest>, &[u8])>
-    ensures { (stated : Option Digest) (rest : List ℕ) → IfSome stated (λ digest. IsHash (alg_of digest) (bytes_of digest))
-        → text.now ≡ stated_line stated ++ rest → IsSomeAnd result (λ x. (x.0 ≡ stated) × (x.1.now ≡ rest)) }
+fn recorded_at(text: &[u8]) -> Option<(Option<Digest>, &[u8])>
+    ensures { (recorded : Option Digest) (rest : List ℕ) → IfSome recorded (λ digest. IsHash (alg_of digest) (bytes_of digest))
+        → text.now ≡ recorded_line recorded ++ rest → IsSomeAnd result (λ x. (x.0 ≡ recorded) × (x.1.now ≡ rest)) }
 {
     let (words, rest) = split_once(b'\n', after_prefix(b"boot_aggregate ", text)?)?;
-    Some((stated_by(words)?, rest))
+    Some((recorded_by(words)?, rest))
 }
 
 // The boot aggregate that these words state.
-fn stated_by(words: &[u8]) -> Option<Option<Digest>>
-    ensures { (stated : Option Digest) → IfSome stated (λ digest. IsHash (alg_of digest) (bytes_of digest))
-        → words.now ≡ stated_words stated → IsSomeAnd result (λ x. x ≡ stated) }
+fn recorded_by(words: &[u8]) -> Option<Option<Digest>>
+    ensures { (recorded : Option Digest) → IfSome recorded (λ digest. IsHash (alg_of digest) (bytes_of digest))
+        → words.now ≡ recorded_words recorded → IsSomeAnd result (λ x. x ≡ recorded) }
 {
     if is_none(words) {
         return Some(None);

@@ -125,7 +125,7 @@ fn searching<'a>(known: &Checkpoint, expected: &'a [Expected]) -> ListReplay<Con
     ListReplay {
         tracker: Confirming::after(known, expected),
         entries: known.entries,
-        stated: known.stated,
+        recorded: known.recorded,
         forged: None,
     }
 }
@@ -139,20 +139,20 @@ fn whole_after(known: &Checkpoint, replay: &ListReplay<Confirming<'_>>) -> Check
         after: replay.tracker.banks,
         entries: replay.entries,
         bytes: replay.tracker.bytes,
-        stated: replay.stated,
+        recorded: replay.recorded,
     }
 }
 
 // The checkpoint of the prefix at which the registers are as expected, if the boot aggregate is good.
 fn prefix_in(known: &Checkpoint, replay: &ListReplay<Confirming<'_>>) -> Option<Checkpoint>
     ensures prefix { (algs : AlgSet) (events : List LogEvent) → IsFirmware algs events known.now.before
-        → result ≡ prefix_after (is_good (aggregate_of algs events (option_map (λ digest. (alg_of digest, bytes_of digest)) replay.now.stated)))
+        → result ≡ prefix_after (is_good (aggregate_of algs events (option_map (λ digest. (alg_of digest, bytes_of digest)) replay.now.recorded)))
         known.now replay.now }
     ensures counted { replay.now.entries < 2 ^ 64 }
 {
     let _entries = replay.entries;
     let prefix = replay.tracker.prefix?;
-    if !is_good(aggregate_of(&known.before, replay.stated)) {
+    if !is_good(aggregate_of(&known.before, replay.recorded)) {
         return None;
     }
     Some(Checkpoint {
@@ -160,7 +160,7 @@ fn prefix_in(known: &Checkpoint, replay: &ListReplay<Confirming<'_>>) -> Option<
         after: prefix.registers,
         entries: prefix.last.saturating_add(1),
         bytes: prefix.bytes,
-        stated: replay.stated,
+        recorded: replay.recorded,
     })
 }
 

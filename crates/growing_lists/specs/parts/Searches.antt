@@ -68,7 +68,7 @@ whole_after known replay = record {
   after = replay.tracker.banks;
   entries = replay.entries;
   bytes = replay.tracker.bytes;
-  stated = replay.stated;
+  recorded = replay.recorded;
 }
 
 abbrev pub checkpoint_at : Checkpoint → ListReplay Confirming → Prefix → Checkpoint
@@ -77,7 +77,7 @@ checkpoint_at known replay prefix = record {
   after = prefix.registers;
   entries = min (prefix.last + 1) (2 ^ 64 - 1);
   bytes = prefix.bytes;
-  stated = replay.stated;
+  recorded = replay.recorded;
 }
 
 -- The prefix of the search, if the boot aggregate is good.

@@ -11,5 +11,5 @@ returns-clause-known c =
       replayed = replayed_after c.args.before c.args.replay.tracker all.entries (all.tracked c.args.before 0 [] refl (none_taken c.args.before));
       count = all.replays.count;
       size = size;
-      stated = all.replays.stated;
+      recorded = all.replays.recorded;
     }
