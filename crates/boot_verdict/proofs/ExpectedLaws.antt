@@ -35,7 +35,7 @@ pub not_lacked : (byte : ℕ) (prefix rest : List ℕ) → Lacks byte (prefix ++
 not_lacked byte [] rest lacks = lacks.0 refl
 not_lacked byte (first ∷ prefix) rest lacks = not_lacked byte prefix rest lacks.1
 
--- A byte has one first place in a text.
+-- A byte has one first position in a text.
 pub one_cut : (byte : ℕ) (prefix other rest more : List ℕ) → Lacks byte prefix → Lacks byte other
     → prefix ++ byte ∷ rest ≡ other ++ byte ∷ more → (prefix ≡ other) × (rest ≡ more)
 one_cut byte [] [] rest more p q e = (refl, ap (λ (l : List ℕ). drop 1 l) e)
@@ -162,12 +162,12 @@ one_line line e other is another =
 empty_spells_none : (line : List ℕ) (e : Expected) → line ≡ [] → IsRegisterLine line e → ⊥
 empty_spells_none line e empty is = line_has_space line e (rw empty (λ k lt. absurd (omega (arith, lt)))) is
 
-spell_once : (place next other : Unit {0}) (line : List ℕ) (first second : Option Expected) → Spells place line next first
-    → Spells place line other second → (next ≡ other) × (first ≡ second)
-spell_once place next other line None None p q = (refl, refl)
-spell_once place next other line None (Some e) p q = absurd (empty_spells_none line e p q)
-spell_once place next other line (Some e) None p q = absurd (empty_spells_none line e q p)
-spell_once place next other line (Some e) (Some second) p q = (refl, ap (λ (x : Expected). Some x) (one_line line e second p q))
+spell_once : (position next other : Unit {0}) (line : List ℕ) (first second : Option Expected) → Spells position line next first
+    → Spells position line other second → (next ≡ other) × (first ≡ second)
+spell_once position next other line None None p q = (refl, refl)
+spell_once position next other line None (Some e) p q = absurd (empty_spells_none line e p q)
+spell_once position next other line (Some e) None p q = absurd (empty_spells_none line e q p)
+spell_once position next other line (Some e) (Some second) p q = (refl, ap (λ (x : Expected). Some x) (one_line line e second p q))
 
 pub spells_once : SaysOnce Spells
 spells_once = record { once = spell_once }

@@ -12,7 +12,7 @@ use Rattle.pcr_banks.proofs.AlgLaws.{same_name_is}
 use Rattle.hex.specs.Hex.{is_hex_digit}
 use Rattle.hex.proofs.HexLemmas.{decode_of-ok}
 use Rattle.boot_verdict.specs.declared.expected.Expected.{Expected}
-use Rattle.boot_verdict.specs.PcrReadTexts.{Begins, GivesValue, IsBankLine, IsSkipped, IsValueLine, Place, Says, is_name_byte, two_columns}
+use Rattle.boot_verdict.specs.PcrReadTexts.{Begins, GivesValue, IsBankLine, IsSkipped, IsValueLine, Position, Says, is_name_byte, two_columns}
 use Rattle.boot_verdict.specs.parts.StatedLines.{SaysOnce}
 use Rattle.boot_verdict.proofs.StatedLaws.{same_expected}
 
@@ -150,8 +150,8 @@ one_value bank line e other is another =
     (columns_injective e.register other.register is.exists another.exists parts.0) (ap (λ (l : List ℕ). drop 4 l) parts.1)
     is.alg_is another.alg_is is.value_is another.value_is
 
-skipped_bank : (place next : Place) (line : List ℕ) → IsSkipped place line → Begins line next → ⊥
-skipped_bank place None line skipped begins = begins
+skipped_bank : (position next : Position) (line : List ℕ) → IsSkipped position line → Begins line next → ⊥
+skipped_bank position None line skipped begins = begins
 skipped_bank None (Some name) line empty begins = no_bank_empty line name begins empty
 skipped_bank (Some bank) (Some name) line skipped begins =
     elim skipped [
@@ -164,7 +164,7 @@ value_not_empty bank line e is empty =
     let whole : [] ≡ codes "    " ++ (two_columns e.register ++ (codes ": 0x" ++ is.digits)) = sym empty ∙ is.spelled in
     absurd cc
 
-skipped_value : (place : Place) (line : List ℕ) (e : Expected) → IsSkipped place line → GivesValue place line e → ⊥
+skipped_value : (position : Position) (line : List ℕ) (e : Expected) → IsSkipped position line → GivesValue position line e → ⊥
 skipped_value None line e skipped gives = gives
 skipped_value (Some bank) line e skipped gives =
     elim skipped [
@@ -172,46 +172,46 @@ skipped_value (Some bank) line e skipped gives =
       | inr foreign ↦ foreign.unknown e.alg gives.bank_is
     ]
 
-bank_value : (place next : Place) (line : List ℕ) (e : Expected) → Begins line next → GivesValue place line e → ⊥
-bank_value place None line e begins gives = begins
+bank_value : (position next : Position) (line : List ℕ) (e : Expected) → Begins line next → GivesValue position line e → ⊥
+bank_value position None line e begins gives = begins
 bank_value None (Some name) line e begins gives = gives
 bank_value (Some bank) (Some name) line e begins gives =
     no_bank_below line name (two_columns e.register ++ (codes ": 0x" ++ gives.digits)) begins gives.spelled
 
-one_place : (line : List ℕ) (next other : Place) → Begins line next → Begins line other → next ≡ other
-one_place line None other p q = absurd p
-one_place line (Some name) None p q = absurd q
-one_place line (Some name) (Some other) p q = ap (λ (l : List ℕ). Some l) (one_bank line name other p q)
+one_position : (line : List ℕ) (next other : Position) → Begins line next → Begins line other → next ≡ other
+one_position line None other p q = absurd p
+one_position line (Some name) None p q = absurd q
+one_position line (Some name) (Some other) p q = ap (λ (l : List ℕ). Some l) (one_bank line name other p q)
 
-no_value_here : (place next : Place) (line : List ℕ) (e : Expected) → Says place line next None → GivesValue place line e → ⊥
-no_value_here place next line e says gives =
+no_value_here : (position next : Position) (line : List ℕ) (e : Expected) → Says position line next None → GivesValue position line e → ⊥
+no_value_here position next line e says gives =
     elim says [
-      | inl skipped ↦ skipped_value place line e skipped.0 gives
-      | inr begins ↦ bank_value place next line e begins gives
+      | inl skipped ↦ skipped_value position line e skipped.0 gives
+      | inr begins ↦ bank_value position next line e begins gives
     ]
 
-value_here : (place : Place) (line : List ℕ) (e other : Expected) → GivesValue place line e → GivesValue place line other → e ≡ other
+value_here : (position : Position) (line : List ℕ) (e other : Expected) → GivesValue position line e → GivesValue position line other → e ≡ other
 value_here None line e other p q = absurd p
 value_here (Some bank) line e other p q = one_value bank line e other p q
 
 -- A line says one thing.
-say_once : (place next other : Place) (line : List ℕ) (first second : Option Expected) → Says place line next first
-    → Says place line other second → (next ≡ other) × (first ≡ second)
-say_once place next other line None None p q =
+say_once : (position next other : Position) (line : List ℕ) (first second : Option Expected) → Says position line next first
+    → Says position line other second → (next ≡ other) × (first ≡ second)
+say_once position next other line None None p q =
     elim p [
       | inl skipped ↦ elim q [
         | inl also ↦ (skipped.1 ∙ sym also.1, refl)
-        | inr begins ↦ absurd (skipped_bank place other line skipped.0 begins)
+        | inr begins ↦ absurd (skipped_bank position other line skipped.0 begins)
       ]
       | inr begins ↦ elim q [
-        | inl skipped ↦ absurd (skipped_bank place next line skipped.0 begins)
-        | inr also ↦ (one_place line next other begins also, refl)
+        | inl skipped ↦ absurd (skipped_bank position next line skipped.0 begins)
+        | inr also ↦ (one_position line next other begins also, refl)
       ]
     ]
-say_once place next other line None (Some e) p q = absurd (no_value_here place next line e p q.0)
-say_once place next other line (Some e) None p q = absurd (no_value_here place other line e q p.0)
-say_once place next other line (Some e) (Some second) p q =
-    (p.1 ∙ sym q.1, ap (λ (x : Expected). Some x) (value_here place line e second p.0 q.0))
+say_once position next other line None (Some e) p q = absurd (no_value_here position next line e p q.0)
+say_once position next other line (Some e) None p q = absurd (no_value_here position other line e q p.0)
+say_once position next other line (Some e) (Some second) p q =
+    (p.1 ∙ sym q.1, ap (λ (x : Expected). Some x) (value_here position line e second p.0 q.0))
 
 pub says_once : SaysOnce Says
 says_once = record { once = say_once }

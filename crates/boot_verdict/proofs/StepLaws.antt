@@ -1,4 +1,4 @@
--- Steps: the registers after them, their least prefixes, and the places that these lead to.
+-- Steps: the registers after them, their least prefixes, and the positions that these lead to.
 use Rattle.std.proofs.Common.{◌≡◌, ℕ, suc, zero, ◌+◌, ◌-◌, ◌<◌, Bool, true, false, cond, eqb, List, [], ◌∷◌, ◌++◌, length, map, take, Option, Some, None, option_map, refl, sym, ap, ◌∙◌, append_assoc, arith, inl, inr}
 use Rattle.std.specs.Prelude.{filter, filter_map, find, fold}
 use Rattle.std.specs.List.{cons_option}
@@ -18,8 +18,8 @@ use Rattle.boot_log.proofs.ListLaws.{find_map}
 use Rattle.ima_list.specs.ListEntry.{ListEntry}
 use Rattle.ima_list.specs.Digesting.{bank_digest}
 use Rattle.ima_list.specs.Replaying.{IsReplayed, digests_of}
-use Rattle.boot_verdict.specs.declared.places.Place.TheVariants.{Event, Entry}
-use Rattle.boot_verdict.specs.Places.{place_after}
+use Rattle.boot_verdict.specs.declared.positions.Position.TheVariants.{Event, Entry}
+use Rattle.boot_verdict.specs.Positions.{position_after}
 use Rattle.boot_verdict.specs.Steps.{Step, OfEvent, OfEntry, digest_of_step, entries_as_steps, events_as_steps, prefixes, least_prefix, stepped, steps_of, value_after}
 use Rattle.boot_verdict.specs.Tracking.{AreAfter, BanksAfter, register_of}
 use Rattle.boot_verdict.specs.ListReplays.{AreTracked}
@@ -194,10 +194,10 @@ least_tells test (step ∷ steps) = elim (cases_Bool (test [])) [
       (least_within test step steps (least_prefix (λ prefix. test (step ∷ prefix)) steps) fails (least_tells (λ prefix. test (step ∷ prefix)) steps))
 ]
 
--- ---- the places of steps in turn
+-- ---- the positions of steps in turn
 
-pub event_place : (events i : ℕ) (before : List Step) → i ≡ length before → i < events → Event (i + 1) ≡ place_after events (length before + 1)
-event_place events i before at within = elim (leb_tells (length before + 1) events) [
+pub event_position : (events i : ℕ) (before : List Step) → i ≡ length before → i < events → Event (i + 1) ≡ position_after events (length before + 1)
+event_position events i before at within = elim (leb_tells (length before + 1) events) [
   | inl le ↦
       let some : eqb (length before + 1) 0 ≡ false = ne_eqb (length before + 1) 0 (λ e. absurd (omega (arith, e))) in
       rw (some, le.0) (ap (λ (n : ℕ). Event (n + 1)) at)
@@ -214,8 +214,8 @@ pub events_joined : (events : List LogEvent) (event : LogEvent)
     → events_as_steps events ++ OfEvent event ∷ [] ≡ events_as_steps (events ++ event ∷ [])
 events_joined events event = sym (map-append (λ (event : LogEvent). OfEvent event) events (event ∷ []))
 
-pub place_of_entry : (events n last : ℕ) → n ≡ events + 1 + last → place_after events n ≡ Entry last
-place_of_entry events n last is = elim (leb_tells n events) [
+pub position_of_entry : (events n last : ℕ) → n ≡ events + 1 + last → position_after events n ≡ Entry last
+position_of_entry events n last is = elim (leb_tells n events) [
   | inl le ↦ let few = le.1 in absurd (omega (arith, few, is))
   | inr gt ↦
       let some : eqb n 0 ≡ false = ne_eqb n 0 (λ e. absurd (omega (arith, e, is))) in
@@ -223,8 +223,8 @@ place_of_entry events n last is = elim (leb_tells n events) [
       rw (some, gt.0, left) refl
 ]
 
-pub entry_place : (log : List Step) (entries : List ListEntry) (events j : ℕ) → events ≡ length log → j ≡ length entries
-    → Entry j ≡ place_after events (length (log ++ entries_as_steps entries) + 1)
-entry_place log entries events j size at =
-    sym (place_of_entry events (length (log ++ entries_as_steps entries) + 1) j
+pub entry_position : (log : List Step) (entries : List ListEntry) (events j : ℕ) → events ≡ length log → j ≡ length entries
+    → Entry j ≡ position_after events (length (log ++ entries_as_steps entries) + 1)
+entry_position log entries events j size at =
+    sym (position_of_entry events (length (log ++ entries_as_steps entries) + 1) j
     (omega (arith, size, at, length-append log (entries_as_steps entries), length-map entries (λ (entry : ListEntry). OfEntry entry))))

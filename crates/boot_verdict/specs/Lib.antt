@@ -7,8 +7,8 @@ pub mod Verdicts
 pub mod ReportTexts
 pub mod ListSources
 pub mod Steps
-pub mod Places
-pub mod PlaceTexts
+pub mod Positions
+pub mod PositionTexts
 pub mod Replays
 pub mod parts
 pub mod EventTexts

@@ -1,5 +1,5 @@
 pub mod StatedLines
-pub mod LogPlaces
+pub mod LogPositions
 pub mod Rows
 pub mod WrittenLines
 pub mod RangeEnds

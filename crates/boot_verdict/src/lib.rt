@@ -1,5 +1,5 @@
 //! The verdict on a firmware log, a measurement list and expected registers; how a verification goes on from where it stopped; where
-//! registers first have their expected values; and the texts of events, registers, reports and places.
+//! registers first have their expected values; and the texts of events, registers, reports and positions.
 #![tactic(auto)]
 
 mod all_registers;
@@ -11,7 +11,7 @@ mod list_replay;
 mod list_verifier;
 mod locating;
 mod pcr_read;
-mod places;
+mod positions;
 mod printed;
 mod register_range;
 mod replaying;
@@ -29,7 +29,7 @@ pub use lines::{after_prefix, split_once};
 pub use list_replay::ListReplay;
 pub use list_verifier::{ListReport, verify_list_from};
 pub use locating::{locate, locate_from};
-pub use places::{Located, Place, all_found, is_reached, required_found};
+pub use positions::{Located, Position, all_found, is_reached, required_found};
 pub use printed::read_printed;
 pub use register_range::RegisterRange;
 pub use replaying::{list_start, replay_from};
@@ -38,8 +38,8 @@ pub use requirement::{BankRange, HasExpected, Requirement, RequirementFault};
 pub use steps::{Tracker, Step};
 pub use texts::{
     EventData, aggregate_word, algorithm_with, digits_of, write_change, write_counts, write_events,
-    write_expected, write_list_report, write_outcome, write_places, write_registers, write_report,
-    write_required_list_report, write_required_outcome, write_required_places,
+    write_expected, write_list_report, write_outcome, write_positions, write_registers, write_report,
+    write_required_list_report, write_required_outcome, write_required_positions,
     write_required_report,
 };
 pub use verifier::{VerifyFault, aggregate_of, report_on, verify, verify_from};

@@ -15,13 +15,13 @@ ghost use Rattle.ima_list.specs.Spelling.{IsReading};
 ghost use Rattle.ima_list.specs.Replaying.{AreGenuine};
 ghost use Rattle.boot_verdict.specs.ListSources.{HoldsGenuineList, failures_after_list};
 ghost use Rattle.boot_verdict.specs.Steps.{events_as_steps};
-ghost use Rattle.boot_verdict.specs.Places.{AreLocated, AreLocatedFrom, located_on};
+ghost use Rattle.boot_verdict.specs.Positions.{AreLocated, AreLocatedFrom, located_on};
 ghost use Rattle.boot_verdict.specs.Verdicts.{IsSomeLog, IsVerifyFault, IsVerifyFaultFrom};
-ghost use Rattle.boot_verdict.specs.parts.LogPlaces.{IsTracked, place_at_reset, row_at_reset};
+ghost use Rattle.boot_verdict.specs.parts.LogPositions.{IsTracked, position_at_reset, row_at_reset};
 
 use crate::expected::Expected;
 use crate::list_replay::ListReplay;
-use crate::places::{Located, Place, RowTracker};
+use crate::positions::{Located, Position, RowTracker};
 use crate::steps::{Tracker, Step};
 use crate::verifier::VerifyFault;
 use boot_log::{LogEvents, LogView};
@@ -40,7 +40,7 @@ pub fn locate(
     list: &[u8],
     expected: &[Expected],
 ) -> Result<Vec<Located>, VerifyFault>
-    // The rows are the places in the log and the list.
+    // The rows are the positions in the log and the list.
     ensures located { IfOk result (λ located. AreLocated log.now list.now expected.now located.items) }
     // If the log and the list are valid and all entries genuine, there are rows, unless memory runs out.
     ensures only { (table : List TableRow) (events : List LogEvent) (entries : List ListEntry)
@@ -65,7 +65,7 @@ pub fn locate_from<R: Source>(
     limit: u64,
     expected: &[Expected],
 ) -> Result<Vec<Located>, VerifyFault>
-    // The rows are the places in the log and in the list of all bytes that the source had left.
+    // The rows are the positions in the log and in the list of all bytes that the source had left.
     ensures located { IfOk result (λ located. AreLocatedFrom log.now (R.state list.old).remaining (R.state list.new).remaining limit expected.now located.items) }
     // If the log is valid and the source has left a list of genuine entries within the limit, there are rows, unless the source
     // fails or memory runs out.
@@ -87,7 +87,7 @@ pub fn locate_from<R: Source>(
     Ok(replay.tracker.rows)
 }
 
-// The registers after the log's events, and the places of the expected values among them.
+// The registers after the log's events, and the positions of the expected values among them.
 fn track_log(alloc: Global, log: &LogView<'_>, expected: &[Expected]) -> Result<RowTracker, AllocError>
     ensures { (table : List TableRow) (events : List LogEvent) → IsLog (log_bytes log.now) table events
         → IfOk result (IsTracked (algs_in table) events expected.now) }
@@ -105,7 +105,7 @@ fn track_events<F: Tracker>(tracker: &mut F, mut events: LogEvents<'_>)
         → F.is_after start (length all) [] tracker.old → F.is_after start (length all) (events_as_steps all) tracker.new }
 {
     while let Some(event) = events.next_event() {
-        tracker.step(&Step::Event(&event), Place::Event(events.count()));
+        tracker.step(&Step::Event(&event), Position::Event(events.count()));
     }
 }
 
@@ -129,18 +129,18 @@ fn row_at_reset(start: &Banks, expected: &Expected) -> Located
 {
     Located {
         expected: *expected,
-        place: place_at_reset(expected, start.read(expected.alg, expected.register)),
+        position: position_at_reset(expected, start.read(expected.alg, expected.register)),
     }
 }
 
-// The place of an expected register with this reset value, or of an absent one.
-fn place_at_reset(expected: &Expected, value: Option<Digest>) -> Place
+// The position of an expected register with this reset value, or of an absent one.
+fn position_at_reset(expected: &Expected, value: Option<Digest>) -> Position
     ensures { (bytes : Option (List ℕ)) → value ≡ option_map (digest_of expected.now.alg) bytes
-        → result ≡ place_at_reset expected.now bytes }
+        → result ≡ position_at_reset expected.now bytes }
 {
     match value {
-        None => Place::Absent,
-        Some(value) if value == expected.value => Place::Reset,
-        Some(_) => Place::Nowhere,
+        None => Position::Absent,
+        Some(value) if value == expected.value => Position::Reset,
+        Some(_) => Position::Nowhere,
     }
 }

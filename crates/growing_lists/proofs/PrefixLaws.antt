@@ -29,24 +29,24 @@ use Rattle.growing_lists.specs.declared.prefix_report.Unconfirmed.TheVariants as
 use Rattle.growing_lists.specs.declared.prefixes.Confirming.{Confirming}
 use Rattle.growing_lists.specs.declared.prefixes.Prefix.{Prefix}
 use Rattle.boot_verdict.specs.declared.list_replay.ListReplay.{ListReplay}
-use Rattle.boot_verdict.specs.declared.places.Place.{Place}
-use Rattle.boot_verdict.specs.declared.places.Place.TheVariants.{Reset, Event, Entry, Nowhere, Absent}
+use Rattle.boot_verdict.specs.declared.positions.Position.{Position}
+use Rattle.boot_verdict.specs.declared.positions.Position.TheVariants.{Reset, Event, Entry, Nowhere, Absent}
 use Rattle.boot_verdict.specs.Checkpoints.{IsCheckpoint, IsMoreFault}
 use Rattle.boot_verdict.specs.ListSources.{CameFrom}
-use Rattle.boot_verdict.specs.Places.{is_reached, place_after}
+use Rattle.boot_verdict.specs.Positions.{is_reached, position_after}
 use Rattle.boot_verdict.specs.Steps.{Step, OfEntry, entries_as_steps, least_prefix, value_after}
 use Rattle.boot_verdict.specs.Verdicts.{aggregate_of, is_good, is_match, matches, pcr_after_log_and_list, row_on, recorded_aggregate, verdict_on}
 use Rattle.growing_lists.specs.parts.Confirming.{PrefixIs, IsConfirmingAfter, IsPrefixAt, are_reached, confirms, prefix_at, is_late, reached_after_steps, search_after, search_before, size_after, size_more}
 use Rattle.boot_verdict.specs.Tracking.{AreAfter}
 use Rattle.boot_verdict.specs.ListReplays.{IsReplayedOrForged, Replays, ReplaysAll, ReplaysMore, StopsAt}
 use Rattle.growing_lists.specs.parts.Searches.{FindsPrefix, IsConfirmedAt, Searches, checkpoint_at, fault_in, prefix_after, prefix_with, whole_after}
-use Rattle.boot_verdict.proofs.PlaceLaws.{row_matches, steps_back, steps_to, two_ways}
-use Rattle.boot_verdict.proofs.StepLaws.{TellsLeast, banks_joined, entries_value, followed_by, fun_same, least_more, least_tells, none_taken, or_all, place_of_entry, replayed_after}
+use Rattle.boot_verdict.proofs.PositionLaws.{row_matches, steps_back, steps_to, two_ways}
+use Rattle.boot_verdict.proofs.StepLaws.{TellsLeast, banks_joined, entries_value, followed_by, fun_same, least_more, least_tells, none_taken, or_all, position_of_entry, replayed_after}
 
--- ---- places
+-- ---- positions
 
 -- Whether an entry may be the last of a prefix, by the steps up to it.
-early : (first events n : ℕ) → n ≤ events + first → is_late first (place_after events n) ≡ false
+early : (first events n : ℕ) → n ≤ events + first → is_late first (position_after events n) ≡ false
 early first events n few = elim (eqb_tells n 0) [
   | inl same ↦ rw same.0 refl
   | inr some ↦ elim (leb_tells n events) [
@@ -58,11 +58,11 @@ early first events n few = elim (eqb_tells n 0) [
   ]
 ]
 
-late : (first events n : ℕ) → events + first < n → is_late first (place_after events n) ≡ true
+late : (first events n : ℕ) → events + first < n → is_late first (position_after events n) ≡ true
 late first events n many =
-    let place = place_of_entry events n (n - events - 1) (omega (arith, many)) in
+    let position = position_of_entry events n (n - events - 1) (omega (arith, many)) in
     elim (leb_tells first (n - events - 1)) [
-      | inl le ↦ rw (place, le.0) refl
+      | inl le ↦ rw (position, le.0) refl
       | inr gt ↦ let less = gt.1 in absurd (omega (arith, many, less))
     ]
 
@@ -79,29 +79,29 @@ prefix_by true is = is
 prefix_by false is = tt
 
 -- After an entry the registers are looked at.
-prefix_here : (start now : Confirming) (events : ℕ) (steps : List Step) (last : ℕ) → place_after events (length steps) ≡ Entry last
+prefix_here : (start now : Confirming) (events : ℕ) (steps : List Step) (last : ℕ) → position_after events (length steps) ≡ Entry last
     → AreAfter start.banks steps now.banks → now.bytes ≡ size_after start.bytes steps → now.first ≡ start.first → now.expected ≡ start.expected
     → PrefixIs start events (cond (confirms start events steps) (Some steps) None) (prefix_at now (Entry last))
-prefix_here start now events steps last place banks bytes first expected =
+prefix_here start now events steps last position banks bytes first expected =
     let from = sym first in
     let those = sym expected in
     let passes : confirms start events steps ≡ (leb now.first last && are_reached now.banks now.expected.now) =
-    ap (λ (p : Place). is_late start.first p && reached_after_steps start.banks start.expected.now steps) place
+    ap (λ (p : Position). is_late start.first p && reached_after_steps start.banks start.expected.now steps) position
     ∙ (λ i. leb (from i) last && reached_after_steps start.banks (those i).now steps)
     ∙ ap (λ (b : Bool). leb now.first last && b) (sym (reached_same start.banks now.banks now.expected.now steps banks)) in
-    rw passes (prefix_by (leb now.first last && are_reached now.banks now.expected.now) (record { place = place; registers = banks; size = bytes }))
+    rw passes (prefix_by (leb now.first last && are_reached now.banks now.expected.now) (record { position = position; registers = banks; size = bytes }))
 
 module _ (start : Confirming) (events : ℕ) (before : List Step) (step : Step) where
   abbrev all : List Step
   all = before ++ step ∷ []
 
-  prefix_next : (now : Confirming) (place : Place) → place_after events (length all) ≡ place → AreAfter start.banks all now.banks
+  prefix_next : (now : Confirming) (position : Position) → position_after events (length all) ≡ position → AreAfter start.banks all now.banks
       → now.bytes ≡ size_after start.bytes all → now.first ≡ start.first → now.expected ≡ start.expected
       → (found : Option (List Step)) (old : Option Prefix) → PrefixIs start events found old
-      → PrefixIs start events (or_all found all (confirms start events all)) (option_or old (prefix_at now place))
-  prefix_next now place at banks bytes first expected (Some steps) (Some prefix) is = is
-  prefix_next now place at banks bytes first expected (Some steps) None is = absurd is
-  prefix_next now place at banks bytes first expected None (Some prefix) is = absurd is
+      → PrefixIs start events (or_all found all (confirms start events all)) (option_or old (prefix_at now position))
+  prefix_next now position at banks bytes first expected (Some steps) (Some prefix) is = is
+  prefix_next now position at banks bytes first expected (Some steps) None is = absurd is
+  prefix_next now position at banks bytes first expected None (Some prefix) is = absurd is
   prefix_next now (Entry last) at banks bytes first expected None None is = prefix_here start now events all last at banks bytes first expected
   prefix_next now Reset at banks bytes first expected None None is = rw at tt
   prefix_next now (Event number) at banks bytes first expected None None is = rw at tt
@@ -109,21 +109,21 @@ module _ (start : Confirming) (events : ℕ) (before : List Step) (step : Step) 
   prefix_next now Absent at banks bytes first expected None None is = rw at tt
 
   -- After any step.
-  pub search_more : (old now : Confirming) (place : Place) → IsConfirmingAfter start events before old → AreAfter old.banks (step ∷ []) now.banks
-      → now.bytes ≡ size_more old.bytes step → now.first ≡ old.first → now.expected ≡ old.expected → place ≡ place_after events (length before + 1)
-      → now.prefix ≡ option_or old.prefix (prefix_at now place) → IsConfirmingAfter start events all now
-  search_more old now place earlier one bytes first expected at prefix =
+  pub search_more : (old now : Confirming) (position : Position) → IsConfirmingAfter start events before old → AreAfter old.banks (step ∷ []) now.banks
+      → now.bytes ≡ size_more old.bytes step → now.first ≡ old.first → now.expected ≡ old.expected → position ≡ position_after events (length before + 1)
+      → now.prefix ≡ option_or old.prefix (prefix_at now position) → IsConfirmingAfter start events all now
+  search_more old now position earlier one bytes first expected at prefix =
       let banks = banks_joined start.banks old.banks now.banks before (step ∷ []) earlier.banks one in
       let size : now.bytes ≡ size_after start.bytes all =
       bytes ∙ ap (λ (n : ℕ). size_more n step) earlier.bytes ∙ sym (fold-append size_more start.bytes before (step ∷ [])) in
-      let at_all : place_after events (length all) ≡ place = ap (place_after events) (length-append before (step ∷ [])) ∙ sym at in
+      let at_all : position_after events (length all) ≡ position = ap (position_after events) (length-append before (step ∷ [])) ∙ sym at in
       record {
         banks = banks;
         bytes = size;
         first = first ∙ earlier.first;
         expected = expected ∙ earlier.expected;
         prefix = rw (prefix, least_more (confirms start events) before step)
-            (prefix_next now place at_all banks size (first ∙ earlier.first) (expected ∙ earlier.expected) (least_prefix (confirms start events) before)
+            (prefix_next now position at_all banks size (first ∙ earlier.first) (expected ∙ earlier.expected) (least_prefix (confirms start events) before)
             old.prefix earlier.prefix);
       }
 
@@ -195,11 +195,11 @@ module _ (list : List ℕ) (known : Checkpoint) (expected : Bor (List Expected))
             rw (same.0, only, none) tt
         | inr other ↦
             let some = other.1 in
-            let place : place_after events (length steps) ≡ Entry (known.entries - 1) =
-            place_of_entry events (length steps) (known.entries - 1) (omega (arith, known_count, some)) in
+            let position : position_after events (length steps) ≡ Entry (known.entries - 1) =
+            position_of_entry events (length steps) (known.entries - 1) (omega (arith, known_count, some)) in
             rw (other.0, only) (prefix_here origin
             (record { banks = known.after; bytes = known.bytes; first = known.entries - 1; expected = expected; prefix = None })
-            events steps (known.entries - 1) place known_banks known_bytes first after.expected)
+            events steps (known.entries - 1) position known_banks known_bytes first after.expected)
       ]
 
   known_after : IsConfirmingAfter origin events steps (search_after known expected)
@@ -277,7 +277,7 @@ searched known expected entries now None is = record {
   most = λ n le are. le;
   after = is.1 (search_before known expected) 0 [] refl (search_none known expected);
 }
-searched known expected entries now (Some place) (first, tracked) = record {
+searched known expected entries now (Some position) (first, tracked) = record {
   genuine = first.before;
   others = first.forged ∷ first.after;
   parts = first.parts;
@@ -391,7 +391,7 @@ module _ (known : Checkpoint) (expected : Bor (List Expected)) (bytes : List ℕ
                 ap (λ (l : List ListEntry). matches (verdict_on algs events l expected.now)) (take-take m n entries (omega (arith, lt, listed)))
                 ∙ confirms_is m more (omega (arith, lt, listed, within)) ∙ ap (λ (b : Bool). good && b) (least.2 m (omega (arith, lt, listed))) ∙ and-false good;
           };
-          checkpoint = prefix_checkpoint n prefix within (sym (steps_back 0 n) ∙ ap (steps_to 0) at.place)
+          checkpoint = prefix_checkpoint n prefix within (sym (steps_back 0 n) ∙ ap (steps_to 0) at.position)
               (subst (λ (l : List Step). IsPrefixAt (search_before known expected) 0 l prefix) (least.0 ∙ prefix_steps n within) at);
           same = refl;
           before = refl;

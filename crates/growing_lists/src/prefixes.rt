@@ -4,7 +4,7 @@ ghost use Rattle.std.specs.Prelude.{◌≡◌};
 ghost use Rattle.growing_lists.specs.parts.Confirming.{IsConfirmingAfter, are_reached, prefix_at, search_after, size_of_step};
 ghost use Rattle.boot_verdict.specs.Tracking.{step_of};
 
-use boot_verdict::{Checkpoint, Expected, Tracker, Place, Step, is_reached};
+use boot_verdict::{Checkpoint, Expected, Tracker, Position, Step, is_reached};
 use pcr_banks::Banks;
 
 /// A point after an entry of the list.
@@ -49,16 +49,16 @@ impl<'a> Confirming<'a> {
             return search;
         }
         Confirming {
-            prefix: search.prefix_at(Place::Entry(search.first)),
+            prefix: search.prefix_at(Position::Entry(search.first)),
             ..search
         }
     }
 
-    // The prefix that ends at this place, if it is that of an entry that may be the last, and each expected register has its value now.
-    fn prefix_at(&self, place: Place) -> Option<Prefix>
-        ensures { result ≡ prefix_at self.now place }
+    // The prefix that ends at this position, if it is that of an entry that may be the last, and each expected register has its value now.
+    fn prefix_at(&self, position: Position) -> Option<Prefix>
+        ensures { result ≡ prefix_at self.now position }
     {
-        let Place::Entry(last) = place else {
+        let Position::Entry(last) = position else {
             return None;
         };
         if last >= self.first && are_reached(self.expected, &self.banks) {
@@ -77,11 +77,11 @@ impl Tracker for Confirming<'_> {
     ghost is_after = { IsConfirmingAfter };
 
     // Replays the step, and looks at the registers, if there is no prefix yet.
-    fn step(&mut self, step: &Step<'_>, place: Place) {
+    fn step(&mut self, step: &Step<'_>, position: Position) {
         step.replay_into(&mut self.banks);
         self.bytes = self.bytes.saturating_add(size_of(step));
         if self.prefix.is_none() {
-            self.prefix = self.prefix_at(place);
+            self.prefix = self.prefix_at(position);
         }
     }
 }

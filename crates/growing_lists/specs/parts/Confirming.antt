@@ -9,9 +9,9 @@ use Rattle.boot_verdict.specs.declared.checkpoint.Checkpoint.{Checkpoint}
 use Rattle.boot_verdict.specs.declared.expected.Expected.{Expected}
 use Rattle.growing_lists.specs.declared.prefixes.Confirming.{Confirming}
 use Rattle.growing_lists.specs.declared.prefixes.Prefix.{Prefix}
-use Rattle.boot_verdict.specs.declared.places.Place.{Place}
-use Rattle.boot_verdict.specs.declared.places.Place.TheVariants.{Reset, Event, Entry, Nowhere, Absent}
-use Rattle.boot_verdict.specs.Places.{is_reached, place_after}
+use Rattle.boot_verdict.specs.declared.positions.Position.{Position}
+use Rattle.boot_verdict.specs.declared.positions.Position.TheVariants.{Reset, Event, Entry, Nowhere, Absent}
+use Rattle.boot_verdict.specs.Positions.{is_reached, position_after}
 use Rattle.boot_verdict.specs.Steps.{Step, OfEvent, OfEntry, least_prefix, value_after}
 use Rattle.boot_verdict.specs.Tracking.{AreAfter}
 
@@ -36,16 +36,16 @@ size_more size step = min (size + size_of_step step) (2 ^ 64 - 1)
 abbrev pub size_after : ℕ → List Step → ℕ
 size_after size steps = fold size_more size steps
 
--- Whether this is the place of an entry that may be the last of a prefix; `first` is the number of the first such.
-abbrev pub is_late : ℕ → Place → Bool
+-- Whether this is the position of an entry that may be the last of a prefix; `first` is the number of the first such.
+abbrev pub is_late : ℕ → Position → Bool
 is_late first (Entry last) = nat_le first last
 is_late first Reset = false
 is_late first (Event number) = false
 is_late first Nowhere = false
 is_late first Absent = false
 
--- The prefix that ends at this place, if it may, and each expected register has its value now.
-abbrev pub prefix_at : Confirming → Place → Option Prefix
+-- The prefix that ends at this position, if it may, and each expected register has its value now.
+abbrev pub prefix_at : Confirming → Position → Option Prefix
 prefix_at confirming (Entry last) =
     if nat_le confirming.first last && are_reached confirming.banks confirming.expected.now
     then Some (record { registers = confirming.banks; last = last; bytes = confirming.bytes }) else None
@@ -56,11 +56,11 @@ prefix_at confirming Absent = None
 
 -- Whether a prefix of the steps is one that is searched for.
 abbrev pub confirms : Confirming → ℕ → List Step → Bool
-confirms start events prefix = is_late start.first (place_after events (length prefix)) && reached_after_steps start.banks start.expected.now prefix
+confirms start events prefix = is_late start.first (position_after events (length prefix)) && reached_after_steps start.banks start.expected.now prefix
 
 -- The prefix is that of these steps.
 pub record IsPrefixAt (start : Confirming) (events : ℕ) (steps : List Step) (prefix : Prefix) : Type 0 where
-  pub place : place_after events (length steps) ≡ Entry prefix.last
+  pub position : position_after events (length steps) ≡ Entry prefix.last
   pub registers : AreAfter start.banks steps prefix.registers
   pub size : prefix.bytes ≡ size_after start.bytes steps
 

@@ -2,8 +2,8 @@ use Rattle.std.proofs.Common.{List, Ok, ap, refl, sym, ◌∙◌, inl, inr}
 use Rattle.std.proofs.lemmas.Result.{err_from_is_err_and}
 use Rattle.boot_log.specs.Spelling.{algs_in}
 use Rattle.ima_list.specs.ListEntry.{ListEntry}
-use Rattle.boot_verdict.specs.Places.{located_on}
-use Rattle.boot_verdict.proofs.PlaceLaws.{located_all, located_in}
+use Rattle.boot_verdict.specs.Positions.{located_on}
+use Rattle.boot_verdict.proofs.PositionLaws.{located_all, located_in}
 use Rattle.boot_verdict.proofs.ReplayLaws.{list_not_read, same_entries}
 use Rattle.boot_verdict.proofs.VerdictLaws.{log_viewed, refused_from}
 use Rattle.boot_verdict.proofs.VerdictLaws.{log_first_from, log_not_memory}

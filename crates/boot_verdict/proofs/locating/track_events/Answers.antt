@@ -2,9 +2,9 @@ use Rattle.std.proofs.Common.{◌≡◌, ℕ, ◌+◌, ◌∷◌, ◌++◌, [], 
 use Rattle.std.proofs.lemmas.List.{length-append, length-map}
 use Rattle.boot_log.proofs.LogLaws.{one_reading}
 use Rattle.boot_log.specs.Spelling.{LogEvent, log_event_of}
-use Rattle.boot_verdict.specs.declared.places.Place.TheVariants.{Event}
+use Rattle.boot_verdict.specs.declared.positions.Position.TheVariants.{Event}
 use Rattle.boot_verdict.specs.Steps.{Step, OfEvent, events_as_steps}
-use Rattle.boot_verdict.proofs.StepLaws.{event_place, events_joined}
+use Rattle.boot_verdict.proofs.StepLaws.{event_position, events_joined}
 use Rattle.boot_verdict.proofs.locating.track_events.Goals as goal
 
 pub loop-event-init : goal.loop-event-init
@@ -20,12 +20,12 @@ loop-event-preserved g c =
     let many = ap (λ (l : List LogEvent). length l) later.1 in
     let size : length (events_as_steps before.0) ≡ length before.0 = length-map before.0 (λ (event : LogEvent). OfEvent event) in
     let number = c.count.ensures bytes (before.0 ++ event ∷ []) borrowed in
-    let place : c.count.result ≡ length (events_as_steps before.0) + 1 = omega (arith, number, size, length-append before.0 (event ∷ [])) in (
+    let position : c.count.result ≡ length (events_as_steps before.0) + 1 = omega (arith, number, size, length-append before.0 (event ∷ [])) in (
       before.0 ++ event ∷ [],
       borrowed,
       subst (λ (steps : List Step). g.F.Tracker.is_after start (length all) steps c.step.new.self) (events_joined before.0 event)
           (c.step.ensures start (length all) (events_as_steps before.0)
-          (ap (λ (n : ℕ). Event n) place ∙ event_place (length all) (length (events_as_steps before.0)) (events_as_steps before.0) refl
+          (ap (λ (n : ℕ). Event n) position ∙ event_position (length all) (length (events_as_steps before.0)) (events_as_steps before.0) refl
           (omega (arith, size, many, length-append before.0 (event ∷ later.0)))) before.2),
     )
 

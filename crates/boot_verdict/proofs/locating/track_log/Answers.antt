@@ -1,6 +1,6 @@
-use Rattle.boot_verdict.specs.declared.places.RowTracker.{RowTracker}
+use Rattle.boot_verdict.specs.declared.positions.RowTracker.{RowTracker}
 use Rattle.std.proofs.Common.{length}
-use Rattle.boot_verdict.proofs.PlaceLaws.{tracker_none}
+use Rattle.boot_verdict.proofs.PositionLaws.{tracker_none}
 use Rattle.boot_verdict.proofs.locating.track_log.Goals as goal
 
 pub returns : goal.returns

@@ -26,7 +26,7 @@ returns-then-is_none c =
       prefix = c.prefix_at-self.result;
     } in
     λ start events before at after.
-    search_more start events before (step_of c.args.step.now) old now c.args.place after c.replay_into.ensures.banks
+    search_more start events before (step_of c.args.step.now) old now c.args.position after c.replay_into.ensures.banks
     (rw c.size_of.ensures at c.saturating_add-self.ensures) refl refl at
     (none_yet old.prefix c.prefix_at-self.result (c.is_none.ensures ∙ ap not c.if-is_none.true) ∙ ap (option_or old.prefix) c.prefix_at-self.ensures)
 
@@ -36,5 +36,5 @@ returns-else-is_none c =
     let now : Confirming =
     record { banks = c.replay_into.new.banks; bytes = c.saturating_add-self.result; first = old.first; expected = old.expected; prefix = old.prefix } in
     λ start events before at after.
-    search_more start events before (step_of c.args.step.now) old now c.args.place after c.replay_into.ensures.banks
+    search_more start events before (step_of c.args.step.now) old now c.args.position after c.replay_into.ensures.banks
     (rw c.size_of.ensures at c.saturating_add-self.ensures) refl refl at (found_yet old.prefix _ (c.is_none.ensures ∙ ap not c.if-is_none.false))

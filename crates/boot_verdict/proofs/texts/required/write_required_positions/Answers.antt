@@ -1,7 +1,7 @@
 use Rattle.std.proofs.Common.{ap, ◌∙◌}
 use Rattle.byte_streams.proofs.SinkLaws.{Sends-same, Sends-then, Sends-stops}
-use Rattle.boot_verdict.specs.PlaceTexts.{found_text}
-use Rattle.boot_verdict.proofs.texts.required.write_required_places.Goals as goal
+use Rattle.boot_verdict.specs.PositionTexts.{found_text}
+use Rattle.boot_verdict.proofs.texts.required.write_required_positions.Goals as goal
 
 pub returns-in_err-write_all : goal.returns-in_err-write_all
 returns-in_err-write_all g c = Sends-stops _ _ _ _ _ _ _ c.from_residual.ensures.1 c.in_err-write_all.ensures

@@ -1,11 +1,11 @@
-//! The lines of places.
+//! The lines of positions.
 
 ghost use Rattle.std.specs.Prelude.{◌≡◌, flat_map};
 ghost use Rattle.byte_streams.specs.Streams.{Sends};
-ghost use Rattle.boot_verdict.specs.PlaceTexts.{found_text, located_text, place_digits, place_words, places_text};
+ghost use Rattle.boot_verdict.specs.PositionTexts.{found_text, located_text, position_digits, position_words, positions_text};
 
 use super::report::write_line;
-use crate::places::{Located, Place, all_found};
+use crate::positions::{Located, Position, all_found};
 use byte_streams::{Failed, Sink, send};
 use itoa::Buffer;
 
@@ -15,8 +15,8 @@ use itoa::Buffer;
 /// count from 0), `sha256 23 nowhere`, or `sha1 4 absent`: the log has no such bank, or there is no such register. The last line is
 /// `located`, or `not located` if some row is `nowhere` or `absent`, or there is none. After `Err` the sink has taken a prefix of the
 /// text.
-pub fn write_places<S: Sink>(located: &[Located], sink: &mut S) -> Result<(), Failed>
-    ensures { Sends (S.state sink.old) (S.state sink.new) result (places_text located.now) }
+pub fn write_positions<S: Sink>(located: &[Located], sink: &mut S) -> Result<(), Failed>
+    ensures { Sends (S.state sink.old) (S.state sink.new) result (positions_text located.now) }
 {
     write_all(located, sink)?;
     send(found_line(all_found(located)), sink)
@@ -35,29 +35,29 @@ fn write_one<S: Sink>(row: &Located, sink: &mut S) -> Result<(), Failed>
     ensures { Sends (S.state sink.old) (S.state sink.new) result (located_text row.now) }
 {
     let mut room = Buffer::new();
-    let digits = place_digits(row.place, &mut room);
-    write_line(&row.expected, place_words(row.place), digits, sink)
+    let digits = position_digits(row.position, &mut room);
+    write_line(&row.expected, position_words(row.position), digits, sink)
 }
 
-fn place_words(place: Place) -> &'static str
-    ensures { result.now ≡ place_words place }
+fn position_words(position: Position) -> &'static str
+    ensures { result.now ≡ position_words position }
 {
-    match place {
-        Place::Reset => "at reset",
-        Place::Event(_) => "after event ",
-        Place::Entry(_) => "after entry ",
-        Place::Nowhere => "nowhere",
-        Place::Absent => "absent",
+    match position {
+        Position::Reset => "at reset",
+        Position::Event(_) => "after event ",
+        Position::Entry(_) => "after entry ",
+        Position::Nowhere => "nowhere",
+        Position::Absent => "absent",
     }
 }
 
-// The number of the event or entry, written into `room`; empty for other places.
-fn place_digits<'a>(place: Place, room: &'a mut Buffer) -> &'a [u8]
-    ensures { result.now ≡ place_digits place }
+// The number of the event or entry, written into `room`; empty for other positions.
+fn position_digits<'a>(position: Position, room: &'a mut Buffer) -> &'a [u8]
+    ensures { result.now ≡ position_digits position }
 {
-    match place {
-        Place::Event(number) | Place::Entry(number) => room.format(number).as_bytes(),
-        Place::Reset | Place::Nowhere | Place::Absent => b"",
+    match position {
+        Position::Event(number) | Position::Entry(number) => room.format(number).as_bytes(),
+        Position::Reset | Position::Nowhere | Position::Absent => b"",
     }
 }
 

@@ -1,10 +1,10 @@
-//! The places where expected values are first reached.
+//! The positions where expected values are first reached.
 
 ghost use Rattle.std.specs.Prelude.{◌≡◌, Option, List, ℕ, map, option_map};
 ghost use Rattle.std.specs.List.{list_all};
 ghost use Rattle.pcr_banks.specs.Digests.{digest_of};
 ghost use Rattle.pcr_banks.specs.Registers.{value_at};
-ghost use Rattle.boot_verdict.specs.Places.{all_found, is_found, is_reached};
+ghost use Rattle.boot_verdict.specs.Positions.{all_found, is_found, is_reached};
 ghost use Rattle.boot_verdict.specs.Requirements.{required_found};
 ghost use Rattle.boot_verdict.specs.parts.RowTrackers.{looked, looked_at};
 
@@ -14,7 +14,7 @@ use pcr_banks::{Banks, Digest};
 
 /// Where a register first has its expected value.
 #[derive(Clone, Copy, PartialEq, Eq)]
-pub enum Place {
+pub enum Position {
     /// Before the log's events: it is the register's reset value.
     Reset,
     /// After this event of the log, counted from 1.
@@ -27,14 +27,14 @@ pub enum Place {
     Absent,
 }
 
-impl Place {
+impl Position {
     /// Whether the value was reached.
     pub fn is_found(self) -> bool
         ensures { result ≡ is_found self }
     {
         match self {
-            Place::Reset | Place::Event(_) | Place::Entry(_) => true,
-            Place::Nowhere | Place::Absent => false,
+            Position::Reset | Position::Event(_) | Position::Entry(_) => true,
+            Position::Nowhere | Position::Absent => false,
         }
     }
 }
@@ -45,24 +45,24 @@ pub struct Located {
     /// What is expected.
     pub expected: Expected,
     /// Where the register first has this value.
-    pub place: Place,
+    pub position: Position,
 }
 
-/// Whether some register is expected, and each has its value at some place.
+/// Whether some register is expected, and each has its value at some position.
 pub fn all_found(located: &[Located]) -> bool
     ensures { result ≡ all_found located.now }
 {
     !located.is_empty() && each_found(located)
 }
 
-// Whether each of these registers has its value at some place.
+// Whether each of these registers has its value at some position.
 fn each_found(located: &[Located]) -> bool
-    ensures { result ≡ list_all (λ row. is_found row.place) located.now }
+    ensures { result ≡ list_all (λ row. is_found row.position) located.now }
 {
-    located.iter().all(|row| row.place.is_found())
+    located.iter().all(|row| row.position.is_found())
 }
 
-/// Whether some register is expected, each has its value at some place, and each required register has a row.
+/// Whether some register is expected, each has its value at some position, and each required register has a row.
 pub fn required_found(located: &[Located], requirement: &Requirement) -> bool
     ensures { result ≡ required_found requirement.now located.now }
 {
@@ -74,27 +74,27 @@ pub fn required_found(located: &[Located], requirement: &Requirement) -> bool
 pub(crate) struct RowTracker {
     /// The registers.
     pub banks: Banks,
-    /// The expected registers and their places so far.
+    /// The expected registers and their positions so far.
     pub rows: Vec<Located>,
 }
 
-/// Looks at each row of this register that has no place yet: if the register now has its value, the row gets this place.
-pub(crate) fn look_at(rows: &mut [Located], banks: &Banks, register: u32, place: Place)
-    ensures { rows.new ≡ map (looked_at banks.now register place) rows.old }
+/// Looks at each row of this register that has no position yet: if the register now has its value, the row gets this position.
+pub(crate) fn look_at(rows: &mut [Located], banks: &Banks, register: u32, position: Position)
+    ensures { rows.new ≡ map (looked_at banks.now register position) rows.old }
 {
     for row in rows.iter_mut() {
         if row.expected.register == register {
-            look(row, banks, place);
+            look(row, banks, position);
         }
     }
 }
 
-// Gives the row this place if it has none yet, and its register now has the value.
-fn look(row: &mut Located, banks: &Banks, place: Place)
-    ensures { row.new ≡ looked banks.now place row.old }
+// Gives the row this position if it has none yet, and its register now has the value.
+fn look(row: &mut Located, banks: &Banks, position: Position)
+    ensures { row.new ≡ looked banks.now position row.old }
 {
-    if row.place == Place::Nowhere && is_reached(&row.expected, banks) {
-        row.place = place;
+    if row.position == Position::Nowhere && is_reached(&row.expected, banks) {
+        row.position = position;
     }
 }
 

@@ -2,7 +2,7 @@ use Rattle.std.proofs.Common.{rules, Bor, List, ℕ}
 use Rattle.std.specs.Prelude.{option_map}
 use Rattle.boot_verdict.proofs.LineLaws.{if_none}
 use Rattle.boot_verdict.proofs.PrintedLaws.{says_nothing}
-use Rattle.boot_verdict.proofs.printed.PartPlaceLinePlace.after.Goals as goal
+use Rattle.boot_verdict.proofs.printed.PartPositionLinePosition.after.Goals as goal
 
 pub returns-in_err-bank-clause-none : goal.returns-in_err-bank-clause-none
 returns-in_err-bank-clause-none c =

@@ -1,6 +1,6 @@
 use Rattle.byte_streams.proofs.PieceLaws.{item_sent, item_fails}
-use Rattle.boot_verdict.specs.PlaceTexts.{located_text}
-use Rattle.boot_verdict.proofs.texts.places.write_all.Goals as goal
+use Rattle.boot_verdict.specs.PositionTexts.{located_text}
+use Rattle.boot_verdict.proofs.texts.positions.write_all.Goals as goal
 
 pub returns-in_err-write_one : goal.returns-in_err-write_one
 returns-in_err-write_one g c =
