@@ -267,9 +267,9 @@ within_genuine [] after forged (suc n) no_is are = absurd (no_is are.0)
 within_genuine (first ∷ before) after forged (suc n) no_is are =
     let within = within_genuine before after forged n no_is are.1 in omega (arith, within)
 
-searched : (known : Checkpoint) (expected : Bor (List Expected)) (entries : List ListEntry) (now : Confirming) (forged : Option ℕ)
+search_list : (known : Checkpoint) (expected : Bor (List Expected)) (entries : List ListEntry) (now : Confirming) (forged : Option ℕ)
     → IsReplayedOrForged IsConfirmingAfter (search_before known expected) entries now forged → IsSearched known expected entries now
-searched known expected entries now None is = record {
+search_list known expected entries now None is = record {
   genuine = entries;
   others = [];
   parts = sym (append-nil entries);
@@ -277,7 +277,7 @@ searched known expected entries now None is = record {
   most = λ n le are. le;
   after = is.1 (search_before known expected) 0 [] refl (search_none known expected);
 }
-searched known expected entries now (Some position) (first, tracked) = record {
+search_list known expected entries now (Some position) (first, tracked) = record {
   genuine = first.before;
   others = first.forged ∷ first.after;
   parts = first.parts;
@@ -293,7 +293,7 @@ module _ (known : Checkpoint) (expected : Bor (List Expected)) (bytes : List ℕ
     (begins : BeginsWith bytes entries rest) (replays : Replays IsConfirmingAfter (search_before known expected) entries replay)
     (few : length bytes < 2 ^ 64) (counted : replay.entries < 2 ^ 64) where
   abbrev found : IsSearched known expected entries replay.tracker
-  found = searched known expected entries replay.tracker replay.forged replays.replayed
+  found = search_list known expected entries replay.tracker replay.forged replays.replayed
 
   abbrev steps_found : List Step
   steps_found = entries_as_steps found.genuine

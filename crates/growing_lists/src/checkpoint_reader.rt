@@ -101,11 +101,11 @@ pub fn read_checkpoint(alloc: Global, text: &[u8]) -> Result<Checkpoint, Checkpo
     let Some(checkpoint) = data_at(lines) else {
         return Err(CheckpointFault::Damaged);
     };
-    checked(alloc, checkpoint, text)
+    check_text(alloc, checkpoint, text)
 }
 
 // The checkpoint, if its counts are possible and this is its text.
-fn checked(
+fn check_text(
     alloc: Global,
     checkpoint: Checkpoint,
     text: &[u8],

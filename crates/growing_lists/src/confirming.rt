@@ -61,7 +61,7 @@ impl Session<'_> {
         ensures telling { is_some (R.state source.new).remaining ≡ is_some (R.state source.old).remaining }
         ensures counts { (R.state source.new).failures ≡ failures_after_list result (R.state source.old).failures }
     {
-        let search = searched(alloc, &self.known, source, limit, expected)?;
+        let search = search_list(alloc, &self.known, source, limit, expected)?;
         let Some(prefix) = search.prefix else {
             self.known = whole_of(search.whole)?;
             return Ok(None);
@@ -88,7 +88,7 @@ struct Search {
 }
 
 // Searches the list that goes on with all that the source has left.
-fn searched<R: Source>(
+fn search_list<R: Source>(
     alloc: Global,
     known: &Checkpoint,
     source: &mut R,

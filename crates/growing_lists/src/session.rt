@@ -54,7 +54,7 @@ impl<'a> Session<'a> {
     ///
     /// Fails with the fault of the log, or with [`ResumeFault::OtherBoot`] if the log leaves other registers than those before the
     /// checkpoint's list.
-    pub fn resumed(log: &'a [u8], known: Checkpoint) -> Result<Self, ResumeFault>
+    pub fn resume(log: &'a [u8], known: Checkpoint) -> Result<Self, ResumeFault>
         // If it is the checkpoint of a list, the session has taken that list.
         ensures taken { IfOk result (λ session. (list : List ℕ) → IsCheckpoint list known → HasTaken log.now list session) }
         ensures log { IfOk result (λ session. log_bytes session.log ≡ log.now) }
@@ -76,7 +76,7 @@ impl<'a> Session<'a> {
         Ok(Session { log, known })
     }
 
-    /// What is known after the bytes taken so far: enough to go on later with [`Session::resumed`].
+    /// What is known after the bytes taken so far: enough to go on later with [`Session::resume`].
     pub fn checkpoint(&self) -> &Checkpoint
         ensures { result.now ≡ self.now.known }
     {

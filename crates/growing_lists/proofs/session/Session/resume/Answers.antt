@@ -1,7 +1,7 @@
 use Rattle.std.proofs.Common.{sym, ◌∙◌}
 use Rattle.boot_verdict.proofs.VerdictLaws.{log_viewed}
 use Rattle.growing_lists.proofs.SessionLaws.{of_boot, same_of_boot}
-use Rattle.growing_lists.proofs.session.Session.resumed.Goals as goal
+use Rattle.growing_lists.proofs.session.Session.resume.Goals as goal
 
 pub returns-in-Err-clause-only : goal.returns-in-Err-clause-only
 returns-in-Err-clause-only c = λ boot. (rw c.in-Err.is at c.new.ensures.only) boot.table boot.events boot.log_is

@@ -2,8 +2,8 @@ use Rattle.std.proofs.Common.{arith, ap, Err, ◌∙◌}
 use Rattle.std.proofs.lemmas.Result.{err_from_is_err_and}
 use Rattle.growing_lists.specs.parts.Confirming.{search_before}
 use Rattle.growing_lists.proofs.PrefixLaws.{searches_part, searches_whole}
-use Rattle.growing_lists.proofs.confirming.searched.Goals as goal
-use Rattle.growing_lists.proofs.confirming.searched.Goals.{in-Ok, in-Err+in_ok-unconfirmed_of-in-Err}
+use Rattle.growing_lists.proofs.confirming.search_list.Goals as goal
+use Rattle.growing_lists.proofs.confirming.search_list.Goals.{in-Ok, in-Err+in_ok-unconfirmed_of-in-Err}
 
 pub returns-in_err-unconfirmed_of-in-Err-clause-fault : goal.returns-in_err-unconfirmed_of-in-Err-clause-fault
 returns-in_err-unconfirmed_of-in-Err-clause-fault g c =

@@ -1,7 +1,7 @@
 use Rattle.std.proofs.Common.{sym, ◌∙◌}
 use Rattle.std.proofs.lemmas.Bool.{false≢true}
 use Rattle.growing_lists.proofs.DataLaws.{counted_same}
-use Rattle.growing_lists.proofs.checkpoint_reader.checked.Goals as goal
+use Rattle.growing_lists.proofs.checkpoint_reader.check_text.Goals as goal
 
 pub returns-then-not-is_counted-clause-only : goal.returns-then-not-is_counted-clause-only
 returns-then-not-is_counted-clause-only c =
