@@ -1,6 +1,6 @@
 use Rattle.std.proofs.Common.{◌++◌, ◌∷◌, [], ◌||◌, length-append, sym, ap, ◌∙◌, arith}
 use Rattle.hash_workers.proofs.SeatLaws.{draws_snoc, ended_snoc}
-use Rattle.hash_workers.proofs.work.all.joined.Goals as goal
+use Rattle.hash_workers.proofs.work.all.join_seats.Goals as goal
 
 pub loop-seat-preserved : goal.loop-seat-preserved
 loop-seat-preserved c =
