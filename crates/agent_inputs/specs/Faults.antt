@@ -1,5 +1,4 @@
--- How the faults of the parts become faults of the program. Out of memory is one fault, wherever it happens. All of this is this
--- project's choice.
+-- How the faults of the parts become faults of the program. Out of memory is one fault, wherever it happens.
 use Rattle.std.specs.Prelude.{◌≡◌, ℕ, ◌⊎◌, List, Option, Some, None}
 use Rattle.command_line.specs.declared.fault.WordsFault.{WordsFault}
 use Rattle.command_line.specs.declared.fault.WordsFault.TheVariants as words

@@ -1,4 +1,4 @@
--- The hash of all bytes of a file or a source. All of this is this project's choice.
+-- The hash of all bytes of a file or a source.
 use Rattle.std.specs.Prelude.{◌≡◌, ℕ, ◌≤◌, List, length, Option, IfSome}
 use Rattle.pcr_banks.specs.declared.alg.Alg.{Alg}
 use Rattle.pcr_banks.specs.declared.digest.Digest.{Digest}

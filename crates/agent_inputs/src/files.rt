@@ -37,7 +37,7 @@ pub trait Files {
 /// Files whose sources can be let go, of which several threads read some at once, and of which one may be replaced: what a run of the
 /// program asks for.
 pub trait AgentFiles: Files<Src: Drop> {
-    /// The same files, shared by several threads.
+    /// These files, shared by several threads.
     type Shared: SharedFiles + Sync;
 
     /// Has the file of this name be exactly these bytes. They are written to a new file beside it and synced, and then that is renamed: so
@@ -49,7 +49,7 @@ pub trait AgentFiles: Files<Src: Drop> {
         ensures kept { OnErr result (Self.saved self.new ≡ Self.saved self.old) }
         ensures told { Self.told self.new ≡ Self.told self.old };
 
-    /// The same files, for several threads at once.
+    /// These files, for several threads at once.
     fn shared(&self) -> &Self::Shared
         ensures held { (name : List ℕ) → Self.Shared.held result.now name ≡ (Self.told self.now).held (Some name) }
         ensures fails { (name : List ℕ) → Self.Shared.fails result.now name

@@ -138,7 +138,7 @@ pub fn ran<R: Threads + Wait + Sync + AllocGlobal, F: AgentFiles>(
     (status, sink.into_bytes())
 }
 
-/// The same; once more where an allocation was refused, which shows as the status 3 without the whole line of an input that could
+/// The status and the output; once more where an allocation was refused, which shows as the status 3 without the whole line of an input that could
 /// not be taken.
 pub fn answered<R: Threads + Wait + Sync + AllocGlobal, F: AgentFiles>(
     rt: &R,

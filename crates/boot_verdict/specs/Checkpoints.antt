@@ -1,4 +1,4 @@
--- Where a verification stopped. All of this is this project's choice.
+-- Where a verification stopped.
 use Rattle.std.specs.Prelude.{◌≡◌, ℕ, ◌-◌, ◌^◌, min, max, List, ◌++◌, length, Option, option_map, Ok}
 use Rattle.pcr_banks.specs.Digests.{alg_of, bytes_of}
 use Rattle.ima_list.specs.ListEntry.{ListEntry}

@@ -1,4 +1,4 @@
--- Expected registers, as text. All of this is this project's choice.
+-- Expected registers, as text.
 use Rattle.std.specs.Prelude.{◌≡◌, ℕ, ◌<◌, List, [], ◌++◌, length, codes, decimal, Option, Some, None, Ok}
 use Rattle.hex.specs.Hex.{decode_of}
 use Rattle.pcr_banks.specs.Hashing.{name_of, size_of}

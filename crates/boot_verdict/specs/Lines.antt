@@ -1,4 +1,4 @@
--- Where a text is cut. All of this is this project's choice.
+-- Where a text is cut.
 use Rattle.std.specs.Prelude.{◌≡◌, ℕ, List, ◌∷◌, ◌++◌}
 use Rattle.std.specs.Str.Iter.{LacksByte}
 

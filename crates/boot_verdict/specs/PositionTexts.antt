@@ -1,4 +1,4 @@
--- The lines of positions. All of this is this project's choice.
+-- The lines of positions.
 use Rattle.std.specs.Prelude.{ℕ, Bool, true, false, List, [], ◌++◌, codes, decimal, flat_map}
 use Rattle.boot_verdict.specs.declared.positions.Located.{Located}
 use Rattle.boot_verdict.specs.declared.positions.Position.{Position}

@@ -1,5 +1,5 @@
--- Where the values of expected registers are first reached, in a firmware log and a measurement list. All of this is this project's
--- choice. How events and entries change the registers is defined in boot_log and ima_list.
+-- Where the values of expected registers are first reached, in a firmware log and a measurement list.
+-- How events and entries change the registers is defined in boot_log and ima_list.
 use Rattle.std.specs.Prelude.{◌≡◌, ℕ, ◌-◌, ◌&&◌, ◌==◌, nat_le, not, Bool, true, false, if◌then◌else◌, List, fold, length, take, map, Option, Some, None, Ok}
 use Rattle.std.specs.List.{list_all}
 use Rattle.pcr_banks.specs.declared.alg.Alg.{Alg}

@@ -1,4 +1,4 @@
--- The texts of a report and of positions where registers are required. All of this is this project's choice.
+-- The texts of a report and of positions where registers are required.
 use Rattle.std.specs.Prelude.{ℕ, if◌then◌else◌, List, [], ◌++◌, length, codes, decimal, flat_map}
 use Rattle.pcr_banks.specs.declared.alg.Alg.{Alg}
 use Rattle.pcr_banks.specs.Hashing.{name_of}

@@ -1,4 +1,4 @@
--- Registers that must be among the expected ones, and how a text spells them. All of this is this project's choice.
+-- Registers that must be among the expected ones, and how a text spells them.
 use Rattle.std.specs.Prelude.{◌≡◌, ℕ, ◌&&◌, ◌==◌, not, Bool, if◌then◌else◌, List, [], ◌∷◌, ◌++◌, map, codes}
 use Rattle.std.specs.List.{Contains, list_all, list_any}
 use Rattle.pcr_banks.specs.declared.alg.Alg.{Alg}

@@ -1,4 +1,4 @@
--- Texts whose lines state registers, whatever the form of the lines. All of this is this project's choice.
+-- Texts whose lines state registers, whatever the form of the lines.
 use Rattle.std.specs.Prelude.{◌≡◌, ℕ, ◌-◌, ◌<◌, ◌&&◌, ◌==◌, Bool, IsTrue, if◌then◌else◌, List, [], ◌∷◌, ◌++◌, length, take, drop, map, bytes_eq, Option, Some, option_to_list}
 use Rattle.std.specs.List.{IsDistinct, list_any}
 use Rattle.pcr_banks.specs.Hashing.{same_alg}

@@ -1,5 +1,5 @@
--- A boot as one sequence of steps: the events of a firmware log, and then the entries of a measurement list. All of this is this
--- project's choice. What events and entries extend registers with is defined in boot_log and ima_list.
+-- A boot as one sequence of steps: the events of a firmware log, and then the entries of a measurement list.
+-- What events and entries extend registers with is defined in boot_log and ima_list.
 use Rattle.std.specs.Prelude.{ℕ, ◌==◌, ◌&&◌, nat_lt, Bool, if◌then◌else◌, List, [], ◌∷◌, ◌++◌, fold, map, find, Option, Some, None, option_map}
 use Rattle.pcr_banks.specs.declared.alg.Alg.{Alg}
 use Rattle.pcr_banks.specs.declared.sets.AlgSet.{AlgSet}

@@ -1,4 +1,4 @@
--- What follows a boot step by step. All of this is this project's choice.
+-- What follows a boot step by step.
 use Rattle.std.specs.Prelude.{◌≡◌, ℕ, List}
 use Rattle.pcr_banks.specs.declared.alg.Alg.{Alg}
 use Rattle.pcr_banks.specs.declared.banks.Banks.{Banks}

@@ -1,4 +1,4 @@
--- The verdict on a firmware log, a measurement list and expected registers. All of this is this project's choice. How events and
+-- The verdict on a firmware log, a measurement list and expected registers. How events and
 -- entries change the registers is defined in boot_log and ima_list.
 use Rattle.std.specs.Prelude.{◌≡◌, ℕ, ◌&&◌, nat_lt, Bool, true, false, if◌then◌else◌, List, [], ◌∷◌, length, map, bytes_eq, Option, Some, None, option_map, Ok, Err}
 use Rattle.std.specs.List.{list_all}

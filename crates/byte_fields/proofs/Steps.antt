@@ -33,7 +33,7 @@ pub guard_ok : {A E : Type 0} (b : Bool) (d : E) (r : Result A E) (y : A) → co
 guard_ok true d r y e = absurd cc
 guard_ok false d r y e = (refl, e)
 
--- The same: failing is its second branch.
+-- A test whose second branch fails.
 pub test_ok : {A E : Type 0} (b : Bool) (d : E) (r : Result A E) (y : A) → cond b r (Err d) ≡ Ok y → (b ≡ true) × (r ≡ Ok y)
 test_ok true d r y e = (refl, e)
 test_ok false d r y e = absurd cc

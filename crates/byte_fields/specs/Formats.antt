@@ -87,11 +87,11 @@ unless bad fault format = viewed (λ x. if bad x then Err fault else Ok x) (λ x
 abbrev pub telling : {A B E : Type 0} → (A → Option B) → E → Format A E → Format (A × B) E
 telling tell fault format = viewed (λ a. ok_or (tell a) fault >>= λ b. Ok (a, b)) (λ x. x.0) format
 
--- The same value in another form.
+-- A format whose values have another form.
 abbrev pub mapped : {A X E : Type 0} → (A → X) → (X → A) → Format A E → Format X E
 mapped to back format = viewed (λ a. Ok (to a)) back format
 
--- The same format with another reader, which must read the same.
+-- The format with another reader, which must read the same.
 abbrev pub read_by : {X E : Type 0} → (List ℕ → Result (X × List ℕ) E) → Format X E → Format X E
 read_by at format = record format { at = at }
 

@@ -101,7 +101,7 @@ Sends-stops Q old new fault (Err other) first second err p = record {
   counts = p.counts;
 }
 
--- The same text, in another form.
+-- A text that was sent, in another form.
 pub Sends-same : {A E : Type 0} (old new : SinkState) (result : Result A E) (text other : List ℕ) → text ≡ other
     → Sends old new result text → Sends old new result other
 Sends-same {A} {E} old new result text other same p = subst (λ (t : List ℕ). Sends {A = A} {E = E} old new result t) same p

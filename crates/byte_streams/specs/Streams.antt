@@ -1,4 +1,4 @@
--- The state of sinks and sources, and how a call changes it. All of this is this project's choice.
+-- The state of sinks and sources, and how a call changes it.
 use Rattle.std.specs.Prelude.{◌≡◌, ℕ, ◌+◌, ◌-◌, ◌^◌, ◌<◌, ◌≤◌, min, List, ◌++◌, length, Option, is_some, Result, Ok, Err, IfOk, OnOk}
 use Rattle.std.specs.Io.KnownBytes.{Appends, Consumes, IsAtEnd, ReadConsumes, WriteAppends}
 use Rattle.byte_streams.specs.declared.pieces.ReadFault.{ReadFault}

@@ -1,4 +1,4 @@
--- The commands as they are defined for clap. All of this is this project's choice.
+-- The commands as they are defined for clap.
 use Rattle.std.specs.Prelude.{false, true, List, [], ◌∷◌, codes, Some}
 use Rattle.std.specs.List.{fold}
 use Rattle.clap.specs.Words.{App, Rule, Text, new_app, new_rule, with_rule, with_subcommand}

@@ -1,5 +1,5 @@
 -- What the arguments of the command line request: how a plan follows from clap's matches. What arguments match is clap's own
--- definition (`subcommand_of`). All of this is this project's choice.
+-- definition (`subcommand_of`).
 use Rattle.std.specs.Prelude.{◌≡◌, ℕ, ◌⊎◌, ◌||◌, ◌==◌, Bool, IsTrue, true, List, [], ◌∷◌, Option, None, Some, bytes_eq, codes, map, option_map, unwrap_or, String, string_bytes}
 use Rattle.std.specs.List.{list_any, starts_with}
 use Rattle.std.specs.Global.{Global}

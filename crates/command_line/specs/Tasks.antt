@@ -1,4 +1,4 @@
--- What is to be done, and the plans that request it. All of this is this project's choice.
+-- What is to be done, and the plans that request it.
 use Rattle.std.specs.Prelude.{◌≡◌, ◌≤◌, ◌<◌, ◌^◌, not, Bool, false, true, Option, None, is_some, String, vec_len}
 use Rattle.std.specs.Global.{Global}
 use Rattle.command_line.specs.declared.plan.Extent.TheVariants.{Whole}

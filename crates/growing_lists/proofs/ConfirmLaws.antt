@@ -22,7 +22,7 @@ use Rattle.growing_lists.specs.parts.Searches.{FindsPrefix, IsConfirmedAt, IsWho
 use Rattle.boot_verdict.proofs.VerdictLaws.{log_viewed}
 use Rattle.growing_lists.proofs.SessionLaws.{taken_as}
 
--- The same of any log that is this one.
+-- Entries that are unconfirmed after a log are so after any reading of it.
 any_log : (log : List ℕ) (expected : List Expected) (least : ℕ) (entries : List ListEntry) (table : List TableRow) (events : List LogEvent)
     → IsLog log table events → AreUnconfirmed (algs_in table) events expected least entries
     → (other : List TableRow) (others : List LogEvent) → IsLog log other others → AreUnconfirmed (algs_in other) others expected least entries

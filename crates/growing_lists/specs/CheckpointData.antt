@@ -1,4 +1,4 @@
--- Which data a checkpoint can have, and which have the same. All of this is this project's choice.
+-- Which data a checkpoint can have, and which have the same.
 use Rattle.std.specs.Prelude.{◌≡◌, ℕ, ◌+◌, ◌*◌, ◌^◌, ◌<◌, ◌≤◌, List, length, IsTrue, None, IsSome, IfSome}
 use Rattle.hex.specs.Hex.{IsBytes}
 use Rattle.pcr_banks.specs.declared.alg.Alg.{Alg}
@@ -18,7 +18,7 @@ pub record HaveValues (banks : Banks) : Type 0 where
   pub whole : (a : Alg) (r : ℕ) → IsTrue (is_active banks a) → r < register_count → IsSome (value_at banks a r)
   pub sized : (a : Alg) (r : ℕ) → IfSome (value_at banks a r) (IsHash a)
 
--- The same banks are active.
+-- Both have the same active banks.
 abbrev pub SameActive : Banks → Banks → Type 0
 SameActive first second = (a : Alg) → is_active first a ≡ is_active second a
 
@@ -26,7 +26,7 @@ SameActive first second = (a : Alg) → is_active first a ≡ is_active second a
 abbrev pub SameValues : Banks → Banks → Type 0
 SameValues first second = (a : Alg) (r : ℕ) → value_at first a r ≡ value_at second a r
 
--- The same banks are active, and all registers have the same values.
+-- Both have the same active banks, and all registers have the same values.
 pub record AreSameBanks (first second : Banks) : Type 0 where
   pub active : SameActive first second
   pub values : SameValues first second

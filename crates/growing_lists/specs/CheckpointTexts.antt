@@ -1,4 +1,4 @@
--- A checkpoint, as text. All of this is this project's choice.
+-- A checkpoint, as text.
 use Rattle.std.specs.Prelude.{◌≡◌, ℕ, List, ◌++◌, codes, decimal, flat_map, if◌then◌else◌, Option, Some, None, is_some}
 use Rattle.hex.specs.Hex.{encode_lower}
 use Rattle.pcr_banks.specs.declared.alg.Alg.{Alg}

@@ -1,4 +1,4 @@
--- The text of a report on a confirmed prefix. All of this is this project's choice.
+-- The text of a report on a confirmed prefix.
 use Rattle.std.specs.Prelude.{ℕ, List, [], ◌++◌, codes, decimal, Option, Some, None}
 use Rattle.ima_list.specs.ListFaults.{list_fault_number, list_fault_entry, replay_fault_number, replay_fault_entry}
 use Rattle.growing_lists.specs.declared.prefix_report.Unconfirmed.{Unconfirmed}
@@ -35,7 +35,7 @@ unconfirmed_message fault =
     (codes "unconfirmed: " ++ (unconfirmed_kind fault ++ (codes " fault " ++ decimal (unconfirmed_number fault))))
     ++ entry_words (unconfirmed_entry fault)
 
--- The same as a line, if there is a fault.
+-- The line of what is wrong, if anything is.
 abbrev pub unconfirmed_line : Option Unconfirmed → List ℕ
 unconfirmed_line None = []
 unconfirmed_line (Some fault) = unconfirmed_message fault ++ codes "\n"
@@ -55,7 +55,7 @@ prefix_counts_text prefix entries unconfirmed =
 abbrev pub prefix_report_text : Verdict → ℕ → Option Unconfirmed → List ℕ
 prefix_report_text prefix entries unconfirmed = prefix_counts_text prefix entries unconfirmed ++ outcome_text prefix (matches prefix)
 
--- The same where registers are required.
+-- The report where registers are required.
 abbrev pub required_prefix_report_text : List BankRange → Verdict → ℕ → Option Unconfirmed → List ℕ
 required_prefix_report_text ranges prefix entries unconfirmed =
     prefix_counts_text prefix entries unconfirmed ++ required_outcome_text ranges prefix

@@ -1,4 +1,4 @@
--- The confirmed prefix of a list: the shortest with which all is as expected. All of this is this project's choice.
+-- The confirmed prefix of a list: the shortest with which all is as expected.
 use Rattle.std.specs.Prelude.{◌≡◌, ℕ, ◌<◌, ◌≤◌, true, false, List, ◌++◌, length, take, Option, Some, None, Ok}
 use Rattle.pcr_banks.specs.declared.sets.AlgSet.{AlgSet}
 use Rattle.boot_log.specs.declared.header.Row.{Row as TableRow}

@@ -56,6 +56,6 @@ pub record IsBatchOf (origin : Origin) (count : ℕ) (Makes : ℕ → BookOp →
   pub refusals : (job : ℕ) (fault : BookFault) → slice_get outcomes job ≡ Some (refused fault) → fault ≢ Memory
       → IsRefusalOfJob origin Makes (length book.records) job fault
 
--- The same of jobs that become these operations.
+-- What became of jobs that become these operations.
 abbrev pub IsBatch : Origin → List BookOp → ℕ → BookState → List BookOutcome → List ℕ → Type 0
 IsBatch origin ops workers book outcomes by = IsBatchOf origin (length ops) (IsAt ops) workers book outcomes by

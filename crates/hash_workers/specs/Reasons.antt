@@ -14,7 +14,7 @@ use Rattle.hash_workers.specs.Outcomes.{IsAt, IsOutcomeOf}
 abbrev pub IsMadeUnlessMemory : (ℕ → BookOp → Type 0) → (ℕ → JobFault → Type 0) → ℕ → Type 0
 IsMadeUnlessMemory Makes Fails job = ((op : BookOp) × Makes job op) ⊎ Fails job Memory
 
--- The same of each of `count` jobs.
+-- Each of `count` jobs has an operation, or lacked memory for it.
 pub record AllMadeUnlessMemory (count : ℕ) (Makes : ℕ → BookOp → Type 0) (Fails : ℕ → JobFault → Type 0) : Type 0 where
   pub each : (job : ℕ) → job < count → IsMadeUnlessMemory Makes Fails job
 
@@ -38,6 +38,6 @@ pub record IsReasonOf (workers : ℕ) (origin : Origin) (count : ℕ) (Makes : �
       → outcome_at groups other at ≡ Some another → job_of worker index ≡ job_of other at → (worker ≡ other) × (index ≡ at)
   pub first : IsFirstFault book origin groups reason
 
--- The same of jobs that become these operations.
+-- The first reason against outcomes of jobs that become these operations.
 abbrev pub IsReasonAmong : ℕ → Origin → List BookOp → GatherFault → Type 0
 IsReasonAmong workers origin ops reason = IsReasonOf workers origin (length ops) (IsAt ops) reason

@@ -1,4 +1,4 @@
--- A text as a terminal shows it, and obeys nothing of it. All of this is this project's choice.
+-- A text as a terminal shows it, and obeys nothing of it.
 use Rattle.std.specs.Prelude.{ℕ, Bool, List, [], ◌∷◌, ◌++◌, ◌&&◌, ◌||◌, ◌==◌, nat_le, if◌then◌else◌, codes, flat_map}
 use Rattle.hex.specs.Hex.{encode_lower}
 

@@ -1,4 +1,4 @@
--- The line of a fault, and the exit status after it. All of this is this project's choice.
+-- The line of a fault, and the exit status after it.
 use Rattle.std.specs.Prelude.{ℕ, List, [], ◌++◌, codes, decimal, Option, Some, None, string_bytes}
 use Rattle.agent_inputs.specs.declared.fault.FaultKind.{FaultKind}
 use Rattle.agent_inputs.specs.declared.fault.FaultKind.TheVariants as kinds

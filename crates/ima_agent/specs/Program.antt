@@ -1,4 +1,4 @@
--- What the program is asked for, sends and returns. All of this is this project's choice.
+-- What the program is asked for, sends and returns.
 use Rattle.std.specs.Prelude.{◌≡◌, ℕ, ◌⊎◌, List, flat_map, string_bytes, ◌++◌, Option, None, Some, option_map, Result, Ok, Err, String}
 use Rattle.std.specs.Global.{Global, Vec}
 use Rattle.byte_streams.specs.declared.streams.Failed.{Failed}

@@ -1,5 +1,4 @@
--- What the tasks show that ask no question: the registers and the events of a log, the entries of a list, the version. All of this is this
--- project's choice.
+-- What the tasks show that ask no question: the registers and the events of a log, the entries of a list, the version.
 use Rattle.std.specs.Prelude.{◌≡◌, ℕ, ◌⊎◌, ◌==◌, ◌||◌, not, Bool, List, [], ◌++◌, codes, filter, length, Option, Some, Ok, Err, IsErr}
 use Rattle.hex.specs.Hex.{decode_of}
 use Rattle.boot_log.specs.declared.header.Row.{Row}

@@ -1,4 +1,4 @@
--- What a call with these bytes asks for. All of this is this project's choice.
+-- What a call with these bytes asks for.
 use Rattle.std.specs.Prelude.{ℕ, ◌==◌, if◌then◌else◌, Bool, List, bytes_eq, codes, length, Option, None, Some, option_map}
 use Rattle.command_line.specs.declared.plan.Extent.TheVariants.{Prefix, Whole}
 use Rattle.command_line.specs.declared.plan.Form.{Form}

@@ -1,4 +1,4 @@
--- The answer to what is asked for, what it is worth, and why there is none. All of this is this project's choice.
+-- The answer to what is asked for, what it is worth, and why there is none.
 use Rattle.std.specs.Prelude.{◌≡◌, ℕ, ◌&&◌, ◌<◌, ◌⊎◌, ◌==◌, nat_lt, not, if◌then◌else◌, Bool, true, List, length, [], Option, Some, None, Ok, IsSomeAnd, MatchOption}
 use Rattle.pcr_banks.specs.declared.banks.Banks.{Banks}
 use Rattle.pcr_banks.specs.Registers.{IsReset, register_count}

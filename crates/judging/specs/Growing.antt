@@ -1,4 +1,4 @@
--- What is found in a list, also in one that goes on after another, and why nothing is. All of this is this project's choice.
+-- What is found in a list, also in one that goes on after another, and why nothing is.
 use Rattle.std.specs.Prelude.{◌≡◌, ℕ, ◌<◌, ◌≤◌, ◌⊎◌, ◌==◌, not, Bool, true, false, List, [], ◌++◌, length, Option, Some, None, Result, Ok, Err, IfSome, IsSomeAnd, MatchResult}
 use Rattle.std.specs.Option.{option_map_or}
 use Rattle.byte_streams.specs.Streams.{SourceState}

@@ -1,4 +1,4 @@
--- Where inputs are, what they hold, and why one is not loaded. All of this is this project's choice.
+-- Where inputs are, what they hold, and why one is not loaded.
 use Rattle.std.specs.Prelude.{◌≡◌, ℕ, ◌^◌, ◌-◌, ◌⊎◌, List, Option, Some, IfSome, IsTrue}
 use Rattle.boot_verdict.specs.declared.verifier.VerifyFault.{VerifyFault}
 use Rattle.boot_verdict.specs.declared.verifier.VerifyFault.TheVariants as verdicts

@@ -1,4 +1,4 @@
--- Files, measured into the registers of a log. All of this is this project's choice.
+-- Files, measured into the registers of a log.
 use Rattle.std.specs.Prelude.{◌≡◌, ℕ, ◌<◌, ◌≤◌, ◌^◌, ◌⊎◌, ◌==◌, not, List, [], ◌++◌, filter, length, map, slice_get, Option, None, Some, IfSome, IsTrue, MatchOption, string_bytes}
 use Rattle.std.specs.List.{slice_split}
 use Rattle.std.specs.Str.{IsUtf8}

@@ -1,4 +1,4 @@
--- The entries of a list, whose lines are given by pieces. All of this is this project's choice.
+-- The entries of a list, whose lines are given by pieces.
 use Rattle.std.specs.Prelude.{ℕ, List, flat_map}
 use Rattle.agent_inputs.specs.declared.fault.RunFault.{RunFault}
 use Rattle.agent_inputs.specs.Faults.{fault_of_list}

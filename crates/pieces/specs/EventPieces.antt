@@ -1,4 +1,4 @@
--- The algorithms and the events of a log, whose lines are given by pieces. All of this is this project's choice.
+-- The algorithms and the events of a log, whose lines are given by pieces.
 use Rattle.std.specs.Prelude.{◌≡◌, ℕ, ◌+◌, ◌<◌, ◌⊎◌, List, []}
 use Rattle.agent_inputs.specs.declared.fault.RunFault.{RunFault}
 use Rattle.agent_inputs.specs.Faults.{fault_of_log}

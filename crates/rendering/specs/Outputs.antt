@@ -1,4 +1,4 @@
--- What is shown of what is asked for, what is saved with it, and why nothing is. All of this is this project's choice.
+-- What is shown of what is asked for, what is saved with it, and why nothing is.
 use Rattle.std.specs.Prelude.{◌≡◌, ℕ, ◌⊎◌, if◌then◌else◌, List, [], Option, Some, None}
 use Rattle.boot_verdict.specs.declared.checkpoint.Checkpoint.{Checkpoint}
 use Rattle.growing_lists.specs.CheckpointTexts.{checkpoint_text}

@@ -1,4 +1,4 @@
--- Answers as text or JSON, and their exit statuses. All of this is this project's choice.
+-- Answers as text or JSON, and their exit statuses.
 use Rattle.std.specs.Prelude.{ℕ, Bool, List, ◌++◌, Option, Some, None, flat_map}
 use Rattle.boot_verdict.specs.declared.requirement.BankRange.{BankRange}
 use Rattle.boot_verdict.specs.ListVerdicts.{list_report_text, list_verdict_of, required_list_report_text}

@@ -1,4 +1,4 @@
--- Why a use of the libraries fails. All of this is this project's choice.
+-- Why a use of the libraries fails.
 use Rattle.std.specs.Prelude.{◌≡◌, ◌⊎◌, ℕ, List}
 use Rattle.boot_log.specs.declared.fault.LogFault.TheVariants as logs
 use Rattle.boot_log.specs.Spelling.{HasLogFault}

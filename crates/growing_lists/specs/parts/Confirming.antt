@@ -19,7 +19,7 @@ use Rattle.boot_verdict.specs.Tracking.{AreAfter}
 abbrev pub are_reached : Banks → List Expected → Bool
 are_reached banks expected = list_all (λ e. is_reached e (value_at banks e.alg e.register)) expected
 
--- The same after these steps.
+-- All of them have their values after these steps.
 abbrev pub reached_after_steps : Banks → List Expected → List Step → Bool
 reached_after_steps start expected steps =
     list_all (λ e. is_reached e (value_after e.alg e.register (value_at start e.alg e.register) steps)) expected

@@ -20,7 +20,7 @@ pub fn write_prefix_report<S: Sink>(prefix: &PrefixReport, sink: &mut S) -> Resu
     write_outcome(&prefix.report, prefix.report.matches(), sink)
 }
 
-/// The same where registers are required: what comes after these lines is as [`boot_verdict::write_required_report`] writes it.
+/// Writes the report where registers are required: what comes after these lines is as [`boot_verdict::write_required_report`] writes it.
 pub fn write_required_prefix_report<S: Sink>(
     prefix: &PrefixReport,
     requirement: &Requirement,

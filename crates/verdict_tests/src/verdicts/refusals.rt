@@ -51,7 +51,7 @@ fn each_allocation_refused_in_verify(rt: HostRuntime) -> Result<(), Fail> {
     Ok(())
 }
 
-/// The same report, of a list that comes in pieces of seven bytes; and of ten bytes of it at most.
+/// The report is the same of a list that comes in pieces of seven bytes; and of ten bytes of it at most.
 #[test]
 fn each_allocation_refused_in_verify_from(rt: HostRuntime) -> Result<(), Fail> {
     let alloc = rt.alloc();

@@ -194,7 +194,7 @@ const WITH_SIGNATURES: [Row; 4] = [
     (Deed::Violation(b"/etc/x"), Ok((4, Answer::Added(3)))),
 ];
 
-/// The same in a book whose template has no signature.
+/// Operations on a book whose template has no signature.
 const WITHOUT_SIGNATURES: [Row; 3] = [
     (Deed::Measure(b"/bin/sh", b"abc"), Ok((1, Answer::Added(1)))),
     (
