@@ -5,7 +5,7 @@ use Rattle.std.proofs.lemmas.List.{length-take-le}
 use Rattle.std.specs.Io.KnownBytes.{IsAtEnd}
 use Rattle.pcr_banks.specs.declared.alg.Alg.{Alg}
 use Rattle.pcr_banks.specs.declared.digest.Digest.{Digest}
-use Rattle.pcr_banks.specs.declared.hashing.Hasher.{Hasher}
+use Rattle.pcr_banks.specs.declared.hasher.Hasher.{Hasher}
 use Rattle.pcr_banks.specs.Digests.{digest_of}
 use Rattle.pcr_banks.specs.Hashing.{hash_of}
 use Rattle.pcr_banks.specs.Hashers.{HasTaken}

@@ -18,7 +18,7 @@ use Rattle.boot_log.specs.Reading.{log_fault}
 use Rattle.boot_log.specs.Replaying.{firmware_value, startup_locality}
 use Rattle.ima_list.specs.declared.fault.ListFault.{ListFault}
 use Rattle.ima_list.specs.declared.fault.ListFault.TheVariants as lists
-use Rattle.ima_list.specs.declared.replaying.ReplayFault.{ReplayFault}
+use Rattle.ima_list.specs.declared.list_replay.ReplayFault.{ReplayFault}
 use Rattle.ima_list.specs.ListEntry.{ListEntry}
 use Rattle.ima_list.specs.Spelling.{IsReading}
 use Rattle.ima_list.specs.Digesting.{is_violation}

@@ -10,7 +10,7 @@ ghost use Rattle.boot_verdict.specs.Replays.{IsListReplayFault};
 
 use crate::checkpoint::Checkpoint;
 use crate::expected::Expected;
-use crate::replaying::list_start;
+use crate::list_registers::list_start;
 use crate::report::{Row, all_match};
 use crate::requirement::Requirement;
 use crate::verifier::{VerifyFault, rows_on};

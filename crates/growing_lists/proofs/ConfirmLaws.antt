@@ -8,7 +8,7 @@ use Rattle.boot_log.proofs.LogLaws.{one_reading}
 use Rattle.ima_list.specs.ListEntry.{ListEntry}
 use Rattle.ima_list.specs.Spelling.{list_spelling}
 use Rattle.boot_verdict.specs.declared.checkpoint.Checkpoint.{Checkpoint}
-use Rattle.growing_lists.specs.declared.confirming.Search.{Search}
+use Rattle.growing_lists.specs.declared.confirmation.Search.{Search}
 use Rattle.boot_verdict.specs.declared.expected.Expected.{Expected}
 use Rattle.growing_lists.specs.declared.prefix_report.Unconfirmed.{Unconfirmed}
 use Rattle.growing_lists.specs.declared.prefix_report.Unconfirmed.TheVariants as unconfirmed

@@ -3,7 +3,7 @@
 #![tactic(auto)]
 
 mod checkpoint_reader;
-mod confirming;
+mod confirmation;
 mod prefix_report;
 mod prefixes;
 mod same_banks;

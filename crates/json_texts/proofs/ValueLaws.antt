@@ -13,7 +13,7 @@ use Rattle.boot_log.specs.declared.header.Row.{Row as TableRow}
 use Rattle.boot_log.specs.Spelling.{IsRow}
 use Rattle.pcr_banks.specs.Digests.{bytes_of}
 use Rattle.ima_list.specs.declared.fault.ListFault.TheVariants as lists
-use Rattle.ima_list.specs.declared.replaying.ReplayFault.TheVariants as replays
+use Rattle.ima_list.specs.declared.list_replay.ReplayFault.TheVariants as replays
 use Rattle.boot_verdict.specs.declared.expected.Expected.{Expected}
 use Rattle.growing_lists.specs.declared.prefix_report.Unconfirmed.{Unconfirmed}
 use Rattle.growing_lists.specs.declared.prefix_report.Unconfirmed.TheVariants as faults

@@ -6,7 +6,7 @@ use Rattle.boot_log.specs.Spelling.{LogEvent}
 use Rattle.ima_list.specs.ListEntry.{ListEntry}
 use Rattle.ima_list.specs.Spelling.{BeginsWith, IsReading, list_spelling}
 use Rattle.boot_verdict.specs.declared.checkpoint.Checkpoint.{Checkpoint}
-use Rattle.growing_lists.specs.declared.confirming.Search.{Search}
+use Rattle.growing_lists.specs.declared.confirmation.Search.{Search}
 use Rattle.boot_verdict.specs.declared.expected.Expected.{Expected}
 use Rattle.growing_lists.specs.declared.prefix_report.Unconfirmed.{Unconfirmed}
 use Rattle.growing_lists.specs.declared.prefix_report.Unconfirmed.TheVariants as unconfirmed
