@@ -5,9 +5,8 @@ ghost use Rattle.agent_inputs.specs.Faults.{fault_head, fault_of_agent, fault_of
 ghost use Rattle.agent_inputs.specs.declared.fault.RunFault.TheVariants.{Memory};
 
 use boot_log::LogFault;
-use boot_verdict::ExpectFault;
+use boot_verdict::{CheckpointFault, ExpectFault, ResumeFault};
 use command_line::WordsFault;
-use growing_lists::{CheckpointFault, ResumeFault};
 use hash_workers::AgentFault;
 use ima_list::{ListFault, ReplayFault};
 use measure_book::{BookFault, GatherFault};

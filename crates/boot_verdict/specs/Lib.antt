@@ -17,6 +17,7 @@ pub mod PrintedTexts
 pub mod RegisterRanges
 pub mod Requirements
 pub mod RequiredTexts
+pub mod PrefixTexts
 pub mod ListVerdicts
 pub mod WrittenTexts
 pub mod Tracking

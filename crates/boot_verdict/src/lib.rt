@@ -4,17 +4,19 @@
 
 mod all_registers;
 mod checkpoint;
+mod checkpoint_fault;
 mod expected;
 pub mod laws;
 mod lines;
+mod list_registers;
 mod list_replay;
 mod list_verifier;
 mod location;
 mod pcr_read;
 mod positions;
+mod prefix_report;
 mod printed;
 mod register_range;
-mod list_registers;
 mod report;
 mod requirement;
 mod stated;
@@ -24,22 +26,24 @@ mod verifier;
 
 pub use all_registers::{ALL_REGISTERS, register_numbered};
 pub use checkpoint::Checkpoint;
+pub use checkpoint_fault::{CheckpointFault, ResumeFault};
 pub use expected::{ExpectFault, Expected, read_expected, register_on};
 pub use lines::{after_prefix, split_once};
+pub use list_registers::{list_start, replay_from};
 pub use list_replay::ListReplay;
 pub use list_verifier::{ListReport, verify_list_from};
 pub use location::{locate, locate_from};
 pub use positions::{Located, Position, all_found, is_reached, required_found};
+pub use prefix_report::{PrefixReport, Unconfirmed};
 pub use printed::read_printed;
 pub use register_range::RegisterRange;
-pub use list_registers::{list_start, replay_from};
 pub use report::{Aggregate, Report, Row, State};
 pub use requirement::{BankRange, HasExpected, Requirement, RequirementFault};
-pub use steps::{Tracker, Step};
+pub use steps::{Step, Tracker};
 pub use texts::{
     EventData, aggregate_word, algorithm_with, digits_of, write_change, write_counts, write_events,
-    write_expected, write_list_report, write_outcome, write_positions, write_registers, write_report,
-    write_required_list_report, write_required_outcome, write_required_positions,
-    write_required_report,
+    write_expected, write_list_report, write_outcome, write_positions, write_prefix_report,
+    write_registers, write_report, write_required_list_report, write_required_outcome,
+    write_required_positions, write_required_prefix_report, write_required_report,
 };
 pub use verifier::{VerifyFault, aggregate_of, report_on, verify, verify_from};

@@ -22,7 +22,7 @@ ghost use Rattle.boot_verdict.specs.parts.LogPositions.{IsTracked, position_at_r
 use crate::expected::Expected;
 use crate::list_replay::ListReplay;
 use crate::positions::{Located, Position, RowTracker};
-use crate::steps::{Tracker, Step};
+use crate::steps::{Step, Tracker};
 use crate::verifier::VerifyFault;
 use boot_log::{LogEvents, LogView};
 use byte_streams::Source;
@@ -88,7 +88,11 @@ pub fn locate_from<R: Source>(
 }
 
 // The registers after the log's events, and the positions of the expected values among them.
-fn track_log(alloc: Global, log: &LogView<'_>, expected: &[Expected]) -> Result<RowTracker, AllocError>
+fn track_log(
+    alloc: Global,
+    log: &LogView<'_>,
+    expected: &[Expected],
+) -> Result<RowTracker, AllocError>
     ensures { (table : List TableRow) (events : List LogEvent) → IsLog (log_bytes log.now) table events
         → IfOk result (IsTracked (algs_in table) events expected.now) }
 {

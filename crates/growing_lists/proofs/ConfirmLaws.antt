@@ -10,8 +10,8 @@ use Rattle.ima_list.specs.Spelling.{list_spelling}
 use Rattle.boot_verdict.specs.declared.checkpoint.Checkpoint.{Checkpoint}
 use Rattle.growing_lists.specs.declared.confirmation.Search.{Search}
 use Rattle.boot_verdict.specs.declared.expected.Expected.{Expected}
-use Rattle.growing_lists.specs.declared.prefix_report.Unconfirmed.{Unconfirmed}
-use Rattle.growing_lists.specs.declared.prefix_report.Unconfirmed.TheVariants as unconfirmed
+use Rattle.boot_verdict.specs.declared.prefix_report.Unconfirmed.{Unconfirmed}
+use Rattle.boot_verdict.specs.declared.prefix_report.Unconfirmed.TheVariants as unconfirmed
 use Rattle.boot_verdict.specs.declared.report.Report.{Report}
 use Rattle.growing_lists.specs.declared.session.Session.{Session}
 use Rattle.boot_verdict.specs.Checkpoints.{IsCheckpoint, IsMoreFault}

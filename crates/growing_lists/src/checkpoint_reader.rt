@@ -11,7 +11,6 @@ ghost use Rattle.pcr_banks.specs.Registers.{is_active, register_count};
 ghost use Rattle.boot_verdict.specs.declared.checkpoint.Checkpoint.{Checkpoint};
 ghost use Rattle.boot_verdict.specs.Checkpoints.{IsCheckpoint};
 ghost use Rattle.boot_verdict.specs.RegisterTexts.{all_registers, register_line};
-ghost use Rattle.growing_lists.specs.declared.checkpoint_reader.CheckpointFault.TheVariants.{Memory};
 ghost use Rattle.growing_lists.specs.CheckpointData.{HasTakenNothing, HaveValues, IsCounted, IsHash, IsPossible, LeavesRoom, SameData, SameValues};
 ghost use Rattle.growing_lists.specs.CheckpointTexts.{IsOfOtherVersion, bank_lines, banks_lines, checkpoint_text, data_lines, number_line, recorded_line, recorded_words, value_line};
 ghost use Rattle.growing_lists.specs.Sessions.{IsOfBoot};
@@ -19,11 +18,12 @@ ghost use Rattle.growing_lists.specs.parts.CheckpointParts.{HasBank, Sets, Takes
 
 use crate::same_banks::{are_same_active, are_same_banks};
 use crate::texts::write_checkpoint;
-use boot_verdict::{Checkpoint, after_prefix, list_start, register_on, split_once};
+use boot_verdict::{
+    Checkpoint, CheckpointFault, after_prefix, list_start, register_on, split_once,
+};
 use pcr_banks::laws::{digest_is_a_hash, registers_have_hashes};
 use pcr_banks::{Alg, Banks, Digest, REGISTERS};
 use std::alloc::{AllocError, Global};
-use thiserror::Error;
 
 /// Law: a checkpoint whose data fit together is one that [`read_checkpoint`] reads from its text; and so do those of a list, if it
 /// [`leaves_room`].
@@ -53,28 +53,6 @@ pub fn same_data_is_of_the_same_lists()
     ensures boots { (first second : Checkpoint) → IsPossible first → IsPossible second → SameData first second
         → (log : List ℕ) → IsOfBoot log first → IsOfBoot log second }
 {}
-
-/// Why a text is not read as a checkpoint.
-#[derive(Clone, Copy, Debug, PartialEq, Eq, Error)]
-pub enum CheckpointFault {
-    /// The text begins as that of a checkpoint does, but has another version.
-    #[error("the checkpoint is of another version")]
-    Version,
-    /// It is not the text of a checkpoint, or it was damaged.
-    #[error("the text is not a whole checkpoint, as it was saved")]
-    Damaged,
-    /// Out of memory.
-    #[error("out of memory")]
-    Memory,
-}
-
-impl From<AllocError> for CheckpointFault {
-    ghost from_gives = { λ _ fault. fault ≡ Memory };
-
-    fn from(_refused: AllocError) -> CheckpointFault {
-        CheckpointFault::Memory
-    }
-}
 
 /// Reads the text that [`crate::write_checkpoint`] makes of a checkpoint, and no other.
 ///

@@ -6,7 +6,7 @@ ghost use Rattle.pcr_banks.specs.declared.sets.AlgSet.{AlgSet};
 ghost use Rattle.pcr_banks.specs.Digests.{alg_of, bytes_of};
 ghost use Rattle.boot_log.specs.Replaying.{IsFirmware};
 ghost use Rattle.boot_log.specs.Spelling.{LogEvent};
-ghost use Rattle.growing_lists.specs.declared.prefix_report.Unconfirmed.{Unconfirmed};
+ghost use Rattle.boot_verdict.specs.declared.prefix_report.Unconfirmed.{Unconfirmed};
 ghost use Rattle.boot_verdict.specs.Checkpoints.{IsCheckpoint, IsMoreFault, most_after};
 ghost use Rattle.boot_verdict.specs.ListSources.{failures_after_list};
 ghost use Rattle.boot_verdict.specs.Verdicts.{aggregate_of, is_good};
@@ -14,11 +14,11 @@ ghost use Rattle.growing_lists.specs.parts.Confirming.{IsConfirmingAfter, search
 ghost use Rattle.boot_verdict.specs.ListReplays.{ReplaysAll};
 ghost use Rattle.growing_lists.specs.parts.Searches.{IsNoListFault, Searches, fault_in, prefix_after, whole_after, wrong_with};
 
-use crate::prefix_report::{PrefixReport, Unconfirmed};
 use crate::prefixes::Confirming;
 use crate::session::Session;
 use boot_verdict::{
-    Aggregate, Checkpoint, Expected, ListReplay, VerifyFault, aggregate_of, report_on,
+    Aggregate, Checkpoint, Expected, ListReplay, PrefixReport, Unconfirmed, VerifyFault,
+    aggregate_of, report_on,
 };
 use byte_streams::Source;
 use std::alloc::Global;

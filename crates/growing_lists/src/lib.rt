@@ -4,16 +4,13 @@
 
 mod checkpoint_reader;
 mod confirmation;
-mod prefix_report;
 mod prefixes;
 mod same_banks;
 mod session;
 mod texts;
 
 pub use checkpoint_reader::{
-    CheckpointFault, counted_checkpoint_is_possible, leaves_room, read_checkpoint,
-    same_data_is_of_the_same_lists,
+    counted_checkpoint_is_possible, leaves_room, read_checkpoint, same_data_is_of_the_same_lists,
 };
-pub use prefix_report::{PrefixReport, Unconfirmed};
-pub use session::{ResumeFault, Session};
-pub use texts::{write_checkpoint, write_prefix_report, write_required_prefix_report};
+pub use session::Session;
+pub use texts::write_checkpoint;

@@ -4,7 +4,7 @@ ghost use Rattle.std.specs.Prelude.{◌≡◌};
 ghost use Rattle.growing_lists.specs.parts.Confirming.{IsConfirmingAfter, are_reached, prefix_at, search_after, size_of_step};
 ghost use Rattle.boot_verdict.specs.Tracking.{step_of};
 
-use boot_verdict::{Checkpoint, Expected, Tracker, Position, Step, is_reached};
+use boot_verdict::{Checkpoint, Expected, Position, Step, Tracker, is_reached};
 use pcr_banks::Banks;
 
 /// A point after an entry of the list.

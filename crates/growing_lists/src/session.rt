@@ -12,21 +12,9 @@ ghost use Rattle.boot_verdict.specs.Verdicts.{IsSomeLog, IsVerdict, verdict_of};
 
 use crate::same_banks::are_same_banks;
 use boot_log::{LogFault, LogView};
-use boot_verdict::{Checkpoint, Expected, Report, VerifyFault, report_on};
+use boot_verdict::{Checkpoint, Expected, Report, ResumeFault, VerifyFault, report_on};
 use byte_streams::Source;
 use std::alloc::Global;
-use thiserror::Error;
-
-/// Why a session does not go on from a checkpoint.
-#[derive(Clone, Copy, Debug, PartialEq, Eq, Error)]
-pub enum ResumeFault {
-    /// The log is invalid.
-    #[error("the log is invalid: {0}")]
-    Log(LogFault),
-    /// The checkpoint is of another boot: the log leaves other registers than those before its list.
-    #[error("the checkpoint is of another boot: the log's registers are not those it began from")]
-    OtherBoot,
-}
 
 /// A verification of a list that grows. It has looked through the log, and has taken some bytes of the list: it knows what they leave,
 /// and keeps none of them.

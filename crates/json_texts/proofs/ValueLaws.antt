@@ -15,8 +15,8 @@ use Rattle.pcr_banks.specs.Digests.{bytes_of}
 use Rattle.ima_list.specs.declared.fault.ListFault.TheVariants as lists
 use Rattle.ima_list.specs.declared.list_replay.ReplayFault.TheVariants as replays
 use Rattle.boot_verdict.specs.declared.expected.Expected.{Expected}
-use Rattle.growing_lists.specs.declared.prefix_report.Unconfirmed.{Unconfirmed}
-use Rattle.growing_lists.specs.declared.prefix_report.Unconfirmed.TheVariants as faults
+use Rattle.boot_verdict.specs.declared.prefix_report.Unconfirmed.{Unconfirmed}
+use Rattle.boot_verdict.specs.declared.prefix_report.Unconfirmed.TheVariants as faults
 use Rattle.boot_verdict.specs.declared.places.Place.{Place}
 use Rattle.boot_verdict.specs.declared.places.Place.TheVariants as places
 use Rattle.boot_verdict.specs.declared.report.Row.{Row}
@@ -24,7 +24,7 @@ use Rattle.boot_verdict.specs.declared.report.State.{State}
 use Rattle.boot_verdict.specs.declared.report.State.TheVariants.{Match, Differ, Absent}
 use Rattle.boot_verdict.specs.declared.requirement.BankRange.{BankRange}
 use Rattle.boot_verdict.specs.EventTexts.{algorithm_with}
-use Rattle.growing_lists.specs.PrefixTexts.{unconfirmed_entry, unconfirmed_kind, unconfirmed_message, unconfirmed_number}
+use Rattle.boot_verdict.specs.PrefixTexts.{unconfirmed_entry, unconfirmed_kind, unconfirmed_message, unconfirmed_number}
 use Rattle.boot_verdict.specs.declared.register_range.RegisterRange.{RegisterRange}
 use Rattle.boot_verdict.specs.RegisterRanges.{is_within}
 use Rattle.boot_verdict.specs.RegisterTexts.{all_registers, differs, every_register}

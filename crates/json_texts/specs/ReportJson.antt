@@ -2,12 +2,12 @@
 use Rattle.std.specs.Prelude.{ℕ, Bool, true, false, List, [], ◌∷◌, ◌++◌, codes, Option, Some, None, option_map}
 use Rattle.json.specs.Json.{Json, string}
 use Rattle.pcr_banks.specs.Digests.{bytes_of}
-use Rattle.growing_lists.specs.declared.prefix_report.Unconfirmed.{Unconfirmed}
+use Rattle.boot_verdict.specs.declared.prefix_report.Unconfirmed.{Unconfirmed}
 use Rattle.boot_verdict.specs.declared.report.Row.{Row}
 use Rattle.boot_verdict.specs.declared.report.State.{State}
 use Rattle.boot_verdict.specs.declared.report.State.TheVariants.{Match, Differ, Absent}
 use Rattle.boot_verdict.specs.declared.requirement.BankRange.{BankRange}
-use Rattle.growing_lists.specs.PrefixTexts.{unconfirmed_entry, unconfirmed_kind, unconfirmed_message, unconfirmed_number}
+use Rattle.boot_verdict.specs.PrefixTexts.{unconfirmed_entry, unconfirmed_kind, unconfirmed_message, unconfirmed_number}
 use Rattle.boot_verdict.specs.ListVerdicts.{ListVerdict, list_matches, required_list_matches}
 use Rattle.boot_verdict.specs.ReportTexts.{aggregate_word}
 use Rattle.boot_verdict.specs.Requirements.{required_matches}

@@ -1,7 +1,7 @@
 //! The lines of reports.
 
 ghost use Rattle.std.specs.Prelude.{◌≡◌, option_copied, option_map};
-ghost use Rattle.growing_lists.specs.PrefixTexts.{unconfirmed_entry};
+ghost use Rattle.boot_verdict.specs.PrefixTexts.{unconfirmed_entry};
 ghost use Rattle.boot_verdict.specs.declared.report.State.TheVariants.{Differ};
 ghost use Rattle.boot_verdict.specs.ListVerdicts.{list_verdict_of};
 ghost use Rattle.boot_verdict.specs.Verdicts.{verdict_of};
@@ -14,8 +14,7 @@ use crate::faults::{FaultPlace, FaultText, write_fault_member};
 use crate::lines::{Written, begin_line, end_line};
 use crate::members::{write_hex, write_number, write_text};
 use crate::rows::{Says, write_rows};
-use boot_verdict::{ListReport, Report, Requirement, Row, State, aggregate_word};
-use growing_lists::{PrefixReport, Unconfirmed};
+use boot_verdict::{ListReport, PrefixReport, Report, Requirement, Row, State, Unconfirmed, aggregate_word};
 use json::Writer;
 use pcr_banks::Digest;
 use std::alloc::Global;
@@ -61,8 +60,8 @@ pub fn append_list_report(
     end_line(written, writer, start, line)
 }
 
-/// Appends the line of a report on a confirmed prefix, in the words of [`growing_lists::write_prefix_report`], or of
-/// [`growing_lists::write_required_prefix_report`] where registers are required.
+/// Appends the line of a report on a confirmed prefix, in the words of [`boot_verdict::write_prefix_report`], or of
+/// [`boot_verdict::write_required_prefix_report`] where registers are required.
 ///
 /// Its members are those of [`append_report`], of which `entries` has the number of entries of the whole list. After it is
 /// `confirmed`, the number of entries of the prefix, and if something is wrong after the prefix `unconfirmed`, an object with `kind`, which is

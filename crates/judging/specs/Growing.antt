@@ -19,9 +19,9 @@ use Rattle.boot_verdict.specs.ListVerdicts.{IsListVerdict, list_verdict_of}
 use Rattle.boot_verdict.specs.Places.{AreLocated}
 use Rattle.boot_verdict.specs.Requirements.{is_complete}
 use Rattle.boot_verdict.specs.Verdicts.{IsForged, IsSomeLog, IsVerdict, verdict_of, verdict_on}
-use Rattle.growing_lists.specs.declared.prefix_report.PrefixReport.{PrefixReport}
-use Rattle.growing_lists.specs.declared.prefix_report.Unconfirmed.{Unconfirmed}
-use Rattle.growing_lists.specs.declared.prefix_report.Unconfirmed.TheVariants as unconfirmed
+use Rattle.boot_verdict.specs.declared.prefix_report.PrefixReport.{PrefixReport}
+use Rattle.boot_verdict.specs.declared.prefix_report.Unconfirmed.{Unconfirmed}
+use Rattle.boot_verdict.specs.declared.prefix_report.Unconfirmed.TheVariants as unconfirmed
 use Rattle.growing_lists.specs.declared.session.Session.{Session}
 use Rattle.growing_lists.specs.CheckpointData.{IsPossible}
 use Rattle.growing_lists.specs.Prefixes.{AreUnconfirmed, IsConfirmed}

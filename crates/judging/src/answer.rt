@@ -7,11 +7,7 @@ ghost use Rattle.judging.specs.Asking.{requires_of};
 
 use crate::request::Required;
 use agent_inputs::RunFault;
-use boot_verdict::{
-    Checkpoint, Expected, ListReport, Located, RegisterRange, Report, Requirement, all_found,
-    required_found,
-};
-use growing_lists::PrefixReport;
+use boot_verdict::{Checkpoint, Expected, ListReport, Located, PrefixReport, RegisterRange, Report, Requirement, all_found, required_found};
 use pcr_banks::Banks;
 
 /// What is answered.

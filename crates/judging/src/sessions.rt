@@ -13,13 +13,10 @@ use crate::answer::Answer;
 use crate::answering::{Evidence, Finding};
 use crate::inputs::{Input, limit_of, refused};
 use agent_inputs::{NotResumed, RunFault};
-use boot_verdict::{Checkpoint, Expected, Report, Requirement};
+use boot_verdict::{Checkpoint, CheckpointFault, Expected, Report, Requirement, ResumeFault};
 use byte_streams::Source;
 use command_line::Extent;
-use growing_lists::{
-    CheckpointFault, ResumeFault, Session, counted_checkpoint_is_possible, leaves_room,
-    read_checkpoint,
-};
+use growing_lists::{Session, counted_checkpoint_is_possible, leaves_room, read_checkpoint};
 use ima_list::laws::{entries_to_the_end_are_the_reading, no_bytes_have_two_readings};
 use std::alloc::{AllocError, Global};
 

@@ -8,7 +8,7 @@ use Rattle.boot_verdict.specs.ReportTexts.{counts_text, outcome_text}
 use Rattle.boot_verdict.specs.RequiredTexts.{required_places_text, required_report_text}
 use Rattle.boot_verdict.specs.Verdicts.{verdict_of}
 use Rattle.boot_verdict.specs.WrittenTexts.{expected_text}
-use Rattle.growing_lists.specs.PrefixTexts.{prefix_report_text, required_prefix_report_text}
+use Rattle.boot_verdict.specs.PrefixTexts.{prefix_report_text, required_prefix_report_text}
 use Rattle.json.specs.Json.{Json}
 use Rattle.json_texts.specs.JsonValues.{line_of}
 use Rattle.json_texts.specs.PlaceJson.{places_json}

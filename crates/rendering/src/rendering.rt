@@ -7,13 +7,9 @@ ghost use Rattle.judging.specs.declared.answer.Answer.TheVariants as answers;
 ghost use Rattle.rendering.specs.Rendering.{json_of, lines_of, rendered};
 
 use crate::output::Output;
-use boot_verdict::{
-    Report, write_counts, write_expected, write_list_report, write_outcome, write_places,
-    write_registers, write_required_list_report, write_required_places, write_required_report,
-};
+use boot_verdict::{Report, write_counts, write_expected, write_list_report, write_outcome, write_places, write_prefix_report, write_registers, write_required_list_report, write_required_places, write_required_prefix_report, write_required_report};
 use byte_streams::{Failed, Sink, VecSink};
 use command_line::Form;
-use growing_lists::{write_prefix_report, write_required_prefix_report};
 use json_texts::{
     append_expected, append_prefix_report, append_list_report, append_places, append_registers,
     append_report,

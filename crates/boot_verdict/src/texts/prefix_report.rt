@@ -1,15 +1,17 @@
 //! The lines of a report on a confirmed prefix.
 
 ghost use Rattle.byte_streams.specs.Streams.{Sends};
-ghost use Rattle.growing_lists.specs.PrefixTexts.{confirmed_line, entry_words, prefix_counts_text, prefix_report_text, required_prefix_report_text, unconfirmed_line, unconfirmed_message};
+ghost use Rattle.boot_verdict.specs.PrefixTexts.{confirmed_line, entry_words, prefix_counts_text, prefix_report_text, required_prefix_report_text, unconfirmed_line, unconfirmed_message};
 ghost use Rattle.boot_verdict.specs.Verdicts.{verdict_of};
 
+use super::report::{write_counts, write_outcome};
+use super::required::write_required_outcome;
 use crate::prefix_report::{PrefixReport, Unconfirmed};
-use boot_verdict::{Requirement, write_counts, write_outcome, write_required_outcome};
+use crate::requirement::Requirement;
 use byte_streams::{Failed, Sink, send, send_pieces};
 use itoa::Buffer;
 
-/// Writes the report on a confirmed prefix as [`boot_verdict::write_report`] does, with two differences. The line `entries 99` has the
+/// Writes the report on a confirmed prefix as [`crate::write_report`] does, with two differences. The line `entries 99` has the
 /// number of entries of the whole list. And after it is a line with that of the prefix, `confirmed 97 of 99 entries`; and if something is wrong
 /// after the prefix, one that says what: `unconfirmed: list fault 1 at entry 120`, `unconfirmed: replay fault 1 at entry 98`.
 pub fn write_prefix_report<S: Sink>(prefix: &PrefixReport, sink: &mut S) -> Result<(), Failed>
@@ -20,7 +22,7 @@ pub fn write_prefix_report<S: Sink>(prefix: &PrefixReport, sink: &mut S) -> Resu
     write_outcome(&prefix.report, prefix.report.matches(), sink)
 }
 
-/// Writes the report where registers are required: what comes after these lines is as [`boot_verdict::write_required_report`] writes it.
+/// Writes the report where registers are required: what comes after these lines is as [`crate::write_required_report`] writes it.
 pub fn write_required_prefix_report<S: Sink>(
     prefix: &PrefixReport,
     requirement: &Requirement,

@@ -1,5 +1,5 @@
 use Rattle.byte_streams.proofs.SinkLaws.{Sends-then, Sends-stops}
-use Rattle.growing_lists.proofs.texts.prefix_report.write_unconfirmed.Goals as goal
+use Rattle.boot_verdict.proofs.texts.prefix_report.write_unconfirmed.Goals as goal
 
 pub returns-in_err-write_message-in-Some : goal.returns-in_err-write_message-in-Some
 returns-in_err-write_message-in-Some g c =

@@ -1,7 +1,7 @@
 use Rattle.std.proofs.Common.{ap, append-nil, decimal}
 use Rattle.byte_streams.proofs.SinkLaws.{Sends-same, Sends-then, Sends-stops}
-use Rattle.growing_lists.specs.PrefixTexts.{entry_words, unconfirmed_number}
-use Rattle.growing_lists.proofs.texts.prefix_report.write_message.Goals as goal
+use Rattle.boot_verdict.specs.PrefixTexts.{entry_words, unconfirmed_number}
+use Rattle.boot_verdict.proofs.texts.prefix_report.write_message.Goals as goal
 
 pub returns-in_err-send_pieces : goal.returns-in_err-send_pieces
 returns-in_err-send_pieces g c =

@@ -1,9 +1,9 @@
 //! The report on the prefix of a list that the expected registers confirm.
 
 ghost use Rattle.std.specs.Prelude.{◌≡◌, ◌++◌, IfOk, string_bytes};
-ghost use Rattle.growing_lists.specs.PrefixTexts.{entry_words, unconfirmed_entry, unconfirmed_kind, unconfirmed_message, unconfirmed_number};
+ghost use Rattle.boot_verdict.specs.PrefixTexts.{entry_words, unconfirmed_entry, unconfirmed_kind, unconfirmed_message, unconfirmed_number};
 
-use boot_verdict::Report;
+use crate::report::Report;
 use ima_list::{ListFault, ReplayFault};
 use itoa::Buffer;
 use std::alloc::{AllocError, Global};

@@ -1,5 +1,5 @@
 use Rattle.byte_streams.proofs.SinkLaws.{Sends-then, Sends-stops}
-use Rattle.growing_lists.proofs.texts.prefix_report.write_prefix_counts.Goals as goal
+use Rattle.boot_verdict.proofs.texts.prefix_report.write_prefix_counts.Goals as goal
 
 pub returns-in_err-write_counts : goal.returns-in_err-write_counts
 returns-in_err-write_counts g c = Sends-stops _ _ _ _ _ _ _ c.from_residual.ensures.1 c.in_err-write_counts.ensures
