@@ -82,20 +82,20 @@ module _ (inputs : Inputs) (log : String Global) (requested : DataShown) (old ne
   pub events_outcome : (text : List ℕ) (status : ℕ) → ShowsEventsIn bytes text status
       → IsOutcome inputs (tasks.Events log requested) Json old new text status
   events_outcome text status (inl all) = inl ((bytes, held, inl all), kept)
-  events_outcome text status (inr (begun, fault, line, inl fails, told, is)) =
-      inl ((bytes, held, inr (begun, fault, line, fails, told, is)), kept)
-  events_outcome text status (inr (begun, fault, line, inr (inl out), told, is)) =
-      inr (inr ((bytes, held, (begun, fault, line, out, told, is)), kept))
-  events_outcome text status (inr (begun, fault, line, inr (inr (memory, none)), told, is)) =
-      inr (inl (fault, inr (inr memory), inl (rw (is, none) told), kept))
+  events_outcome text status (inr (begun, fault, line, inl fails, reported, is)) =
+      inl ((bytes, held, inr (begun, fault, line, fails, reported, is)), kept)
+  events_outcome text status (inr (begun, fault, line, inr (inl out), reported, is)) =
+      inr (inr ((bytes, held, (begun, fault, line, out, reported, is)), kept))
+  events_outcome text status (inr (begun, fault, line, inr (inr (memory, none)), reported, is)) =
+      inr (inl (fault, inr (inr memory), inl (rw (is, none) reported), kept))
 
 pub entries_outcome : (inputs : Inputs) (list : String Global) (old new : Saved) → new ≡ old → (text : List ℕ) (status : ℕ)
     → ShowsEntriesOf inputs (string_bytes list) text status → IsOutcome inputs (tasks.Entries list) Json old new text status
 entries_outcome inputs list old new kept text status (inl ((bytes, held, all), done)) = inl ((bytes, held, inl (all, done)), kept)
-entries_outcome inputs list old new kept text status (inr (begun, fault, line, inl (bytes, held, fails), told, is)) =
-    inl ((bytes, held, inr (begun, fault, line, fails, told, is)), kept)
-entries_outcome inputs list old new kept text status (inr (begun, fault, line, inr breaks, told, is)) =
-    inr (inr ((begun, fault, line, breaks, told, is), kept))
+entries_outcome inputs list old new kept text status (inr (begun, fault, line, inl (bytes, held, fails), reported, is)) =
+    inl ((bytes, held, inr (begun, fault, line, fails, reported, is)), kept)
+entries_outcome inputs list old new kept text status (inr (begun, fault, line, inr breaks, reported, is)) =
+    inr (inr ((begun, fault, line, breaks, reported, is), kept))
 
 -- ---- the answer to what was sent
 
@@ -141,11 +141,11 @@ answers_cut P old new failed sent = record {
 
 pub answers_failed : {form : Form} (P : List ℕ → ℕ → Type 0) (old mid new : SinkState) (fault : RunFault) (answer : ℕ)
     → Streams form P old mid (Err (streams.Run fault)) → Answers (IsFailure form fault) answer mid new → Answers P answer old new
-answers_failed P old mid new fault answer sent told = record {
-  text = sent.text ++ told.text;
-  status = told.status;
-  sent = told.sent;
-  output = sent.goes_on told.text told.status told.output;
-  sends = Sends-then old mid new tt told.sent sent.text told.text sent.sends told.sends;
-  answer_is = told.answer_is;
+answers_failed P old mid new fault answer sent reported = record {
+  text = sent.text ++ reported.text;
+  status = reported.status;
+  sent = reported.sent;
+  output = sent.goes_on reported.text reported.status reported.output;
+  sends = Sends-then old mid new tt reported.sent sent.text reported.text sent.sends reported.sends;
+  answer_is = reported.answer_is;
 }

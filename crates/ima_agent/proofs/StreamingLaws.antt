@@ -58,8 +58,8 @@ module _ (AreAll : List ℕ → Type 0) (Stops : List ℕ → RunFault → Type 
 
   line_follows : (fault : RunFault) → Stops text fault → Stops text runs.Memory → (last : List ℕ) (status : ℕ) → IsFailure Json fault last status
       → ShowsToFault AreAll Stops ToldAsJson (text ++ last) status
-  line_follows fault stops memory last status (inl told) = inr (text, fault, last, stops, told, refl)
-  line_follows fault stops memory last status (inr told) = inr (text, runs.Memory, last, memory, told, refl)
+  line_follows fault stops memory last status (inl reported) = inr (text, fault, last, stops, reported, refl)
+  line_follows fault stops memory last status (inr reported) = inr (text, runs.Memory, last, memory, reported, refl)
 
   fault_sent : {E : Type 0} (fault : RunFault) → Sends {A = Unit {0}} {E = E} old new (Ok tt) text → Stops text fault → Stops text runs.Memory
       → Streams Json (ShowsToFault AreAll Stops ToldAsJson) old new (Err (streams.Run fault))

@@ -135,7 +135,7 @@ fn known_in<F: AgentFiles>(
     files: &mut F,
     wanted: Wanted<'_>,
 ) -> Result<Option<Checkpoint>, RunFault>
-    ensures known { IfOk result (IsKnown (F.told files.old) (resume_of (judgement_of wanted.entry))) }
+    ensures checkpoint { IfOk result (IsKnown (F.told files.old) (resume_of (judgement_of wanted.entry))) }
     ensures fault { IfErr result (λ fault. IsSomeAnd (resume_of (judgement_of wanted.entry))
         (λ place. IsInputFault (F.told files.old) place fault ⊎ OfInput (F.told files.old) place (λ text. IsNoCheckpoint text fault))) }
     ensures told { F.told files.new ≡ F.told files.old }

@@ -26,7 +26,7 @@ pub fn rendered(alloc: Global, given: &Answered, form: Form) -> Result<Output, A
         Form::Text => lines(alloc, given)?,
         Form::Json => line(alloc, given)?,
     };
-    Ok(Output::told(text, given.is_well))
+    Ok(Output::verdict(text, given.is_well))
 }
 
 // The lines of an answer.

@@ -18,14 +18,14 @@ pub fn json_fault_line(alloc: Global, fault: &RunFault) -> Result<Vec<u8>, Alloc
 {
     let message = message_of(alloc, fault)?;
     let head = fault.head();
-    let told = FaultText {
+    let shown = FaultText {
         kind: said_of(head.kind).1,
         number: head.number,
         place: place_of(head),
         message: &message,
     };
     let mut line = Vec::new(alloc);
-    append_fault(alloc, &told, &mut line)?;
+    append_fault(alloc, &shown, &mut line)?;
     Ok(line)
 }
 
