@@ -48,8 +48,8 @@ pub record Inputs : Type 0 where
   pub may_fail : Option (List ℕ) → Bool
 
 -- Inputs of which nothing is told: they hold any bytes, and each may fail.
-abbrev pub untold : Inputs
-untold = record { held = λ name. None; may_fail = λ name. true }
+abbrev pub unknown : Inputs
+unknown = record { held = λ name. None; may_fail = λ name. true }
 
 -- A file that was replaced: its name, and all bytes that it was given.
 pub record Replaced : Type 0 where
@@ -78,7 +78,7 @@ HoldsTooMuch inputs name = IfSome (inputs.held name) (λ all. input_limit < leng
 
 -- The source gives exactly these bytes, if they are told.
 abbrev pub GivesAll : Option (List ℕ) → SourceState → Type 0
-GivesAll told source = IfSome told (λ all. source.remaining ≡ Some all)
+GivesAll known source = IfSome known (λ all. source.remaining ≡ Some all)
 
 -- The source failed, once: it counted one failure more. Whether it tells its bytes is as before.
 pub record HasFailed (old new : SourceState) : Type 0 where

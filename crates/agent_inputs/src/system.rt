@@ -3,7 +3,7 @@
 ghost use Rattle.std.specs.Prelude.{◌≡◌, ◌<◌, ◌≤◌, length, None, is_some, option_map, IfOk, IsErr, IsNone, IsOk, IsTrue};
 ghost use Rattle.std.specs.Io.KnownBytes.{ReadConsumes, WriteAppends};
 ghost use Rattle.byte_streams.specs.Streams.{failures_after};
-ghost use Rattle.agent_inputs.specs.Loading.{GivesAll, HasFailed, untold};
+ghost use Rattle.agent_inputs.specs.Loading.{GivesAll, HasFailed, unknown};
 ghost use Rattle.agent_inputs.specs.System.{reader_of, writer_of, read_source_state, write_sink_state, runtime_of, is_file, remaining_bytes};
 
 use crate::files::{AgentFiles, Files, SharedFiles};
@@ -154,7 +154,7 @@ impl<R: FileSystem + io::Input + Sync> Files for SystemFiles<'_, R> {
     type Src = ReadSource<Input<R::File, R::Reader>>;
 
     // Nothing is told of the system's files.
-    ghost told = { λ _. untold };
+    ghost known = { λ _. unknown };
 
     /// Opens the file of this name, or standard input.
     fn source(&mut self, name: Option<&str>) -> Result<Self::Src, Failed>
@@ -162,9 +162,9 @@ impl<R: FileSystem + io::Input + Sync> Files for SystemFiles<'_, R> {
         ensures standard_input { IsNone name.entry → IsOk result }
         ensures failures { IfOk result (λ source. (read_source_state source).failures ≡ 0) }
         ensures gives { IfOk result (λ source. GivesAll None (read_source_state source)) }
-        ensures refused { IsErr result → IsTrue (untold.may_fail (option_map (λ name. name.now) name.entry)) }
+        ensures refused { IsErr result → IsTrue (unknown.may_fail (option_map (λ name. name.now) name.entry)) }
         ensures failing { IfOk result (λ source. (later : ReadSource (Input R.File R.Reader)) → HasFailed (read_source_state source) (read_source_state later)
-            → IsTrue (untold.may_fail (option_map (λ name. name.now) name.entry))) }
+            → IsTrue (unknown.may_fail (option_map (λ name. name.now) name.entry))) }
     {
         let input = match name {
             None => Input::StandardInput(self.runtime.reader()),

@@ -12,7 +12,7 @@ use Rattle.ima_list.specs.Spelling.{BeginsWith, IsReading}
 use Rattle.agent_inputs.specs.Faults.{fault_of_list}
 use Rattle.agent_inputs.specs.declared.fault.RunFault.{RunFault}
 use Rattle.agent_inputs.specs.declared.fault.RunFault.TheVariants.{Memory, NotHex}
-use Rattle.agent_inputs.specs.Loading.{untold}
+use Rattle.agent_inputs.specs.Loading.{unknown}
 use Rattle.judging.specs.Asking.{LogRegistersOf}
 use Rattle.judging.specs.Inputs.{BytesOf}
 use Rattle.rendering.specs.Outputs.{IsRefusalOn}
@@ -73,7 +73,7 @@ some_left is_empty (byte ∷ rest) tells empty = omega arith
 
 -- If there is no answer to what is asked of bytes, there is none of the text that spells them.
 pub refused_text : (text bytes : List ℕ) (fault : RunFault) → decode_of (without_white_space text) ≡ Ok bytes
-    → IsRefusalOn untold (LogRegistersOf (BytesOf bytes)) fault → IsRefusedFor text fault
+    → IsRefusalOn unknown (LogRegistersOf (BytesOf bytes)) fault → IsRefusedFor text fault
 refused_text text bytes fault decoded refusal = inr (inl (bytes, decoded, refusal))
 
 pub not_decoded : (text : List ℕ) (fault : RunFault) → ((fault ≡ NotHex) × IsErr (decode_of (without_white_space text))) ⊎ (fault ≡ Memory)

@@ -38,8 +38,8 @@ use Rattle.judging.proofs.InputLaws.{HasAll, held_more, held_whole}
 abbrev memory_line : List ℕ
 memory_line = line_of (fault_json (codes "memory") None None (codes "failed: memory"))
 
-memory_told : ToldAsJson runs.Memory memory_line 3
-memory_told = (record { message = codes "failed: memory"; message_is = refl; text_is = refl }, refl)
+memory_reported : ToldAsJson runs.Memory memory_line 3
+memory_reported = (record { message = codes "failed: memory"; message_is = refl; text_is = refl }, refl)
 
 -- ---- what is shown up to a fault
 
@@ -53,7 +53,7 @@ module _ (AreAll : List ℕ → Type 0) (Stops : List ℕ → RunFault → Type 
   cut_sent fault failed sends memory = record {
     text = text;
     sends = record { ok = tt; part = sends.part; telling = sends.telling; counts = sends.counts };
-    goes_on = (memory_line, 3, inr (text, runs.Memory, memory_line, memory, memory_told, refl));
+    goes_on = (memory_line, 3, inr (text, runs.Memory, memory_line, memory, memory_reported, refl));
   }
 
   line_follows : (fault : RunFault) → Stops text fault → Stops text runs.Memory → (last : List ℕ) (status : ℕ) → IsFailure Json fault last status
@@ -121,12 +121,12 @@ module _ (log : List ℕ) (old new : SinkState) where
 
 -- ---- the entries of a list
 
-held_any : (told : Option (List ℕ)) → (all : List ℕ) × IfSome told (λ bytes. all ≡ bytes)
+held_any : (known : Option (List ℕ)) → (all : List ℕ) × IfSome known (λ bytes. all ≡ bytes)
 held_any None = ([], tt)
 held_any (Some bytes) = (bytes, refl)
 
-too_much : (told old new : Option (List ℕ)) (limit : ℕ) (list over : List ℕ) → HasAll told old → CameFrom old new limit list over
-    → length list ≡ limit → 0 < length over → IfSome told (λ all. limit < length all)
+too_much : (known old new : Option (List ℕ)) (limit : ℕ) (list over : List ℕ) → HasAll known old → CameFrom old new limit list over
+    → length list ≡ limit → 0 < length over → IfSome known (λ all. limit < length all)
 too_much None old new limit list over has came size some = tt
 too_much (Some all) old new limit list over has came size some =
     let more = held_more (Some all) old new limit list over has came in

@@ -22,7 +22,7 @@ use Rattle.command_line.specs.declared.plan.Form.TheVariants.{Text}
 use Rattle.agent_inputs.specs.declared.fault.RunFault.{RunFault}
 use Rattle.agent_inputs.specs.declared.fault.RunFault.TheVariants as runs
 use Rattle.agent_inputs.specs.Faults.{HasLogFault, fault_of_list, fault_of_log}
-use Rattle.agent_inputs.specs.Loading.{Holds, HoldsTooMuch, Inputs, IsReadFailure, IsTooLong, OfInput, input_limit, untold}
+use Rattle.agent_inputs.specs.Loading.{Holds, HoldsTooMuch, Inputs, IsReadFailure, IsTooLong, OfInput, input_limit, unknown}
 use Rattle.judging.specs.Asking.{LogRegistersOf}
 use Rattle.judging.specs.Inputs.{BytesOf}
 use Rattle.rendering.specs.Outputs.{IsRefusalOn, IsShown}
@@ -49,13 +49,13 @@ Spells text bytes = decode_of (without_white_space text) ≡ Ok bytes
 -- The text is a firmware event log in hexadecimal, and what is shown is the answer to what is asked of its bytes, in this form.
 abbrev pub ShowsHexadecimal : Form → List ℕ → List ℕ → ℕ → Type 0
 ShowsHexadecimal form text shown status =
-    (bytes : List ℕ) × (next : Option Checkpoint) × Spells text bytes × IsShown untold (LogRegistersOf (BytesOf bytes)) form shown status next
+    (bytes : List ℕ) × (next : Option Checkpoint) × Spells text bytes × IsShown unknown (LogRegistersOf (BytesOf bytes)) form shown status next
 
 -- Why no registers are shown: the text is not hexadecimal; or there is no answer to what is asked of its bytes; or memory ran out.
 abbrev pub IsRefusedFor : List ℕ → RunFault → Type 0
 IsRefusedFor text fault =
     ((fault ≡ runs.NotHex) × IsErr (decode_of (without_white_space text)))
-    ⊎ ((bytes : List ℕ) × Spells text bytes × IsRefusalOn untold (LogRegistersOf (BytesOf bytes)) fault) ⊎ (fault ≡ runs.Memory)
+    ⊎ ((bytes : List ℕ) × Spells text bytes × IsRefusalOn unknown (LogRegistersOf (BytesOf bytes)) fault) ⊎ (fault ≡ runs.Memory)
 
 -- ---- events and entries as text
 

@@ -41,7 +41,7 @@ pub fn exit_code<R: Threads + Wait + Sync, F: AgentFiles, S: Sink, P: Progress>(
     sink: &mut S,
     progress: &P,
 ) -> ExitCode
-    ensures { Answers (IsOutputOf (F.told files.old) words (F.saved files.old) (F.saved files.new)) (exit_status result) (S.state sink.old) (S.state sink.new) }
+    ensures { Answers (IsOutputOf (F.known files.old) words (F.saved files.old) (F.saved files.new)) (exit_status result) (S.state sink.old) (S.state sink.new) }
 {
     match words {
         Ok(words) => exits_with(run_with_progress(rt, alloc, &words, files, sink, progress)),
@@ -86,7 +86,7 @@ pub fn run<R: Threads + Wait + Sync, F: AgentFiles, S: Sink>(
     files: &mut F,
     sink: &mut S,
 ) -> u8
-    ensures { Answers (IsOutput (F.told files.old) words.now (F.saved files.old) (F.saved files.new)) result (S.state sink.old) (S.state sink.new) }
+    ensures { Answers (IsOutput (F.known files.old) words.now (F.saved files.old) (F.saved files.new)) result (S.state sink.old) (S.state sink.new) }
 {
     run_with_progress(rt, alloc, words, files, sink, &NoProgress)
 }
@@ -100,7 +100,7 @@ pub fn run_with_progress<R: Threads + Wait + Sync, F: AgentFiles, S: Sink, P: Pr
     sink: &mut S,
     progress: &P,
 ) -> u8
-    ensures { Answers (IsOutput (F.told files.old) words.now (F.saved files.old) (F.saved files.new)) result (S.state sink.old) (S.state sink.new) }
+    ensures { Answers (IsOutput (F.known files.old) words.now (F.saved files.old) (F.saved files.new)) result (S.state sink.old) (S.state sink.new) }
 {
     match read_words(alloc, words) {
         Ok(plan) => {
@@ -132,7 +132,7 @@ fn run_task<R: Threads + Wait + Sync, F: AgentFiles, S: Sink, P: Progress>(
     progress: &P,
 ) -> u8
     requires within { IsWithin form task.now }
-    ensures { Answers (IsOutcome (F.told files.old) task.now form (F.saved files.old) (F.saved files.new)) result (S.state sink.old) (S.state sink.new) }
+    ensures { Answers (IsOutcome (F.known files.old) task.now form (F.saved files.old) (F.saved files.new)) result (S.state sink.old) (S.state sink.new) }
 {
     match perform(rt, alloc, task, form, files, sink, progress) {
         Ok(status) => status,
@@ -165,7 +165,7 @@ fn perform<R: Threads + Wait + Sync, F: AgentFiles, S: Sink, P: Progress>(
     progress: &P,
 ) -> Sent
     requires within { IsWithin form task.now }
-    ensures { Streams form (IsOutcome (F.told files.old) task.now form (F.saved files.old) (F.saved files.new)) (S.state sink.old) (S.state sink.new) result }
+    ensures { Streams form (IsOutcome (F.known files.old) task.now form (F.saved files.old) (F.saved files.new)) (S.state sink.old) (S.state sink.new) result }
 {
     match task {
         Task::Registers => sent_output(shown_registers(alloc, files, form), sink),
@@ -193,10 +193,10 @@ fn measured_for<R: Threads + Wait + Sync, F: AgentFiles, P: Progress>(
     progress: &P,
 ) -> Prepared
     requires { IsWithinLimits form asked.now }
-    ensures shown { IfOk result (λ output. IsOutputFor (F.told files.old) (tasks.Measure asked.now) form (F.saved files.old) (F.saved files.new)
+    ensures shown { IfOk result (λ output. IsOutputFor (F.known files.old) (tasks.Measure asked.now) form (F.saved files.old) (F.saved files.new)
         output.text.items output.status) }
     ensures kept { OnErr result (F.saved files.new ≡ F.saved files.old) }
-    ensures fault { IfErr result (IsFaultOf (F.told files.old) (tasks.Measure asked.now) form) }
+    ensures fault { IfErr result (IsFaultOf (F.known files.old) (tasks.Measure asked.now) form) }
 {
     let given = measured(rt, alloc, files, asked, progress)?;
     Ok(printed(alloc, &given, asked.print, form)?)

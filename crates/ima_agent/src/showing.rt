@@ -23,10 +23,10 @@ use std::alloc::Global;
 
 /// The registers that differ from their reset values after the log in hexadecimal on standard input, in this form.
 pub(crate) fn shown_registers<F: AgentFiles>(alloc: Global, files: &mut F, form: Form) -> Prepared
-    ensures shown { IfOk result (λ output. IsOutputFor (F.told files.old) tasks.Registers form (F.saved files.old) (F.saved files.new)
+    ensures shown { IfOk result (λ output. IsOutputFor (F.known files.old) tasks.Registers form (F.saved files.old) (F.saved files.new)
         output.text.items output.status) }
     ensures kept { OnErr result (F.saved files.new ≡ F.saved files.old) }
-    ensures fault { IfErr result (IsFaultOf (F.told files.old) tasks.Registers form) }
+    ensures fault { IfErr result (IsFaultOf (F.known files.old) tasks.Registers form) }
 {
     let text = loaded(alloc, files, None)?;
     registers_in(alloc, text, form)
@@ -54,7 +54,7 @@ pub(crate) fn events_for<F: AgentFiles, S: Sink>(
     form: Form,
     sink: &mut S,
 ) -> Sent
-    ensures { Streams form (IsOutcome (F.told files.old) (tasks.Events log.now requested) form (F.saved files.old) (F.saved files.new))
+    ensures { Streams form (IsOutcome (F.known files.old) (tasks.Events log.now requested) form (F.saved files.old) (F.saved files.new))
         (S.state sink.old) (S.state sink.new) result }
 {
     let bytes = match loaded(alloc, files, Some(log)) {
@@ -75,7 +75,7 @@ pub(crate) fn entries_for<F: AgentFiles, S: Sink>(
     form: Form,
     sink: &mut S,
 ) -> Sent
-    ensures { Streams form (IsOutcome (F.told files.old) (tasks.Entries list.now) form (F.saved files.old) (F.saved files.new))
+    ensures { Streams form (IsOutcome (F.known files.old) (tasks.Entries list.now) form (F.saved files.old) (F.saved files.new))
         (S.state sink.old) (S.state sink.new) result }
 {
     match form {
@@ -110,10 +110,10 @@ fn data_of(requested: DataShown) -> EventData
 
 // The lines of the entries of the list in the file of this name.
 fn shown_list<F: AgentFiles>(alloc: Global, files: &mut F, list: &str) -> Prepared
-    ensures shown { IfOk result (λ output. OfInput (F.told files.old) (Some list.now)
+    ensures shown { IfOk result (λ output. OfInput (F.known files.old) (Some list.now)
         (λ bytes. AreAllEntries (flat_map line_of) bytes output.text.items) × (output.status ≡ 0)) }
-    ensures fault { IfErr result (λ fault. IsInputFault (F.told files.old) (Some list.now) fault
-        ⊎ OfInput (F.told files.old) (Some list.now) (λ bytes. IsNoListFor bytes fault)) }
+    ensures fault { IfErr result (λ fault. IsInputFault (F.known files.old) (Some list.now) fault
+        ⊎ OfInput (F.known files.old) (Some list.now) (λ bytes. IsNoListFor bytes fault)) }
     ensures saved { F.saved files.new ≡ F.saved files.old }
 {
     let bytes = loaded(alloc, files, Some(list))?;

@@ -70,7 +70,7 @@ pub(crate) fn entries_sent<F: AgentFiles, S: Sink>(
     list: &str,
     sink: &mut S,
 ) -> Sent
-    ensures streams { Streams Json (ShowsEntriesOf (F.told files.old) list.now) (S.state sink.old) (S.state sink.new) result }
+    ensures streams { Streams Json (ShowsEntriesOf (F.known files.old) list.now) (S.state sink.old) (S.state sink.new) result }
     ensures saved { F.saved files.new ≡ F.saved files.old }
 {
     entries_to_the_end_are_the_reading();

@@ -33,7 +33,7 @@ use Rattle.judging.specs.Inputs.{Holds, IsFaultAt, OfInput, Where, held_in, limi
 
 -- The source gives exactly what the input holds.
 abbrev pub HasAll : Option (List ℕ) → Option (List ℕ) → Type 0
-HasAll told remaining = IfSome told (λ all. remaining ≡ Some all)
+HasAll known remaining = IfSome known (λ all. remaining ≡ Some all)
 
 -- ---- what came, and what is told
 
@@ -42,8 +42,8 @@ whole_from all None list lost end = absurd lost
 whole_from all (Some rest) list lost end =
     sym (lost ∙ ap (λ (r : List ℕ). (list ++ []) ++ r) end ∙ append-nil (list ++ []) ∙ append-nil list)
 
-pub held_whole : (told old new : Option (List ℕ)) (limit : ℕ) (list : List ℕ) → HasAll told old → CameWhole old new limit list
-    → IfSome told (λ all. list ≡ all)
+pub held_whole : (known old new : Option (List ℕ)) (limit : ℕ) (list : List ℕ) → HasAll known old → CameWhole old new limit list
+    → IfSome known (λ all. list ≡ all)
 held_whole None old new limit list has whole = tt
 held_whole (Some all) old new limit list has whole =
     whole_from all new list (subst (λ (o : Option (List ℕ)). Consumes o new (list ++ [])) has whole.came.lost) whole.end
@@ -55,8 +55,8 @@ begins_from bytes None list over lost = absurd lost
 begins_from bytes (Some rest) list over lost =
     (over ++ rest, sym (lost ∙ append_assoc list over rest), omega (arith, length-append over rest))
 
-pub held_more : (told old new : Option (List ℕ)) (limit : ℕ) (list over : List ℕ) → HasAll told old → CameFrom old new limit list over
-    → (later : List ℕ) × IfSome told (λ all. list ++ later ≡ all) × (length over ≤ length later)
+pub held_more : (known old new : Option (List ℕ)) (limit : ℕ) (list over : List ℕ) → HasAll known old → CameFrom old new limit list over
+    → (later : List ℕ) × IfSome known (λ all. list ++ later ≡ all) × (length over ≤ length later)
 held_more None old new limit list over has came = (over, tt, omega arith)
 held_more (Some bytes) old new limit list over has came =
     begins_from bytes new list over (subst (λ (o : Option (List ℕ)). Consumes o new (list ++ over)) has came.lost)

@@ -27,8 +27,8 @@ pub fn answered<F: AgentFiles>(
     files: &mut F,
     asked: Request<'_>,
 ) -> Result<Answered, RunFault>
-    ensures answer { IfOk result (IsAnswer (F.told files.old) (asked_of asked.entry)) }
-    ensures fault { IfErr result (IsRefusal (F.told files.old) (asked_of asked.entry)) }
+    ensures answer { IfOk result (IsAnswer (F.known files.old) (asked_of asked.entry)) }
+    ensures fault { IfErr result (IsRefusal (F.known files.old) (asked_of asked.entry)) }
     ensures saved { F.saved files.new ≡ F.saved files.old }
 {
     match asked {
@@ -41,8 +41,8 @@ pub fn answered<F: AgentFiles>(
 
 // What comes of what is compared.
 fn compared<F: AgentFiles>(alloc: Global, files: &mut F, asked: Comparison<'_>) -> Answering
-    ensures answer { IfOk result (IsComparison (F.told files.old) (compared_of asked.entry)) }
-    ensures fault { IfErr result (IsNoComparison (F.told files.old) (compared_of asked.entry)) }
+    ensures answer { IfOk result (IsComparison (F.known files.old) (compared_of asked.entry)) }
+    ensures fault { IfErr result (IsNoComparison (F.known files.old) (compared_of asked.entry)) }
     ensures saved { F.saved files.new ≡ F.saved files.old }
 {
     let requirement = required_in(alloc, asked.required)?;
@@ -93,9 +93,9 @@ fn evidence_of<'a, F: AgentFiles>(
     requirement: Option<Requirement>,
 ) -> Result<Evidence<'a>, RunFault>
     requires { IsRequired (requires_of asked.required) requirement }
-    ensures evidence { IfOk result (λ evidence. IsEvidence (F.told files.old) (compared_of asked.entry) (evidence_of evidence)) }
-    ensures fault { IfErr result (HasNoEvidence (F.told files.old) (compared_of asked.entry)) }
-    ensures told { F.told files.new ≡ F.told files.old }
+    ensures evidence { IfOk result (λ evidence. IsEvidence (F.known files.old) (compared_of asked.entry) (evidence_of evidence)) }
+    ensures fault { IfErr result (HasNoEvidence (F.known files.old) (compared_of asked.entry)) }
+    ensures known { F.known files.new ≡ F.known files.old }
     ensures saved { F.saved files.new ≡ F.saved files.old }
 {
     let log = log_in(alloc, files, asked.wanted)?;
@@ -117,9 +117,9 @@ fn log_in<'a, F: AgentFiles>(
     wanted: Wanted<'a>,
 ) -> Result<Held<'a>, RunFault>
     ensures log { IfOk result (λ log. MatchOption (log_of (judgement_of wanted.entry)) (held_bytes log ≡ [])
-        (λ place. Holds (F.told files.old) place (held_bytes log))) }
-    ensures fault { IfErr result (λ fault. IsSomeAnd (log_of (judgement_of wanted.entry)) (λ place. IsInputFault (F.told files.old) place fault)) }
-    ensures told { F.told files.new ≡ F.told files.old }
+        (λ place. Holds (F.known files.old) place (held_bytes log))) }
+    ensures fault { IfErr result (λ fault. IsSomeAnd (log_of (judgement_of wanted.entry)) (λ place. IsInputFault (F.known files.old) place fault)) }
+    ensures known { F.known files.new ≡ F.known files.old }
     ensures saved { F.saved files.new ≡ F.saved files.old }
 {
     match wanted {
@@ -135,10 +135,10 @@ fn known_in<F: AgentFiles>(
     files: &mut F,
     wanted: Wanted<'_>,
 ) -> Result<Option<Checkpoint>, RunFault>
-    ensures checkpoint { IfOk result (IsKnown (F.told files.old) (resume_of (judgement_of wanted.entry))) }
+    ensures checkpoint { IfOk result (IsKnown (F.known files.old) (resume_of (judgement_of wanted.entry))) }
     ensures fault { IfErr result (λ fault. IsSomeAnd (resume_of (judgement_of wanted.entry))
-        (λ place. IsInputFault (F.told files.old) place fault ⊎ OfInput (F.told files.old) place (λ text. IsNoCheckpoint text fault))) }
-    ensures told { F.told files.new ≡ F.told files.old }
+        (λ place. IsInputFault (F.known files.old) place fault ⊎ OfInput (F.known files.old) place (λ text. IsNoCheckpoint text fault))) }
+    ensures known { F.known files.new ≡ F.known files.old }
     ensures saved { F.saved files.new ≡ F.saved files.old }
 {
     match wanted {
@@ -159,7 +159,7 @@ pub(crate) type Finding = Result<(Answer, Option<Checkpoint>), RunFault>;
 impl Evidence<'_> {
     // Opens the list, and finds what is asked for in it.
     fn find<F: AgentFiles>(&self, alloc: Global, files: &mut F, asked: Comparison<'_>) -> Finding
-        ensures found { Finds (F.told files.old) (judgement_of asked.entry.wanted) (place_of asked.entry.list) (evidence_of self.now) result }
+        ensures found { Finds (F.known files.old) (judgement_of asked.entry.wanted) (place_of asked.entry.list) (evidence_of self.now) result }
         ensures saved { F.saved files.new ≡ F.saved files.old }
     {
         match asked.list {

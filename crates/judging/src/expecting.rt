@@ -20,9 +20,9 @@ pub(crate) fn printed_within<F: AgentFiles>(
     printed: Input<'_>,
     range: Option<&[u8]>,
 ) -> Answering
-    ensures answer { IfOk result (IsAnswer (F.told files.old)
+    ensures answer { IfOk result (IsAnswer (F.known files.old)
         (ExpectedOf (place_of printed.entry) (option_map (λ text. text.now) range.entry))) }
-    ensures fault { IfErr result (IsRefusal (F.told files.old)
+    ensures fault { IfErr result (IsRefusal (F.known files.old)
         (ExpectedOf (place_of printed.entry) (option_map (λ text. text.now) range.entry))) }
     ensures saved { F.saved files.new ≡ F.saved files.old }
 {

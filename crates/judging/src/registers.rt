@@ -16,8 +16,8 @@ use std::alloc::Global;
 
 /// The registers after the log in this input, which is loaded.
 pub(crate) fn after_log<F: AgentFiles>(alloc: Global, files: &mut F, log: Input<'_>) -> Answering
-    ensures answer { IfOk result (IsAnswer (F.told files.old) (LogRegistersOf (place_of log.entry))) }
-    ensures fault { IfErr result (IsRefusal (F.told files.old) (LogRegistersOf (place_of log.entry))) }
+    ensures answer { IfOk result (IsAnswer (F.known files.old) (LogRegistersOf (place_of log.entry))) }
+    ensures fault { IfErr result (IsRefusal (F.known files.old) (LogRegistersOf (place_of log.entry))) }
     ensures saved { F.saved files.new ≡ F.saved files.old }
 {
     let log = loaded_at(alloc, files, log)?;
@@ -30,8 +30,8 @@ pub(crate) fn after_log<F: AgentFiles>(alloc: Global, files: &mut F, log: Input<
 
 /// The registers after the list in this input, which is replayed as it is read, without loading it.
 pub(crate) fn after_list<F: AgentFiles>(alloc: Global, files: &mut F, list: Input<'_>) -> Answering
-    ensures answer { IfOk result (IsAnswer (F.told files.old) (ListRegistersOf (place_of list.entry))) }
-    ensures fault { IfErr result (IsRefusal (F.told files.old) (ListRegistersOf (place_of list.entry))) }
+    ensures answer { IfOk result (IsAnswer (F.known files.old) (ListRegistersOf (place_of list.entry))) }
+    ensures fault { IfErr result (IsRefusal (F.known files.old) (ListRegistersOf (place_of list.entry))) }
     ensures saved { F.saved files.new ≡ F.saved files.old }
 {
     match list {

@@ -39,8 +39,8 @@ pub fn measured<R: Threads + Wait + Sync, F: AgentFiles, P: FileProgress>(
     progress: &P,
 ) -> Result<Measured, RunFault>
     requires { vec_len asked.now.files < 2 ^ 32 }
-    ensures measured { IfOk result (IsMeasured (F.told files.old) asked.now) }
-    ensures fault { IfErr result (IsMeasuringFault (F.told files.old) asked.now) }
+    ensures measured { IfOk result (IsMeasured (F.known files.old) asked.now) }
+    ensures fault { IfErr result (IsMeasuringFault (F.known files.old) asked.now) }
     ensures saved { F.saved files.new ≡ F.saved files.old }
 {
     let bytes = loaded(alloc, files, Some(&asked.log))?;
@@ -52,9 +52,9 @@ pub fn measured<R: Threads + Wait + Sync, F: AgentFiles, P: FileProgress>(
 
 // All bytes of the text of further names; none if there is no such text.
 fn text_of<F: AgentFiles>(alloc: Global, files: &mut F, asked: &Measurement) -> Loaded
-    ensures text { IfOk result (λ text. IsTextFor (F.told files.old) asked.now text.items) }
-    ensures fault { IfErr result (IsNamesFault (F.told files.old) asked.now) }
-    ensures told { F.told files.new ≡ F.told files.old }
+    ensures text { IfOk result (λ text. IsTextFor (F.known files.old) asked.now text.items) }
+    ensures fault { IfErr result (IsNamesFault (F.known files.old) asked.now) }
+    ensures known { F.known files.new ≡ F.known files.old }
     ensures saved { F.saved files.new ≡ F.saved files.old }
 {
     match &asked.names {

@@ -1,7 +1,7 @@
 //! Outputs of what is asked for.
 
 ghost use Rattle.std.specs.Prelude.{◌≡◌, option_map, IfOk, IfErr, OnErr};
-ghost use Rattle.agent_inputs.specs.Loading.{untold};
+ghost use Rattle.agent_inputs.specs.Loading.{unknown};
 ghost use Rattle.judging.specs.Asking.{asked_of};
 ghost use Rattle.rendering.specs.Outputs.{GivesAnswer, IsOutputFault, IsRefusalOn, ShowsAnswer, state_of};
 
@@ -25,10 +25,10 @@ pub fn output_for<F: AgentFiles>(
     name: Option<&str>,
     form: Form,
 ) -> Result<Output, RunFault>
-    ensures shown { IfOk result (λ output. ShowsAnswer (F.told files.old) (asked_of asked.entry) (option_map (λ name. name.now) name.entry) form
+    ensures shown { IfOk result (λ output. ShowsAnswer (F.known files.old) (asked_of asked.entry) (option_map (λ name. name.now) name.entry) form
         (F.saved files.old) (F.saved files.new) output.text.items output.status) }
     ensures kept { OnErr result (F.saved files.new ≡ F.saved files.old) }
-    ensures fault { IfErr result (IsOutputFault (F.told files.old) (asked_of asked.entry) (option_map (λ name. name.now) name.entry)) }
+    ensures fault { IfErr result (IsOutputFault (F.known files.old) (asked_of asked.entry) (option_map (λ name. name.now) name.entry)) }
 {
     let given = answered(alloc, files, asked)?;
     let output = rendered(alloc, &given, form)?;
@@ -47,9 +47,9 @@ pub struct Given {
 
 /// The output of what is asked for of bytes in memory, in this form. There are no files: one that is asked for cannot be read.
 pub fn output_on(alloc: Global, asked: Request<'_>, form: Form) -> Result<Given, RunFault>
-    ensures shown { IfOk result (λ given. GivesAnswer untold (asked_of asked.entry) form given.output.text.items given.output.status
+    ensures shown { IfOk result (λ given. GivesAnswer unknown (asked_of asked.entry) form given.output.text.items given.output.status
         given.checkpoint.items) }
-    ensures fault { IfErr result (IsRefusalOn untold (asked_of asked.entry)) }
+    ensures fault { IfErr result (IsRefusalOn unknown (asked_of asked.entry)) }
 {
     let given = answered(alloc, &mut NoFiles, asked)?;
     let output = rendered(alloc, &given, form)?;

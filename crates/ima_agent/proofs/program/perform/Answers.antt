@@ -7,20 +7,20 @@ use Rattle.ima_agent.proofs.program.perform.Goals as goal
 pub returns-in-Registers : goal.returns-in-Registers
 returns-in-Registers g c =
     rw c.in-Registers.is
-    (outcome_sent (g.F.Files.told c.args.files.now) tasks.Registers c.args.form _ _ c.shown_registers.result _ _ _ c.shown_registers.ensures.shown
+    (outcome_sent (g.F.Files.known c.args.files.now) tasks.Registers c.args.form _ _ c.shown_registers.result _ _ _ c.shown_registers.ensures.shown
     c.shown_registers.ensures.kept c.shown_registers.ensures.fault c.sent_output.ensures)
 
 pub returns-in-Answer : goal.returns-in-Answer
 returns-in-Answer g c =
     let said = rw (c.request_of-request.ensures, c.save_of-save.ensures) at c.output_for.ensures in
     rw c.in-Answer.is
-    (outcome_sent (g.F.Files.told c.args.files.now) (tasks.Answer c.in-Answer.question) c.args.form _ _ c.output_for.result _ _ _
+    (outcome_sent (g.F.Files.known c.args.files.now) (tasks.Answer c.in-Answer.question) c.args.form _ _ c.output_for.result _ _ _
     said.shown said.kept said.fault c.sent_output-in-Answer.ensures)
 
 pub returns-in-Measure : goal.returns-in-Measure
 returns-in-Measure g c =
     rw c.in-Measure.is
-    (outcome_sent (g.F.Files.told c.args.files.now) (tasks.Measure c.in-Measure.asked) c.args.form _ _ c.measured_for.result _ _ _
+    (outcome_sent (g.F.Files.known c.args.files.now) (tasks.Measure c.in-Measure.asked) c.args.form _ _ c.measured_for.result _ _ _
     c.measured_for.ensures.shown c.measured_for.ensures.kept c.measured_for.ensures.fault c.sent_output-in-Measure.ensures)
 
 pub returns-in-Events : goal.returns-in-Events

@@ -16,7 +16,7 @@ returns-in_err-answer-clause-fault g c =
     (inr (inr (
       evidence_of c.in_ok-evidence.evidence,
       c.in_ok-evidence.ensures.evidence,
-      rw c.in_ok-evidence.ensures.told at c.in_err-answer.ensures.found,
+      rw c.in_ok-evidence.ensures.known at c.in_err-answer.ensures.found,
     )))
 
 pub returns-clause-answer : goal.returns-clause-answer
@@ -25,7 +25,7 @@ returns-clause-answer g c = record {
   next = c.in_ok-answer.next;
   evidence_is = c.in_ok-evidence.ensures.evidence;
   requirement_is = refl;
-  judged = rw c.in_ok-evidence.ensures.told at c.in_ok-answer.ensures.found;
+  judged = rw c.in_ok-evidence.ensures.known at c.in_ok-answer.ensures.found;
   well_is = rw c.as_ref.ensures.value at c.is_well-is_well.ensures;
   next_is = elim c.if-is_well.branch [
     | then-is_well w ↦ rw w.if-is_well.true w.result-is

@@ -7,6 +7,6 @@ returns-in_err-known-clause-fault g c =
     let p = err_from_is_err_and c.from_residual-in_err-known.result c.from_residual-in_err-known.ensures.1 in
     rw (p.1, p.2)
     (inr (inr (inr (inl (
-      (_, (_, rw c.in_ok-log.ensures.told at c.in_ok-text.ensures.all, rw c.bytes.ensures at c.in_ok-expected.ensures.found)),
-      rw (c.in_ok-text.ensures.told, c.in_ok-log.ensures.told) at c.in_err-known.ensures.fault,
+      (_, (_, rw c.in_ok-log.ensures.known at c.in_ok-text.ensures.all, rw c.bytes.ensures at c.in_ok-expected.ensures.found)),
+      rw (c.in_ok-text.ensures.known, c.in_ok-log.ensures.known) at c.in_err-known.ensures.fault,
     )))))
