@@ -3,7 +3,7 @@ use Rattle.std.proofs.Common.{◌≡◌, ℕ, arith, List, [], refl, sym, subst,
 use Rattle.std.specs.Prelude.{ℤ, ◌⊎◌}
 use Rattle.agent_inputs.specs.declared.fault.RunFault.{RunFault}
 use Rattle.agent_inputs.specs.declared.fault.RunFault.TheVariants.{Memory}
-use Rattle.agent_inputs.specs.Loading.{untold}
+use Rattle.agent_inputs.specs.Loading.{unknown}
 use Rattle.command_line.specs.declared.plan.Form.{Form}
 use Rattle.judging.specs.Asking.{Asked}
 use Rattle.rendering.specs.Outputs.{IsRefusalOn}
@@ -26,7 +26,7 @@ refused Reason form fault answer told old new here memory given = record {
   caused (reason, is, inl same, line) = (reason, is, subst Reason (sym same) here, line)
   caused (reason, is, inr same, line) = (reason, is, subst Reason (sym same) memory, line)
 
-module _ (asked : Asked) (form : Form) (fault : RunFault) (answer : ℤ) (told : Told) (old new : List ℕ) (reason : IsRefusalOn untold asked fault)
+module _ (asked : Asked) (form : Form) (fault : RunFault) (answer : ℤ) (told : Told) (old new : List ℕ) (reason : IsRefusalOn unknown asked fault)
     (given : Answers (IsRefusal (λ reason. (reason ≡ fault) ⊎ (reason ≡ Memory)) form) answer told old new) where
   refusal : Answers (IsRefusal (HasNoAnswerOn asked) form) answer told old new
   refusal = refused (HasNoAnswerOn asked) form fault answer told old new (inl reason) (inr refl) given

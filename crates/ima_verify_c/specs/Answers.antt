@@ -5,7 +5,7 @@ use Rattle.agent_inputs.specs.declared.fault.FaultKind.TheVariants as kinds
 use Rattle.agent_inputs.specs.declared.fault.RunFault.{RunFault}
 use Rattle.agent_inputs.specs.declared.fault.RunFault.TheVariants.{Memory}
 use Rattle.agent_inputs.specs.Faults.{fault_head}
-use Rattle.agent_inputs.specs.Loading.{untold}
+use Rattle.agent_inputs.specs.Loading.{unknown}
 use Rattle.command_line.specs.declared.plan.Form.{Form}
 use Rattle.command_line.specs.declared.plan.Form.TheVariants.{Json, Text}
 use Rattle.judging.specs.Asking.{Asked}
@@ -107,13 +107,13 @@ IsRefusal HasReason form text status fault = (reason : RunFault) × (fault ≡ S
 
 -- Why there is no answer to what is asked, or memory ran out for what is to be given.
 abbrev pub HasNoAnswerOn : Asked → RunFault → Type 0
-HasNoAnswerOn asked fault = IsRefusalOn untold asked fault ⊎ (fault ≡ Memory)
+HasNoAnswerOn asked fault = IsRefusalOn unknown asked fault ⊎ (fault ≡ Memory)
 
 -- The answer to what is asked, in this form, with its status, and the text of the checkpoint of what it is on, which has no bytes unless all
 -- is well; or why there is no answer, and no text of a checkpoint.
 abbrev pub IsAnswerAndNext : Asked → Form → List ℕ → ℕ → Option RunFault → List ℕ → Type 0
 IsAnswerAndNext asked form text status fault state =
-    ((fault ≡ None) × GivesAnswer untold asked form text status state)
+    ((fault ≡ None) × GivesAnswer unknown asked form text status state)
     ⊎ (IsRefusal (HasNoAnswerOn asked) form text status fault × (state ≡ []))
 
 -- The answer, whatever checkpoint there is.
