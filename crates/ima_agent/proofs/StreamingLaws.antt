@@ -29,7 +29,7 @@ use Rattle.agent_inputs.specs.Faults.{fault_of_list, fault_of_log}
 use Rattle.agent_inputs.specs.Loading.{Holds, Inputs, IsNotRead, IsTooLong, input_limit}
 use Rattle.ima_agent.specs.declared.streaming.StreamFault.{StreamFault}
 use Rattle.ima_agent.specs.declared.streaming.StreamFault.TheVariants as streams
-use Rattle.ima_agent.specs.JsonFaults.{IsFailure, ToldAsJson}
+use Rattle.ima_agent.specs.JsonFaults.{IsFailure, IsReportedAsJson}
 use Rattle.ima_agent.specs.Showing.{AreAllEvents, AreAllInFile, EndsAfterEntries, ShowsEntriesOf, ShowsEventsIn, ShowsToFault, StopsInFile, StopsInLog, entry_lines, log_lines}
 use Rattle.ima_agent.specs.Program.{Streams}
 use Rattle.judging.proofs.InputLaws.{HasAll, held_more, held_whole}
@@ -38,18 +38,18 @@ use Rattle.judging.proofs.InputLaws.{HasAll, held_more, held_whole}
 abbrev memory_line : List ℕ
 memory_line = line_of (fault_json (codes "memory") None None (codes "failed: memory"))
 
-memory_reported : ToldAsJson runs.Memory memory_line 3
+memory_reported : IsReportedAsJson runs.Memory memory_line 3
 memory_reported = (record { message = codes "failed: memory"; message_is = refl; text_is = refl }, refl)
 
 -- ---- what is shown up to a fault
 
 module _ (AreAll : List ℕ → Type 0) (Stops : List ℕ → RunFault → Type 0) (old new : SinkState) (text : List ℕ) where
   all_sent : {E : Type 0} → Sends {A = Unit {0}} {E = E} old new (Ok tt) text → AreAll text
-      → Streams Json (ShowsToFault AreAll Stops ToldAsJson) old new (Ok 0)
+      → Streams Json (ShowsToFault AreAll Stops IsReportedAsJson) old new (Ok 0)
   all_sent sends all = record { text = text; sends = Sends-ok old new tt tt text sends; goes_on = inl (all, refl) }
 
   cut_sent : {E : Type 0} (fault : E) (failed : Failed) → Sends {A = Unit {0}} {E = E} old new (Err fault) text → Stops text runs.Memory
-      → Streams Json (ShowsToFault AreAll Stops ToldAsJson) old new (Err (streams.Sink failed))
+      → Streams Json (ShowsToFault AreAll Stops IsReportedAsJson) old new (Err (streams.Sink failed))
   cut_sent fault failed sends memory = record {
     text = text;
     sends = record { ok = tt; part = sends.part; telling = sends.telling; counts = sends.counts };
@@ -57,12 +57,12 @@ module _ (AreAll : List ℕ → Type 0) (Stops : List ℕ → RunFault → Type 
   }
 
   line_follows : (fault : RunFault) → Stops text fault → Stops text runs.Memory → (last : List ℕ) (status : ℕ) → IsFailure Json fault last status
-      → ShowsToFault AreAll Stops ToldAsJson (text ++ last) status
+      → ShowsToFault AreAll Stops IsReportedAsJson (text ++ last) status
   line_follows fault stops memory last status (inl reported) = inr (text, fault, last, stops, reported, refl)
   line_follows fault stops memory last status (inr reported) = inr (text, runs.Memory, last, memory, reported, refl)
 
   fault_sent : {E : Type 0} (fault : RunFault) → Sends {A = Unit {0}} {E = E} old new (Ok tt) text → Stops text fault → Stops text runs.Memory
-      → Streams Json (ShowsToFault AreAll Stops ToldAsJson) old new (Err (streams.Run fault))
+      → Streams Json (ShowsToFault AreAll Stops IsReportedAsJson) old new (Err (streams.Run fault))
   fault_sent fault sends stops memory =
       record { text = text; sends = Sends-ok old new tt tt text sends; goes_on = line_follows fault stops memory }
 

@@ -29,11 +29,11 @@ pub record IsFaultAsJson (fault : RunFault) (text : List ℕ) : Type 0 where
       text ≡ line_of (fault_json (said_of head.kind).1 head.number (json_place head.kind head.place) message)
 
 -- It is, and this is the status after the fault.
-abbrev pub ToldAsJson : RunFault → List ℕ → ℕ → Type 0
-ToldAsJson fault text status = IsFaultAsJson fault text × (status ≡ fault_status fault)
+abbrev pub IsReportedAsJson : RunFault → List ℕ → ℕ → Type 0
+IsReportedAsJson fault text status = IsFaultAsJson fault text × (status ≡ fault_status fault)
 
 -- What is written for a fault in this form, and the status: its plain line; or the line of JSON, or that of `Memory` if memory runs out for
 -- it.
 abbrev pub IsFailure : Form → RunFault → List ℕ → ℕ → Type 0
 IsFailure forms.Text fault text status = (text ≡ fault_line fault) × (status ≡ fault_status fault)
-IsFailure forms.Json fault text status = ToldAsJson fault text status ⊎ ToldAsJson runs.Memory text status
+IsFailure forms.Json fault text status = IsReportedAsJson fault text status ⊎ IsReportedAsJson runs.Memory text status

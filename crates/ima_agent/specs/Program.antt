@@ -32,7 +32,7 @@ use Rattle.rendering.specs.Rendering.{printed}
 use Rattle.ima_agent.specs.declared.streaming.StreamFault.{StreamFault}
 use Rattle.ima_agent.specs.declared.streaming.StreamFault.TheVariants as streams
 use Rattle.ima_agent.specs.FaultTexts.{fault_line, fault_status}
-use Rattle.ima_agent.specs.JsonFaults.{IsFailure, ToldAsJson}
+use Rattle.ima_agent.specs.JsonFaults.{IsFailure, IsReportedAsJson}
 use Rattle.ima_agent.specs.Showing.{AreAllEntries, AreAllEvents, BreaksOffAfterEntries, EndsWithFault, IsNoListFor, IsNoLogFor, IsRefusedFor, RunsOutAfterEvents, ShowsEntries, ShowsHexadecimal, ShowsJsonEvents, data_of, version_text}
 
 -- ---- a question
@@ -122,8 +122,8 @@ IsFaultOf inputs task form fault = ⊥
 -- The output of a task that is written while its input is read, if it fails in between: what was read till then, and then the fault.
 abbrev pub IsBrokenOff : Inputs → Task → Form → List ℕ → ℕ → Type 0
 IsBrokenOff inputs (tasks.Events log requested) forms.Json text status =
-    OfInput inputs (Some (string_bytes log)) (λ bytes. EndsWithFault (RunsOutAfterEvents bytes) ToldAsJson text status)
-IsBrokenOff inputs (tasks.Entries list) forms.Json text status = EndsWithFault (BreaksOffAfterEntries inputs (string_bytes list)) ToldAsJson text status
+    OfInput inputs (Some (string_bytes log)) (λ bytes. EndsWithFault (RunsOutAfterEvents bytes) IsReportedAsJson text status)
+IsBrokenOff inputs (tasks.Entries list) forms.Json text status = EndsWithFault (BreaksOffAfterEntries inputs (string_bytes list)) IsReportedAsJson text status
 IsBrokenOff inputs task form text status = ⊥
 
 -- The text to be written for the task, the status if the sink takes it all, and what was saved before and after: the task's output, with

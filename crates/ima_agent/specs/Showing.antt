@@ -26,7 +26,7 @@ use Rattle.agent_inputs.specs.Loading.{Holds, HoldsTooMuch, Inputs, IsReadFailur
 use Rattle.judging.specs.Asking.{LogRegistersOf}
 use Rattle.judging.specs.Inputs.{BytesOf}
 use Rattle.rendering.specs.Outputs.{IsRefusalOn, IsShown}
-use Rattle.ima_agent.specs.JsonFaults.{IsFailure, ToldAsJson}
+use Rattle.ima_agent.specs.JsonFaults.{IsFailure, IsReportedAsJson}
 
 -- The program and its version; and the logic that the proofs rest on, as the kit's `rt version` names it.
 abbrev pub version_text : List ℕ
@@ -77,11 +77,11 @@ IsNoListFor list fault = ((first : ListFault) × IsReading list (Err first) × (
 -- What can be read of the bytes as a log is shown; and as a list.
 abbrev pub ShowsJsonEvents : List ℕ → List ℕ → ℕ → Type 0
 ShowsJsonEvents log shown status =
-    ShowsToFault (AreAllEvents log_lines log) (FailsAfterEvents log_lines fault_of_log log) ToldAsJson shown status
+    ShowsToFault (AreAllEvents log_lines log) (FailsAfterEvents log_lines fault_of_log log) IsReportedAsJson shown status
 
 abbrev pub ShowsEntries : List ℕ → List ℕ → ℕ → Type 0
 ShowsEntries list shown status =
-    ShowsToFault (AreAllEntries entry_lines list) (FailsAfterEntries entry_lines fault_of_list list) ToldAsJson shown status
+    ShowsToFault (AreAllEntries entry_lines list) (FailsAfterEntries entry_lines fault_of_list list) IsReportedAsJson shown status
 
 -- The text is the lines of a header and events that the bytes begin with, and then memory ran out.
 abbrev pub RunsOutAfterEvents : List ℕ → List ℕ → RunFault → Type 0
@@ -124,7 +124,7 @@ StopsInLog log text fault =
 
 -- The log in these bytes is shown as JSON, as far as it goes.
 abbrev pub ShowsEventsIn : List ℕ → List ℕ → ℕ → Type 0
-ShowsEventsIn log shown status = ShowsToFault (AreAllEvents log_lines log) (StopsInLog log) ToldAsJson shown status
+ShowsEventsIn log shown status = ShowsToFault (AreAllEvents log_lines log) (StopsInLog log) IsReportedAsJson shown status
 
 -- The file of this name is a list, and the text is the lines of its entries as JSON.
 abbrev pub AreAllInFile : Inputs → List ℕ → List ℕ → Type 0
@@ -137,4 +137,4 @@ StopsInFile inputs name text fault =
 
 -- The list in the file of this name is shown as JSON while it is read, as far as it comes.
 abbrev pub ShowsEntriesOf : Inputs → List ℕ → List ℕ → ℕ → Type 0
-ShowsEntriesOf inputs name shown status = ShowsToFault (AreAllInFile inputs name) (StopsInFile inputs name) ToldAsJson shown status
+ShowsEntriesOf inputs name shown status = ShowsToFault (AreAllInFile inputs name) (StopsInFile inputs name) IsReportedAsJson shown status

@@ -18,7 +18,7 @@ use Rattle.pieces.specs.EntryPieces.{AreEntriesBefore, FailsAfterEntries, IsEntr
 use Rattle.pieces.specs.EventPieces.{AreEventsBefore, FailsAfterEvents, IsEventPiece}
 use Rattle.pieces.specs.Pieces.{is_within}
 use Rattle.ima_agent.specs.FaultTexts.{fault_line, fault_status}
-use Rattle.ima_agent.specs.JsonFaults.{ToldAsJson}
+use Rattle.ima_agent.specs.JsonFaults.{IsReportedAsJson}
 use Rattle.ima_verify_c.specs.declared.told.Told.{Told}
 
 -- ---- what a caller is told of a text
@@ -99,7 +99,7 @@ pub record AnswersMore (IsAnswer : List ℕ → ℕ → Option RunFault → List
 -- The text is the line of the fault in this form, and the status is that of the fault: 2 if an input is refused, or 3 if memory ran out.
 abbrev pub IsLineOf : Form → RunFault → List ℕ → ℕ → Type 0
 IsLineOf Text fault text status = (text ≡ fault_line fault) × (status ≡ fault_status fault)
-IsLineOf Json fault text status = ToldAsJson fault text status
+IsLineOf Json fault text status = IsReportedAsJson fault text status
 
 -- It is that of a fault with this reason, which is told.
 abbrev pub IsRefusal : (RunFault → Type 0) → Form → List ℕ → ℕ → Option RunFault → Type 0
