@@ -11,7 +11,7 @@ use Rattle.ima_list.specs.Templates.{template_name}
 use Rattle.command_line.specs.Commands.{Parsers, commands}
 use Rattle.command_line.specs.Tasks.{Form, IsOneOf, IsWithin, Judged, Measurement, Plan, Print, Task, task_of}
 use Rattle.command_line.specs.declared.plan.DataShown.TheVariants.{Size, Bytes}
-use Rattle.command_line.specs.declared.plan.Extent.TheVariants.{Whole, Prefix}
+use Rattle.command_line.specs.declared.plan.Scope.TheVariants.{Whole, Prefix}
 use Rattle.command_line.specs.declared.plan.Form.TheVariants as forms
 use Rattle.command_line.specs.declared.plan.Judged.TheVariants as judged
 use Rattle.command_line.specs.declared.plan.NameEnd.TheVariants.{LineFeed, Nul}
@@ -67,10 +67,10 @@ pub record HasMeasure (rows : List Row) (asked : Measurement) : Type 0 where
 
 -- The command of this name judges this, and the matches have the options and names that only this has.
 abbrev pub HasJudged : Text → List Row → Judged → Type 0
-HasJudged command rows (judged.Verdict log extent resume save) =
+HasJudged command rows (judged.Verdict log scope resume save) =
     (command ≡ codes "verify")
     × IsGivenAs (codes "LOG") rows (Some log)
-    × IsFlag (codes "prefix") rows Whole Prefix extent
+    × IsFlag (codes "prefix") rows Whole Prefix scope
     × IsGivenAs (codes "resume") rows resume
     × IsGivenAs (codes "save") rows save
 HasJudged command rows (judged.Places log) = (command ≡ codes "locate") × IsGivenAs (codes "LOG") rows (Some log)

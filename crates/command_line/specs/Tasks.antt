@@ -1,7 +1,7 @@
 -- What is to be done, and the plans that request it.
 use Rattle.std.specs.Prelude.{◌≡◌, ◌≤◌, ◌<◌, ◌^◌, not, Bool, false, true, Option, None, is_some, String, vec_len}
 use Rattle.std.specs.Global.{Global}
-use Rattle.command_line.specs.declared.plan.Extent.TheVariants.{Whole}
+use Rattle.command_line.specs.declared.plan.Scope.TheVariants.{Whole}
 pub use Rattle.command_line.specs.declared.plan.Form.{Form}
 use Rattle.command_line.specs.declared.plan.Form.TheVariants.{Text, Json}
 pub use Rattle.command_line.specs.declared.plan.Judged.{Judged}

@@ -12,7 +12,7 @@ mod words;
 
 pub use fault::WordsFault;
 pub use plan::{
-    DataShown, Extent, Form, Judge, Judged, Measurement, NameEnd, Names, Plan, Print, Question,
+    DataShown, Scope, Form, Judge, Judged, Measurement, NameEnd, Names, Plan, Print, Question,
     Task,
 };
 pub use words::{read_words, refusal_of, words_after_name};

@@ -40,7 +40,7 @@ pub enum DataShown {
 
 /// Which part of a list a verdict is on.
 #[derive(Clone, Copy, PartialEq, Eq)]
-pub enum Extent {
+pub enum Scope {
     /// The whole list.
     Whole,
     /// The shortest prefix of the list that matches; if none does, the whole list.
@@ -64,7 +64,7 @@ pub enum Judged {
         /// The name of the firmware event log, binary.
         log: String,
         /// Which part of the list the verdict is on.
-        extent: Extent,
+        scope: Scope,
         /// The name of the checkpoint to go on from, if there is one.
         resume: Option<String>,
         /// The name under which the checkpoint is saved, if it is.
@@ -250,7 +250,7 @@ impl Plan {
             } => {
                 let judged = Judged::Verdict {
                     log,
-                    extent: Extent::Whole,
+                    scope: Scope::Whole,
                     resume: None,
                     save: None,
                 };
@@ -321,7 +321,7 @@ fn judge_plan(judge: Judge) -> Plan
         (
             Judged::Verdict {
                 log,
-                extent: Extent::Whole,
+                scope: Scope::Whole,
                 resume: None,
                 save: None,
             },

@@ -14,7 +14,7 @@ ghost use Rattle.command_line.specs.declared.plan.Task.TheVariants.{Version};
 
 use crate::commands::{KnownNames, VERSION, all_commands};
 use crate::fault::WordsFault;
-use crate::plan::{DataShown, Extent, Form, Judge, Judged, Plan, Question, Task};
+use crate::plan::{DataShown, Scope, Form, Judge, Judged, Plan, Question, Task};
 use crate::values::{flag_of, measurement_of, name_of, text_if_given};
 use clap::error::ErrorKind;
 use clap::{ArgMatches, Error};
@@ -149,7 +149,7 @@ fn question_of(alloc: Global, command: &str, matches: &ArgMatches) -> Result<Que
         "verify" => {
             let judged = Judged::Verdict {
                 log: name_of(alloc, matches, "LOG")?,
-                extent: flag_of(matches, "prefix", Extent::Whole, Extent::Prefix)?,
+                scope: flag_of(matches, "prefix", Scope::Whole, Scope::Prefix)?,
                 resume: text_if_given(alloc, matches, "resume")?,
                 save: text_if_given(alloc, matches, "save")?,
             };

@@ -9,7 +9,7 @@ use Rattle.agent_inputs.specs.declared.fault.RunFault.{RunFault}
 use Rattle.agent_inputs.specs.declared.fault.RunFault.TheVariants as runs
 use Rattle.agent_inputs.specs.Faults.{IsWordsFault}
 use Rattle.agent_inputs.specs.Loading.{Inputs, IsInputFault, OfInput, Saved}
-use Rattle.command_line.specs.declared.plan.Extent.TheVariants.{Whole}
+use Rattle.command_line.specs.declared.plan.Scope.TheVariants.{Whole}
 use Rattle.command_line.specs.declared.plan.Form.{Form}
 use Rattle.command_line.specs.declared.plan.Form.TheVariants as forms
 use Rattle.command_line.specs.declared.plan.Judge.{Judge}
@@ -42,7 +42,7 @@ abbrev pub file_of : String Global → Where
 file_of name = FileOf (string_bytes name)
 
 abbrev pub judgement_by : Judged → Judgement
-judgement_by (judged.Verdict log extent resume save) = VerdictOf (file_of log) extent (option_map file_of resume)
+judgement_by (judged.Verdict log scope resume save) = VerdictOf (file_of log) scope (option_map file_of resume)
 judgement_by (judged.Places log) = PlacesOf (file_of log)
 judgement_by judged.ListVerdict = ListVerdictOf
 
@@ -51,7 +51,7 @@ judgement_by judged.ListVerdict = ListVerdictOf
 abbrev pub requires_by : Judged → Option (String Global) → Requires
 requires_by judged (Some text) = These (string_bytes text)
 requires_by (judged.Verdict log Whole None None) None = Nothing
-requires_by (judged.Verdict log extent resume save) None = Any
+requires_by (judged.Verdict log scope resume save) None = Any
 requires_by (judged.Places log) None = Nothing
 requires_by judged.ListVerdict None = Nothing
 
@@ -72,7 +72,7 @@ asked_by (questions.Expected printed registers) = ExpectedOf (file_of printed) (
 
 -- The name under which the checkpoint is saved, if it is.
 abbrev pub save_of : Judged → Option (List ℕ)
-save_of (judged.Verdict log extent resume save) = option_map string_bytes save
+save_of (judged.Verdict log scope resume save) = option_map string_bytes save
 save_of judged = None
 
 abbrev pub save_by : Question → Option (List ℕ)

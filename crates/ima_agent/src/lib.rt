@@ -26,7 +26,7 @@ pub use boot_verdict::{
     write_required_places, write_required_report,
 };
 pub use command_line::{
-    DataShown, Extent, Form, Judge, Judged, Measurement, NameEnd, Names, Plan, Print, Question,
+    DataShown, Scope, Form, Judge, Judged, Measurement, NameEnd, Names, Plan, Print, Question,
     Task, words_after_name,
 };
 pub use escaping::escaped;

@@ -4,7 +4,7 @@ ghost use Rattle.std.specs.Prelude.{◌≡◌, option_map};
 ghost use Rattle.judging.specs.Asking.{asked_of, compared_of, judgement_of, requires_of};
 ghost use Rattle.ima_agent.specs.Program.{asked_by, compared_by, judgement_by, requires_by, save_by};
 
-use command_line::{Extent, Judge, Judged, Question};
+use command_line::{Scope, Judge, Judged, Question};
 use judging::{Comparison, Input, Request, Required, Wanted};
 
 /// What a question asks.
@@ -48,12 +48,12 @@ fn wanted_of(judged: &Judged) -> Wanted<'_>
     match judged {
         Judged::Verdict {
             log,
-            extent,
+            scope,
             resume,
             ..
         } => Wanted::Verdict {
             log: Input::File(log),
-            extent: *extent,
+            scope: *scope,
             resume: match resume {
                 None => None,
                 Some(name) => Some(Input::File(name)),
@@ -75,7 +75,7 @@ fn required_of(judge: &Judge) -> Required<'_>
         (
             None,
             Judged::Verdict {
-                extent: Extent::Whole,
+                scope: Scope::Whole,
                 resume: None,
                 save: None,
                 ..

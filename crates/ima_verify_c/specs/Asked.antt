@@ -1,6 +1,6 @@
 -- What a call with these bytes asks for.
 use Rattle.std.specs.Prelude.{ℕ, ◌==◌, if◌then◌else◌, Bool, List, bytes_eq, codes, length, Option, None, Some, option_map}
-use Rattle.command_line.specs.declared.plan.Extent.TheVariants.{Prefix, Whole}
+use Rattle.command_line.specs.declared.plan.Scope.TheVariants.{Prefix, Whole}
 use Rattle.command_line.specs.declared.plan.Form.{Form}
 use Rattle.command_line.specs.declared.plan.Form.TheVariants.{Json, Text}
 use Rattle.judging.specs.Asking.{Any, Asked, Compares, Judgement, ListRegistersOf, ListVerdictOf, LogRegistersOf, Nothing, PlacesOf, Requires, These, VerdictOf}

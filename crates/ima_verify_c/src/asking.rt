@@ -4,7 +4,7 @@ ghost use Rattle.std.specs.Prelude.{◌≡◌, option_map};
 ghost use Rattle.judging.specs.Asking.{asked_of, judgement_of, requires_of};
 ghost use Rattle.ima_verify_c.specs.Asked.{asked_by, asked_of_registers, form_of, given_bytes, required_by, verdict_of};
 
-use ima_agent::{Extent, Form};
+use ima_agent::{Scope, Form};
 use judging::{Comparison, Input, Request, Required, Wanted};
 
 /// JSON, or lines of text.
@@ -31,7 +31,7 @@ pub(crate) fn verdict_of<'a>(log: &'a [u8], state: &'a [u8], prefix: bool) -> Wa
     };
     Wanted::Verdict {
         log: Input::Bytes(log),
-        extent: if prefix { Extent::Prefix } else { Extent::Whole },
+        scope: if prefix { Scope::Prefix } else { Scope::Whole },
         resume,
     }
 }

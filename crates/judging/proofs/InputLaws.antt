@@ -21,7 +21,7 @@ use Rattle.growing_lists.specs.declared.session.Session.{Session}
 use Rattle.growing_lists.specs.CheckpointData.{IsPossible}
 use Rattle.growing_lists.specs.Prefixes.{IsPrefixReport, IsUnconfirmedFault, IsWrongWith, TakesUnconfirmed}
 use Rattle.growing_lists.specs.Sessions.{HasTaken, TakesMore}
-use Rattle.command_line.specs.declared.plan.Extent.{Extent}
+use Rattle.command_line.specs.declared.plan.Scope.{Scope}
 use Rattle.agent_inputs.specs.declared.fault.RunFault.{RunFault}
 use Rattle.agent_inputs.specs.declared.fault.RunFault.TheVariants as runs
 use Rattle.agent_inputs.specs.Faults.{HasLogFault}
@@ -140,17 +140,17 @@ module _ {inputs : Inputs} {list : Where} {old new : SourceState} (gives : Gives
 
   -- ---- a verdict
 
-  module _ (place : Where) (resume : Option Where) (extent : Extent) (evidence : Evidence) {before : Session}
+  module _ (place : Where) (resume : Option Where) (scope : Scope) (evidence : Evidence) {before : Session}
       (started : IsStarted evidence.log evidence.known before) where
     -- All of the list was taken, and if a prefix is sought, none is confirmed.
     pub whole_found : (after : Session) (report : Report) → CanBeReadBack after.known
         → ((log taken : List ℕ) → HasTaken log taken before
         → TakesMore log taken old.remaining new.remaining (most_after before.known (limit_of list)) after)
-        → (seeks_prefix extent evidence.required evidence.expected ≡ true → (log taken : List ℕ) → HasTaken log taken before
+        → (seeks_prefix scope evidence.required evidence.expected ≡ true → (log taken : List ℕ) → HasTaken log taken before
         → TakesUnconfirmed log taken old.remaining new.remaining (most_after before.known (limit_of list)) evidence.expected
         before.known.entries after)
         → ((log all : List ℕ) → HasTaken log all after → IsVerdict log all evidence.expected (verdict_of report))
-        → IsJudged inputs (VerdictOf place extent resume) list evidence (answers.Report report) (Some after.known)
+        → IsJudged inputs (VerdictOf place scope resume) list evidence (answers.Report report) (Some after.known)
     whole_found after report room takes none verdict = (
       started.boot,
       λ taken take.
@@ -169,10 +169,10 @@ module _ {inputs : Inputs} {list : Where} {old new : SourceState} (gives : Gives
     )
 
     pub prefix_found : (after : Session) (report : PrefixReport) → CanBeReadBack after.known
-        → seeks_prefix extent evidence.required evidence.expected ≡ true
+        → seeks_prefix scope evidence.required evidence.expected ≡ true
         → ((log taken : List ℕ) → HasTaken log taken before → IsPrefixReport log taken old.remaining new.remaining
         (most_after before.known (limit_of list)) evidence.expected before.known.entries after report)
-        → IsJudged inputs (VerdictOf place extent resume) list evidence (answers.Prefix report) (Some after.known)
+        → IsJudged inputs (VerdictOf place scope resume) list evidence (answers.Prefix report) (Some after.known)
     prefix_found after report room sought prefixes = (
       started.boot,
       sought,
@@ -227,9 +227,9 @@ module _ {inputs : Inputs} {list : Where} {old new : SourceState} (gives : Gives
     pub not_found : (first : VerifyFault) (fault : RunFault) → (first ≡ verdicts.Source → HasFailed old new)
         → ((log taken : List ℕ) → HasTaken log taken before
         → IsMoreFault taken old.remaining new.remaining (most_after before.known (limit_of list)) first)
-        → (seeks_prefix extent evidence.required evidence.expected ≡ true → (log taken : List ℕ) → HasTaken log taken before
+        → (seeks_prefix scope evidence.required evidence.expected ≡ true → (log taken : List ℕ) → HasTaken log taken before
         → IsUnconfirmedFault log taken old.remaining new.remaining (most_after before.known (limit_of list)) evidence.expected
-        before.known.entries first) → IsFaultAt list first fault → IsNotFound inputs (VerdictOf place extent resume) list evidence fault
+        before.known.entries first) → IsFaultAt list first fault → IsNotFound inputs (VerdictOf place scope resume) list evidence fault
     not_found first fault failed is unconfirmed says =
         inr (inl (inr (record {
           first = first;

@@ -1,6 +1,6 @@
 -- What is asked for: what is judged, and what the answer says of it.
 use Rattle.std.specs.Prelude.{ℕ, List, Option, None, Some, option_map}
-use Rattle.command_line.specs.declared.plan.Extent.{Extent}
+use Rattle.command_line.specs.declared.plan.Scope.{Scope}
 use Rattle.judging.specs.Inputs.{Where, FileOf, BytesOf}
 use Rattle.judging.specs.declared.inputs.Input.{Input}
 use Rattle.judging.specs.declared.inputs.Input.TheVariants as inputs
@@ -17,7 +17,7 @@ use Rattle.judging.specs.declared.request.Wanted.TheVariants as wanted
 -- What the answer is: the verdict on a log and a list, or on a prefix of it, which may go on from a checkpoint; where the registers have
 -- their values in a log and a list; or the verdict on a list alone.
 pub data Judgement : Type 0 where
-  VerdictOf : Where → Extent → Option Where → Judgement
+  VerdictOf : Where → Scope → Option Where → Judgement
   PlacesOf : Where → Judgement
   ListVerdictOf : Judgement
 
@@ -45,13 +45,13 @@ pub data Asked : Type 0 where
 
 -- Where the log is, if there is one.
 abbrev pub log_of : Judgement → Option Where
-log_of (VerdictOf log extent resume) = Some log
+log_of (VerdictOf log scope resume) = Some log
 log_of (PlacesOf log) = Some log
 log_of ListVerdictOf = None
 
 -- Where the checkpoint is that is gone on from, if there is one.
 abbrev pub resume_of : Judgement → Option Where
-resume_of (VerdictOf log extent resume) = resume
+resume_of (VerdictOf log scope resume) = resume
 resume_of (PlacesOf log) = None
 resume_of ListVerdictOf = None
 
@@ -66,7 +66,7 @@ held_bytes (helds.File content) = content.items
 held_bytes (helds.Bytes content) = content.now
 
 abbrev pub judgement_of : Wanted → Judgement
-judgement_of (wanted.Verdict log extent resume) = VerdictOf (place_of log) extent (option_map place_of resume)
+judgement_of (wanted.Verdict log scope resume) = VerdictOf (place_of log) scope (option_map place_of resume)
 judgement_of (wanted.Places log) = PlacesOf (place_of log)
 judgement_of wanted.ListVerdict = ListVerdictOf
 

@@ -26,8 +26,8 @@ use Rattle.growing_lists.specs.declared.session.Session.{Session}
 use Rattle.growing_lists.specs.CheckpointData.{IsPossible}
 use Rattle.growing_lists.specs.Prefixes.{AreUnconfirmed, IsConfirmed}
 use Rattle.growing_lists.specs.Sessions.{HasTaken, IsOfBoot}
-use Rattle.command_line.specs.declared.plan.Extent.{Extent}
-use Rattle.command_line.specs.declared.plan.Extent.TheVariants.{Whole, Prefix}
+use Rattle.command_line.specs.declared.plan.Scope.{Scope}
+use Rattle.command_line.specs.declared.plan.Scope.TheVariants.{Whole, Prefix}
 use Rattle.agent_inputs.specs.declared.fault.NotResumed.TheVariants.{OtherBoot}
 use Rattle.agent_inputs.specs.declared.fault.RunFault.{RunFault}
 use Rattle.agent_inputs.specs.declared.fault.RunFault.TheVariants as runs
@@ -47,7 +47,7 @@ pub record Evidence : Type 0 where
   pub known : Option Checkpoint
 
 -- A prefix is asked for, and one can be confirmed: some register is expected, and all that is required.
-abbrev pub seeks_prefix : Extent → Option (List BankRange) → List Expected → Bool
+abbrev pub seeks_prefix : Scope → Option (List BankRange) → List Expected → Bool
 seeks_prefix Whole required expected = false
 seeks_prefix Prefix None expected = not (length expected == 0)
 seeks_prefix Prefix (Some ranges) expected = is_complete ranges expected
@@ -124,14 +124,14 @@ IsUnconfirmedIn inputs place evidence first = Unit {0}
 -- The answer is on this evidence and the list of this input; and this is where to go on. A verdict is on a log that leaves the registers
 -- before what is gone on from, and on the whole list, of which no prefix is confirmed, if one is sought; or on its confirmed prefix.
 abbrev pub IsJudged : Inputs → Judgement → Where → Evidence → Answer → Option Checkpoint → Type 0
-IsJudged inputs (VerdictOf place extent resume) list evidence (answers.Report report) (Some next) =
+IsJudged inputs (VerdictOf place scope resume) list evidence (answers.Report report) (Some next) =
     IfSome evidence.known (IsOfBoot evidence.log)
     × OfMore inputs list evidence.known (λ taken more. (length more ≤ most_more evidence.known list)
     × IsVerdict evidence.log (taken ++ more) evidence.expected (verdict_of report) × IsNext evidence.log (taken ++ more) next)
-    × (seeks_prefix extent evidence.required evidence.expected ≡ true → OfList inputs list evidence.known (HasNoPrefix evidence))
-IsJudged inputs (VerdictOf place extent resume) list evidence (answers.Prefix report) (Some next) =
+    × (seeks_prefix scope evidence.required evidence.expected ≡ true → OfList inputs list evidence.known (HasNoPrefix evidence))
+IsJudged inputs (VerdictOf place scope resume) list evidence (answers.Prefix report) (Some next) =
     IfSome evidence.known (IsOfBoot evidence.log)
-    × (seeks_prefix extent evidence.required evidence.expected ≡ true)
+    × (seeks_prefix scope evidence.required evidence.expected ≡ true)
     × OfList inputs list evidence.known (λ all. IsPrefixOf evidence all report next)
     × OfList inputs list evidence.known (λ all. IsWrongIn all report.entries report.unconfirmed)
 IsJudged inputs (PlacesOf place) list evidence (answers.Places located) None =
@@ -164,19 +164,19 @@ IsRefusedList inputs list fault =
 
 -- The log is valid, and what the input adds to a list is refused: the first reason, or memory ran out. If a prefix is sought, none is
 -- confirmed before what is refused.
-pub record IsNotTaken (inputs : Inputs) (extent : Extent) (list : Where) (evidence : Evidence) (fault : RunFault) : Type 0 where
+pub record IsNotTaken (inputs : Inputs) (scope : Scope) (list : Where) (evidence : Evidence) (fault : RunFault) : Type 0 where
   pub first : VerifyFault
   pub log_is : IsSomeLog evidence.log
   pub boot : IfSome evidence.known (IsOfBoot evidence.log)
   pub first_is : (taken : List ℕ) → IsTaken evidence.known taken → IsRefusedAfter inputs list (most_more evidence.known list) taken first
-  pub unconfirmed : seeks_prefix extent evidence.required evidence.expected ≡ true → IsUnconfirmedIn inputs list evidence first
+  pub unconfirmed : seeks_prefix scope evidence.required evidence.expected ≡ true → IsUnconfirmedIn inputs list evidence first
   pub says : IsFaultAt list first fault
 
 -- Why there is no answer on this evidence and what the list has: the log is refused, or of another boot than the checkpoint; or the list
 -- is refused.
 abbrev pub IsNotJudged : Inputs → Judgement → Where → Evidence → RunFault → Type 0
-IsNotJudged inputs (VerdictOf place extent resume) list evidence fault =
-    IsLogRefused evidence.log evidence.known fault ⊎ IsNotTaken inputs extent list evidence fault
+IsNotJudged inputs (VerdictOf place scope resume) list evidence fault =
+    IsLogRefused evidence.log evidence.known fault ⊎ IsNotTaken inputs scope list evidence fault
 IsNotJudged inputs (PlacesOf place) list evidence fault =
     HasLogFault evidence.log fault ⊎ (IsSomeLog evidence.log × IsRefusedList inputs list fault)
 IsNotJudged inputs ListVerdictOf list evidence fault = IsRefusedList inputs list fault
@@ -215,8 +215,8 @@ abbrev pub FindsFrom : Judgement → Where → Evidence → SourceState → Sour
 FindsFrom judgement list evidence old new result = (inputs : Inputs) → GivesInput inputs list old new → Finds inputs judgement list evidence result
 
 -- So it is where a session goes on from what is known, if its checkpoint can be read back.
-abbrev pub JudgesFrom : Extent → Where → Evidence → SourceState → SourceState → Session → Session → Result Answer RunFault → Type 0
-JudgesFrom extent list evidence old new before after result =
+abbrev pub JudgesFrom : Scope → Where → Evidence → SourceState → SourceState → Session → Session → Result Answer RunFault → Type 0
+JudgesFrom scope list evidence old new before after result =
     (inputs : Inputs) (log : Where) (resume : Option Where) → GivesInput inputs list old new → IsStarted evidence.log evidence.known before
-    → MatchResult result (λ answer. CanBeReadBack after.known → IsJudged inputs (VerdictOf log extent resume) list evidence answer (Some after.known))
-    (IsNotFound inputs (VerdictOf log extent resume) list evidence)
+    → MatchResult result (λ answer. CanBeReadBack after.known → IsJudged inputs (VerdictOf log scope resume) list evidence answer (Some after.known))
+    (IsNotFound inputs (VerdictOf log scope resume) list evidence)

@@ -178,7 +178,7 @@ impl Evidence<'_> {
     {
         let list = asked.list;
         match asked.wanted {
-            Wanted::Verdict { extent, .. } => self.verdict_from(alloc, source, list, extent),
+            Wanted::Verdict { scope, .. } => self.verdict_from(alloc, source, list, scope),
             Wanted::Places { .. } => {
                 let log = self.log.bytes();
                 match locate_from(alloc, log, source, limit_of(list), &self.expected) {

@@ -1,7 +1,7 @@
 //! What is asked of a log and a list.
 
 use crate::inputs::Input;
-use command_line::Extent;
+use command_line::Scope;
 
 /// What the answer is, with what only it is of.
 #[derive(Clone, Copy)]
@@ -11,7 +11,7 @@ pub enum Wanted<'a> {
         /// The firmware event log.
         log: Input<'a>,
         /// Which part of the list the verdict is on.
-        extent: Extent,
+        scope: Scope,
         /// The checkpoint to go on from, if there is one.
         resume: Option<Input<'a>>,
     },

@@ -15,7 +15,7 @@ use crate::inputs::{Input, limit_of, refused};
 use agent_inputs::{NotResumed, RunFault};
 use boot_verdict::{Checkpoint, CheckpointFault, Expected, Report, Requirement, ResumeFault};
 use byte_streams::Source;
-use command_line::Extent;
+use command_line::Scope;
 use growing_lists::{Session, counted_checkpoint_is_possible, leaves_room, read_checkpoint};
 use ima_list::laws::{entries_to_the_end_are_the_reading, no_bytes_have_two_readings};
 use std::alloc::{AllocError, Global};
@@ -40,13 +40,13 @@ impl Evidence<'_> {
         alloc: Global,
         source: &mut R,
         list: Input<'_>,
-        extent: Extent,
+        scope: Scope,
     ) -> Finding
-        ensures { (log : Where) (resume : Option Where) → FindsFrom (VerdictOf log extent resume) (place_of list.entry) (evidence_of self.now)
+        ensures { (log : Where) (resume : Option Where) → FindsFrom (VerdictOf log scope resume) (place_of list.entry) (evidence_of self.now)
             (R.state source.old) (R.state source.new) result }
     {
         let mut session = session_of(self.log.bytes(), self.known)?;
-        let answer = self.judged_from(alloc, &mut session, source, list, extent)?;
+        let answer = self.judged_from(alloc, &mut session, source, list, scope)?;
         Ok((answer, Some(next_of(&session)?)))
     }
 
@@ -57,12 +57,12 @@ impl Evidence<'_> {
         session: &mut Session<'_>,
         source: &mut R,
         list: Input<'_>,
-        extent: Extent,
+        scope: Scope,
     ) -> Result<Answer, RunFault>
-        ensures { JudgesFrom extent (place_of list.entry) (evidence_of self.now) (R.state source.old) (R.state source.new)
+        ensures { JudgesFrom scope (place_of list.entry) (evidence_of self.now) (R.state source.old) (R.state source.new)
             session.old session.new result }
     {
-        if seeks_prefix(extent, self.requirement.as_ref(), &self.expected) {
+        if seeks_prefix(scope, self.requirement.as_ref(), &self.expected) {
             match session.confirm(alloc, source, limit_of(list), &self.expected) {
                 Ok(Some(prefix)) => Ok(Answer::Prefix(prefix)),
                 Ok(None) => Ok(Answer::Report(report(alloc, session, &self.expected)?)),
@@ -98,13 +98,13 @@ fn session_of(log: &[u8], known: Option<Checkpoint>) -> Result<Session<'_>, RunF
 }
 
 // Whether a prefix is asked for that can be confirmed: some register is expected, and all that is required.
-fn seeks_prefix(extent: Extent, ranges: Option<&Requirement>, expected: &[Expected]) -> bool
-    ensures { result ≡ seeks_prefix extent (option_map (λ ranges. ranges.now) ranges.entry) expected.now }
+fn seeks_prefix(scope: Scope, ranges: Option<&Requirement>, expected: &[Expected]) -> bool
+    ensures { result ≡ seeks_prefix scope (option_map (λ ranges. ranges.now) ranges.entry) expected.now }
 {
-    match (extent, ranges) {
-        (Extent::Whole, _) => false,
-        (Extent::Prefix, None) => !expected.is_empty(),
-        (Extent::Prefix, Some(requirement)) => requirement.is_met(expected),
+    match (scope, ranges) {
+        (Scope::Whole, _) => false,
+        (Scope::Prefix, None) => !expected.is_empty(),
+        (Scope::Prefix, Some(requirement)) => requirement.is_met(expected),
     }
 }
 
