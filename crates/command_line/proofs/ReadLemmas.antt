@@ -9,7 +9,7 @@ use Rattle.clap.specs.declared.parser.matches.MatchedArg.{MatchedArg}
 use Rattle.clap.proofs.OnLiterals.{clap_on_literals}
 use Rattle.clap.proofs.WalkLemmas.{raw_values-rows}
 use Rattle.command_line.specs.Commands.{Parsers, commands}
-use Rattle.command_line.specs.Plans.{IsAskedBy, IsPlanOrHelp}
+use Rattle.command_line.specs.Plans.{IsRequestedBy, IsPlanOrHelp}
 use Rattle.command_line.specs.declared.plan.Plan.{Plan}
 
 pub commands_are_simple : (parsers : Parsers) → is_simple (commands parsers) ≡ true
@@ -31,8 +31,8 @@ no_values f id missing = sym (raw_values-rows f id) ∙ go (matched_of f id) mis
     go (Some found) e = cc
 
 -- The first argument is the command.
-pub asked_by : (words : List (String Global)) (word : String Global) (command : Text) (plan : Plan) → Some word ≡ slice_get words 0
-    → command ≡ string_bytes word → IsPlanOrHelp words command plan → IsAskedBy words plan
-asked_by [] word command plan first is asked = let clash = first in cc
-asked_by (first ∷ rest) word command plan here is asked =
-    inl (subst (λ (name : Text). IsPlanOrHelp (first ∷ rest) name plan) (is ∙ ap string_bytes (same_Some word first here)) asked)
+pub requested_by : (words : List (String Global)) (word : String Global) (command : Text) (plan : Plan) → Some word ≡ slice_get words 0
+    → command ≡ string_bytes word → IsPlanOrHelp words command plan → IsRequestedBy words plan
+requested_by [] word command plan first is request = let clash = first in cc
+requested_by (first ∷ rest) word command plan here is request =
+    inl (subst (λ (name : Text). IsPlanOrHelp (first ∷ rest) name plan) (is ∙ ap string_bytes (same_Some word first here)) request)

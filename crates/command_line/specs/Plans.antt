@@ -53,15 +53,15 @@ AreFurtherNames rows (Some names) =
     IsGivenAs (codes "files-from") rows (Some names.text) × IsFlag (codes "null") rows LineFeed Nul names.ends
 
 -- The matches have the options and names of this measurement.
-pub record HasMeasure (rows : List Row) (asked : Measurement) : Type 0 where
-  pub alg_is : first_of (codes "alg") rows ≡ Some (name_of asked.alg)
-  pub template_is : first_of (codes "template") rows ≡ Some (template_name asked.template)
-  pub workers_is : HasNumber (codes "workers") rows asked.workers
-  pub limit_is : HasNumber (codes "limit") rows asked.limit
-  pub print_is : first_of (codes "print") rows ≡ Some (print_name asked.print)
-  pub log_is : IsGivenAs (codes "LOG") rows (Some asked.log)
-  pub files_are : unwrap_or (all_of (codes "FILE") rows) [] ≡ map string_bytes asked.files.items
-  pub names_are : AreFurtherNames rows asked.names
+pub record HasMeasure (rows : List Row) (request : Measurement) : Type 0 where
+  pub alg_is : first_of (codes "alg") rows ≡ Some (name_of request.alg)
+  pub template_is : first_of (codes "template") rows ≡ Some (template_name request.template)
+  pub workers_is : HasNumber (codes "workers") rows request.workers
+  pub limit_is : HasNumber (codes "limit") rows request.limit
+  pub print_is : first_of (codes "print") rows ≡ Some (print_name request.print)
+  pub log_is : IsGivenAs (codes "LOG") rows (Some request.log)
+  pub files_are : unwrap_or (all_of (codes "FILE") rows) [] ≡ map string_bytes request.files.items
+  pub names_are : AreFurtherNames rows request.names
 
 -- ---- commands and their tasks
 
@@ -96,7 +96,7 @@ HasQuestion command rows (questions.Expected printed registers) =
 -- The command of this name does this, and the matches have its options and names.
 abbrev pub HasValues : Text → List Row → Task → Type 0
 HasValues command rows (tasks.Answer question) = HasQuestion command rows question
-HasValues command rows (tasks.Measure asked) = (command ≡ codes "measure") × HasMeasure rows asked
+HasValues command rows (tasks.Measure request) = (command ≡ codes "measure") × HasMeasure rows request
 HasValues command rows (tasks.Events log shown) =
     (command ≡ codes "events") × IsGivenAs (codes "LOG") rows (Some log) × IsFlag (codes "data") rows Size Bytes shown
 HasValues command rows (tasks.Entries list) = (command ≡ codes "show") × IsGivenAs (codes "LIST") rows (Some list)
@@ -104,11 +104,11 @@ HasValues command rows task = ⊥
 
 -- The matches of the command of this name, which was found, have the options and names of the task. With `--json` the result is shown as
 -- JSON, and without it as text.
-pub record HasValuesIn (command : Text) (found : Option (Text × List Row)) (asked : Task × Form) : Type 0 where
+pub record HasValuesIn (command : Text) (found : Option (Text × List Row)) (request : Task × Form) : Type 0 where
   pub rows : List Row
   pub rows_are : option_map (λ match. match.1) found ≡ Some rows
-  pub form_is : IsFlag (codes "json") rows forms.Text forms.Json asked.1
-  pub values : HasValues command rows asked.0
+  pub form_is : IsFlag (codes "json") rows forms.Text forms.Json request.1
+  pub values : HasValues command rows request.0
 
 -- ---- plans
 
@@ -152,7 +152,7 @@ IsPlanOrHelp words command plan =
 
 -- Without arguments the plan is `Registers`: the log on standard input. Otherwise the first argument is the command; or it is
 -- `--version`.
-abbrev pub IsAskedBy : List (String Global) → Plan → Type 0
-IsAskedBy [] plan = plan ≡ plans.Registers
-IsAskedBy (word ∷ words) plan =
+abbrev pub IsRequestedBy : List (String Global) → Plan → Type 0
+IsRequestedBy [] plan = plan ≡ plans.Registers
+IsRequestedBy (word ∷ words) plan =
     IsPlanOrHelp (word ∷ words) (string_bytes word) plan ⊎ (BeginsWithVersion (word ∷ words) × (plan ≡ plans.Task tasks.Version forms.Text))

@@ -40,7 +40,7 @@ is_plain_verdict judged required = false
 abbrev pub has_plan : Task → Bool
 has_plan tasks.Registers = true
 has_plan (tasks.Answer (questions.Judge judge)) = is_plain_verdict judge.judged judge.required
-has_plan (tasks.Measure asked) = not (is_some asked.names)
+has_plan (tasks.Measure request) = not (is_some request.names)
 has_plan (tasks.Entries list) = true
 has_plan (tasks.Help text) = true
 has_plan task = false
@@ -59,9 +59,9 @@ HasForm form print = Unit {0}
 
 -- A measurement has 1 to 8 workers, a limit of at least one record, and fewer than 2^32 files named by arguments.
 abbrev pub IsWithinLimits : Form → Measurement → Type 0
-IsWithinLimits form asked =
-    (1 ≤ asked.workers) × (asked.workers ≤ 8) × (1 ≤ asked.limit) × (vec_len asked.files < 2 ^ 32) × HasForm form asked.print
+IsWithinLimits form request =
+    (1 ≤ request.workers) × (request.workers ≤ 8) × (1 ≤ request.limit) × (vec_len request.files < 2 ^ 32) × HasForm form request.print
 
 abbrev pub IsWithin : Form → Task → Type 0
-IsWithin form (tasks.Measure asked) = IsWithinLimits form asked
+IsWithin form (tasks.Measure request) = IsWithinLimits form request
 IsWithin form task = Unit {0}

@@ -269,11 +269,11 @@ impl Plan {
     }
 
     /// The plan of this task, shown in this form.
-    pub(crate) fn of(asked: (Task, Form)) -> Plan
-        ensures task { task_of result ≡ asked }
+    pub(crate) fn of(request: (Task, Form)) -> Plan
+        ensures task { task_of result ≡ request }
         ensures one { IsOneOf result }
     {
-        match asked {
+        match request {
             (Task::Registers, Form::Text) => Plan::Registers,
             (
                 Task::Measure(

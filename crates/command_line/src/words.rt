@@ -4,7 +4,7 @@ ghost use Rattle.std.specs.Prelude.{◌≡◌, [], None, Ok, codes, drop, string
 ghost use Rattle.clap.specs.Values.{kind_of};
 ghost use Rattle.clap.specs.Words.{Text as Words, found_of, rows_of, subcommand_rows_of};
 ghost use Rattle.std.specs.Vec.Iter.{into_iter_items};
-ghost use Rattle.command_line.specs.Plans.{BeginsWithVersion, HasHelpWord, HasJudged, HasQuestion, HasValues, HasValuesIn, IsAskedBy, IsHelp, IsPlanOrHelp, IsWithinRanges, asks_help};
+ghost use Rattle.command_line.specs.Plans.{BeginsWithVersion, HasHelpWord, HasJudged, HasQuestion, HasValues, HasValuesIn, IsRequestedBy, IsHelp, IsPlanOrHelp, IsWithinRanges, asks_help};
 ghost use Rattle.command_line.specs.Tasks.{IsWithin};
 ghost use Rattle.std.specs.List.{list_any};
 ghost use Rattle.command_line.specs.declared.plan.Form.TheVariants.{Text};
@@ -31,11 +31,11 @@ const NO_JSON_OF_BYTES: &str = "error: invalid value 'binary' for '--print <P>' 
 /// own definition.
 ///
 /// Fails with `Usage` if the arguments are not those of a command, and with `Memory` if memory runs out.
-#[tactic(auto, using(crate::proofs::ReadLemmas::asked_by))]
+#[tactic(auto, using(crate::proofs::ReadLemmas::requested_by))]
 pub fn read_words(alloc: Global, words: &[String]) -> Result<Plan, WordsFault>
     // The first argument is the command, the arguments match its options and names, and these are within their ranges; or they are not
     // taken, and one of them requests help; or the first is `--version`.
-    ensures asked { IfOk result (λ plan. IsAskedBy words.now plan × IsWithinRanges plan) }
+    ensures request { IfOk result (λ plan. IsRequestedBy words.now plan × IsWithinRanges plan) }
     // Without arguments the plan is `Registers`, whatever memory there is.
     ensures none { words.now ≡ [] → result ≡ Ok plans.Registers }
     // After `--version` the plan is to show the version, whatever follows it.
@@ -103,14 +103,14 @@ fn plan_in(alloc: Global, words: &[String], command: &str) -> Result<Plan, Words
         templates: &Template::ALL.map(Template::name),
     };
     match all_commands(alloc, known)?.try_get_matches_from(words) {
-        Ok(matches) => Ok(Plan::of(asked_of(alloc, command, &matches)?)),
+        Ok(matches) => Ok(Plan::of(requested_of(alloc, command, &matches)?)),
         Err(error) => help_of(alloc, words, &error),
     }
 }
 
 // The task of the command, and its form, from clap's matches.
-fn asked_of(alloc: Global, command: &str, matches: &ArgMatches) -> Result<(Task, Form), WordsFault>
-    ensures { IfOk result (λ asked. HasValuesIn command.now (subcommand_rows_of matches.now) asked × IsWithin asked.1 asked.0) }
+fn requested_of(alloc: Global, command: &str, matches: &ArgMatches) -> Result<(Task, Form), WordsFault>
+    ensures { IfOk result (λ request. HasValuesIn command.now (subcommand_rows_of matches.now) request × IsWithin request.1 request.0) }
 {
     let Some(matches) = matches.subcommand_matches(command) else {
         return Err(WordsFault::Usage);

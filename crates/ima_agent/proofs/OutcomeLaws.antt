@@ -41,12 +41,12 @@ pub kept_so : {A E P : Type 0} (result : Result A E) → P → OnErr result P
 kept_so (Ok value) holds = tt
 kept_so (Err fault) holds = holds
 
-pub text_sent : {form : Form} (IsAsked : List ℕ → ℕ → Type 0) (text : List ℕ) (status : ℕ) (old new : SinkState) (result : Result ℕ StreamFault)
-    → IsAsked text status → SendsText text status old new result → Streams form IsAsked old new result
-text_sent IsAsked text status old new (Ok answer) asked sent = record { text = text; sends = sent.0; goes_on = rw sent.1 asked }
-text_sent IsAsked text status old new (Err (streams.Sink failed)) asked sent =
-    record { text = text; sends = sent; goes_on = ([], status, rw (append-nil text) asked) }
-text_sent IsAsked text status old new (Err (streams.Run fault)) asked sent = absurd sent
+pub text_sent : {form : Form} (IsWanted : List ℕ → ℕ → Type 0) (text : List ℕ) (status : ℕ) (old new : SinkState) (result : Result ℕ StreamFault)
+    → IsWanted text status → SendsText text status old new result → Streams form IsWanted old new result
+text_sent IsWanted text status old new (Ok answer) request sent = record { text = text; sends = sent.0; goes_on = rw sent.1 request }
+text_sent IsWanted text status old new (Err (streams.Sink failed)) request sent =
+    record { text = text; sends = sent; goes_on = ([], status, rw (append-nil text) request) }
+text_sent IsWanted text status old new (Err (streams.Run fault)) request sent = absurd sent
 
 module _ (inputs : Inputs) (task : Task) (form : Form) (old new : Saved) where
   pub none_sent : (sink : SinkState) (fault : RunFault) → IsFaultOf inputs task form fault → new ≡ old

@@ -20,9 +20,9 @@ use Rattle.command_line.specs.declared.plan.Question.{Question}
 use Rattle.command_line.specs.declared.plan.Question.TheVariants as questions
 use Rattle.command_line.specs.declared.plan.Task.{Task}
 use Rattle.command_line.specs.declared.plan.Task.TheVariants as tasks
-use Rattle.command_line.specs.Plans.{IsAskedBy, IsWithinRanges}
+use Rattle.command_line.specs.Plans.{IsRequestedBy, IsWithinRanges}
 use Rattle.command_line.specs.Tasks.{task_of}
-use Rattle.judging.specs.Asking.{Any, Asked, Compared, Compares, ExpectedOf, Judgement, ListRegistersOf, ListVerdictOf, LogRegistersOf, Nothing, PlacesOf, Requires, These, VerdictOf}
+use Rattle.judging.specs.Requests.{Any, Requested, Compared, Compares, ExpectedOf, Judgement, ListRegistersOf, ListVerdictOf, LogRegistersOf, Nothing, PlacesOf, Requires, These, VerdictOf}
 use Rattle.judging.specs.Inputs.{FileOf, Where}
 use Rattle.measuring.specs.declared.recording.Measured.{Measured}
 use Rattle.measuring.specs.Measuring.{IsMeasured, IsMeasuringFault}
@@ -64,11 +64,11 @@ compared_by judge = record {
 }
 
 -- What a question asks.
-abbrev pub asked_by : Question → Asked
-asked_by (questions.LogRegisters log) = LogRegistersOf (file_of log)
-asked_by (questions.ListRegisters list) = ListRegistersOf (file_of list)
-asked_by (questions.Judge judge) = Compares (compared_by judge)
-asked_by (questions.Expected printed registers) = ExpectedOf (file_of printed) (option_map string_bytes registers)
+abbrev pub requested_by : Question → Requested
+requested_by (questions.LogRegisters log) = LogRegistersOf (file_of log)
+requested_by (questions.ListRegisters list) = ListRegistersOf (file_of list)
+requested_by (questions.Judge judge) = Compares (compared_by judge)
+requested_by (questions.Expected printed registers) = ExpectedOf (file_of printed) (option_map string_bytes registers)
 
 -- The name under which the checkpoint is saved, if it is.
 abbrev pub save_of : Judged → Option (List ℕ)
@@ -85,8 +85,8 @@ save_by question = None
 abbrev pub Shows : Inputs → Task → Form → List ℕ → ℕ → Type 0
 Shows inputs tasks.Registers form shown status = OfInput inputs None (λ text. ShowsHexadecimal form text shown status)
 Shows inputs (tasks.Answer question) form shown status = ⊥
-Shows inputs (tasks.Measure asked) form shown status =
-    ((given : Measured) × IsMeasured inputs asked given × (shown ≡ printed form asked.print given)) × (status ≡ 0)
+Shows inputs (tasks.Measure request) form shown status =
+    ((given : Measured) × IsMeasured inputs request given × (shown ≡ printed form request.print given)) × (status ≡ 0)
 Shows inputs (tasks.Events log requested) forms.Text shown status =
     OfInput inputs (Some (string_bytes log)) (λ bytes. AreAllEvents (events_text (data_of requested)) bytes shown) × (status ≡ 0)
 Shows inputs (tasks.Events log requested) forms.Json shown status =
@@ -102,14 +102,14 @@ Shows inputs tasks.Version form shown status = (shown ≡ version_text) × (stat
 -- is answered; with any other output nothing is saved.
 abbrev pub IsOutputFor : Inputs → Task → Form → Saved → Saved → List ℕ → ℕ → Type 0
 IsOutputFor inputs (tasks.Answer question) form old new shown status =
-    ShowsAnswer inputs (asked_by question) (save_by question) form old new shown status
+    ShowsAnswer inputs (requested_by question) (save_by question) form old new shown status
 IsOutputFor inputs task form old new shown status = Shows inputs task form shown status × (new ≡ old)
 
 -- The fault may come of the task in this form, with these inputs. As JSON, a damaged log is shown as far as it goes, and any list.
 abbrev pub IsFaultOf : Inputs → Task → Form → RunFault → Type 0
 IsFaultOf inputs tasks.Registers form fault = IsInputFault inputs None fault ⊎ OfInput inputs None (λ text. IsRefusedFor text fault)
-IsFaultOf inputs (tasks.Answer question) form fault = IsOutputFault inputs (asked_by question) (save_by question) fault
-IsFaultOf inputs (tasks.Measure asked) form fault = IsMeasuringFault inputs asked fault
+IsFaultOf inputs (tasks.Answer question) form fault = IsOutputFault inputs (requested_by question) (save_by question) fault
+IsFaultOf inputs (tasks.Measure request) form fault = IsMeasuringFault inputs request fault
 IsFaultOf inputs (tasks.Events log requested) forms.Text fault =
     IsInputFault inputs (Some (string_bytes log)) fault
     ⊎ OfInput inputs (Some (string_bytes log)) (λ bytes. IsNoLogFor bytes fault)
@@ -141,7 +141,7 @@ IsOutcome inputs task form old new text status =
 -- is saved.
 abbrev pub IsOutput : Inputs → List (String Global) → Saved → Saved → List ℕ → ℕ → Type 0
 IsOutput inputs words old new text status =
-    ((plan : Plan) × IsAskedBy words plan × IsWithinRanges plan × IsOutcome inputs (task_of plan).0 (task_of plan).1 old new text status)
+    ((plan : Plan) × IsRequestedBy words plan × IsWithinRanges plan × IsOutcome inputs (task_of plan).0 (task_of plan).1 old new text status)
     ⊎ ((fault : RunFault) × IsWordsFault fault × (text ≡ fault_line fault) × (status ≡ fault_status fault) × (new ≡ old))
 
 -- The status after an output was sent; 3 if the sink failed.
@@ -150,11 +150,11 @@ status_after (Ok value) status = status
 status_after (Err fault) status = 3
 
 -- The returned status: an output was sent, and `answer` is its status, or 3 if the sink failed.
-pub record Answers (IsAsked : List ℕ → ℕ → Type 0) (answer : ℕ) (old new : SinkState) : Type 0 where
+pub record Answers (IsWanted : List ℕ → ℕ → Type 0) (answer : ℕ) (old new : SinkState) : Type 0 where
   pub text : List ℕ
   pub status : ℕ
   pub sent : Result (Unit {0}) Failed
-  pub output : IsAsked text status
+  pub output : IsWanted text status
   pub sends : Sends old new sent text
   pub answer_is : answer ≡ status_after sent status
 
@@ -175,15 +175,15 @@ as_sent (Err (streams.Run fault)) = Ok tt
 -- What is asked for, after this text was sent: the text itself, with the returned status; the text with the line of the fault of the run, in
 -- this form; or the text with more that the sink did not take.
 abbrev pub GoesOn : Form → (List ℕ → ℕ → Type 0) → List ℕ → Result ℕ StreamFault → Type 0
-GoesOn form IsAsked text (Ok status) = IsAsked text status
-GoesOn form IsAsked text (Err (streams.Sink failed)) = (rest : List ℕ) × (status : ℕ) × IsAsked (text ++ rest) status
-GoesOn form IsAsked text (Err (streams.Run fault)) = (last : List ℕ) (status : ℕ) → IsFailure form fault last status → IsAsked (text ++ last) status
+GoesOn form IsWanted text (Ok status) = IsWanted text status
+GoesOn form IsWanted text (Err (streams.Sink failed)) = (rest : List ℕ) × (status : ℕ) × IsWanted (text ++ rest) status
+GoesOn form IsWanted text (Err (streams.Run fault)) = (last : List ℕ) (status : ℕ) → IsFailure form fault last status → IsWanted (text ++ last) status
 
 -- A text was sent, and with the line of a fault, if there is one, it is what is asked for.
-pub record Streams (form : Form) (IsAsked : List ℕ → ℕ → Type 0) (old new : SinkState) (result : Result ℕ StreamFault) : Type 0 where
+pub record Streams (form : Form) (IsWanted : List ℕ → ℕ → Type 0) (old new : SinkState) (result : Result ℕ StreamFault) : Type 0 where
   pub text : List ℕ
   pub sends : Sends old new (as_sent result) text
-  pub goes_on : GoesOn form IsAsked text result
+  pub goes_on : GoesOn form IsWanted text result
 
 -- This text was sent, and this is its status.
 abbrev pub SendsText : List ℕ → ℕ → SinkState → SinkState → Result ℕ StreamFault → Type 0

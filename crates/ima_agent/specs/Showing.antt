@@ -23,7 +23,7 @@ use Rattle.agent_inputs.specs.declared.fault.RunFault.{RunFault}
 use Rattle.agent_inputs.specs.declared.fault.RunFault.TheVariants as runs
 use Rattle.agent_inputs.specs.Faults.{HasLogFault, fault_of_list, fault_of_log}
 use Rattle.agent_inputs.specs.Loading.{Holds, HoldsTooMuch, Inputs, IsReadFailure, IsTooLong, OfInput, input_limit, unknown}
-use Rattle.judging.specs.Asking.{LogRegistersOf}
+use Rattle.judging.specs.Requests.{LogRegistersOf}
 use Rattle.judging.specs.Inputs.{BytesOf}
 use Rattle.rendering.specs.Outputs.{IsRefusalOn, IsShown}
 use Rattle.ima_agent.specs.JsonFaults.{IsFailure, IsReportedAsJson}

@@ -173,8 +173,8 @@ fn perform<R: Threads + Wait + Sync, F: AgentFiles, S: Sink, P: Progress>(
             let (request, save) = (request_of(question), save_of(question));
             sent_output(output_for(alloc, files, request, save, form), sink)
         }
-        Task::Measure(asked) => {
-            sent_output(measured_for(rt, alloc, asked, form, files, progress), sink)
+        Task::Measure(request) => {
+            sent_output(measured_for(rt, alloc, request, form, files, progress), sink)
         }
         Task::Events { log, data } => events_for(alloc, files, log, *data, form, sink),
         Task::Entries { list } => entries_for(alloc, files, list, form, sink),
@@ -187,19 +187,19 @@ fn perform<R: Threads + Wait + Sync, F: AgentFiles, S: Sink, P: Progress>(
 fn measured_for<R: Threads + Wait + Sync, F: AgentFiles, P: Progress>(
     rt: &R,
     alloc: Global,
-    asked: &Measurement,
+    request: &Measurement,
     form: Form,
     files: &mut F,
     progress: &P,
 ) -> Prepared
-    requires { IsWithinLimits form asked.now }
-    ensures shown { IfOk result (λ output. IsOutputFor (F.known files.old) (tasks.Measure asked.now) form (F.saved files.old) (F.saved files.new)
+    requires { IsWithinLimits form request.now }
+    ensures shown { IfOk result (λ output. IsOutputFor (F.known files.old) (tasks.Measure request.now) form (F.saved files.old) (F.saved files.new)
         output.text.items output.status) }
     ensures kept { OnErr result (F.saved files.new ≡ F.saved files.old) }
-    ensures fault { IfErr result (IsFaultOf (F.known files.old) (tasks.Measure asked.now) form) }
+    ensures fault { IfErr result (IsFaultOf (F.known files.old) (tasks.Measure request.now) form) }
 {
-    let given = measured(rt, alloc, files, asked, progress)?;
-    Ok(printed(alloc, &given, asked.print, form)?)
+    let given = measured(rt, alloc, files, request, progress)?;
+    Ok(printed(alloc, &given, request.print, form)?)
 }
 
 // Writes the line of the fault in this form, or as JSON that of `Memory` if memory runs out for it, and returns the status of what was

@@ -1,15 +1,15 @@
 //! What questions ask of logs and lists.
 
 ghost use Rattle.std.specs.Prelude.{◌≡◌, option_map};
-ghost use Rattle.judging.specs.Asking.{asked_of, compared_of, judgement_of, requires_of};
-ghost use Rattle.ima_agent.specs.Program.{asked_by, compared_by, judgement_by, requires_by, save_by};
+ghost use Rattle.judging.specs.Requests.{requested_of, compared_of, judgement_of, requires_of};
+ghost use Rattle.ima_agent.specs.Program.{requested_by, compared_by, judgement_by, requires_by, save_by};
 
 use command_line::{Scope, Judge, Judged, Question};
 use judging::{Comparison, Input, Request, Required, Wanted};
 
 /// What a question asks.
 pub(crate) fn request_of(question: &Question) -> Request<'_>
-    ensures { asked_of result ≡ asked_by question.now }
+    ensures { requested_of result ≡ requested_by question.now }
 {
     match question {
         Question::LogRegisters { log } => Request::LogRegisters {

@@ -1,7 +1,7 @@
 //! Reads the command line, with the program's faults.
 
 ghost use Rattle.std.specs.Prelude.{◌≡◌, [], Ok, IfOk, IfErr};
-ghost use Rattle.command_line.specs.Plans.{BeginsWithVersion, IsAskedBy, IsWithinRanges};
+ghost use Rattle.command_line.specs.Plans.{BeginsWithVersion, IsRequestedBy, IsWithinRanges};
 ghost use Rattle.command_line.specs.declared.plan.Form.TheVariants.{Text};
 ghost use Rattle.command_line.specs.declared.plan.Plan.TheVariants as plans;
 ghost use Rattle.command_line.specs.declared.plan.Task.TheVariants.{Version};
@@ -18,7 +18,7 @@ use std::alloc::Global;
 pub fn read_words(alloc: Global, words: &[String]) -> Result<Plan, RunFault>
     // The first argument is the command, the arguments match its options and names, and these are within their ranges; or one of
     // them requests help; or the first is `--version`.
-    ensures asked { IfOk result (λ plan. IsAskedBy words.now plan × IsWithinRanges plan) }
+    ensures request { IfOk result (λ plan. IsRequestedBy words.now plan × IsWithinRanges plan) }
     ensures refused { IfErr result IsWordsFault }
     // Without arguments the plan is `Registers`, whatever memory there is.
     ensures none { words.now ≡ [] → result ≡ Ok plans.Registers }

@@ -5,7 +5,7 @@ use Rattle.agent_inputs.specs.declared.fault.RunFault.{RunFault}
 use Rattle.agent_inputs.specs.declared.fault.RunFault.TheVariants.{Memory}
 use Rattle.agent_inputs.specs.Loading.{unknown}
 use Rattle.command_line.specs.declared.plan.Form.{Form}
-use Rattle.judging.specs.Asking.{Asked}
+use Rattle.judging.specs.Requests.{Requested}
 use Rattle.rendering.specs.Outputs.{IsRefusalOn}
 use Rattle.ima_verify_c.specs.declared.told.Told.{Told}
 use Rattle.ima_verify_c.specs.Answers.{Answers, AnswersMore, HasNoAnswerOn, IsAnswerAndNext, IsAnswerTo, IsRefusal}
@@ -26,13 +26,13 @@ refused Reason form fault answer told old new here memory given = record {
   caused (reason, is, inl same, line) = (reason, is, subst Reason (sym same) here, line)
   caused (reason, is, inr same, line) = (reason, is, subst Reason (sym same) memory, line)
 
-module _ (asked : Asked) (form : Form) (fault : RunFault) (answer : ℤ) (told : Told) (old new : List ℕ) (reason : IsRefusalOn unknown asked fault)
+module _ (request : Requested) (form : Form) (fault : RunFault) (answer : ℤ) (told : Told) (old new : List ℕ) (reason : IsRefusalOn unknown request fault)
     (given : Answers (IsRefusal (λ reason. (reason ≡ fault) ⊎ (reason ≡ Memory)) form) answer told old new) where
-  refusal : Answers (IsRefusal (HasNoAnswerOn asked) form) answer told old new
-  refusal = refused (HasNoAnswerOn asked) form fault answer told old new (inl reason) (inr refl) given
+  refusal : Answers (IsRefusal (HasNoAnswerOn request) form) answer told old new
+  refusal = refused (HasNoAnswerOn request) form fault answer told old new (inl reason) (inr refl) given
 
   -- The line of a fault was given.
-  pub gives_refusal : Answers (IsAnswerTo asked form) answer told old new
+  pub gives_refusal : Answers (IsAnswerTo request form) answer told old new
   gives_refusal = record {
     text = refusal.text;
     status = refusal.status;
@@ -42,7 +42,7 @@ module _ (asked : Asked) (form : Form) (fault : RunFault) (answer : ℤ) (told :
   }
 
   -- Beside the line of a fault there is no checkpoint.
-  pub gives_no_next : (next : List ℕ) → AnswersMore (IsAnswerAndNext asked form) answer told old new 0 next next
+  pub gives_no_next : (next : List ℕ) → AnswersMore (IsAnswerAndNext request form) answer told old new 0 next next
   gives_no_next next = record {
     text = refusal.text;
     status = refusal.status;

@@ -8,7 +8,7 @@ use Rattle.agent_inputs.specs.Faults.{fault_head}
 use Rattle.agent_inputs.specs.Loading.{unknown}
 use Rattle.command_line.specs.declared.plan.Form.{Form}
 use Rattle.command_line.specs.declared.plan.Form.TheVariants.{Json, Text}
-use Rattle.judging.specs.Asking.{Asked}
+use Rattle.judging.specs.Requests.{Requested}
 use Rattle.rendering.specs.Outputs.{GivesAnswer, IsRefusalOn}
 use Rattle.pieces.specs.declared.piece.End.{End}
 use Rattle.pieces.specs.declared.piece.End.TheVariants.{Last, Longer, More}
@@ -106,19 +106,19 @@ abbrev pub IsRefusal : (RunFault → Type 0) → Form → List ℕ → ℕ → O
 IsRefusal HasReason form text status fault = (reason : RunFault) × (fault ≡ Some reason) × HasReason reason × IsLineOf form reason text status
 
 -- Why there is no answer to what is asked, or memory ran out for what is to be given.
-abbrev pub HasNoAnswerOn : Asked → RunFault → Type 0
-HasNoAnswerOn asked fault = IsRefusalOn unknown asked fault ⊎ (fault ≡ Memory)
+abbrev pub HasNoAnswerOn : Requested → RunFault → Type 0
+HasNoAnswerOn request fault = IsRefusalOn unknown request fault ⊎ (fault ≡ Memory)
 
 -- The answer to what is asked, in this form, with its status, and the text of the checkpoint of what it is on, which has no bytes unless all
 -- is well; or why there is no answer, and no text of a checkpoint.
-abbrev pub IsAnswerAndNext : Asked → Form → List ℕ → ℕ → Option RunFault → List ℕ → Type 0
-IsAnswerAndNext asked form text status fault state =
-    ((fault ≡ None) × GivesAnswer unknown asked form text status state)
-    ⊎ (IsRefusal (HasNoAnswerOn asked) form text status fault × (state ≡ []))
+abbrev pub IsAnswerAndNext : Requested → Form → List ℕ → ℕ → Option RunFault → List ℕ → Type 0
+IsAnswerAndNext request form text status fault state =
+    ((fault ≡ None) × GivesAnswer unknown request form text status state)
+    ⊎ (IsRefusal (HasNoAnswerOn request) form text status fault × (state ≡ []))
 
 -- The answer, whatever checkpoint there is.
-abbrev pub IsAnswerTo : Asked → Form → List ℕ → ℕ → Option RunFault → Type 0
-IsAnswerTo asked form text status fault = (state : List ℕ) × IsAnswerAndNext asked form text status fault state
+abbrev pub IsAnswerTo : Requested → Form → List ℕ → ℕ → Option RunFault → Type 0
+IsAnswerTo request form text status fault = (state : List ℕ) × IsAnswerAndNext request form text status fault state
 
 -- ---- lines
 

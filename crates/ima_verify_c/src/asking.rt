@@ -1,8 +1,8 @@
 //! What a call with these bytes asks for.
 
 ghost use Rattle.std.specs.Prelude.{◌≡◌, option_map};
-ghost use Rattle.judging.specs.Asking.{asked_of, judgement_of, requires_of};
-ghost use Rattle.ima_verify_c.specs.Asked.{asked_by, asked_of_registers, form_of, given_bytes, required_by, verdict_of};
+ghost use Rattle.judging.specs.Requests.{requested_of, judgement_of, requires_of};
+ghost use Rattle.ima_verify_c.specs.Requested.{requested_by, requested_of_registers, form_of, given_bytes, required_by, verdict_of};
 
 use ima_agent::{Scope, Form};
 use judging::{Comparison, Input, Request, Required, Wanted};
@@ -37,14 +37,14 @@ pub(crate) fn verdict_of<'a>(log: &'a [u8], state: &'a [u8], prefix: bool) -> Wa
 }
 
 /// What a list is worth against expected registers; the word `none` requires this.
-pub(crate) fn asked_by<'a>(
+pub(crate) fn requested_by<'a>(
     none: Required<'a>,
     wanted: Wanted<'a>,
     list: &'a [u8],
     expected: &'a [u8],
     require: &'a [u8],
 ) -> Request<'a>
-    ensures { asked_of result ≡ asked_by (requires_of none.entry) (judgement_of wanted.entry) list.now expected.now require.now }
+    ensures { requested_of result ≡ requested_by (requires_of none.entry) (judgement_of wanted.entry) list.now expected.now require.now }
 {
     Request::Comparison(Comparison {
         wanted,
@@ -67,7 +67,7 @@ fn required_by<'a>(none: Required<'a>, require: &'a [u8]) -> Required<'a>
 
 /// The registers after a list alone, or after a log.
 pub(crate) fn registers_on(of_list: bool, bytes: &[u8]) -> Request<'_>
-    ensures { asked_of result ≡ asked_of_registers of_list bytes.now }
+    ensures { requested_of result ≡ requested_of_registers of_list bytes.now }
 {
     if of_list {
         Request::ListRegisters {

@@ -3,7 +3,7 @@
 ghost use Rattle.std.specs.Prelude.{◌≡◌, ◌≤◌, ◌⊎◌, None, length, option_map, IfOk, IfSome};
 ghost use Rattle.agent_inputs.specs.declared.fault.RunFault.TheVariants.{Memory};
 ghost use Rattle.ima_agent.specs.FaultTexts.{fault_status};
-ghost use Rattle.judging.specs.Asking.{asked_of};
+ghost use Rattle.judging.specs.Requests.{requested_of};
 ghost use Rattle.ima_verify_c.specs.Answers.{Answers, AnswersMore, AreGiven, GivesFound, GivesPiece, IsAnswerAndNext, IsAnswerTo, IsGiven, IsLineOf, IsRefusal};
 
 use crate::told::Told;
@@ -32,14 +32,14 @@ const MEMORY_LINE: &[u8] = b"failed: memory\n";
 /// Gives the answer to what is asked of bytes in memory, or the line of a fault, in this form.
 pub(crate) fn give(
     alloc: Global,
-    asked: Request<'_>,
+    request: Request<'_>,
     form: Form,
     out: &mut [u8],
     told: &mut Told,
 ) -> i32
-    ensures { Answers (IsAnswerTo (asked_of asked.entry) form) result told.new out.old out.new }
+    ensures { Answers (IsAnswerTo (requested_of request.entry) form) result told.new out.old out.new }
 {
-    match output_on(alloc, asked, form) {
+    match output_on(alloc, request, form) {
         Ok(given) => put(&given.output.text, given.output.status, None, out, told),
         Err(fault) => give_fault(alloc, form, &fault, out, told),
     }
@@ -48,16 +48,16 @@ pub(crate) fn give(
 /// Gives the answer and the text of the checkpoint of what it is on; or the line of a fault, and no checkpoint.
 pub(crate) fn give_both(
     alloc: Global,
-    asked: Request<'_>,
+    request: Request<'_>,
     form: Form,
     next: &mut [u8],
     next_size: &mut usize,
     out: &mut [u8],
     told: &mut Told,
 ) -> i32
-    ensures { AnswersMore (IsAnswerAndNext (asked_of asked.entry) form) result told.new out.old out.new next_size.new next.old next.new }
+    ensures { AnswersMore (IsAnswerAndNext (requested_of request.entry) form) result told.new out.old out.new next_size.new next.old next.new }
 {
-    match output_on(alloc, asked, form) {
+    match output_on(alloc, request, form) {
         Ok(given) => put_both(&given, next, next_size, out, told),
         Err(fault) => {
             *next_size = 0;

@@ -13,12 +13,12 @@ mod giving;
 mod told;
 
 ghost use Rattle.std.specs.Prelude.{◌≡◌};
-ghost use Rattle.judging.specs.Asking.{ExpectedOf};
+ghost use Rattle.judging.specs.Requests.{ExpectedOf};
 ghost use Rattle.judging.specs.Inputs.{BytesOf};
 ghost use Rattle.ima_verify_c.specs.Answers.{Answers, AnswersMore, GivesEntries, GivesEvents, IsAnswerAndNext, IsAnswerTo};
-ghost use Rattle.ima_verify_c.specs.Asked.{asked_of_list, asked_of_more, asked_of_places, asked_of_registers, asked_of_verdict, form_of, given_bytes, interface_version};
+ghost use Rattle.ima_verify_c.specs.Requested.{requested_of_list, requested_of_more, requested_of_places, requested_of_registers, requested_of_verdict, form_of, given_bytes, interface_version};
 
-use crate::asking::{asked_by, form_of, given_bytes, registers_on, verdict_of};
+use crate::asking::{requested_by, form_of, given_bytes, registers_on, verdict_of};
 use crate::giving::{give, give_both, give_lines};
 use ima_agent::Form;
 use judging::{Input, Request, Required, Wanted};
@@ -47,11 +47,11 @@ pub extern "C" fn ima_verify_raw_verdict<'a>(
     out: &mut [u8],
     told: &mut Told,
 ) -> i32
-    ensures { Answers (IsAnswerTo (asked_of_verdict log.now list.now expected.now require.now) (form_of json)) result told.new out.old out.new }
+    ensures { Answers (IsAnswerTo (requested_of_verdict log.now list.now expected.now require.now) (form_of json)) result told.new out.old out.new }
 {
     let verdict = verdict_of(log, b"", false);
-    let asked = asked_by(Required::Nothing, verdict, list, expected, require);
-    give(alloc, asked, form_of(json), out, told)
+    let request = requested_by(Required::Nothing, verdict, list, expected, require);
+    give(alloc, request, form_of(json), out, told)
 }
 
 /// Where expected registers first have their values in a firmware event log and a measurement list, as `locate` writes it: 0 if some
@@ -67,12 +67,12 @@ pub extern "C" fn ima_verify_raw_locate<'a>(
     out: &mut [u8],
     told: &mut Told,
 ) -> i32
-    ensures { Answers (IsAnswerTo (asked_of_places log.now list.now expected.now require.now) (form_of json)) result told.new out.old out.new }
+    ensures { Answers (IsAnswerTo (requested_of_places log.now list.now expected.now require.now) (form_of json)) result told.new out.old out.new }
 {
     let log = Input::Bytes(log);
     let places = Wanted::Places { log };
-    let asked = asked_by(Required::Nothing, places, list, expected, require);
-    give(alloc, asked, form_of(json), out, told)
+    let request = requested_by(Required::Nothing, places, list, expected, require);
+    give(alloc, request, form_of(json), out, told)
 }
 
 /// The verdict on a measurement list without a log, as `replay` writes it with expected registers: 0 if it is `match`, 1 if it is `differ`.
@@ -86,11 +86,11 @@ pub extern "C" fn ima_verify_raw_replay<'a>(
     out: &mut [u8],
     told: &mut Told,
 ) -> i32
-    ensures { Answers (IsAnswerTo (asked_of_list list.now expected.now require.now) (form_of json)) result told.new out.old out.new }
+    ensures { Answers (IsAnswerTo (requested_of_list list.now expected.now require.now) (form_of json)) result told.new out.old out.new }
 {
     let alone = Wanted::ListVerdict;
-    let asked = asked_by(Required::Nothing, alone, list, expected, require);
-    give(alloc, asked, form_of(json), out, told)
+    let request = requested_by(Required::Nothing, alone, list, expected, require);
+    give(alloc, request, form_of(json), out, told)
 }
 
 /// The verdict on a list that grows, as `verify` writes it with `--prefix` and `--resume`, and in `next` the checkpoint that it saves with
@@ -112,12 +112,12 @@ pub extern "C" fn ima_verify_raw_more<'a>(
     out: &mut [u8],
     told: &mut Told,
 ) -> i32
-    ensures { AnswersMore (IsAnswerAndNext (asked_of_more log.now state.now more.now expected.now require.now prefix) (form_of json)) result
+    ensures { AnswersMore (IsAnswerAndNext (requested_of_more log.now state.now more.now expected.now require.now prefix) (form_of json)) result
         told.new out.old out.new next_size.new next.old next.new }
 {
     let verdict = verdict_of(log, state, prefix);
-    let asked = asked_by(Required::Any, verdict, more, expected, require);
-    give_both(alloc, asked, form_of(json), next, next_size, out, told)
+    let request = requested_by(Required::Any, verdict, more, expected, require);
+    give_both(alloc, request, form_of(json), next, next_size, out, told)
 }
 
 /// The expected registers that a text which tpm2_pcrread or tpm2_checkquote printed states within a range, as `0-10`, or all if that is
@@ -133,11 +133,11 @@ pub extern "C" fn ima_verify_raw_expected(
 ) -> i32
     ensures { Answers (IsAnswerTo (ExpectedOf (BytesOf printed.now) (given_bytes registers.now)) (form_of json)) result told.new out.old out.new }
 {
-    let asked = Request::Expected {
+    let request = Request::Expected {
         printed: Input::Bytes(printed),
         range: given_bytes(registers),
     };
-    give(alloc, asked, form_of(json), out, told)
+    give(alloc, request, form_of(json), out, told)
 }
 
 /// The registers that differ from their reset values after a firmware event log, as `registers` writes them, or after a measurement list
@@ -151,10 +151,10 @@ pub extern "C" fn ima_verify_raw_registers(
     out: &mut [u8],
     told: &mut Told,
 ) -> i32
-    ensures { Answers (IsAnswerTo (asked_of_registers of_list bytes.now) (form_of json)) result told.new out.old out.new }
+    ensures { Answers (IsAnswerTo (requested_of_registers of_list bytes.now) (form_of json)) result told.new out.old out.new }
 {
-    let asked = registers_on(of_list, bytes);
-    give(alloc, asked, form_of(json), out, told)
+    let request = registers_on(of_list, bytes);
+    give(alloc, request, form_of(json), out, told)
 }
 
 /// The algorithms and the events of a firmware event log, as `events --json` writes them, from a position on: as many whole lines as there is

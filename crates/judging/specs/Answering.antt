@@ -34,7 +34,7 @@ use Rattle.judging.specs.declared.answer.Answer.{Answer}
 use Rattle.judging.specs.declared.answer.Answer.TheVariants as answers
 use Rattle.judging.specs.declared.answer.Answered.{Answered}
 use Rattle.judging.specs.declared.answering.Evidence.{Evidence as HeldEvidence}
-use Rattle.judging.specs.Asking.{Asked, Compared, Compares, ExpectedOf, ListRegistersOf, LogRegistersOf, Nothing, Requires, These, held_bytes, log_of, resume_of}
+use Rattle.judging.specs.Requests.{Requested, Compared, Compares, ExpectedOf, ListRegistersOf, LogRegistersOf, Nothing, Requires, These, held_bytes, log_of, resume_of}
 use Rattle.judging.specs.Growing.{Evidence, IsJudged, IsNotFound, IsRefusedList}
 use Rattle.judging.specs.Inputs.{Holds, IsInputFault, IsReadFailure, OfInput, Where}
 
@@ -62,11 +62,11 @@ IsKnown inputs resume known =
     MatchOption resume (known ≡ None) (λ place. IsSomeAnd known (λ known. OfInput inputs place (λ text. IsCheckpointText text known)))
 
 -- What is judged with is what the text requires, and what the inputs have that are asked for.
-pub record IsEvidence (inputs : Inputs) (asked : Compared) (evidence : Evidence) : Type 0 where
-  pub required_are : IsRequired asked.required evidence.required
-  pub log_is : MatchOption (log_of asked.judgement) (evidence.log ≡ []) (λ place. Holds inputs place evidence.log)
-  pub expected_are : OfInput inputs asked.expected (λ text. IsExpectedText text evidence.expected)
-  pub known_is : IsKnown inputs (resume_of asked.judgement) evidence.known
+pub record IsEvidence (inputs : Inputs) (request : Compared) (evidence : Evidence) : Type 0 where
+  pub required_are : IsRequired request.required evidence.required
+  pub log_is : MatchOption (log_of request.judgement) (evidence.log ≡ []) (λ place. Holds inputs place evidence.log)
+  pub expected_are : OfInput inputs request.expected (λ text. IsExpectedText text evidence.expected)
+  pub known_is : IsKnown inputs (resume_of request.judgement) evidence.known
 
 abbrev pub evidence_of : HeldEvidence → Evidence
 evidence_of held = record { required = held.requirement; log = held_bytes held.log; expected = held.expected.items; known = held.known }
@@ -82,12 +82,12 @@ IsNoCheckpoint text fault =
 -- Why there is no evidence, where a text that is given spells registers: an input was not loaded; the text does not state expected
 -- registers, and the fault is that of its first wrong line; it does, and the input to go on from has no checkpoint; or memory ran out.
 abbrev pub HasNoEvidence : Inputs → Compared → RunFault → Type 0
-HasNoEvidence inputs asked fault =
-    IsSomeAnd (log_of asked.judgement) (λ place. IsInputFault inputs place fault)
-    ⊎ IsInputFault inputs asked.expected fault
-    ⊎ ((first : ExpectFault) × OfInput inputs asked.expected (λ text. HasFirstFault text first) × (fault ≡ fault_of_expected first))
-    ⊎ (((expected : List Expected) × OfInput inputs asked.expected (λ text. IsExpectedText text expected))
-    × IsSomeAnd (resume_of asked.judgement) (λ place. IsInputFault inputs place fault ⊎ OfInput inputs place (λ text. IsNoCheckpoint text fault)))
+HasNoEvidence inputs request fault =
+    IsSomeAnd (log_of request.judgement) (λ place. IsInputFault inputs place fault)
+    ⊎ IsInputFault inputs request.expected fault
+    ⊎ ((first : ExpectFault) × OfInput inputs request.expected (λ text. HasFirstFault text first) × (fault ≡ fault_of_expected first))
+    ⊎ (((expected : List Expected) × OfInput inputs request.expected (λ text. IsExpectedText text expected))
+    × IsSomeAnd (resume_of request.judgement) (λ place. IsInputFault inputs place fault ⊎ OfInput inputs place (λ text. IsNoCheckpoint text fault)))
     ⊎ (fault ≡ runs.Memory)
 
 -- ---- what is compared
@@ -112,22 +112,22 @@ is_well requires (Some ranges) (answers.ListReport report) = required_list_match
 is_well requires ranges answer = true
 
 -- This is what comes of what is compared, and what it is worth. Nobody goes on from it, unless all is well.
-pub record IsComparison (inputs : Inputs) (asked : Compared) (given : Answered) : Type 0 where
+pub record IsComparison (inputs : Inputs) (request : Compared) (given : Answered) : Type 0 where
   pub evidence : Evidence
   pub next : Option Checkpoint
-  pub evidence_is : IsEvidence inputs asked evidence
+  pub evidence_is : IsEvidence inputs request evidence
   pub requirement_is : given.requirement ≡ evidence.required
-  pub judged : IsJudged inputs asked.judgement asked.list evidence given.answer next
-  pub well_is : given.is_well ≡ is_well asked.required given.requirement given.answer
+  pub judged : IsJudged inputs request.judgement request.list evidence given.answer next
+  pub well_is : given.is_well ≡ is_well request.required given.requirement given.answer
   pub next_is : given.next ≡ (if given.is_well then next else None)
 
 -- Why nothing comes of what is compared: the text spells no registers; it spells some or is not given, and there is no evidence; or there
 -- is, and no answer.
 abbrev pub IsNoComparison : Inputs → Compared → RunFault → Type 0
-IsNoComparison inputs asked fault =
-    IsNotRequired asked.required fault
-    ⊎ (((required : Option (List BankRange)) × IsRequired asked.required required) × HasNoEvidence inputs asked fault)
-    ⊎ ((evidence : Evidence) × IsEvidence inputs asked evidence × IsNotFound inputs asked.judgement asked.list evidence fault)
+IsNoComparison inputs request fault =
+    IsNotRequired request.required fault
+    ⊎ (((required : Option (List BankRange)) × IsRequired request.required required) × HasNoEvidence inputs request fault)
+    ⊎ ((evidence : Evidence) × IsEvidence inputs request evidence × IsNotFound inputs request.judgement request.list evidence fault)
 
 -- ---- registers
 
@@ -170,23 +170,23 @@ abbrev pub alone : Answer → Answered
 alone answer = record { answer = answer; requirement = None; is_well = true; next = None }
 
 -- This is what is asked for, where nothing is compared.
-abbrev pub IsAlone : Inputs → Asked → Answer → Type 0
+abbrev pub IsAlone : Inputs → Requested → Answer → Type 0
 IsAlone inputs (LogRegistersOf log) (answers.Registers registers) =
     OfInput inputs log (λ content. AreRegistersAfter content registers.start registers.now)
 IsAlone inputs (ListRegistersOf list) (answers.Registers registers) =
     OfInput inputs list (λ content. AreListRegisters content registers.start registers.now)
 IsAlone inputs (ExpectedOf printed text) (answers.Expected expected range) =
     IsRequested text range × OfInput inputs printed (λ content. IsPrintedWithin range content expected.items)
-IsAlone inputs asked answer = ⊥
+IsAlone inputs request answer = ⊥
 
 -- This is the answer to what is asked for. Where nothing is compared, all is well with any.
-abbrev pub IsAnswer : Inputs → Asked → Answered → Type 0
+abbrev pub IsAnswer : Inputs → Requested → Answered → Type 0
 IsAnswer inputs (Compares compared) given = IsComparison inputs compared given
-IsAnswer inputs asked given = (answer : Answer) × IsAlone inputs asked answer × (given ≡ alone answer)
+IsAnswer inputs request given = (answer : Answer) × IsAlone inputs request answer × (given ≡ alone answer)
 
 -- Why there is no answer: an input was not loaded or read; the bytes are no log; the list is refused; the text spells no range, or the
 -- other states no register within it, as tpm2-tools prints them; or memory ran out.
-abbrev pub IsRefusal : Inputs → Asked → RunFault → Type 0
+abbrev pub IsRefusal : Inputs → Requested → RunFault → Type 0
 IsRefusal inputs (Compares compared) fault = IsNoComparison inputs compared fault
 IsRefusal inputs (LogRegistersOf log) fault =
     IsInputFault inputs log fault ⊎ OfInput inputs log (λ content. HasLogFault content fault) ⊎ (fault ≡ runs.Memory)

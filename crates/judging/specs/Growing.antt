@@ -35,7 +35,7 @@ use Rattle.agent_inputs.specs.Faults.{HasLogFault}
 use Rattle.agent_inputs.specs.Loading.{GivesAll, HasFailed, Inputs}
 use Rattle.judging.specs.declared.answer.Answer.{Answer}
 use Rattle.judging.specs.declared.answer.Answer.TheVariants as answers
-use Rattle.judging.specs.Asking.{Judgement, ListVerdictOf, PlacesOf, VerdictOf}
+use Rattle.judging.specs.Requests.{Judgement, ListVerdictOf, PlacesOf, VerdictOf}
 use Rattle.judging.specs.Inputs.{IsFaultAt, IsReadFailure, MayFail, OfInput, Where, held_in, limit_of}
 
 -- What a list is judged with: the registers that are required, if a text spells some; the log, no bytes without one; the expected

@@ -1,4 +1,4 @@
 pub mod Inputs
-pub mod Asking
+pub mod Requests
 pub mod Growing
 pub mod Answering

@@ -3,7 +3,7 @@
 ghost use Rattle.std.specs.Prelude.{◌≡◌, option_map};
 ghost use Rattle.boot_verdict.specs.Verdicts.{verdict_of};
 ghost use Rattle.judging.specs.Answering.{alone, is_match, is_well};
-ghost use Rattle.judging.specs.Asking.{requires_of};
+ghost use Rattle.judging.specs.Requests.{requires_of};
 
 use crate::request::Required;
 use agent_inputs::RunFault;

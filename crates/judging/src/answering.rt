@@ -3,7 +3,7 @@
 ghost use Rattle.std.specs.Prelude.{◌≡◌, ◌⊎◌, [], IfOk, IfErr, IsSomeAnd, MatchOption};
 ghost use Rattle.judging.specs.Answering.{HasNoEvidence, IsAnswer, IsComparison, IsEvidence, IsKnown, IsNoCheckpoint, IsNoComparison, IsNotRequired, IsRefusal, IsRequired, evidence_of};
 ghost use Rattle.judging.specs.Growing.{Finds, FindsFrom};
-ghost use Rattle.judging.specs.Asking.{asked_of, compared_of, held_bytes, judgement_of, log_of, place_of, requires_of, resume_of};
+ghost use Rattle.judging.specs.Requests.{requested_of, compared_of, held_bytes, judgement_of, log_of, place_of, requires_of, resume_of};
 ghost use Rattle.judging.specs.Inputs.{Holds, IsInputFault, OfInput};
 
 use crate::answer::{Answer, Answered, Answering, is_well};
@@ -25,14 +25,14 @@ use std::alloc::Global;
 pub fn answered<F: AgentFiles>(
     alloc: Global,
     files: &mut F,
-    asked: Request<'_>,
+    request: Request<'_>,
 ) -> Result<Answered, RunFault>
-    ensures answer { IfOk result (IsAnswer (F.known files.old) (asked_of asked.entry)) }
-    ensures fault { IfErr result (IsRefusal (F.known files.old) (asked_of asked.entry)) }
+    ensures answer { IfOk result (IsAnswer (F.known files.old) (requested_of request.entry)) }
+    ensures fault { IfErr result (IsRefusal (F.known files.old) (requested_of request.entry)) }
     ensures saved { F.saved files.new ≡ F.saved files.old }
 {
-    match asked {
-        Request::Comparison(asked) => compared(alloc, files, asked),
+    match request {
+        Request::Comparison(request) => compared(alloc, files, request),
         Request::LogRegisters { log } => after_log(alloc, files, log),
         Request::ListRegisters { list } => after_list(alloc, files, list),
         Request::Expected { printed, range } => printed_within(alloc, files, printed, range),
@@ -40,15 +40,15 @@ pub fn answered<F: AgentFiles>(
 }
 
 // What comes of what is compared.
-fn compared<F: AgentFiles>(alloc: Global, files: &mut F, asked: Comparison<'_>) -> Answering
-    ensures answer { IfOk result (IsComparison (F.known files.old) (compared_of asked.entry)) }
-    ensures fault { IfErr result (IsNoComparison (F.known files.old) (compared_of asked.entry)) }
+fn compared<F: AgentFiles>(alloc: Global, files: &mut F, request: Comparison<'_>) -> Answering
+    ensures answer { IfOk result (IsComparison (F.known files.old) (compared_of request.entry)) }
+    ensures fault { IfErr result (IsNoComparison (F.known files.old) (compared_of request.entry)) }
     ensures saved { F.saved files.new ≡ F.saved files.old }
 {
-    let requirement = required_in(alloc, asked.required)?;
-    let evidence = evidence_of(alloc, files, asked, requirement)?;
-    let (answer, next) = evidence.find(alloc, files, asked)?;
-    let is_well = is_well(asked.required, evidence.requirement.as_ref(), &answer);
+    let requirement = required_in(alloc, request.required)?;
+    let evidence = evidence_of(alloc, files, request, requirement)?;
+    let (answer, next) = evidence.find(alloc, files, request)?;
+    let is_well = is_well(request.required, evidence.requirement.as_ref(), &answer);
     Ok(Answered {
         answer,
         requirement: evidence.requirement,
@@ -89,19 +89,19 @@ pub(crate) struct Evidence<'a> {
 fn evidence_of<'a, F: AgentFiles>(
     alloc: Global,
     files: &mut F,
-    asked: Comparison<'a>,
+    request: Comparison<'a>,
     requirement: Option<Requirement>,
 ) -> Result<Evidence<'a>, RunFault>
-    requires { IsRequired (requires_of asked.required) requirement }
-    ensures evidence { IfOk result (λ evidence. IsEvidence (F.known files.old) (compared_of asked.entry) (evidence_of evidence)) }
-    ensures fault { IfErr result (HasNoEvidence (F.known files.old) (compared_of asked.entry)) }
+    requires { IsRequired (requires_of request.required) requirement }
+    ensures evidence { IfOk result (λ evidence. IsEvidence (F.known files.old) (compared_of request.entry) (evidence_of evidence)) }
+    ensures fault { IfErr result (HasNoEvidence (F.known files.old) (compared_of request.entry)) }
     ensures known { F.known files.new ≡ F.known files.old }
     ensures saved { F.saved files.new ≡ F.saved files.old }
 {
-    let log = log_in(alloc, files, asked.wanted)?;
-    let text = loaded_at(alloc, files, asked.expected)?;
+    let log = log_in(alloc, files, request.wanted)?;
+    let text = loaded_at(alloc, files, request.expected)?;
     let expected = read_expected(alloc, text.bytes())?;
-    let known = known_in(alloc, files, asked.wanted)?;
+    let known = known_in(alloc, files, request.wanted)?;
     Ok(Evidence {
         requirement,
         log,
@@ -158,26 +158,26 @@ pub(crate) type Finding = Result<(Answer, Option<Checkpoint>), RunFault>;
 
 impl Evidence<'_> {
     // Opens the list, and finds what is asked for in it.
-    fn find<F: AgentFiles>(&self, alloc: Global, files: &mut F, asked: Comparison<'_>) -> Finding
-        ensures found { Finds (F.known files.old) (judgement_of asked.entry.wanted) (place_of asked.entry.list) (evidence_of self.now) result }
+    fn find<F: AgentFiles>(&self, alloc: Global, files: &mut F, request: Comparison<'_>) -> Finding
+        ensures found { Finds (F.known files.old) (judgement_of request.entry.wanted) (place_of request.entry.list) (evidence_of self.now) result }
         ensures saved { F.saved files.new ≡ F.saved files.old }
     {
-        match asked.list {
-            Input::Bytes(list) => self.find_from(alloc, &mut SliceSource::new(list), asked),
+        match request.list {
+            Input::Bytes(list) => self.find_from(alloc, &mut SliceSource::new(list), request),
             Input::File(name) => match files.source(Some(name)) {
-                Ok(mut source) => self.find_from(alloc, &mut source, asked),
+                Ok(mut source) => self.find_from(alloc, &mut source, request),
                 Err(Failed) => Err(not_read(alloc, name)),
             },
         }
     }
 
     // Finds what is asked for in the list of this source.
-    fn find_from<R: Source>(&self, alloc: Global, source: &mut R, asked: Comparison<'_>) -> Finding
-        ensures { FindsFrom (judgement_of asked.entry.wanted) (place_of asked.entry.list) (evidence_of self.now)
+    fn find_from<R: Source>(&self, alloc: Global, source: &mut R, request: Comparison<'_>) -> Finding
+        ensures { FindsFrom (judgement_of request.entry.wanted) (place_of request.entry.list) (evidence_of self.now)
             (R.state source.old) (R.state source.new) result }
     {
-        let list = asked.list;
-        match asked.wanted {
+        let list = request.list;
+        match request.wanted {
             Wanted::Verdict { scope, .. } => self.verdict_from(alloc, source, list, scope),
             Wanted::Places { .. } => {
                 let log = self.log.bytes();

@@ -4,7 +4,7 @@ ghost use Rattle.std.specs.Prelude.{◌≡◌, option_map, IfOk, IfErr};
 ghost use Rattle.std.specs.List.{list_any};
 ghost use Rattle.boot_verdict.specs.RegisterRanges.{is_within};
 ghost use Rattle.judging.specs.Answering.{IsAnswer, IsNotPrintedWithin, IsPrintedWithin, IsRangeFault, IsRefusal, IsRequested};
-ghost use Rattle.judging.specs.Asking.{ExpectedOf, place_of};
+ghost use Rattle.judging.specs.Requests.{ExpectedOf, place_of};
 
 use crate::answer::{Answer, Answered, Answering};
 use crate::inputs::{Input, loaded_at};

@@ -1,7 +1,7 @@
 //! Where inputs are: loads them, and makes the faults that name one.
 
 ghost use Rattle.std.specs.Prelude.{◌≡◌, IfOk, IfErr};
-ghost use Rattle.judging.specs.Asking.{held_bytes, place_of};
+ghost use Rattle.judging.specs.Requests.{held_bytes, place_of};
 ghost use Rattle.judging.specs.Inputs.{Holds, IsFaultAt, IsInputFault, limit_of};
 
 use agent_inputs::{AgentFiles, INPUT_LIMIT, RunFault, loaded, not_read, too_long};

@@ -4,7 +4,7 @@ ghost use Rattle.std.specs.Prelude.{◌≡◌, IfOk, IfErr};
 ghost use Rattle.agent_inputs.specs.Loading.{Inputs as InputsOf};
 ghost use Rattle.judging.specs.Answering.{IsAnswer, IsRefusal};
 ghost use Rattle.judging.specs.Growing.{GivesInput};
-ghost use Rattle.judging.specs.Asking.{ListRegistersOf, LogRegistersOf, place_of};
+ghost use Rattle.judging.specs.Requests.{ListRegistersOf, LogRegistersOf, place_of};
 
 use crate::answer::{Answer, Answered, Answering, Registers};
 use crate::inputs::{Input, limit_of, loaded_at, refused};

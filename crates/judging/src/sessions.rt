@@ -6,7 +6,7 @@ ghost use Rattle.growing_lists.specs.Sessions.{HasTaken};
 ghost use Rattle.agent_inputs.specs.declared.fault.RunFault.TheVariants as runs;
 ghost use Rattle.judging.specs.Answering.{IsCheckpointText, IsNoCheckpoint, evidence_of};
 ghost use Rattle.judging.specs.Growing.{CanBeReadBack, FindsFrom, IsLogRefused, IsStarted, JudgesFrom, seeks_prefix};
-ghost use Rattle.judging.specs.Asking.{VerdictOf, place_of};
+ghost use Rattle.judging.specs.Requests.{VerdictOf, place_of};
 ghost use Rattle.judging.specs.Inputs.{Where};
 
 use crate::answer::Answer;

@@ -102,28 +102,28 @@ module _ (held : Contents) (Fails Others : List ℕ → Type 0) (more : (name : 
   }
 
 -- The origin of a book over a log, as asked.
-abbrev pub set_out : (log : List ℕ) (asked : Measurement) (table : List Row) (events : List LogEvent) → IsLog log table events → (start : Banks)
+abbrev pub set_out : (log : List ℕ) (request : Measurement) (table : List Row) (events : List LogEvent) → IsLog log table events → (start : Banks)
     → IsFirmware (algs_in table) events start
-    → IsSetOut log asked (record { start = start; template = asked.template; alg = asked.alg; limit = asked.limit })
-set_out log asked table events is start starts =
+    → IsSetOut log request (record { start = start; template = request.template; alg = request.alg; limit = request.limit })
+set_out log request table events is start starts =
     record { table = table; events = events; log_is = is; starts = starts; origin_is = refl }
 
-pub not_recorded : (held : Contents) (Fails : List ℕ → Type 0) (log : List ℕ) (asked : Measurement) (names : List (List ℕ)) (origin : Origin)
-    (fault : RunFault) → IsSetOut log asked origin
-    → IsFileFault held Fails names fault ⊎ IsRecordingFault held names origin asked.workers fault
-    → IsFileFault held Fails names fault ⊎ IsNotRecorded held log asked names fault
-not_recorded held Fails log asked names origin fault out (inl file) = inl file
-not_recorded held Fails log asked names origin fault out (inr reason) = inr (origin, out, reason)
+pub not_recorded : (held : Contents) (Fails : List ℕ → Type 0) (log : List ℕ) (request : Measurement) (names : List (List ℕ)) (origin : Origin)
+    (fault : RunFault) → IsSetOut log request origin
+    → IsFileFault held Fails names fault ⊎ IsRecordingFault held names origin request.workers fault
+    → IsFileFault held Fails names fault ⊎ IsNotRecorded held log request names fault
+not_recorded held Fails log request names origin fault out (inl file) = inl file
+not_recorded held Fails log request names origin fault out (inr reason) = inr (origin, out, reason)
 
 -- Why nothing is measured of inputs that hold this log.
-module _ (inputs : Inputs) (asked : Measurement) (log : List ℕ) (has : Holds inputs (Some (string_bytes asked.log)) log) (is : IsInputLog log) where
-  pub no_names : (fault : RunFault) → IsNamesFault inputs asked fault ⊎ (fault ≡ Memory) → IsMeasuringFault inputs asked fault
+module _ (inputs : Inputs) (request : Measurement) (log : List ℕ) (has : Holds inputs (Some (string_bytes request.log)) log) (is : IsInputLog log) where
+  pub no_names : (fault : RunFault) → IsNamesFault inputs request fault ⊎ (fault ≡ Memory) → IsMeasuringFault inputs request fault
   no_names fault (inl known) = inr (log, has, inr (inl (is, inl known)))
   no_names fault (inr memory) = inr (log, has, inr (inr memory))
 
-  pub not_all : (names : List (List ℕ)) → AreNames inputs asked names → (held : Contents) (Fails : List ℕ → Type 0) → held ≡ files_in inputs
+  pub not_all : (names : List (List ℕ)) → AreNames inputs request names → (held : Contents) (Fails : List ℕ → Type 0) → held ≡ files_in inputs
       → ((name : List ℕ) → Fails name → failing_in inputs name) → (fault : RunFault)
-      → IsFileFault held Fails names fault ⊎ IsNotRecorded held log asked names fault → IsMeasuringFault inputs asked fault
+      → IsFileFault held Fails names fault ⊎ IsNotRecorded held log request names fault → IsMeasuringFault inputs request fault
   not_all names are held Fails same more fault (inl file) =
       let among = fault_among held Fails (failing_in inputs) more names fault file in
       inr (log, has, inr (inl (is, inr (names, are, inl (rw same at among)))))

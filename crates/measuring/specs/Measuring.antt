@@ -96,12 +96,12 @@ abbrev pub AreLog : List ℕ → Type 0
 AreLog bytes = (table : List Row) × (events : List LogEvent) × IsLog bytes table events
 
 -- Files are to be measured as asked, into a book of this origin: it starts with the registers after the events of this log.
-pub record IsSetOut (log : List ℕ) (asked : Measurement) (origin : Origin) : Type 0 where
+pub record IsSetOut (log : List ℕ) (request : Measurement) (origin : Origin) : Type 0 where
   pub table : List Row
   pub events : List LogEvent
   pub log_is : IsLog log table events
   pub starts : IsFirmware (algs_in table) events origin.start
-  pub origin_is : origin ≡ record { start = origin.start; template = asked.template; alg = asked.alg; limit = asked.limit }
+  pub origin_is : origin ≡ record { start = origin.start; template = request.template; alg = request.alg; limit = request.limit }
 
 -- A text of further names: UTF-8, and no more bytes than an input may have.
 abbrev pub IsTextOfNames : List ℕ → Type 0
@@ -110,24 +110,24 @@ IsTextOfNames text = IsUtf8 text × (length text ≤ input_limit)
 -- These are the names of the files to be measured, fewer than 2^32: those in the arguments, and then, if there is a text of further names, those
 -- in it.
 abbrev pub AreNames : Inputs → Measurement → List (List ℕ) → Type 0
-AreNames inputs asked names =
+AreNames inputs request names =
     (length names < 2 ^ 32)
-    × MatchOption asked.names (names ≡ map string_bytes asked.files.items) (λ more. OfInput inputs (Some (string_bytes more.text)) (λ text.
-    IsTextOfNames text × (names ≡ map string_bytes asked.files.items ++ names_of more.ends text)))
+    × MatchOption request.names (names ≡ map string_bytes request.files.items) (λ more. OfInput inputs (Some (string_bytes more.text)) (λ text.
+    IsTextOfNames text × (names ≡ map string_bytes request.files.items ++ names_of more.ends text)))
 
 -- This is what a measurement of the files of these names over this log gives: a book that starts with the registers after the log, and in
 -- which the files are measured, each under its name with all that it holds; its list is what the records add, and its registers are the
 -- list's replay. Beside it, the registers at their reset values.
-pub record IsMeasuredOver (held : Contents) (log : List ℕ) (asked : Measurement) (names : List (List ℕ)) (given : Measured) : Type 0 where
+pub record IsMeasuredOver (held : Contents) (log : List ℕ) (request : Measurement) (names : List (List ℕ)) (given : Measured) : Type 0 where
   pub origin : Origin
-  pub set_out : IsSetOut log asked origin
+  pub set_out : IsSetOut log request origin
   pub reset_is : IsReset (algs_in set_out.table) (startup_locality set_out.events) given.reset
-  pub measured : HasRecorded held names origin asked.workers None given.book
+  pub measured : HasRecorded held names origin request.workers None given.book
 
 -- This is what a measurement of these inputs gives: that of the files of all names over the log.
 abbrev pub IsMeasured : Inputs → Measurement → Measured → Type 0
-IsMeasured inputs asked given = OfInput inputs (Some (string_bytes asked.log)) (λ log.
-    (names : List (List ℕ)) × AreNames inputs asked names × IsMeasuredOver (files_in inputs) log asked names given)
+IsMeasured inputs request given = OfInput inputs (Some (string_bytes request.log)) (λ log.
+    (names : List (List ℕ)) × AreNames inputs request names × IsMeasuredOver (files_in inputs) log request names given)
 
 -- ---- why nothing is measured
 
@@ -165,7 +165,7 @@ IsRecordingFault held names origin workers fault =
 
 -- The files of these names were to be measured as asked over this log, and were not all recorded.
 abbrev pub IsNotRecorded : Contents → List ℕ → Measurement → List (List ℕ) → RunFault → Type 0
-IsNotRecorded held log asked names fault = (origin : Origin) × IsSetOut log asked origin × IsRecordingFault held names origin asked.workers fault
+IsNotRecorded held log request names fault = (origin : Origin) × IsSetOut log request origin × IsRecordingFault held names origin request.workers fault
 
 -- The bytes are a log, and no more than an input may have.
 abbrev pub IsInputLog : List ℕ → Type 0
@@ -174,17 +174,17 @@ IsInputLog bytes = (length bytes ≤ input_limit) × AreLog bytes
 -- Why there are no names: there is a text of further names, and it was not loaded, is not UTF-8, or names, with the names before, 2^32 files
 -- or more.
 abbrev pub IsNamesFault : Inputs → Measurement → RunFault → Type 0
-IsNamesFault inputs asked fault = MatchOption asked.names ⊥ (λ more.
+IsNamesFault inputs request fault = MatchOption request.names ⊥ (λ more.
     IsInputFault inputs (Some (string_bytes more.text)) fault ⊎ OfInput inputs (Some (string_bytes more.text)) (λ text.
     (IsNotUtf8 (string_bytes more.text) fault × (IsUtf8 text → ⊥))
-    ⊎ ((fault ≡ runs.Usage) × (2 ^ 32 ≤ length (map string_bytes asked.files.items ++ names_of more.ends text)))))
+    ⊎ ((fault ≡ runs.Usage) × (2 ^ 32 ≤ length (map string_bytes request.files.items ++ names_of more.ends text)))))
 
 -- Why nothing is measured of these inputs: the log was not loaded, or is no log; it is one, and there are no names, or the files are not
 -- measured; or memory ran out.
 abbrev pub IsMeasuringFault : Inputs → Measurement → RunFault → Type 0
-IsMeasuringFault inputs asked fault =
-    IsInputFault inputs (Some (string_bytes asked.log)) fault
-    ⊎ OfInput inputs (Some (string_bytes asked.log)) (λ log.
-    HasLogFault log fault ⊎ (IsInputLog log × (IsNamesFault inputs asked fault ⊎ ((names : List (List ℕ)) × AreNames inputs asked names
-    × (IsFileFault (files_in inputs) (failing_in inputs) names fault ⊎ IsNotRecorded (files_in inputs) log asked names fault))))
+IsMeasuringFault inputs request fault =
+    IsInputFault inputs (Some (string_bytes request.log)) fault
+    ⊎ OfInput inputs (Some (string_bytes request.log)) (λ log.
+    HasLogFault log fault ⊎ (IsInputLog log × (IsNamesFault inputs request fault ⊎ ((names : List (List ℕ)) × AreNames inputs request names
+    × (IsFileFault (files_in inputs) (failing_in inputs) names fault ⊎ IsNotRecorded (files_in inputs) log request names fault))))
     ⊎ (fault ≡ runs.Memory))

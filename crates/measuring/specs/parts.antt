@@ -13,7 +13,7 @@ names_borrowed names = map (λ name. name.now) names
 
 -- The text of further names, if there is one, holds these bytes.
 abbrev pub IsTextFor : Inputs → Measurement → List ℕ → Type 0
-IsTextFor inputs asked text = (length text ≤ input_limit) × IfSome asked.names (λ more. Holds inputs (Some (string_bytes more.text)) text)
+IsTextFor inputs request text = (length text ≤ input_limit) × IfSome request.names (λ more. Holds inputs (Some (string_bytes more.text)) text)
 
 -- Why the file of this number has no operation: it is too long, it could not be opened or read (both only as far as this is told), or
 -- memory ran out.

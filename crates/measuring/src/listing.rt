@@ -15,16 +15,16 @@ type Listed<'a> = Result<Vec<&'a str>, RunFault>;
 
 /// The names of all files to be measured, borrowed: those in the arguments, and then, if there is a text of further names, those in it,
 /// where it holds these bytes. Fails with `NotUtf8` if they are not UTF-8, and with `Usage` if there are 2^32 names or more.
-pub(crate) fn names_for<'a>(alloc: Global, asked: &'a Measurement, text: &'a [u8]) -> Listed<'a>
-    requires { vec_len asked.now.files < 2 ^ 32 }
-    ensures names { IfOk result (λ names. (inputs : Inputs) → IsTextFor inputs asked.now text.now
-        → AreNames inputs asked.now (names_borrowed names.items)) }
+pub(crate) fn names_for<'a>(alloc: Global, request: &'a Measurement, text: &'a [u8]) -> Listed<'a>
+    requires { vec_len request.now.files < 2 ^ 32 }
+    ensures names { IfOk result (λ names. (inputs : Inputs) → IsTextFor inputs request.now text.now
+        → AreNames inputs request.now (names_borrowed names.items)) }
     ensures small { IfOk result (λ names. vec_len names < 2 ^ 32) }
-    ensures fault { IfErr result (λ fault. (inputs : Inputs) → IsTextFor inputs asked.now text.now
-        → IsNamesFault inputs asked.now fault ⊎ (fault ≡ Memory)) }
+    ensures fault { IfErr result (λ fault. (inputs : Inputs) → IsTextFor inputs request.now text.now
+        → IsNamesFault inputs request.now fault ⊎ (fault ≡ Memory)) }
 {
-    let mut names = borrowed(alloc, &asked.files)?;
-    if let Some(more) = &asked.names {
+    let mut names = borrowed(alloc, &request.files)?;
+    if let Some(more) = &request.names {
         let Ok(text) = str::from_utf8(text) else {
             return Err(not_utf8(alloc, &more.text));
         };

@@ -35,29 +35,29 @@ pub fn measured<R: Threads + Wait + Sync, F: AgentFiles, P: FileProgress>(
     rt: &R,
     alloc: Global,
     files: &mut F,
-    asked: &Measurement,
+    request: &Measurement,
     progress: &P,
 ) -> Result<Measured, RunFault>
-    requires { vec_len asked.now.files < 2 ^ 32 }
-    ensures measured { IfOk result (IsMeasured (F.known files.old) asked.now) }
-    ensures fault { IfErr result (IsMeasuringFault (F.known files.old) asked.now) }
+    requires { vec_len request.now.files < 2 ^ 32 }
+    ensures measured { IfOk result (IsMeasured (F.known files.old) request.now) }
+    ensures fault { IfErr result (IsMeasuringFault (F.known files.old) request.now) }
     ensures saved { F.saved files.new ≡ F.saved files.old }
 {
-    let bytes = loaded(alloc, files, Some(&asked.log))?;
+    let bytes = loaded(alloc, files, Some(&request.log))?;
     let log = LogView::new(&bytes)?;
-    let text = text_of(alloc, files, asked)?;
-    let names = names_for(alloc, asked, &text)?;
-    measured_over(rt, alloc, files.shared(), &log, asked, &names, progress)
+    let text = text_of(alloc, files, request)?;
+    let names = names_for(alloc, request, &text)?;
+    measured_over(rt, alloc, files.shared(), &log, request, &names, progress)
 }
 
 // All bytes of the text of further names; none if there is no such text.
-fn text_of<F: AgentFiles>(alloc: Global, files: &mut F, asked: &Measurement) -> Loaded
-    ensures text { IfOk result (λ text. IsTextFor (F.known files.old) asked.now text.items) }
-    ensures fault { IfErr result (IsNamesFault (F.known files.old) asked.now) }
+fn text_of<F: AgentFiles>(alloc: Global, files: &mut F, request: &Measurement) -> Loaded
+    ensures text { IfOk result (λ text. IsTextFor (F.known files.old) request.now text.items) }
+    ensures fault { IfErr result (IsNamesFault (F.known files.old) request.now) }
     ensures known { F.known files.new ≡ F.known files.old }
     ensures saved { F.saved files.new ≡ F.saved files.old }
 {
-    match &asked.names {
+    match &request.names {
         None => Ok(Vec::new(alloc)),
         Some(more) => loaded(alloc, files, Some(&more.text)),
     }

@@ -35,24 +35,24 @@ pub(crate) fn measured_over<R: Threads + Wait + Sync, S: SharedFiles + Sync, P: 
     alloc: Global,
     files: &S,
     log: &LogView<'_>,
-    asked: &Measurement,
+    request: &Measurement,
     names: &[&str],
     progress: &P,
 ) -> Result<Measured, RunFault>
     requires small { length names.now < 2 ^ 32 }
     requires read { AreLog (log_bytes log.now) }
-    ensures measured { IfOk result (IsMeasuredOver (S.held files.now) (log_bytes log.now) asked.now (names_borrowed names.now)) }
+    ensures measured { IfOk result (IsMeasuredOver (S.held files.now) (log_bytes log.now) request.now (names_borrowed names.now)) }
     ensures fault { IfErr result (λ fault. IsFileFault (S.held files.now) (S.fails files.now) (names_borrowed names.now) fault
-        ⊎ IsNotRecorded (S.held files.now) (log_bytes log.now) asked.now (names_borrowed names.now) fault) }
+        ⊎ IsNotRecorded (S.held files.now) (log_bytes log.now) request.now (names_borrowed names.now) fault) }
 {
     let origin = Origin {
         start: log.registers(),
-        template: asked.template,
-        alg: asked.alg,
-        limit: asked.limit,
+        template: request.template,
+        alg: request.alg,
+        limit: request.limit,
     };
     let jobs = NamedFiles { files, names };
-    let book = recorded(rt, alloc, origin, &jobs, asked.workers, progress)?;
+    let book = recorded(rt, alloc, origin, &jobs, request.workers, progress)?;
     Ok(Measured {
         book,
         reset: log.reset_registers(),

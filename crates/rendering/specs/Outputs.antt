@@ -7,14 +7,14 @@ use Rattle.agent_inputs.specs.declared.fault.RunFault.TheVariants as runs
 use Rattle.agent_inputs.specs.Loading.{HasReplaced, Inputs, IsNotWritten, Saved}
 use Rattle.judging.specs.declared.answer.Answered.{Answered}
 use Rattle.judging.specs.Answering.{IsAnswer, IsRefusal}
-use Rattle.judging.specs.Asking.{Asked}
+use Rattle.judging.specs.Requests.{Requested}
 use Rattle.command_line.specs.declared.plan.Form.{Form}
 use Rattle.rendering.specs.Rendering.{rendered}
 
 -- What is shown is the answer to what is asked for, in this form; its exit status is 0 if all is well, else 1; and this is where to go on.
-pub record IsShown (inputs : Inputs) (asked : Asked) (form : Form) (shown : List ℕ) (status : ℕ) (next : Option Checkpoint) : Type 0 where
+pub record IsShown (inputs : Inputs) (request : Requested) (form : Form) (shown : List ℕ) (status : ℕ) (next : Option Checkpoint) : Type 0 where
   pub given : Answered
-  pub answer : IsAnswer inputs asked given
+  pub answer : IsAnswer inputs request given
   pub text_is : shown ≡ rendered form given
   pub status_is : status ≡ (if given.is_well then 0 else 1)
   pub next_is : next ≡ given.next
@@ -25,9 +25,9 @@ HasSaved old new (Some name) (Some next) = HasReplaced old new (record { name = 
 HasSaved old new name next = new ≡ old
 
 -- The answer is shown. If all is well, the checkpoint of what it is on is saved, if a name is given for it; nothing else is.
-abbrev pub ShowsAnswer : Inputs → Asked → Option (List ℕ) → Form → Saved → Saved → List ℕ → ℕ → Type 0
-ShowsAnswer inputs asked save form old new shown status =
-    (next : Option Checkpoint) × IsShown inputs asked form shown status next × HasSaved old new save next
+abbrev pub ShowsAnswer : Inputs → Requested → Option (List ℕ) → Form → Saved → Saved → List ℕ → ℕ → Type 0
+ShowsAnswer inputs request save form old new shown status =
+    (next : Option Checkpoint) × IsShown inputs request form shown status next × HasSaved old new save next
 
 -- The text of a checkpoint, if there is one.
 abbrev pub state_of : Option Checkpoint → List ℕ
@@ -35,9 +35,9 @@ state_of None = []
 state_of (Some next) = checkpoint_text next
 
 -- The answer is given; and, if all is well, the text of the checkpoint of what it is on.
-abbrev pub GivesAnswer : Inputs → Asked → Form → List ℕ → ℕ → List ℕ → Type 0
-GivesAnswer inputs asked form shown status state =
-    (next : Option Checkpoint) × IsShown inputs asked form shown status next × (state ≡ state_of next)
+abbrev pub GivesAnswer : Inputs → Requested → Form → List ℕ → ℕ → List ℕ → Type 0
+GivesAnswer inputs request form shown status state =
+    (next : Option Checkpoint) × IsShown inputs request form shown status next × (state ≡ state_of next)
 
 -- There is a checkpoint to be written under a name that is given, and it could not be; or memory ran out.
 abbrev pub IsNotSaved : Option (List ℕ) → Option Checkpoint → RunFault → Type 0
@@ -45,10 +45,10 @@ IsNotSaved (Some name) (Some next) fault = IsNotWritten name fault ⊎ (fault �
 IsNotSaved name next fault = ⊥
 
 -- Why nothing is given: there is no answer; or there is one, and memory ran out.
-abbrev pub IsRefusalOn : Inputs → Asked → RunFault → Type 0
-IsRefusalOn inputs asked fault = IsRefusal inputs asked fault ⊎ ((fault ≡ runs.Memory) × ((given : Answered) × IsAnswer inputs asked given))
+abbrev pub IsRefusalOn : Inputs → Requested → RunFault → Type 0
+IsRefusalOn inputs request fault = IsRefusal inputs request fault ⊎ ((fault ≡ runs.Memory) × ((given : Answered) × IsAnswer inputs request given))
 
 -- Why nothing is shown: there is no answer; or there is one, and memory ran out, or the checkpoint could not be saved.
-abbrev pub IsOutputFault : Inputs → Asked → Option (List ℕ) → RunFault → Type 0
-IsOutputFault inputs asked save fault =
-    IsRefusalOn inputs asked fault ⊎ ((given : Answered) × IsAnswer inputs asked given × IsNotSaved save given.next fault)
+abbrev pub IsOutputFault : Inputs → Requested → Option (List ℕ) → RunFault → Type 0
+IsOutputFault inputs request save fault =
+    IsRefusalOn inputs request fault ⊎ ((given : Answered) × IsAnswer inputs request given × IsNotSaved save given.next fault)

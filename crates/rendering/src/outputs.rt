@@ -2,7 +2,7 @@
 
 ghost use Rattle.std.specs.Prelude.{◌≡◌, option_map, IfOk, IfErr, OnErr};
 ghost use Rattle.agent_inputs.specs.Loading.{unknown};
-ghost use Rattle.judging.specs.Asking.{asked_of};
+ghost use Rattle.judging.specs.Requests.{requested_of};
 ghost use Rattle.rendering.specs.Outputs.{GivesAnswer, IsOutputFault, IsRefusalOn, ShowsAnswer, state_of};
 
 use crate::no_files::NoFiles;
@@ -21,16 +21,16 @@ use std::alloc::{AllocError, Global};
 pub fn output_for<F: AgentFiles>(
     alloc: Global,
     files: &mut F,
-    asked: Request<'_>,
+    request: Request<'_>,
     name: Option<&str>,
     form: Form,
 ) -> Result<Output, RunFault>
-    ensures shown { IfOk result (λ output. ShowsAnswer (F.known files.old) (asked_of asked.entry) (option_map (λ name. name.now) name.entry) form
+    ensures shown { IfOk result (λ output. ShowsAnswer (F.known files.old) (requested_of request.entry) (option_map (λ name. name.now) name.entry) form
         (F.saved files.old) (F.saved files.new) output.text.items output.status) }
     ensures kept { OnErr result (F.saved files.new ≡ F.saved files.old) }
-    ensures fault { IfErr result (IsOutputFault (F.known files.old) (asked_of asked.entry) (option_map (λ name. name.now) name.entry)) }
+    ensures fault { IfErr result (IsOutputFault (F.known files.old) (requested_of request.entry) (option_map (λ name. name.now) name.entry)) }
 {
-    let given = answered(alloc, files, asked)?;
+    let given = answered(alloc, files, request)?;
     let output = rendered(alloc, &given, form)?;
     save(alloc, files, name, given.next)?;
     Ok(output)
@@ -46,12 +46,12 @@ pub struct Given {
 }
 
 /// The output of what is asked for of bytes in memory, in this form. There are no files: one that is asked for cannot be read.
-pub fn output_on(alloc: Global, asked: Request<'_>, form: Form) -> Result<Given, RunFault>
-    ensures shown { IfOk result (λ given. GivesAnswer unknown (asked_of asked.entry) form given.output.text.items given.output.status
+pub fn output_on(alloc: Global, request: Request<'_>, form: Form) -> Result<Given, RunFault>
+    ensures shown { IfOk result (λ given. GivesAnswer unknown (requested_of request.entry) form given.output.text.items given.output.status
         given.checkpoint.items) }
-    ensures fault { IfErr result (IsRefusalOn unknown (asked_of asked.entry)) }
+    ensures fault { IfErr result (IsRefusalOn unknown (requested_of request.entry)) }
 {
-    let given = answered(alloc, &mut NoFiles, asked)?;
+    let given = answered(alloc, &mut NoFiles, request)?;
     let output = rendered(alloc, &given, form)?;
     let checkpoint = text_of(alloc, given.next)?;
     Ok(Given { output, checkpoint })

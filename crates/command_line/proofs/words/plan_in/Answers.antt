@@ -7,23 +7,23 @@ use Rattle.command_line.specs.Tasks.{IsWithin}
 use Rattle.command_line.proofs.ReadLemmas.{commands_are_simple}
 use Rattle.command_line.proofs.words.plan_in.Goals as goal
 
-pub returns-in_ok-asked_of-in-Ok : goal.returns-in_ok-asked_of-in-Ok
-returns-in_ok-asked_of-in-Ok c =
+pub returns-in_ok-requested_of-in-Ok : goal.returns-in_ok-requested_of-in-Ok
+returns-in_ok-requested_of-in-Ok c =
     let parsers = c.in_ok-all_commands.ensures.0 in
     let program = c.in_ok-all_commands.ensures.1 in
     let command = c.args.command.now in
     let found = (c.in-Ok.ensures.matches (ap is_simple program.app_is ∙ commands_are_simple parsers)).1
     ∙ ap (λ app. subcommand_of app (map string_bytes c.args.words.now)) program.app_is in
     let task = sym c.of.ensures.task in
-    let is = c.in_ok-asked_of-in-Ok.ensures in (
+    let is = c.in_ok-requested_of-in-Ok.ensures in (
       inl (
           record {
             parsers = parsers;
-            values = subst (HasValuesIn command _) task (subst (λ matches. HasValuesIn command matches c.in_ok-asked_of-in-Ok.field-0) found is.0);
+            values = subst (HasValuesIn command _) task (subst (λ matches. HasValuesIn command matches c.in_ok-requested_of-in-Ok.field-0) found is.0);
             one = c.of.ensures.one;
           }
           ),
-      subst (λ asked. IsWithin asked.1 asked.0) task is.1,
+      subst (λ request. IsWithin request.1 request.0) task is.1,
     )
 
 pub returns-in-Err : goal.returns-in-Err

@@ -4,8 +4,8 @@ use Rattle.ima_agent.proofs.program.run_with_progress.Goals as goal
 
 pub returns-in-Ok : goal.returns-in-Ok
 returns-in-Ok g c =
-    let asked = c.in-Ok.ensures.asked in
-    answers_so _ _ _ _ _ (λ text status said. inl (c.in-Ok.plan, asked.0, asked.1, rw c.into_task-task.ensures at said)) c.run_task.ensures
+    let request = c.in-Ok.ensures.request in
+    answers_so _ _ _ _ _ (λ text status said. inl (c.in-Ok.plan, request.0, request.1, rw c.into_task-task.ensures at said)) c.run_task.ensures
 
 pub returns-in-Err : goal.returns-in-Err
 returns-in-Err g c =

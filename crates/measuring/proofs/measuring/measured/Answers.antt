@@ -13,7 +13,7 @@ returns-in_err-bytes-clause-fault g c =
 pub returns-in_err-text-clause-fault : goal.returns-in_err-text-clause-fault
 returns-in_err-text-clause-fault g c =
     let p = err_from_is_err_and c.from_residual-in_err-text.result c.from_residual-in_err-text.ensures.1 in
-    rw (p.1, p.2) (no_names (g.F.Files.known c.args.files.now) c.args.asked.now c.in_ok-bytes.bytes.items
+    rw (p.1, p.2) (no_names (g.F.Files.known c.args.files.now) c.args.request.now c.in_ok-bytes.bytes.items
     (rw c.deref.ensures at c.in_ok-bytes.ensures.all)
     (omega (arith, c.in_ok-bytes.ensures.within), rw c.deref-2.ensures.value at c.in_ok-log.ensures.sound) _
     (inl (rw c.in_ok-bytes.ensures.known at c.in_err-text.ensures.fault)))
@@ -21,7 +21,7 @@ returns-in_err-text-clause-fault g c =
 pub returns-in_err-names-clause-fault : goal.returns-in_err-names-clause-fault
 returns-in_err-names-clause-fault g c =
     let p = err_from_is_err_and c.from_residual-in_err-names.result c.from_residual-in_err-names.ensures.1 in
-    rw (p.1, p.2) (no_names (g.F.Files.known c.args.files.now) c.args.asked.now c.in_ok-bytes.bytes.items
+    rw (p.1, p.2) (no_names (g.F.Files.known c.args.files.now) c.args.request.now c.in_ok-bytes.bytes.items
     (rw c.deref.ensures at c.in_ok-bytes.ensures.all)
     (omega (arith, c.in_ok-bytes.ensures.within), rw c.deref-2.ensures.value at c.in_ok-log.ensures.sound) _
     (rw c.deref-3.ensures.value at c.in_err-names.ensures.fault (g.F.Files.known c.args.files.now)
@@ -44,7 +44,7 @@ returns-clause-fault g c =
     let known_is = c.in_ok-text.ensures.known ∙ c.in_ok-bytes.ensures.known in
     let same = fun_ext (λ name. c.shared.ensures.held name ∙ ap (λ inputs. inputs.held (Some name)) known_is) in
     IfErr-weaker c.measured_over.result _ _
-    (not_all known c.args.asked.now c.in_ok-bytes.bytes.items (rw c.deref.ensures at c.in_ok-bytes.ensures.all)
+    (not_all known c.args.request.now c.in_ok-bytes.bytes.items (rw c.deref.ensures at c.in_ok-bytes.ensures.all)
     (omega (arith, c.in_ok-bytes.ensures.within), rw c.deref-2.ensures.value at c.in_ok-log.ensures.sound)
     (names_borrowed c.in_ok-names.names.items) are _ _ same
     (λ name fails. rw known_is at c.shared.ensures.fails name fails))

@@ -3,7 +3,7 @@ use Rattle.std.specs.Prelude.{ℕ, ◌==◌, if◌then◌else◌, Bool, List, by
 use Rattle.command_line.specs.declared.plan.Scope.TheVariants.{Prefix, Whole}
 use Rattle.command_line.specs.declared.plan.Form.{Form}
 use Rattle.command_line.specs.declared.plan.Form.TheVariants.{Json, Text}
-use Rattle.judging.specs.Asking.{Any, Asked, Compares, Judgement, ListRegistersOf, ListVerdictOf, LogRegistersOf, Nothing, PlacesOf, Requires, These, VerdictOf}
+use Rattle.judging.specs.Requests.{Any, Requested, Compares, Judgement, ListRegistersOf, ListVerdictOf, LogRegistersOf, Nothing, PlacesOf, Requires, These, VerdictOf}
 use Rattle.judging.specs.Inputs.{BytesOf}
 
 abbrev pub interface_version : ℕ
@@ -22,8 +22,8 @@ abbrev pub required_by : Requires → List ℕ → Requires
 required_by none text = if bytes_eq text (codes "none") then none else These text
 
 -- What a list is worth against expected registers; the word `none` requires this.
-abbrev pub asked_by : Requires → Judgement → List ℕ → List ℕ → List ℕ → Asked
-asked_by none judgement list expected require = Compares (record {
+abbrev pub requested_by : Requires → Judgement → List ℕ → List ℕ → List ℕ → Requested
+requested_by none judgement list expected require = Compares (record {
   judgement = judgement;
   list = BytesOf list;
   expected = BytesOf expected;
@@ -36,19 +36,19 @@ verdict_of log state prefix =
     VerdictOf (BytesOf log) (if prefix then Prefix else Whole) (option_map BytesOf (given_bytes state))
 
 -- The verdict on a log and a list; where the registers have their values; and the verdict on a list alone. `none` requires nothing.
-abbrev pub asked_of_verdict : List ℕ → List ℕ → List ℕ → List ℕ → Asked
-asked_of_verdict log list expected require = asked_by Nothing (VerdictOf (BytesOf log) Whole None) list expected require
+abbrev pub requested_of_verdict : List ℕ → List ℕ → List ℕ → List ℕ → Requested
+requested_of_verdict log list expected require = requested_by Nothing (VerdictOf (BytesOf log) Whole None) list expected require
 
-abbrev pub asked_of_places : List ℕ → List ℕ → List ℕ → List ℕ → Asked
-asked_of_places log list expected require = asked_by Nothing (PlacesOf (BytesOf log)) list expected require
+abbrev pub requested_of_places : List ℕ → List ℕ → List ℕ → List ℕ → Requested
+requested_of_places log list expected require = requested_by Nothing (PlacesOf (BytesOf log)) list expected require
 
-abbrev pub asked_of_list : List ℕ → List ℕ → List ℕ → Asked
-asked_of_list list expected require = asked_by Nothing ListVerdictOf list expected require
+abbrev pub requested_of_list : List ℕ → List ℕ → List ℕ → Requested
+requested_of_list list expected require = requested_by Nothing ListVerdictOf list expected require
 
 -- The verdict on a list that grows; `none` requires that some register is expected.
-abbrev pub asked_of_more : List ℕ → List ℕ → List ℕ → List ℕ → List ℕ → Bool → Asked
-asked_of_more log state more expected require prefix = asked_by Any (verdict_of log state prefix) more expected require
+abbrev pub requested_of_more : List ℕ → List ℕ → List ℕ → List ℕ → List ℕ → Bool → Requested
+requested_of_more log state more expected require prefix = requested_by Any (verdict_of log state prefix) more expected require
 
 -- The registers after a list alone, or after a log.
-abbrev pub asked_of_registers : Bool → List ℕ → Asked
-asked_of_registers of_list bytes = if of_list then ListRegistersOf (BytesOf bytes) else LogRegistersOf (BytesOf bytes)
+abbrev pub requested_of_registers : Bool → List ℕ → Requested
+requested_of_registers of_list bytes = if of_list then ListRegistersOf (BytesOf bytes) else LogRegistersOf (BytesOf bytes)

@@ -37,11 +37,11 @@ pub record Compared : Type 0 where
 
 -- What is asked for: what a list is worth against expected registers; the registers after a log, or after a list alone; or the expected
 -- registers that a text has, as tpm2-tools printed it, of those within the range that another text spells, if there is one.
-pub data Asked : Type 0 where
-  Compares : Compared → Asked
-  LogRegistersOf : Where → Asked
-  ListRegistersOf : Where → Asked
-  ExpectedOf : Where → Option (List ℕ) → Asked
+pub data Requested : Type 0 where
+  Compares : Compared → Requested
+  LogRegistersOf : Where → Requested
+  ListRegistersOf : Where → Requested
+  ExpectedOf : Where → Option (List ℕ) → Requested
 
 -- Where the log is, if there is one.
 abbrev pub log_of : Judgement → Option Where
@@ -83,8 +83,8 @@ compared_of comparison = record {
   required = requires_of comparison.required;
 }
 
-abbrev pub asked_of : Request → Asked
-asked_of (requests.Comparison comparison) = Compares (compared_of comparison)
-asked_of (requests.LogRegisters log) = LogRegistersOf (place_of log)
-asked_of (requests.ListRegisters list) = ListRegistersOf (place_of list)
-asked_of (requests.Expected printed range) = ExpectedOf (place_of printed) (option_map (λ text. text.now) range)
+abbrev pub requested_of : Request → Requested
+requested_of (requests.Comparison comparison) = Compares (compared_of comparison)
+requested_of (requests.LogRegisters log) = LogRegistersOf (place_of log)
+requested_of (requests.ListRegisters list) = ListRegistersOf (place_of list)
+requested_of (requests.Expected printed range) = ExpectedOf (place_of printed) (option_map (λ text. text.now) range)
