@@ -1,7 +1,7 @@
 -- How the faults of the parts become faults of the program. Out of memory is one fault, wherever it happens.
 use Rattle.std.specs.Prelude.{◌≡◌, ℕ, ◌⊎◌, List, Option, Some, None}
-use Rattle.command_line.specs.declared.fault.WordsFault.{WordsFault}
-use Rattle.command_line.specs.declared.fault.WordsFault.TheVariants as words
+use Rattle.command_line.specs.declared.fault.ArgumentsFault.{ArgumentsFault}
+use Rattle.command_line.specs.declared.fault.ArgumentsFault.TheVariants as arguments
 use Rattle.boot_log.specs.declared.fault.LogFault.{LogFault}
 use Rattle.boot_log.specs.declared.fault.LogFault.TheVariants as logs
 use Rattle.boot_log.specs.Faults.{log_fault_event, log_fault_number}
@@ -35,9 +35,9 @@ not_resumed_number resumes.Damaged = 1
 not_resumed_number resumes.Version = 2
 not_resumed_number resumes.OtherBoot = 3
 
-abbrev pub fault_of_words : WordsFault → RunFault
-fault_of_words words.Usage = runs.Usage
-fault_of_words words.Memory = runs.Memory
+abbrev pub fault_of_arguments : ArgumentsFault → RunFault
+fault_of_arguments arguments.Usage = runs.Usage
+fault_of_arguments arguments.Memory = runs.Memory
 
 abbrev pub fault_of_log : LogFault → RunFault
 fault_of_log logs.Memory = runs.Memory
@@ -79,8 +79,8 @@ fault_of_job job books.Memory = runs.Memory
 fault_of_job job fault = runs.Outcome job fault
 
 -- The arguments are not those of a command, or memory ran out.
-abbrev pub IsWordsFault : RunFault → Type 0
-IsWordsFault fault = (fault ≡ runs.Usage) ⊎ (fault ≡ runs.Memory)
+abbrev pub IsArgumentsFault : RunFault → Type 0
+IsArgumentsFault fault = (fault ≡ runs.Usage) ⊎ (fault ≡ runs.Memory)
 
 -- ---- what a fault is, beside a name in it
 

@@ -1,12 +1,12 @@
 //! Why the program failed.
 
 ghost use Rattle.std.specs.Prelude.{◌≡◌};
-ghost use Rattle.agent_inputs.specs.Faults.{fault_head, fault_of_agent, fault_of_expected, fault_of_list, fault_of_log, fault_of_words, not_resumed_number};
+ghost use Rattle.agent_inputs.specs.Faults.{fault_head, fault_of_agent, fault_of_expected, fault_of_list, fault_of_log, fault_of_arguments, not_resumed_number};
 ghost use Rattle.agent_inputs.specs.declared.fault.RunFault.TheVariants.{Memory};
 
 use boot_log::LogFault;
 use boot_verdict::{CheckpointFault, ExpectFault, ResumeFault};
-use command_line::WordsFault;
+use command_line::ArgumentsFault;
 use hash_workers::AgentFault;
 use ima_list::{ListFault, ReplayFault};
 use measure_book::{BookFault, GatherFault};
@@ -186,11 +186,11 @@ impl fmt::Display for RunFault {
 
 // Words, and the fault that is their reason.
 fn say_fault<D: fmt::Display, W: fmt::Write>(
-    words: &str,
+    arguments: &str,
     fault: &D,
     f: &mut fmt::Formatter<W>,
 ) -> fmt::Result {
-    write!(f, "{words}{fault}")
+    write!(f, "{arguments}{fault}")
 }
 
 // That the file of this number is refused, and why.
@@ -212,13 +212,13 @@ fn say_name<W: fmt::Write>(
     write!(f, "{before}{name}{after}")
 }
 
-impl From<WordsFault> for RunFault {
-    ghost from_gives = { λ words_fault fault. fault ≡ fault_of_words words_fault };
+impl From<ArgumentsFault> for RunFault {
+    ghost from_gives = { λ arguments_fault fault. fault ≡ fault_of_arguments arguments_fault };
 
-    fn from(fault: WordsFault) -> Self {
+    fn from(fault: ArgumentsFault) -> Self {
         match fault {
-            WordsFault::Usage => RunFault::Usage,
-            WordsFault::Memory => RunFault::Memory,
+            ArgumentsFault::Usage => RunFault::Usage,
+            ArgumentsFault::Memory => RunFault::Memory,
         }
     }
 }

@@ -17,10 +17,10 @@ unfolding clap_on_literals
 commands_are_simple parsers = refl
 
 -- The values of an argument that may be missing.
-pub words_or_none : (o : Option (Bor (List (Bor Text)))) (none given : Bor (List (Bor Text))) → none.now ≡ [] → given ≡ unwrap_or o none
-    → map (λ word. word.now) given.now ≡ unwrap_or (option_map (λ words. map (λ word. word.now) words.now) o) []
-words_or_none None none given empty is = ap (λ (words : Bor (List (Bor Text))). map (λ word. word.now) words.now) is ∙ ap (map (λ word. word.now)) empty
-words_or_none (Some words) none given empty is = ap (λ (words : Bor (List (Bor Text))). map (λ word. word.now) words.now) is
+pub arguments_or_none : (o : Option (Bor (List (Bor Text)))) (none given : Bor (List (Bor Text))) → none.now ≡ [] → given ≡ unwrap_or o none
+    → map (λ word. word.now) given.now ≡ unwrap_or (option_map (λ arguments. map (λ word. word.now) arguments.now) o) []
+arguments_or_none None none given empty is = ap (λ (arguments : Bor (List (Bor Text))). map (λ word. word.now) arguments.now) is ∙ ap (map (λ word. word.now)) empty
+arguments_or_none (Some arguments) none given empty is = ap (λ (arguments : Bor (List (Bor Text))). map (λ word. word.now) arguments.now) is
 
 -- What was not found has no values.
 pub no_values : (f : Found) (id : Text) → is_some (matched_of f id) ≡ false → all_of id (rows_of f) ≡ None
@@ -31,8 +31,8 @@ no_values f id missing = sym (raw_values-rows f id) ∙ go (matched_of f id) mis
     go (Some found) e = cc
 
 -- The first argument is the command.
-pub requested_by : (words : List (String Global)) (word : String Global) (command : Text) (plan : Plan) → Some word ≡ slice_get words 0
-    → command ≡ string_bytes word → IsPlanOrHelp words command plan → IsRequestedBy words plan
+pub requested_by : (arguments : List (String Global)) (word : String Global) (command : Text) (plan : Plan) → Some word ≡ slice_get arguments 0
+    → command ≡ string_bytes word → IsPlanOrHelp arguments command plan → IsRequestedBy arguments plan
 requested_by [] word command plan first is request = let clash = first in cc
 requested_by (first ∷ rest) word command plan here is request =
     inl (subst (λ (name : Text). IsPlanOrHelp (first ∷ rest) name plan) (is ∙ ap string_bytes (same_Some word first here)) request)

@@ -113,15 +113,15 @@ pub record HasValuesIn (command : Text) (found : Option (Text × List Row)) (req
 -- ---- plans
 
 -- The plan is of the command of this name, and has the options and names that the arguments match.
-pub record IsMatched (command : Text) (words : List Text) (plan : Plan) : Type 0 where
+pub record IsMatched (command : Text) (arguments : List Text) (plan : Plan) : Type 0 where
   pub parsers : Parsers
-  pub values : HasValuesIn command (subcommand_of (commands parsers) words) (task_of plan)
+  pub values : HasValuesIn command (subcommand_of (commands parsers) arguments) (task_of plan)
   pub one : IsOneOf plan
 
 -- By its own definition clap does not take the arguments. (Of `measure` and `replay`, some of whose options go only with others, that
 -- says nothing.)
 abbrev pub AreNotTaken : List Text → Type 0
-AreNotTaken words = (parsers : Parsers) × (takes (commands parsers) words ≡ true → ⊥)
+AreNotTaken arguments = (parsers : Parsers) × (takes (commands parsers) arguments ≡ true → ⊥)
 
 -- What the plan requests is within its ranges.
 abbrev pub IsWithinRanges : Plan → Type 0
@@ -133,7 +133,7 @@ asks_help word = bytes_eq word (codes "--help") || starts_with (λ a b. a == b) 
 
 -- Some argument requests help.
 abbrev pub HasHelpWord : List (String Global) → Type 0
-HasHelpWord words = IsTrue (list_any (λ word. asks_help (string_bytes word)) words)
+HasHelpWord arguments = IsTrue (list_any (λ word. asks_help (string_bytes word)) arguments)
 
 -- The plan is help.
 abbrev pub IsHelp : Plan → Type 0
@@ -142,17 +142,17 @@ IsHelp plan = (text : String Global) × (plan ≡ plans.Help text)
 -- The first argument is `--version`.
 abbrev pub BeginsWithVersion : List (String Global) → Type 0
 BeginsWithVersion [] = ⊥
-BeginsWithVersion (word ∷ words) = string_bytes word ≡ codes "--version"
+BeginsWithVersion (word ∷ arguments) = string_bytes word ≡ codes "--version"
 
 -- The plan is of the command of this name, and all arguments match its options and names; or they are not taken, and one of them requests
 -- help.
 abbrev pub IsPlanOrHelp : List (String Global) → Text → Plan → Type 0
-IsPlanOrHelp words command plan =
-    IsMatched command (map string_bytes words) plan ⊎ (HasHelpWord words × IsHelp plan × AreNotTaken (map string_bytes words))
+IsPlanOrHelp arguments command plan =
+    IsMatched command (map string_bytes arguments) plan ⊎ (HasHelpWord arguments × IsHelp plan × AreNotTaken (map string_bytes arguments))
 
 -- Without arguments the plan is `Registers`: the log on standard input. Otherwise the first argument is the command; or it is
 -- `--version`.
 abbrev pub IsRequestedBy : List (String Global) → Plan → Type 0
 IsRequestedBy [] plan = plan ≡ plans.Registers
-IsRequestedBy (word ∷ words) plan =
-    IsPlanOrHelp (word ∷ words) (string_bytes word) plan ⊎ (BeginsWithVersion (word ∷ words) × (plan ≡ plans.Task tasks.Version forms.Text))
+IsRequestedBy (word ∷ arguments) plan =
+    IsPlanOrHelp (word ∷ arguments) (string_bytes word) plan ⊎ (BeginsWithVersion (word ∷ arguments) × (plan ≡ plans.Task tasks.Version forms.Text))

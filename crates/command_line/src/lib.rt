@@ -8,11 +8,11 @@ mod fault_tables;
 mod help_texts;
 mod plan;
 mod values;
-mod words;
+mod arguments;
 
-pub use fault::WordsFault;
+pub use fault::ArgumentsFault;
 pub use plan::{
     DataShown, Scope, Form, Judge, Judged, Measurement, NameEnd, Names, Plan, Print, Question,
     Task,
 };
-pub use words::{read_words, refusal_of, words_after_name};
+pub use arguments::{read_words, refusal_of, arguments_after_name};

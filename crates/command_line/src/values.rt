@@ -6,7 +6,7 @@ ghost use Rattle.command_line.specs.Plans.{AreFurtherNames, HasMeasure, HasNumbe
 ghost use Rattle.command_line.specs.Tasks.{HasForm, IsWithinLimits};
 
 use crate::command_table::{MOST_RECORDS, MOST_WORKERS};
-use crate::fault::WordsFault;
+use crate::fault::ArgumentsFault;
 use crate::plan::{Form, Measurement, NameEnd, Names, Print};
 use clap::ArgMatches;
 use ima_list::Template;
@@ -18,14 +18,14 @@ pub(crate) fn measurement_of(
     alloc: Global,
     matches: &ArgMatches,
     form: Form,
-) -> Result<Measurement, WordsFault>
+) -> Result<Measurement, ArgumentsFault>
     ensures values { IfOk result (HasMeasure (rows_of (found_of matches.now))) }
     ensures within { IfOk result (IsWithinLimits form) }
 {
     Ok(Measurement {
-        alg: Alg::from_name(text_of(matches, "alg")?.as_bytes()).ok_or(WordsFault::Usage)?,
+        alg: Alg::from_name(text_of(matches, "alg")?.as_bytes()).ok_or(ArgumentsFault::Usage)?,
         template: Template::from_name(text_of(matches, "template")?.as_bytes()).ok_or(
-            WordsFault::Usage,
+            ArgumentsFault::Usage,
         )?,
         workers: number_of(matches, "workers", MOST_WORKERS)? as usize,
         limit: number_of(matches, "limit", MOST_RECORDS)? as u32,
@@ -37,19 +37,19 @@ pub(crate) fn measurement_of(
 }
 
 // The text of further names, if there is one. Refuses `--null` without `--files-from`.
-fn further_names_of(alloc: Global, matches: &ArgMatches) -> Result<Option<Names>, WordsFault>
+fn further_names_of(alloc: Global, matches: &ArgMatches) -> Result<Option<Names>, ArgumentsFault>
     ensures { IfOk result (AreFurtherNames (rows_of (found_of matches.now))) }
 {
     let ends = flag_of(matches, "null", NameEnd::LineFeed, NameEnd::Nul)?;
     match (text_if_given(alloc, matches, "files-from")?, ends) {
         (Some(text), ends) => Ok(Some(Names { text, ends })),
         (None, NameEnd::LineFeed) => Ok(None),
-        (None, NameEnd::Nul) => Err(WordsFault::Usage),
+        (None, NameEnd::Nul) => Err(ArgumentsFault::Usage),
     }
 }
 
 // What is printed. There is no JSON of the binary list.
-fn print_of(matches: &ArgMatches, form: Form) -> Result<Print, WordsFault>
+fn print_of(matches: &ArgMatches, form: Form) -> Result<Print, ArgumentsFault>
     ensures print { IfOk result (λ print. first_of (codes "print") (rows_of (found_of matches.now)) ≡ Some (print_name print)) }
     ensures shown { IfOk result (HasForm form) }
 {
@@ -57,32 +57,32 @@ fn print_of(matches: &ArgMatches, form: Form) -> Result<Print, WordsFault>
         ("ascii", _) => Ok(Print::Ascii),
         ("binary", Form::Text) => Ok(Print::Binary),
         ("registers", _) => Ok(Print::Registers),
-        _ => Err(WordsFault::Usage),
+        _ => Err(ArgumentsFault::Usage),
     }
 }
 
 // The number that an option has, 1 to `most`.
-fn number_of(matches: &ArgMatches, id: &str, most: u64) -> Result<u64, WordsFault>
+fn number_of(matches: &ArgMatches, id: &str, most: u64) -> Result<u64, ArgumentsFault>
     ensures { IfOk result (λ number. HasNumber id.now (rows_of (found_of matches.now)) number × (1 ≤ number) × (number ≤ most)) }
 {
     match text_of(matches, id)?.parse() {
         Ok(number) if number != 0 && number <= most => Ok(number),
-        _ => Err(WordsFault::Usage),
+        _ => Err(ArgumentsFault::Usage),
     }
 }
 
 // The names of the files, fewer than 2^32.
-fn files_of(alloc: Global, matches: &ArgMatches) -> Result<Vec<String>, WordsFault>
+fn files_of(alloc: Global, matches: &ArgMatches) -> Result<Vec<String>, ArgumentsFault>
     ensures names { IfOk result (λ names. unwrap_or (all_of (codes "FILE") (rows_of (found_of matches.now))) [] ≡ map string_bytes names.items) }
     ensures few { IfOk result (λ names. vec_len names < 2 ^ 32) }
 {
-    let words = matches.get_strs("FILE").unwrap_or(&[]);
+    let arguments = matches.get_strs("FILE").unwrap_or(&[]);
     let mut names = Vec::new(alloc);
-    for word in words {
+    for word in arguments {
         names.push(String::from_str(alloc, word)?)?;
     }
     if names.len() > u32::MAX as usize {
-        return Err(WordsFault::Usage);
+        return Err(ArgumentsFault::Usage);
     }
     Ok(names)
 }
@@ -93,25 +93,25 @@ pub(crate) fn flag_of<T: Copy>(
     id: &str,
     absent: T,
     present: T,
-) -> Result<T, WordsFault>
+) -> Result<T, ArgumentsFault>
     ensures { IfOk result (IsFlag id.now (rows_of (found_of matches.now)) absent present) }
 {
     match text_of(matches, id)? {
         "true" => Ok(present),
         "false" => Ok(absent),
-        _ => Err(WordsFault::Usage),
+        _ => Err(ArgumentsFault::Usage),
     }
 }
 
 // The first value of this argument.
-fn text_of<'a>(matches: &ArgMatches<'a>, id: &str) -> Result<&'a str, WordsFault>
+fn text_of<'a>(matches: &ArgMatches<'a>, id: &str) -> Result<&'a str, ArgumentsFault>
     ensures { IfOk result (λ text. first_of id.now (rows_of (found_of matches.now)) ≡ Some text.now) }
 {
-    matches.get_str(id).ok_or(WordsFault::Usage)
+    matches.get_str(id).ok_or(ArgumentsFault::Usage)
 }
 
 /// A copy of the first value of this argument.
-pub(crate) fn name_of(alloc: Global, matches: &ArgMatches, id: &str) -> Result<String, WordsFault>
+pub(crate) fn name_of(alloc: Global, matches: &ArgMatches, id: &str) -> Result<String, ArgumentsFault>
     ensures { IfOk result (λ name. IsGivenAs id.now (rows_of (found_of matches.now)) (Some name)) }
 {
     Ok(String::from_str(alloc, text_of(matches, id)?)?)
@@ -123,7 +123,7 @@ pub(crate) fn text_if_given(
     alloc: Global,
     matches: &ArgMatches,
     id: &str,
-) -> Result<Option<String>, WordsFault>
+) -> Result<Option<String>, ArgumentsFault>
     ensures { IfOk result (λ text. IsGivenAs id.now (rows_of (found_of matches.now)) text) }
 {
     if matches.contains_id(id) {

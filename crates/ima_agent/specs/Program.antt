@@ -7,7 +7,7 @@ use Rattle.ima_list.specs.Lines.{line_of}
 use Rattle.boot_verdict.specs.EventTexts.{events_text}
 use Rattle.agent_inputs.specs.declared.fault.RunFault.{RunFault}
 use Rattle.agent_inputs.specs.declared.fault.RunFault.TheVariants as runs
-use Rattle.agent_inputs.specs.Faults.{IsWordsFault}
+use Rattle.agent_inputs.specs.Faults.{IsArgumentsFault}
 use Rattle.agent_inputs.specs.Loading.{Inputs, IsInputFault, OfInput, Saved}
 use Rattle.command_line.specs.declared.plan.Scope.TheVariants.{Whole}
 use Rattle.command_line.specs.declared.plan.Form.{Form}
@@ -140,9 +140,9 @@ IsOutcome inputs task form old new text status =
 -- What is written for the arguments: the outcome of what they request; or if they are refused, the fault's line and its status, and nothing
 -- is saved.
 abbrev pub IsOutput : Inputs → List (String Global) → Saved → Saved → List ℕ → ℕ → Type 0
-IsOutput inputs words old new text status =
-    ((plan : Plan) × IsRequestedBy words plan × IsWithinRanges plan × IsOutcome inputs (task_of plan).0 (task_of plan).1 old new text status)
-    ⊎ ((fault : RunFault) × IsWordsFault fault × (text ≡ fault_line fault) × (status ≡ fault_status fault) × (new ≡ old))
+IsOutput inputs arguments old new text status =
+    ((plan : Plan) × IsRequestedBy arguments plan × IsWithinRanges plan × IsOutcome inputs (task_of plan).0 (task_of plan).1 old new text status)
+    ⊎ ((fault : RunFault) × IsArgumentsFault fault × (text ≡ fault_line fault) × (status ≡ fault_status fault) × (new ≡ old))
 
 -- The status after an output was sent; 3 if the sink failed.
 abbrev pub status_after : {A E : Type 0} → Result A E → ℕ → ℕ
@@ -160,7 +160,7 @@ pub record Answers (IsWanted : List ℕ → ℕ → Type 0) (answer : ℕ) (old 
 
 -- The output for the arguments; if they could not be obtained, that of a program out of memory, and nothing is saved.
 abbrev pub IsOutputOf : {E : Type 0} → Inputs → Result (Vec (String Global)) E → Saved → Saved → List ℕ → ℕ → Type 0
-IsOutputOf inputs (Ok words) old new text status = IsOutput inputs words.items old new text status
+IsOutputOf inputs (Ok arguments) old new text status = IsOutput inputs arguments.items old new text status
 IsOutputOf inputs (Err fault) old new text status =
     (text ≡ fault_line runs.Memory) × (status ≡ fault_status runs.Memory) × (new ≡ old)
 

@@ -16,7 +16,7 @@ use Rattle.json_texts.specs.SentEntries.{AreAllIn}
 pub use Rattle.json_texts.specs.SentEvents.{log_lines}
 pub use Rattle.json_texts.specs.ShownItems.{AreAllEntries, AreAllEvents, EndsWithFault, FailsAfterEntries, FailsAfterEvents, ShowsToFault}
 use Rattle.command_line.specs.declared.plan.DataShown.{DataShown}
-use Rattle.command_line.specs.declared.plan.DataShown.TheVariants as words
+use Rattle.command_line.specs.declared.plan.DataShown.TheVariants as arguments
 use Rattle.command_line.specs.declared.plan.Form.{Form}
 use Rattle.command_line.specs.declared.plan.Form.TheVariants.{Text}
 use Rattle.agent_inputs.specs.declared.fault.RunFault.{RunFault}
@@ -61,8 +61,8 @@ IsRefusedFor text fault =
 
 -- What an event's line has of its data, as the arguments request it.
 abbrev pub data_of : DataShown → EventData
-data_of words.Size = texts.Size
-data_of words.Bytes = texts.Bytes
+data_of arguments.Size = texts.Size
+data_of arguments.Bytes = texts.Bytes
 
 -- Why nothing of a log is shown: the bytes are no log, or memory ran out.
 abbrev pub IsNoLogFor : List ℕ → RunFault → Type 0

@@ -35,7 +35,7 @@ pub enum Failure<'a> {
         /// The fault.
         fault: &'a RunFault,
         /// The program's arguments, without its name.
-        words: &'a [String],
+        arguments: &'a [String],
     },
     /// The line of a program that is out of memory: its arguments could not be obtained, for this reason.
     Words {
@@ -59,7 +59,7 @@ pub fn explanation<R: FileSystem + io::Input>(
 {
     match failure {
         Failure::Fault { fault, task } => of_fault(rt, alloc, fault, task),
-        Failure::Refused { fault, words } => of_refusal(alloc, fault, words),
+        Failure::Refused { fault, arguments } => of_refusal(alloc, fault, arguments),
         Failure::Words { reason } => match reason.kind() {
             io::ErrorKind::InvalidData => shown_line(alloc, "an argument is not UTF-8"),
             _ => Err(AllocError),
@@ -97,14 +97,14 @@ fn of_fault<R: FileSystem + io::Input>(
 }
 
 // Why these arguments are refused. They are escaped before `clap` has them, so each line feed that comes of it is its own.
-fn of_refusal(alloc: Global, fault: &RunFault, words: &[String]) -> Result<String, AllocError>
+fn of_refusal(alloc: Global, fault: &RunFault, arguments: &[String]) -> Result<String, AllocError>
     ensures { IfOk result (λ text. list_all is_shown (string_bytes text) ≡ true) }
 {
     if matches!(fault, RunFault::Memory) {
         return Err(AllocError);
     }
-    let words = escaped_each(alloc, words)?;
-    match refusal_of(alloc, &words)? {
+    let arguments = escaped_each(alloc, arguments)?;
+    match refusal_of(alloc, &arguments)? {
         Some(text) => shown_lines(alloc, &text),
         None => shown_line(alloc, TOO_MANY_FILES),
     }
@@ -148,7 +148,7 @@ fn of_reason(alloc: Global, input: &str, reason: Option<io::Error>) -> Result<St
 // The system's words for an error, without its number.
 fn without_number(reason: &str) -> &str {
     match reason.split_once(" (os error ") {
-        Some((words, _)) => words,
+        Some((arguments, _)) => arguments,
         None => reason,
     }
 }

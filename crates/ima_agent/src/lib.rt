@@ -12,7 +12,7 @@ mod showing;
 mod streaming;
 mod texts;
 mod version;
-mod words;
+mod arguments;
 
 pub use agent_inputs::{
     AgentFiles, Files, Input, LoadFault, NotResumed, ReadSource, RunFault, SharedFiles,
@@ -27,7 +27,7 @@ pub use boot_verdict::{
 };
 pub use command_line::{
     DataShown, Scope, Form, Judge, Judged, Measurement, NameEnd, Names, Plan, Print, Question,
-    Task, words_after_name,
+    Task, arguments_after_name,
 };
 pub use escaping::escaped;
 pub use explaining::{Failure, explanation};
@@ -36,4 +36,4 @@ pub use program::{exit_code, run, run_with_progress};
 pub use progress::{NoProgress, Progress, SystemProgress};
 pub use rendering::Output;
 pub use texts::{json_fault_line, json_memory_line, status_of, write_fault};
-pub use words::read_words;
+pub use arguments::read_words;

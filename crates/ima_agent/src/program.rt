@@ -15,7 +15,7 @@ use crate::showing::{entries_for, events_for, shown_registers};
 use crate::streaming::{DONE, Prepared, Sent, StreamFault, sent_output, sent_text};
 use crate::texts::{json_fault_line, json_memory_line, status_of, write_fault};
 use crate::version::version_text;
-use crate::words::read_words;
+use crate::arguments::read_words;
 use agent_inputs::{AgentFiles, RunFault};
 use byte_streams::{Failed, Sink, send};
 use command_line::{Form, Measurement, Task};
@@ -30,21 +30,21 @@ use std::thread::Threads;
 // The exit status if the sink failed.
 const FAILED: u8 = 3;
 
-/// Runs the program as [`run_with_progress`] does, and returns the process's exit code. If `words` is an error, the program fails
+/// Runs the program as [`run_with_progress`] does, and returns the process's exit code. If `arguments` is an error, the program fails
 /// as it does out of memory: with the line `failed: memory` and status 3.
 /// `main` returns it, so that the exit status has a contract.
 pub fn exit_code<R: Threads + Wait + Sync, F: AgentFiles, S: Sink, P: Progress>(
     rt: &R,
     alloc: Global,
-    words: io::Result<Vec<String>>,
+    arguments: io::Result<Vec<String>>,
     files: &mut F,
     sink: &mut S,
     progress: &P,
 ) -> ExitCode
-    ensures { Answers (IsOutputOf (F.known files.old) words (F.saved files.old) (F.saved files.new)) (exit_status result) (S.state sink.old) (S.state sink.new) }
+    ensures { Answers (IsOutputOf (F.known files.old) arguments (F.saved files.old) (F.saved files.new)) (exit_status result) (S.state sink.old) (S.state sink.new) }
 {
-    match words {
-        Ok(words) => exits_with(run_with_progress(rt, alloc, &words, files, sink, progress)),
+    match arguments {
+        Ok(arguments) => exits_with(run_with_progress(rt, alloc, &arguments, files, sink, progress)),
         Err(reason) => {
             let status = failed(alloc, Form::Text, &RunFault::Memory, sink);
             progress.explain(alloc, Failure::Words { reason: &reason });
@@ -82,27 +82,27 @@ fn exits_with(status: u8) -> ExitCode
 pub fn run<R: Threads + Wait + Sync, F: AgentFiles, S: Sink>(
     rt: &R,
     alloc: Global,
-    words: &[String],
+    arguments: &[String],
     files: &mut F,
     sink: &mut S,
 ) -> u8
-    ensures { Answers (IsOutput (F.known files.old) words.now (F.saved files.old) (F.saved files.new)) result (S.state sink.old) (S.state sink.new) }
+    ensures { Answers (IsOutput (F.known files.old) arguments.now (F.saved files.old) (F.saved files.new)) result (S.state sink.old) (S.state sink.new) }
 {
-    run_with_progress(rt, alloc, words, files, sink, &NoProgress)
+    run_with_progress(rt, alloc, arguments, files, sink, &NoProgress)
 }
 
 /// As [`run`]; also reports to `progress` how many files of a measurement are done, and why the run failed. The output is the same.
 pub fn run_with_progress<R: Threads + Wait + Sync, F: AgentFiles, S: Sink, P: Progress>(
     rt: &R,
     alloc: Global,
-    words: &[String],
+    arguments: &[String],
     files: &mut F,
     sink: &mut S,
     progress: &P,
 ) -> u8
-    ensures { Answers (IsOutput (F.known files.old) words.now (F.saved files.old) (F.saved files.new)) result (S.state sink.old) (S.state sink.new) }
+    ensures { Answers (IsOutput (F.known files.old) arguments.now (F.saved files.old) (F.saved files.new)) result (S.state sink.old) (S.state sink.new) }
 {
-    match read_words(alloc, words) {
+    match read_words(alloc, arguments) {
         Ok(plan) => {
             let (task, form) = plan.into_task();
             run_task(rt, alloc, &task, form, files, sink, progress)
@@ -113,7 +113,7 @@ pub fn run_with_progress<R: Threads + Wait + Sync, F: AgentFiles, S: Sink, P: Pr
                 alloc,
                 Failure::Refused {
                     fault: &fault,
-                    words,
+                    arguments,
                 },
             );
             status

@@ -5,7 +5,7 @@ use Rattle.clap.specs.Words.{is_simple, subcommand_of}
 use Rattle.command_line.specs.Plans.{HasValuesIn, IsWithinRanges}
 use Rattle.command_line.specs.Tasks.{IsWithin}
 use Rattle.command_line.proofs.ReadLemmas.{commands_are_simple}
-use Rattle.command_line.proofs.words.plan_in.Goals as goal
+use Rattle.command_line.proofs.arguments.plan_in.Goals as goal
 
 pub returns-in_ok-requested_of-in-Ok : goal.returns-in_ok-requested_of-in-Ok
 returns-in_ok-requested_of-in-Ok c =
@@ -13,7 +13,7 @@ returns-in_ok-requested_of-in-Ok c =
     let program = c.in_ok-all_commands.ensures.1 in
     let command = c.args.command.now in
     let found = (c.in-Ok.ensures.matches (ap is_simple program.app_is ∙ commands_are_simple parsers)).1
-    ∙ ap (λ app. subcommand_of app (map string_bytes c.args.words.now)) program.app_is in
+    ∙ ap (λ app. subcommand_of app (map string_bytes c.args.arguments.now)) program.app_is in
     let task = sym c.of.ensures.task in
     let is = c.in_ok-requested_of-in-Ok.ensures in (
       inl (
@@ -29,7 +29,7 @@ returns-in_ok-requested_of-in-Ok c =
 pub returns-in-Err : goal.returns-in-Err
 returns-in-Err c =
     let parsers = c.in_ok-all_commands.ensures.0 in
-    let words = map string_bytes c.args.words.now in
+    let arguments = map string_bytes c.args.arguments.now in
     IfOk-weaker c.help_of.result _ _
     (λ plan is. (
       inr (
@@ -38,7 +38,7 @@ returns-in-Err c =
         (
           parsers,
           λ taken.
-              let clash = sym is.2 ∙ c.in-Err.ensures.passes (ap (λ app. takes app words) c.in_ok-all_commands.ensures.1.app_is ∙ taken) in cc,
+              let clash = sym is.2 ∙ c.in-Err.ensures.passes (ap (λ app. takes app arguments) c.in_ok-all_commands.ensures.1.app_is ∙ taken) in cc,
         ),
       ),
       subst IsWithinRanges (sym is.1.1) tt,

@@ -1,4 +1,4 @@
-use Rattle.command_line.proofs.words.question_of.Goals as goal
+use Rattle.command_line.proofs.arguments.question_of.Goals as goal
 
 pub returns-in_ok-judge_of-in-verify : goal.returns-in_ok-judge_of-in-verify
 returns-in_ok-judge_of-in-verify c = c.in_ok-judge_of-in-verify.ensures _ (

@@ -13,7 +13,7 @@ ghost use Rattle.command_line.specs.declared.plan.Question.TheVariants as questi
 ghost use Rattle.command_line.specs.declared.plan.Task.TheVariants.{Version};
 
 use crate::commands::{KnownNames, VERSION, all_commands};
-use crate::fault::WordsFault;
+use crate::fault::ArgumentsFault;
 use crate::plan::{DataShown, Scope, Form, Judge, Judged, Plan, Question, Task};
 use crate::values::{flag_of, measurement_of, name_of, text_if_given};
 use clap::error::ErrorKind;
@@ -32,37 +32,37 @@ const NO_JSON_OF_BYTES: &str = "error: invalid value 'binary' for '--print <P>' 
 ///
 /// Fails with `Usage` if the arguments are not those of a command, and with `Memory` if memory runs out.
 #[tactic(auto, using(crate::proofs::ReadLemmas::requested_by))]
-pub fn read_words(alloc: Global, words: &[String]) -> Result<Plan, WordsFault>
+pub fn read_words(alloc: Global, arguments: &[String]) -> Result<Plan, ArgumentsFault>
     // The first argument is the command, the arguments match its options and names, and these are within their ranges; or they are not
     // taken, and one of them requests help; or the first is `--version`.
-    ensures request { IfOk result (λ plan. IsRequestedBy words.now plan × IsWithinRanges plan) }
+    ensures request { IfOk result (λ plan. IsRequestedBy arguments.now plan × IsWithinRanges plan) }
     // Without arguments the plan is `Registers`, whatever memory there is.
-    ensures none { words.now ≡ [] → result ≡ Ok plans.Registers }
+    ensures none { arguments.now ≡ [] → result ≡ Ok plans.Registers }
     // After `--version` the plan is to show the version, whatever follows it.
-    ensures version { BeginsWithVersion words.now → result ≡ Ok (plans.Task Version Text) }
+    ensures version { BeginsWithVersion arguments.now → result ≡ Ok (plans.Task Version Text) }
 {
-    match words.first() {
+    match arguments.first() {
         None => Ok(Plan::Registers),
         Some(word) if word.as_str() == VERSION => Ok(Plan::Task(Task::Version, Form::Text)),
-        Some(command) => plan_in(alloc, words, command),
+        Some(command) => plan_in(alloc, arguments, command),
     }
 }
 
 /// What `clap` says of arguments that it refuses, or what is wrong with `--print binary` beside `--json`: lines for a person, which may
 /// have any bytes of the arguments. `None` if `clap` takes them, and they are no such; of `--help` and `--version` it
 /// is what `clap` shows.
-pub fn refusal_of(alloc: Global, words: &[String]) -> Result<Option<String>, AllocError>
+pub fn refusal_of(alloc: Global, arguments: &[String]) -> Result<Option<String>, AllocError>
     // Without arguments nothing is refused.
-    ensures none { words.now ≡ [] → result ≡ Ok None }
+    ensures none { arguments.now ≡ [] → result ≡ Ok None }
 {
-    if words.is_empty() {
+    if arguments.is_empty() {
         return Ok(None);
     }
     let known = KnownNames {
         algs: &Alg::ALL.map(Alg::name),
         templates: &Template::ALL.map(Template::name),
     };
-    match all_commands(alloc, known)?.try_get_matches_from(words) {
+    match all_commands(alloc, known)?.try_get_matches_from(arguments) {
         Ok(matches) if is_json_of_bytes(&matches) => {
             Ok(Some(String::from_str(alloc, NO_JSON_OF_BYTES)?))
         }
@@ -88,32 +88,32 @@ fn refusal_text(alloc: Global, error: &Error) -> Result<Option<String>, AllocErr
 }
 
 /// The arguments after the first, which is the program's name.
-pub fn words_after_name(alloc: Global, words: Args) -> Result<Vec<String>, AllocError>
-    ensures { IfOk result (λ rest. rest.items ≡ drop 1 (into_iter_items words)) }
+pub fn arguments_after_name(alloc: Global, arguments: Args) -> Result<Vec<String>, AllocError>
+    ensures { IfOk result (λ rest. rest.items ≡ drop 1 (into_iter_items arguments)) }
 {
-    words.skip(1).collect(alloc)
+    arguments.skip(1).collect(alloc)
 }
 
 // The plan of the command of this name, or the help that the arguments request.
-fn plan_in(alloc: Global, words: &[String], command: &str) -> Result<Plan, WordsFault>
-    ensures { IfOk result (λ plan. IsPlanOrHelp words.now command.now plan × IsWithinRanges plan) }
+fn plan_in(alloc: Global, arguments: &[String], command: &str) -> Result<Plan, ArgumentsFault>
+    ensures { IfOk result (λ plan. IsPlanOrHelp arguments.now command.now plan × IsWithinRanges plan) }
 {
     let known = KnownNames {
         algs: &Alg::ALL.map(Alg::name),
         templates: &Template::ALL.map(Template::name),
     };
-    match all_commands(alloc, known)?.try_get_matches_from(words) {
+    match all_commands(alloc, known)?.try_get_matches_from(arguments) {
         Ok(matches) => Ok(Plan::of(requested_of(alloc, command, &matches)?)),
-        Err(error) => help_of(alloc, words, &error),
+        Err(error) => help_of(alloc, arguments, &error),
     }
 }
 
 // The task of the command, and its form, from clap's matches.
-fn requested_of(alloc: Global, command: &str, matches: &ArgMatches) -> Result<(Task, Form), WordsFault>
+fn requested_of(alloc: Global, command: &str, matches: &ArgMatches) -> Result<(Task, Form), ArgumentsFault>
     ensures { IfOk result (λ request. HasValuesIn command.now (subcommand_rows_of matches.now) request × IsWithin request.1 request.0) }
 {
     let Some(matches) = matches.subcommand_matches(command) else {
-        return Err(WordsFault::Usage);
+        return Err(ArgumentsFault::Usage);
     };
     let form = flag_of(matches, "json", Form::Text, Form::Json)?;
     Ok((task_of(alloc, command, matches, form)?, form))
@@ -125,7 +125,7 @@ fn task_of(
     command: &str,
     matches: &ArgMatches,
     form: Form,
-) -> Result<Task, WordsFault>
+) -> Result<Task, ArgumentsFault>
     ensures { IfOk result (λ task. HasValues command.now (rows_of (found_of matches.now)) task × IsWithin form task) }
 {
     match command {
@@ -142,7 +142,7 @@ fn task_of(
 }
 
 // What the command of this name asks.
-fn question_of(alloc: Global, command: &str, matches: &ArgMatches) -> Result<Question, WordsFault>
+fn question_of(alloc: Global, command: &str, matches: &ArgMatches) -> Result<Question, ArgumentsFault>
     ensures { IfOk result (HasQuestion command.now (rows_of (found_of matches.now))) }
 {
     match command {
@@ -167,12 +167,12 @@ fn question_of(alloc: Global, command: &str, matches: &ArgMatches) -> Result<Que
             log: name_of(alloc, matches, "LOG")?,
         }),
         "replay" => replay_of(alloc, matches),
-        _ => Err(WordsFault::Usage),
+        _ => Err(ArgumentsFault::Usage),
     }
 }
 
 // What is asked of a list and expected registers, if this is judged.
-fn judge_of(alloc: Global, matches: &ArgMatches, judged: Judged) -> Result<Judge, WordsFault>
+fn judge_of(alloc: Global, matches: &ArgMatches, judged: Judged) -> Result<Judge, ArgumentsFault>
     ensures { IfOk result (λ judge. (command : Words) → HasJudged command (rows_of (found_of matches.now)) judged
         → HasQuestion command (rows_of (found_of matches.now)) (questions.Judge judge)) }
 {
@@ -185,7 +185,7 @@ fn judge_of(alloc: Global, matches: &ArgMatches, judged: Judged) -> Result<Judge
 }
 
 // What `replay` asks. Refuses `--require` without EXPECTED.
-fn replay_of(alloc: Global, matches: &ArgMatches) -> Result<Question, WordsFault>
+fn replay_of(alloc: Global, matches: &ArgMatches) -> Result<Question, ArgumentsFault>
     ensures { IfOk result (HasQuestion (codes "replay") (rows_of (found_of matches.now))) }
 {
     let list = name_of(alloc, matches, "LIST")?;
@@ -199,15 +199,15 @@ fn replay_of(alloc: Global, matches: &ArgMatches) -> Result<Question, WordsFault
             required,
         })),
         (None, None) => Ok(Question::ListRegisters { list }),
-        (None, Some(_)) => Err(WordsFault::Usage),
+        (None, Some(_)) => Err(ArgumentsFault::Usage),
     }
 }
 
 // Whether some argument requests help.
-fn has_help_word(words: &[String]) -> bool
-    ensures { result ≡ list_any (λ word. asks_help (string_bytes word)) words.now }
+fn has_help_word(arguments: &[String]) -> bool
+    ensures { result ≡ list_any (λ word. asks_help (string_bytes word)) arguments.now }
 {
-    words.iter().any(asks_help)
+    arguments.iter().any(asks_help)
 }
 
 // Whether this argument requests help: it is `--help`, or short options that begin with `-h`.
@@ -218,14 +218,14 @@ fn asks_help(word: &String) -> bool
 }
 
 // The help, if it was requested; else `Usage`, or `Memory` if memory ran out.
-fn help_of(alloc: Global, words: &[String], error: &Error) -> Result<Plan, WordsFault>
-    ensures { IfOk result (λ plan. HasHelpWord words.now × IsHelp plan × (kind_of error.now ≡ ErrorKind.DisplayHelp)) }
+fn help_of(alloc: Global, arguments: &[String], error: &Error) -> Result<Plan, ArgumentsFault>
+    ensures { IfOk result (λ plan. HasHelpWord arguments.now × IsHelp plan × (kind_of error.now ≡ ErrorKind.DisplayHelp)) }
 {
     match error.kind() {
-        ErrorKind::DisplayHelp if has_help_word(words) => {
+        ErrorKind::DisplayHelp if has_help_word(arguments) => {
             Ok(Plan::Help(format!(in alloc; "{error}")?))
         }
-        ErrorKind::OutOfMemory => Err(WordsFault::Memory),
-        _ => Err(WordsFault::Usage),
+        ErrorKind::OutOfMemory => Err(ArgumentsFault::Memory),
+        _ => Err(ArgumentsFault::Usage),
     }
 }
