@@ -73,7 +73,7 @@ HasJudged command rows (judged.Verdict log scope resume save) =
     × IsFlag (codes "prefix") rows Whole Prefix scope
     × IsGivenAs (codes "resume") rows resume
     × IsGivenAs (codes "save") rows save
-HasJudged command rows (judged.Places log) = (command ≡ codes "locate") × IsGivenAs (codes "LOG") rows (Some log)
+HasJudged command rows (judged.Positions log) = (command ≡ codes "locate") × IsGivenAs (codes "LOG") rows (Some log)
 HasJudged command rows judged.ListVerdict = command ≡ codes "replay"
 
 -- The command of this name asks this, and the matches have its options and names. `ListRegisters` requires that neither EXPECTED nor

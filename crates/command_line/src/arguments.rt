@@ -157,7 +157,7 @@ fn question_of(alloc: Global, command: &str, matches: &ArgMatches) -> Result<Que
         }
         "locate" => {
             let log = name_of(alloc, matches, "LOG")?;
-            Ok(Question::Judge(judge_of(alloc, matches, Judged::Places { log })?))
+            Ok(Question::Judge(judge_of(alloc, matches, Judged::Positions { log })?))
         }
         "expected" => Ok(Question::Expected {
             printed: name_of(alloc, matches, "PCRREAD")?,

@@ -71,7 +71,7 @@ pub enum Judged {
         save: Option<String>,
     },
     /// Where the expected registers first have their values, in a log and a list.
-    Places {
+    Positions {
         /// The name of the firmware event log, binary.
         log: String,
     },

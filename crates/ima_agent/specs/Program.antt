@@ -22,7 +22,7 @@ use Rattle.command_line.specs.declared.plan.Task.{Task}
 use Rattle.command_line.specs.declared.plan.Task.TheVariants as tasks
 use Rattle.command_line.specs.Plans.{IsRequestedBy, IsWithinRanges}
 use Rattle.command_line.specs.Tasks.{task_of}
-use Rattle.judging.specs.Requests.{Any, Requested, Compared, Compares, ExpectedOf, Judgement, ListRegistersOf, ListVerdictOf, LogRegistersOf, Nothing, PlacesOf, Requires, These, VerdictOf}
+use Rattle.judging.specs.Requests.{Any, Requested, Compared, Compares, ExpectedOf, Judgement, ListRegistersOf, ListVerdictOf, LogRegistersOf, Nothing, PositionsOf, Requires, These, VerdictOf}
 use Rattle.judging.specs.Inputs.{FileOf, Where}
 use Rattle.measuring.specs.declared.recording.Measured.{Measured}
 use Rattle.measuring.specs.Measuring.{IsMeasured, IsMeasuringFault}
@@ -43,7 +43,7 @@ file_of name = FileOf (string_bytes name)
 
 abbrev pub judgement_by : Judged → Judgement
 judgement_by (judged.Verdict log scope resume save) = VerdictOf (file_of log) scope (option_map file_of resume)
-judgement_by (judged.Places log) = PlacesOf (file_of log)
+judgement_by (judged.Positions log) = PositionsOf (file_of log)
 judgement_by judged.ListVerdict = ListVerdictOf
 
 -- What has to be among the expected registers: those that the text spells, if it is given; else some register, if the verdict is on a list
@@ -52,7 +52,7 @@ abbrev pub requires_by : Judged → Option (String Global) → Requires
 requires_by judged (Some text) = These (string_bytes text)
 requires_by (judged.Verdict log Whole None None) None = Nothing
 requires_by (judged.Verdict log scope resume save) None = Any
-requires_by (judged.Places log) None = Nothing
+requires_by (judged.Positions log) None = Nothing
 requires_by judged.ListVerdict None = Nothing
 
 abbrev pub compared_by : Judge → Compared

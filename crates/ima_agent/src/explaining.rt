@@ -199,7 +199,7 @@ fn log_of(task: &Task) -> Option<&str> {
         | Task::Answer(Question::LogRegisters { log })
         | Task::Events { log, .. } => Some(log.as_str()),
         Task::Answer(Question::Judge(judge)) => match &judge.judged {
-            Judged::Verdict { log, .. } | Judged::Places { log } => Some(log.as_str()),
+            Judged::Verdict { log, .. } | Judged::Positions { log } => Some(log.as_str()),
             Judged::ListVerdict => None,
         },
         _ => None,

@@ -22,8 +22,8 @@ pub use boot_verdict::{
     Aggregate, BankRange, EventData, ExpectFault, Expected, Located, Place, RegisterRange, Report,
     Requirement, RequirementFault, Row, State, VerifyFault, all_found, list_start, locate,
     locate_from, read_expected, read_printed, replay_from, required_found, verify, verify_from,
-    write_events, write_expected, write_places, write_registers, write_report,
-    write_required_places, write_required_report,
+    write_events, write_expected, write_positions, write_registers, write_report,
+    write_required_positions, write_required_report,
 };
 pub use command_line::{
     DataShown, Scope, Form, Judge, Judged, Measurement, NameEnd, Names, Plan, Print, Question,

@@ -59,7 +59,7 @@ fn wanted_of(judged: &Judged) -> Wanted<'_>
                 Some(name) => Some(Input::File(name)),
             },
         },
-        Judged::Places { log } => Wanted::Places {
+        Judged::Positions { log } => Wanted::Positions {
             log: Input::File(log),
         },
         Judged::ListVerdict => Wanted::ListVerdict,
@@ -82,7 +82,7 @@ fn required_of(judge: &Judge) -> Required<'_>
             },
         ) => Required::Nothing,
         (None, Judged::Verdict { .. }) => Required::Any,
-        (None, Judged::Places { .. } | Judged::ListVerdict) => Required::Nothing,
+        (None, Judged::Positions { .. } | Judged::ListVerdict) => Required::Nothing,
     }
 }
 

@@ -3,7 +3,7 @@ use Rattle.std.specs.Prelude.{ℕ, ◌==◌, if◌then◌else◌, Bool, List, by
 use Rattle.command_line.specs.declared.plan.Scope.TheVariants.{Prefix, Whole}
 use Rattle.command_line.specs.declared.plan.Form.{Form}
 use Rattle.command_line.specs.declared.plan.Form.TheVariants.{Json, Text}
-use Rattle.judging.specs.Requests.{Any, Requested, Compares, Judgement, ListRegistersOf, ListVerdictOf, LogRegistersOf, Nothing, PlacesOf, Requires, These, VerdictOf}
+use Rattle.judging.specs.Requests.{Any, Requested, Compares, Judgement, ListRegistersOf, ListVerdictOf, LogRegistersOf, Nothing, PositionsOf, Requires, These, VerdictOf}
 use Rattle.judging.specs.Inputs.{BytesOf}
 
 abbrev pub interface_version : ℕ
@@ -39,8 +39,8 @@ verdict_of log state prefix =
 abbrev pub requested_of_verdict : List ℕ → List ℕ → List ℕ → List ℕ → Requested
 requested_of_verdict log list expected require = requested_by Nothing (VerdictOf (BytesOf log) Whole None) list expected require
 
-abbrev pub requested_of_places : List ℕ → List ℕ → List ℕ → List ℕ → Requested
-requested_of_places log list expected require = requested_by Nothing (PlacesOf (BytesOf log)) list expected require
+abbrev pub requested_of_positions : List ℕ → List ℕ → List ℕ → List ℕ → Requested
+requested_of_positions log list expected require = requested_by Nothing (PositionsOf (BytesOf log)) list expected require
 
 abbrev pub requested_of_list : List ℕ → List ℕ → List ℕ → Requested
 requested_of_list list expected require = requested_by Nothing ListVerdictOf list expected require

@@ -16,7 +16,7 @@ ghost use Rattle.std.specs.Prelude.{◌≡◌};
 ghost use Rattle.judging.specs.Requests.{ExpectedOf};
 ghost use Rattle.judging.specs.Inputs.{BytesOf};
 ghost use Rattle.ima_verify_c.specs.Answers.{Answers, AnswersMore, GivesEntries, GivesEvents, IsAnswerAndNext, IsAnswerTo};
-ghost use Rattle.ima_verify_c.specs.Requested.{requested_of_list, requested_of_more, requested_of_places, requested_of_registers, requested_of_verdict, form_of, given_bytes, interface_version};
+ghost use Rattle.ima_verify_c.specs.Requested.{requested_of_list, requested_of_more, requested_of_positions, requested_of_registers, requested_of_verdict, form_of, given_bytes, interface_version};
 
 use crate::asking::{requested_by, form_of, given_bytes, registers_on, verdict_of};
 use crate::giving::{give, give_both, give_lines};
@@ -67,11 +67,11 @@ pub extern "C" fn ima_verify_raw_locate<'a>(
     out: &mut [u8],
     told: &mut Told,
 ) -> i32
-    ensures { Answers (IsAnswerTo (requested_of_places log.now list.now expected.now require.now) (form_of json)) result told.new out.old out.new }
+    ensures { Answers (IsAnswerTo (requested_of_positions log.now list.now expected.now require.now) (form_of json)) result told.new out.old out.new }
 {
     let log = Input::Bytes(log);
-    let places = Wanted::Places { log };
-    let request = requested_by(Required::Nothing, places, list, expected, require);
+    let positions = Wanted::Positions { log };
+    let request = requested_by(Required::Nothing, positions, list, expected, require);
     give(alloc, request, form_of(json), out, told)
 }
 

@@ -17,8 +17,8 @@ use Rattle.ima_list.specs.declared.list_replay.ReplayFault.TheVariants as replay
 use Rattle.boot_verdict.specs.declared.expected.Expected.{Expected}
 use Rattle.boot_verdict.specs.declared.prefix_report.Unconfirmed.{Unconfirmed}
 use Rattle.boot_verdict.specs.declared.prefix_report.Unconfirmed.TheVariants as faults
-use Rattle.boot_verdict.specs.declared.places.Place.{Place}
-use Rattle.boot_verdict.specs.declared.places.Place.TheVariants as places
+use Rattle.boot_verdict.specs.declared.positions.Place.{Place}
+use Rattle.boot_verdict.specs.declared.positions.Place.TheVariants as positions
 use Rattle.boot_verdict.specs.declared.report.Row.{Row}
 use Rattle.boot_verdict.specs.declared.report.State.{State}
 use Rattle.boot_verdict.specs.declared.report.State.TheVariants.{Match, Differ, Absent}
@@ -34,8 +34,8 @@ use Rattle.json_texts.specs.declared.faults.FaultPlace.TheVariants.{Event, Entry
 use Rattle.json_texts.specs.JsonValues.{IsCount, Member, hex_json, items_of, number_json, optional}
 use Rattle.json_texts.specs.EventJson.{algorithm_json}
 use Rattle.json_texts.specs.FaultJson.{fault_members, number_at, place_members}
-use Rattle.json_texts.specs.PlaceJson as place
-use Rattle.json_texts.specs.PlaceJson.{IsCountedPlace}
+use Rattle.json_texts.specs.PositionJson as place
+use Rattle.json_texts.specs.PositionJson.{IsCountedPosition}
 use Rattle.json_texts.specs.RegisterJson.{change_values, missing_among, register_json, row_json, rows_values, value_if_missing, value_within}
 use Rattle.json_texts.specs.ReportJson.{report_rows, state_members, unconfirmed_members}
 use Rattle.json_texts.proofs.LineLaws.{ArePlain, IsPlain, ItemsArePlain, members_joined}
@@ -172,12 +172,12 @@ unconfirmed_plain (Some fault) fits = (
 
 -- ---- places
 
-pub place_plain : (at : Place) → IsCountedPlace at → ArePlain (place.place_members at) 0
-place_plain places.Reset fits = (tt, tt)
-place_plain (places.Event number) fits = (tt, ((number, fits, refl), tt))
-place_plain (places.Entry number) fits = (tt, ((number, fits, refl), tt))
-place_plain places.Nowhere fits = (tt, tt)
-place_plain places.Absent fits = (tt, tt)
+pub place_plain : (at : Place) → IsCountedPosition at → ArePlain (place.place_members at) 0
+place_plain positions.Reset fits = (tt, tt)
+place_plain (positions.Event number) fits = (tt, ((number, fits, refl), tt))
+place_plain (positions.Entry number) fits = (tt, ((number, fits, refl), tt))
+place_plain positions.Nowhere fits = (tt, tt)
+place_plain positions.Absent fits = (tt, tt)
 
 -- ---- events
 

@@ -3,7 +3,7 @@ pub mod EntryJson
 pub mod FaultJson
 pub mod RegisterJson
 pub mod ReportJson
-pub mod PlaceJson
+pub mod PositionJson
 pub mod EventJson
 pub mod ItemLines
 pub mod ShownItems

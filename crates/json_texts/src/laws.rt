@@ -13,7 +13,7 @@ ghost use Rattle.ima_list.specs.Fields.{HasFields, fields_of};
 ghost use Rattle.boot_verdict.specs.declared.expected.Expected.{Expected};
 ghost use Rattle.boot_verdict.specs.declared.prefix_report.Unconfirmed.{Unconfirmed};
 ghost use Rattle.boot_verdict.specs.declared.register_range.RegisterRange.{RegisterRange};
-ghost use Rattle.boot_verdict.specs.declared.places.Located.{Located};
+ghost use Rattle.boot_verdict.specs.declared.positions.Located.{Located};
 ghost use Rattle.boot_verdict.specs.declared.requirement.BankRange.{BankRange};
 ghost use Rattle.boot_verdict.specs.PrefixTexts.{unconfirmed_entry};
 ghost use Rattle.boot_verdict.specs.ListVerdicts.{ListVerdict};
@@ -24,7 +24,7 @@ ghost use Rattle.json_texts.specs.JsonValues.{IsCount, IsOneLine, line_of, objec
 ghost use Rattle.json_texts.specs.EntryJson.{HasBytes, IsKnown, entry_json, is_genuine};
 ghost use Rattle.json_texts.specs.EventJson.{algorithms_json, event_json};
 ghost use Rattle.json_texts.specs.FaultJson.{fault_json, fault_members, number_at};
-ghost use Rattle.json_texts.specs.PlaceJson.{IsCountedPlace, places_json};
+ghost use Rattle.json_texts.specs.PositionJson.{IsCountedPosition, positions_json};
 ghost use Rattle.json_texts.specs.RegisterJson.{expected_json, registers_json};
 ghost use Rattle.json_texts.specs.ReportJson.{prefix_report_json, list_report_json, report_json};
 
@@ -49,9 +49,9 @@ pub fn each_value_is_one_line()
         → IsOneLine (prefix_report_json required prefix entries unconfirmed) }
     ensures list_report { (required : Option (List BankRange)) (verdict : ListVerdict) → IsCount verdict.entries
         → AllByRecursion (λ row. IsCount row.expected.register) verdict.rows → IsOneLine (list_report_json required verdict) }
-    ensures places { (required : Option (List BankRange)) (located : List Located)
-        → AllByRecursion (λ row. IsCount row.expected.register × IsCountedPlace row.place) located
-        → IsOneLine (places_json required located) }
+    ensures positions { (required : Option (List BankRange)) (located : List Located)
+        → AllByRecursion (λ row. IsCount row.expected.register × IsCountedPosition row.place) located
+        → IsOneLine (positions_json required located) }
     ensures fault { (kind : List ℕ) (number : Option ℕ) (place : Option FaultPlace) (message : List ℕ)
         → IfSome number IsCount → IfSome place (λ at. IsCount (number_at at)) → IsOneLine (fault_json kind number place message) }
 {}
@@ -71,8 +71,8 @@ pub fn only_faults_have_a_fault()
         → get (codes "fault") (prefix_report_json required prefix entries unconfirmed) ≡ None }
     ensures list_report { (required : Option (List BankRange)) (verdict : ListVerdict)
         → get (codes "fault") (list_report_json required verdict) ≡ None }
-    ensures places { (required : Option (List BankRange)) (located : List Located)
-        → get (codes "fault") (places_json required located) ≡ None }
+    ensures positions { (required : Option (List BankRange)) (located : List Located)
+        → get (codes "fault") (positions_json required located) ≡ None }
 {}
 
 /// An entry's line says that it is genuine exactly where it is.

@@ -126,17 +126,17 @@ module _ {inputs : Inputs} {list : Where} {old new : SourceState} (gives : Gives
       → IsMoreFault [] old.remaining new.remaining (limit_of list) first → IsFaultAt list first fault → IsRefusedList inputs list fault
   list_refused first fault failed is says = (first, refused_after [] (limit_of list) first failed is, says)
 
-  pub places_refused : (evidence : Evidence) (first : VerifyFault) (fault : RunFault) → (first ≡ verdicts.Source → HasFailed old new)
+  pub positions_refused : (evidence : Evidence) (first : VerifyFault) (fault : RunFault) → (first ≡ verdicts.Source → HasFailed old new)
       → IsVerifyFaultFrom evidence.log old.remaining new.remaining (limit_of list) first → IsFaultAt list first fault
       → (HasLogFault evidence.log fault ⊎ (IsSomeLog evidence.log × IsRefusedList inputs list fault)) ⊎ (fault ≡ runs.Memory)
-  places_refused evidence (verdicts.Log first) fault failed is says = inl (inl (record { first = first; first_is = is.0; says = says }))
-  places_refused evidence (verdicts.List first) fault failed is says =
+  positions_refused evidence (verdicts.Log first) fault failed is says = inl (inl (record { first = first; first_is = is.0; says = says }))
+  positions_refused evidence (verdicts.List first) fault failed is says =
       inl (inr (is.0, list_refused (verdicts.List first) fault failed is.1 says))
-  places_refused evidence (verdicts.Replay first) fault failed is says =
+  positions_refused evidence (verdicts.Replay first) fault failed is says =
       inl (inr (is.0, list_refused (verdicts.Replay first) fault failed is.1 says))
-  places_refused evidence verdicts.Source fault failed is says = inl (inr (is.0, list_refused verdicts.Source fault failed is.1 says))
-  places_refused evidence verdicts.TooLong fault failed is says = inl (inr (is.0, list_refused verdicts.TooLong fault failed is.1 says))
-  places_refused evidence verdicts.Memory fault failed is says = inr says
+  positions_refused evidence verdicts.Source fault failed is says = inl (inr (is.0, list_refused verdicts.Source fault failed is.1 says))
+  positions_refused evidence verdicts.TooLong fault failed is says = inl (inr (is.0, list_refused verdicts.TooLong fault failed is.1 says))
+  positions_refused evidence verdicts.Memory fault failed is says = inr says
 
   -- ---- a verdict
 

@@ -16,7 +16,7 @@ use Rattle.boot_verdict.specs.declared.register_range.RegisterRange.{RegisterRan
 use Rattle.boot_verdict.specs.declared.requirement.BankRange.{BankRange}
 use Rattle.boot_verdict.specs.ExpectedTexts.{HasFirstFault, IsExpectedText}
 use Rattle.boot_verdict.specs.ListVerdicts.{list_matches, list_verdict_of, required_list_matches}
-use Rattle.boot_verdict.specs.Places.{all_found}
+use Rattle.boot_verdict.specs.Positions.{all_found}
 use Rattle.boot_verdict.specs.PrintedTexts.{HasPrintedFault, IsPrintedText}
 use Rattle.boot_verdict.specs.RegisterRanges.{IsRangeText, is_within}
 use Rattle.boot_verdict.specs.Replays.{IsListStart}
@@ -105,8 +105,8 @@ is_well requires None (answers.Report report) = is_match requires (verdict_of re
 is_well requires (Some ranges) (answers.Report report) = required_matches ranges (verdict_of report)
 is_well requires None (answers.Prefix prefix) = matches (verdict_of prefix.report)
 is_well requires (Some ranges) (answers.Prefix prefix) = required_matches ranges (verdict_of prefix.report)
-is_well requires None (answers.Places places) = all_found places.items
-is_well requires (Some ranges) (answers.Places places) = required_found ranges places.items
+is_well requires None (answers.Positions positions) = all_found positions.items
+is_well requires (Some ranges) (answers.Positions positions) = required_found ranges positions.items
 is_well requires None (answers.ListReport report) = list_matches (list_verdict_of report)
 is_well requires (Some ranges) (answers.ListReport report) = required_list_matches ranges (list_verdict_of report)
 is_well requires ranges answer = true

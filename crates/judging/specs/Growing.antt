@@ -16,7 +16,7 @@ use Rattle.boot_verdict.specs.declared.verifier.VerifyFault.TheVariants as verdi
 use Rattle.boot_verdict.specs.Checkpoints.{IsCheckpoint, most_after}
 use Rattle.boot_verdict.specs.ListSources.{IsSound}
 use Rattle.boot_verdict.specs.ListVerdicts.{IsListVerdict, list_verdict_of}
-use Rattle.boot_verdict.specs.Places.{AreLocated}
+use Rattle.boot_verdict.specs.Positions.{AreLocated}
 use Rattle.boot_verdict.specs.Requirements.{is_complete}
 use Rattle.boot_verdict.specs.Verdicts.{IsForged, IsSomeLog, IsVerdict, verdict_of, verdict_on}
 use Rattle.boot_verdict.specs.declared.prefix_report.PrefixReport.{PrefixReport}
@@ -35,7 +35,7 @@ use Rattle.agent_inputs.specs.Faults.{HasLogFault}
 use Rattle.agent_inputs.specs.Loading.{GivesAll, HasFailed, Inputs}
 use Rattle.judging.specs.declared.answer.Answer.{Answer}
 use Rattle.judging.specs.declared.answer.Answer.TheVariants as answers
-use Rattle.judging.specs.Requests.{Judgement, ListVerdictOf, PlacesOf, VerdictOf}
+use Rattle.judging.specs.Requests.{Judgement, ListVerdictOf, PositionsOf, VerdictOf}
 use Rattle.judging.specs.Inputs.{IsFaultAt, IsReadFailure, MayFail, OfInput, Where, held_in, limit_of}
 
 -- What a list is judged with: the registers that are required, if a text spells some; the log, no bytes without one; the expected
@@ -134,7 +134,7 @@ IsJudged inputs (VerdictOf place scope resume) list evidence (answers.Prefix rep
     × (seeks_prefix scope evidence.required evidence.expected ≡ true)
     × OfList inputs list evidence.known (λ all. IsPrefixOf evidence all report next)
     × OfList inputs list evidence.known (λ all. IsWrongIn all report.entries report.unconfirmed)
-IsJudged inputs (PlacesOf place) list evidence (answers.Places located) None =
+IsJudged inputs (PositionsOf place) list evidence (answers.Positions located) None =
     OfInput inputs list (λ all. AreLocated evidence.log all evidence.expected located.items)
 IsJudged inputs ListVerdictOf list evidence (answers.ListReport report) None =
     OfInput inputs list (λ all. IsListVerdict all evidence.expected (list_verdict_of report))
@@ -177,7 +177,7 @@ pub record IsNotTaken (inputs : Inputs) (scope : Scope) (list : Where) (evidence
 abbrev pub IsNotJudged : Inputs → Judgement → Where → Evidence → RunFault → Type 0
 IsNotJudged inputs (VerdictOf place scope resume) list evidence fault =
     IsLogRefused evidence.log evidence.known fault ⊎ IsNotTaken inputs scope list evidence fault
-IsNotJudged inputs (PlacesOf place) list evidence fault =
+IsNotJudged inputs (PositionsOf place) list evidence fault =
     HasLogFault evidence.log fault ⊎ (IsSomeLog evidence.log × IsRefusedList inputs list fault)
 IsNotJudged inputs ListVerdictOf list evidence fault = IsRefusedList inputs list fault
 

@@ -18,7 +18,7 @@ use Rattle.judging.specs.declared.request.Wanted.TheVariants as wanted
 -- their values in a log and a list; or the verdict on a list alone.
 pub data Judgement : Type 0 where
   VerdictOf : Where → Scope → Option Where → Judgement
-  PlacesOf : Where → Judgement
+  PositionsOf : Where → Judgement
   ListVerdictOf : Judgement
 
 -- What has to be among the expected registers: nothing; some register; or those that a text spells.
@@ -46,13 +46,13 @@ pub data Requested : Type 0 where
 -- Where the log is, if there is one.
 abbrev pub log_of : Judgement → Option Where
 log_of (VerdictOf log scope resume) = Some log
-log_of (PlacesOf log) = Some log
+log_of (PositionsOf log) = Some log
 log_of ListVerdictOf = None
 
 -- Where the checkpoint is that is gone on from, if there is one.
 abbrev pub resume_of : Judgement → Option Where
 resume_of (VerdictOf log scope resume) = resume
-resume_of (PlacesOf log) = None
+resume_of (PositionsOf log) = None
 resume_of ListVerdictOf = None
 
 -- ---- what contracts see of a request
@@ -67,7 +67,7 @@ held_bytes (helds.Bytes content) = content.now
 
 abbrev pub judgement_of : Wanted → Judgement
 judgement_of (wanted.Verdict log scope resume) = VerdictOf (place_of log) scope (option_map place_of resume)
-judgement_of (wanted.Places log) = PlacesOf (place_of log)
+judgement_of (wanted.Positions log) = PositionsOf (place_of log)
 judgement_of wanted.ListVerdict = ListVerdictOf
 
 abbrev pub requires_of : Required → Requires

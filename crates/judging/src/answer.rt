@@ -18,7 +18,7 @@ pub enum Answer {
     /// A report on its confirmed prefix.
     Prefix(PrefixReport),
     /// Where registers have their values.
-    Places(Vec<Located>),
+    Positions(Vec<Located>),
     /// A report on a list alone.
     ListReport(ListReport),
     /// Registers, of a log or of a list alone.
@@ -81,8 +81,8 @@ pub(crate) fn is_well(required: Required<'_>, ranges: Option<&Requirement>, answ
         (Answer::Report(report), Some(requirement)) => report.meets(requirement),
         (Answer::Prefix(prefix), None) => prefix.report.matches(),
         (Answer::Prefix(prefix), Some(requirement)) => prefix.report.meets(requirement),
-        (Answer::Places(places), None) => all_found(places),
-        (Answer::Places(places), Some(requirement)) => required_found(places, requirement),
+        (Answer::Positions(positions), None) => all_found(positions),
+        (Answer::Positions(positions), Some(requirement)) => required_found(positions, requirement),
         (Answer::ListReport(report), None) => report.matches(),
         (Answer::ListReport(report), Some(requirement)) => report.meets(requirement),
         (Answer::Registers(_) | Answer::Expected { .. }, _) => true,

@@ -124,7 +124,7 @@ fn log_in<'a, F: AgentFiles>(
 {
     match wanted {
         Wanted::Verdict { log, .. } => loaded_at(alloc, files, log),
-        Wanted::Places { log } => loaded_at(alloc, files, log),
+        Wanted::Positions { log } => loaded_at(alloc, files, log),
         Wanted::ListVerdict => Ok(Held::Bytes(&[])),
     }
 }
@@ -179,10 +179,10 @@ impl Evidence<'_> {
         let list = request.list;
         match request.wanted {
             Wanted::Verdict { scope, .. } => self.verdict_from(alloc, source, list, scope),
-            Wanted::Places { .. } => {
+            Wanted::Positions { .. } => {
                 let log = self.log.bytes();
                 match locate_from(alloc, log, source, limit_of(list), &self.expected) {
-                    Ok(places) => Ok((Answer::Places(places), None)),
+                    Ok(positions) => Ok((Answer::Positions(positions), None)),
                     Err(fault) => Err(refused(alloc, list, fault)),
                 }
             }

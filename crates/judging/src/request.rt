@@ -16,7 +16,7 @@ pub enum Wanted<'a> {
         resume: Option<Input<'a>>,
     },
     /// Where the expected registers first have their values.
-    Places {
+    Positions {
         /// The firmware event log.
         log: Input<'a>,
     },

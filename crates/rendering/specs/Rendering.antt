@@ -2,20 +2,20 @@
 use Rattle.std.specs.Prelude.{ℕ, Bool, List, ◌++◌, Option, Some, None, flat_map}
 use Rattle.boot_verdict.specs.declared.requirement.BankRange.{BankRange}
 use Rattle.boot_verdict.specs.ListVerdicts.{list_report_text, list_verdict_of, required_list_report_text}
-use Rattle.boot_verdict.specs.PlaceTexts.{places_text}
+use Rattle.boot_verdict.specs.PositionTexts.{positions_text}
 use Rattle.boot_verdict.specs.RegisterTexts.{registers_text}
 use Rattle.boot_verdict.specs.ReportTexts.{counts_text, outcome_text}
-use Rattle.boot_verdict.specs.RequiredTexts.{required_places_text, required_report_text}
+use Rattle.boot_verdict.specs.RequiredTexts.{required_positions_text, required_report_text}
 use Rattle.boot_verdict.specs.Verdicts.{verdict_of}
 use Rattle.boot_verdict.specs.WrittenTexts.{expected_text}
 use Rattle.boot_verdict.specs.PrefixTexts.{prefix_report_text, required_prefix_report_text}
 use Rattle.json.specs.Json.{Json}
 use Rattle.json_texts.specs.JsonValues.{line_of}
-use Rattle.json_texts.specs.PlaceJson.{places_json}
+use Rattle.json_texts.specs.PositionJson.{positions_json}
 use Rattle.json_texts.specs.RegisterJson.{expected_json, registers_json}
 use Rattle.json_texts.specs.ReportJson.{prefix_report_json, list_report_json, report_json}
 use Rattle.judging.specs.declared.answer.Answer.{Answer}
-use Rattle.judging.specs.declared.answer.Answer.TheVariants.{Report, Prefix, Places, ListReport, Registers, Expected}
+use Rattle.judging.specs.declared.answer.Answer.TheVariants.{Report, Prefix, Positions, ListReport, Registers, Expected}
 use Rattle.judging.specs.declared.answer.Answered.{Answered}
 use Rattle.command_line.specs.declared.plan.Form.{Form}
 use Rattle.command_line.specs.declared.plan.Form.TheVariants as forms
@@ -33,8 +33,8 @@ lines_of well None (Report report) =
 lines_of well (Some ranges) (Report report) = required_report_text ranges (verdict_of report)
 lines_of well None (Prefix prefix) = prefix_report_text (verdict_of prefix.report) prefix.entries prefix.unconfirmed
 lines_of well (Some ranges) (Prefix prefix) = required_prefix_report_text ranges (verdict_of prefix.report) prefix.entries prefix.unconfirmed
-lines_of well None (Places places) = places_text places.items
-lines_of well (Some ranges) (Places places) = required_places_text ranges places.items
+lines_of well None (Positions positions) = positions_text positions.items
+lines_of well (Some ranges) (Positions positions) = required_positions_text ranges positions.items
 lines_of well None (ListReport report) = list_report_text (list_verdict_of report)
 lines_of well (Some ranges) (ListReport report) = required_list_report_text ranges (list_verdict_of report)
 lines_of well required (Registers registers) = registers_text registers.now registers.start
@@ -44,7 +44,7 @@ lines_of well required (Expected expected range) = expected_text range expected.
 abbrev pub json_of : Bool → Option (List BankRange) → Answer → Json
 json_of well required (Report report) = report_json required well (verdict_of report)
 json_of well required (Prefix prefix) = prefix_report_json required (verdict_of prefix.report) prefix.entries prefix.unconfirmed
-json_of well required (Places places) = places_json required places.items
+json_of well required (Positions positions) = positions_json required positions.items
 json_of well required (ListReport report) = list_report_json required (list_verdict_of report)
 json_of well required (Registers registers) = registers_json registers.now registers.start
 json_of well required (Expected expected range) = expected_json range expected.items

@@ -7,11 +7,11 @@ ghost use Rattle.judging.specs.declared.answer.Answer.TheVariants as answers;
 ghost use Rattle.rendering.specs.Rendering.{json_of, lines_of, rendered};
 
 use crate::output::Output;
-use boot_verdict::{Report, write_counts, write_expected, write_list_report, write_outcome, write_places, write_prefix_report, write_registers, write_required_list_report, write_required_places, write_required_prefix_report, write_required_report};
+use boot_verdict::{Report, write_counts, write_expected, write_list_report, write_outcome, write_positions, write_prefix_report, write_registers, write_required_list_report, write_required_positions, write_required_prefix_report, write_required_report};
 use byte_streams::{Failed, Sink, VecSink};
 use command_line::Form;
 use json_texts::{
-    append_expected, append_prefix_report, append_list_report, append_places, append_registers,
+    append_expected, append_prefix_report, append_list_report, append_positions, append_registers,
     append_report,
 };
 use judging::{Answer, Answered};
@@ -47,8 +47,8 @@ fn write_lines<S: Sink>(given: &Answered, sink: &mut S) -> Result<(), Failed>
         (Answer::Report(report), Some(ranges)) => write_required_report(report, ranges, sink),
         (Answer::Prefix(prefix), None) => write_prefix_report(prefix, sink),
         (Answer::Prefix(prefix), Some(ranges)) => write_required_prefix_report(prefix, ranges, sink),
-        (Answer::Places(places), None) => write_places(places, sink),
-        (Answer::Places(places), Some(ranges)) => write_required_places(places, ranges, sink),
+        (Answer::Positions(positions), None) => write_positions(positions, sink),
+        (Answer::Positions(positions), Some(ranges)) => write_required_positions(positions, ranges, sink),
         (Answer::ListReport(list), None) => write_list_report(list, sink),
         (Answer::ListReport(list), Some(ranges)) => write_required_list_report(list, ranges, sink),
         (Answer::Registers(banks), _) => write_registers(&banks.now, &banks.start, sink),
@@ -82,7 +82,7 @@ fn append_line(alloc: Global, given: &Answered, line: &mut Vec<u8>) -> Result<()
     match &given.answer {
         Answer::Report(report) => append_report(alloc, report, requirement, given.is_well, line),
         Answer::Prefix(prefix) => append_prefix_report(alloc, prefix, requirement, line),
-        Answer::Places(places) => append_places(alloc, places, requirement, line),
+        Answer::Positions(positions) => append_positions(alloc, positions, requirement, line),
         Answer::ListReport(report) => append_list_report(alloc, report, requirement, line),
         Answer::Registers(banks) => append_registers(alloc, &banks.now, &banks.start, line),
         Answer::Expected { expected, range } => append_expected(alloc, expected, *range, line),

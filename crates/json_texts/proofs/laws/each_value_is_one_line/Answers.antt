@@ -7,7 +7,7 @@ use Rattle.boot_log.specs.EventTypes.{event_type_name}
 use Rattle.boot_log.specs.Spelling.{IsRow}
 use Rattle.json_texts.specs.EventJson.{algorithm_json}
 use Rattle.json_texts.specs.JsonValues.{IsCount, optional}
-use Rattle.json_texts.specs.PlaceJson.{IsCountedPlace, place_members}
+use Rattle.json_texts.specs.PositionJson.{IsCountedPosition, place_members}
 use Rattle.json_texts.specs.RegisterJson.{changed_register, value_within}
 use Rattle.json_texts.specs.ReportJson.{unconfirmed_members}
 use Rattle.json_texts.proofs.EntryLaws.{entry_line}
@@ -50,8 +50,8 @@ returns c = record {
       );
   list_report = λ required verdict entries rows.
       one_line _ ((verdict.entries, entries, refl), (report_plain required verdict.rows rows, (tt, tt)));
-  places = λ required located fit.
-      let rows = rows_plain (λ row. IsCount row.expected.register × IsCountedPlace row.place) (codes "place") (λ row. row.expected)
+  positions = λ required located fit.
+      let rows = rows_plain (λ row. IsCount row.expected.register × IsCountedPosition row.place) (codes "place") (λ row. row.expected)
       (λ row. place_members row.place) (λ row is. (is.0, place_plain row.place is.1)) required located fit in
       one_line _ (rows, (tt, tt));
   fault = λ kind number place message fits placed. one_line _ (told_plain kind number place message fits placed, tt);

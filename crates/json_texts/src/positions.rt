@@ -3,7 +3,7 @@
 ghost use Rattle.std.specs.Prelude.{◌≡◌, [], ◌∷◌, codes, option_copied};
 ghost use Rattle.json.specs.Json.{string};
 ghost use Rattle.json_texts.specs.JsonValues.{AppendsLine, number_json};
-ghost use Rattle.json_texts.specs.PlaceJson.{finds, place_members, places_json};
+ghost use Rattle.json_texts.specs.PositionJson.{finds, place_members, positions_json};
 ghost use Rattle.json_texts.specs.parts.WrittenParts.{WritesMembers, WritesValue};
 
 use crate::lines::{Written, begin_line, end_line};
@@ -20,26 +20,26 @@ use std::alloc::Global;
 /// register that is not among them has the place `missing`; `located` then is false.
 ///
 /// Fails only if memory runs out; the vector then is as before.
-pub fn append_places(
+pub fn append_positions(
     alloc: Global,
     located: &[Located],
     requirement: Option<&Requirement>,
     line: &mut Vec<u8>,
 ) -> Written
-    ensures { AppendsLine result line.old.items line.new.items (places_json (option_copied requirement.entry) located.now) }
+    ensures { AppendsLine result line.old.items line.new.items (positions_json (option_copied requirement.entry) located.now) }
 {
     let (mut writer, start) = begin_line(alloc, line);
-    let written = write_places(alloc, located, requirement, &mut writer);
+    let written = write_positions(alloc, located, requirement, &mut writer);
     end_line(written, writer, start, line)
 }
 
-fn write_places(
+fn write_positions(
     alloc: Global,
     located: &[Located],
     requirement: Option<&Requirement>,
     writer: &mut Writer,
 ) -> Written
-    ensures { WritesValue result writer.old writer.new (places_json (option_copied requirement.entry) located.now) }
+    ensures { WritesValue result writer.old writer.new (positions_json (option_copied requirement.entry) located.now) }
 {
     writer.begin_object()?;
     write_rows(alloc, "place", located, requirement, writer)?;

@@ -1,11 +1,11 @@
 -- Places as JSON. The members and their order are this project's choice.
 use Rattle.std.specs.Prelude.{⊤, Bool, List, [], ◌∷◌, codes, Option, Some, None}
 use Rattle.json.specs.Json.{Json, boolean, string}
-use Rattle.boot_verdict.specs.declared.places.Located.{Located}
-use Rattle.boot_verdict.specs.declared.places.Place.{Place}
-use Rattle.boot_verdict.specs.declared.places.Place.TheVariants.{Reset, Event, Entry, Nowhere, Absent}
+use Rattle.boot_verdict.specs.declared.positions.Located.{Located}
+use Rattle.boot_verdict.specs.declared.positions.Place.{Place}
+use Rattle.boot_verdict.specs.declared.positions.Place.TheVariants.{Reset, Event, Entry, Nowhere, Absent}
 use Rattle.boot_verdict.specs.declared.requirement.BankRange.{BankRange}
-use Rattle.boot_verdict.specs.Places.{all_found}
+use Rattle.boot_verdict.specs.Positions.{all_found}
 use Rattle.boot_verdict.specs.Requirements.{required_found}
 use Rattle.json_texts.specs.JsonValues.{IsCount, Member, array_of, number_json, object_of}
 use Rattle.json_texts.specs.RegisterJson.{rows_values}
@@ -19,10 +19,10 @@ place_members Nowhere = (codes "place", string (codes "nowhere")) ∷ []
 place_members Absent = (codes "place", string (codes "absent")) ∷ []
 
 -- The number of the event or entry, if there is one, fits.
-abbrev pub IsCountedPlace : Place → Type 0
-IsCountedPlace (Event number) = IsCount number
-IsCountedPlace (Entry number) = IsCount number
-IsCountedPlace place = ⊤
+abbrev pub IsCountedPosition : Place → Type 0
+IsCountedPosition (Event number) = IsCount number
+IsCountedPosition (Entry number) = IsCount number
+IsCountedPosition place = ⊤
 
 -- Whether some register is expected, each value was reached at some place, and no register is missing.
 abbrev pub finds : Option (List BankRange) → List Located → Bool
@@ -30,8 +30,8 @@ finds None located = all_found located
 finds (Some ranges) located = required_found ranges located
 
 -- The places, then the required registers that have none, and whether they are located.
-abbrev pub places_json : Option (List BankRange) → List Located → Json
-places_json required located = object_of (
+abbrev pub positions_json : Option (List BankRange) → List Located → Json
+positions_json required located = object_of (
     (codes "registers", array_of (rows_values (codes "place") (λ row. row.expected) (λ row. place_members row.place) required located))
     ∷ (codes "located", boolean (finds required located))
     ∷ [])
