@@ -19,7 +19,7 @@ pub use agent_inputs::{
     SystemFiles, WriteSink, hash_from, load,
 };
 pub use boot_verdict::{
-    Aggregate, BankRange, EventData, ExpectFault, Expected, Located, Place, RegisterRange, Report,
+    Aggregate, BankRange, EventData, ExpectFault, Expected, Located, Position, RegisterRange, Report,
     Requirement, RequirementFault, Row, State, VerifyFault, all_found, list_start, locate,
     locate_from, read_expected, read_printed, replay_from, required_found, verify, verify_from,
     write_events, write_expected, write_positions, write_registers, write_report,

@@ -17,8 +17,8 @@ use Rattle.ima_list.specs.declared.list_replay.ReplayFault.TheVariants as replay
 use Rattle.boot_verdict.specs.declared.expected.Expected.{Expected}
 use Rattle.boot_verdict.specs.declared.prefix_report.Unconfirmed.{Unconfirmed}
 use Rattle.boot_verdict.specs.declared.prefix_report.Unconfirmed.TheVariants as faults
-use Rattle.boot_verdict.specs.declared.positions.Place.{Place}
-use Rattle.boot_verdict.specs.declared.positions.Place.TheVariants as positions
+use Rattle.boot_verdict.specs.declared.positions.Position.{Position}
+use Rattle.boot_verdict.specs.declared.positions.Position.TheVariants as positions
 use Rattle.boot_verdict.specs.declared.report.Row.{Row}
 use Rattle.boot_verdict.specs.declared.report.State.{State}
 use Rattle.boot_verdict.specs.declared.report.State.TheVariants.{Match, Differ, Absent}
@@ -34,7 +34,7 @@ use Rattle.json_texts.specs.declared.faults.FaultPlace.TheVariants.{Event, Entry
 use Rattle.json_texts.specs.JsonValues.{IsCount, Member, hex_json, items_of, number_json, optional}
 use Rattle.json_texts.specs.EventJson.{algorithm_json}
 use Rattle.json_texts.specs.FaultJson.{fault_members, number_at, place_members}
-use Rattle.json_texts.specs.PositionJson as place
+use Rattle.json_texts.specs.PositionJson as position
 use Rattle.json_texts.specs.PositionJson.{IsCountedPosition}
 use Rattle.json_texts.specs.RegisterJson.{change_values, missing_among, register_json, row_json, rows_values, value_if_missing, value_within}
 use Rattle.json_texts.specs.ReportJson.{report_rows, state_members, unconfirmed_members}
@@ -172,12 +172,12 @@ unconfirmed_plain (Some fault) fits = (
 
 -- ---- places
 
-pub place_plain : (at : Place) → IsCountedPosition at → ArePlain (place.place_members at) 0
-place_plain positions.Reset fits = (tt, tt)
-place_plain (positions.Event number) fits = (tt, ((number, fits, refl), tt))
-place_plain (positions.Entry number) fits = (tt, ((number, fits, refl), tt))
-place_plain positions.Nowhere fits = (tt, tt)
-place_plain positions.Absent fits = (tt, tt)
+pub position_plain : (at : Position) → IsCountedPosition at → ArePlain (position.position_members at) 0
+position_plain positions.Reset fits = (tt, tt)
+position_plain (positions.Event number) fits = (tt, ((number, fits, refl), tt))
+position_plain (positions.Entry number) fits = (tt, ((number, fits, refl), tt))
+position_plain positions.Nowhere fits = (tt, tt)
+position_plain positions.Absent fits = (tt, tt)
 
 -- ---- events
 

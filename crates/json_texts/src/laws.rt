@@ -50,7 +50,7 @@ pub fn each_value_is_one_line()
     ensures list_report { (required : Option (List BankRange)) (verdict : ListVerdict) → IsCount verdict.entries
         → AllByRecursion (λ row. IsCount row.expected.register) verdict.rows → IsOneLine (list_report_json required verdict) }
     ensures positions { (required : Option (List BankRange)) (located : List Located)
-        → AllByRecursion (λ row. IsCount row.expected.register × IsCountedPosition row.place) located
+        → AllByRecursion (λ row. IsCount row.expected.register × IsCountedPosition row.position) located
         → IsOneLine (positions_json required located) }
     ensures fault { (kind : List ℕ) (number : Option ℕ) (place : Option FaultPlace) (message : List ℕ)
         → IfSome number IsCount → IfSome place (λ at. IsCount (number_at at)) → IsOneLine (fault_json kind number place message) }

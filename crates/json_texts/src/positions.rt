@@ -1,23 +1,23 @@
-//! The line of places.
+//! The line of positions.
 
 ghost use Rattle.std.specs.Prelude.{◌≡◌, [], ◌∷◌, codes, option_copied};
 ghost use Rattle.json.specs.Json.{string};
 ghost use Rattle.json_texts.specs.JsonValues.{AppendsLine, number_json};
-ghost use Rattle.json_texts.specs.PositionJson.{finds, place_members, positions_json};
+ghost use Rattle.json_texts.specs.PositionJson.{finds, position_members, positions_json};
 ghost use Rattle.json_texts.specs.parts.WrittenParts.{WritesMembers, WritesValue};
 
 use crate::lines::{Written, begin_line, end_line};
 use crate::members::{write_flag, write_number, write_text};
 use crate::rows::{Says, write_rows};
-use boot_verdict::{Located, Place, Requirement, all_found, required_found};
+use boot_verdict::{Located, Position, Requirement, all_found, required_found};
 use json::Writer;
 use std::alloc::Global;
 
-/// Appends the line of places: where each expected register first has its value.
+/// Appends the line of positions: where each expected register first has its value.
 ///
-/// Its members are `registers`, an array, and `located`, whether there is one and each has its value. Each register has `bank`, `register` and `place`: `reset`,
-/// `event`, `entry`, `nowhere` or `absent`, in the sense of [`Place`]; and `number`, that of the event or entry. After them each required
-/// register that is not among them has the place `missing`; `located` then is false.
+/// Its members are `registers`, an array, and `located`, whether there is one and each has its value. Each register has `bank`, `register` and `position`: `reset`,
+/// `event`, `entry`, `nowhere` or `absent`, in the sense of [`Position`]; and `number`, that of the event or entry. After them each required
+/// register that is not among them has the position `missing`; `located` then is false.
 ///
 /// Fails only if memory runs out; the vector then is as before.
 pub fn append_positions(
@@ -60,15 +60,15 @@ pub fn finds(located: &[Located], requirement: Option<&Requirement>) -> bool
 }
 
 impl Says for Located {
-    ghost members_of = { λ row. place_members row.place };
+    ghost members_of = { λ row. position_members row.position };
 
     fn write_members(&self, _alloc: Global, writer: &mut Writer) -> Written {
-        match self.place {
-            Place::Reset => write_text("place", "reset", writer),
-            Place::Event(number) => write_numbered("event", number, writer),
-            Place::Entry(number) => write_numbered("entry", number, writer),
-            Place::Nowhere => write_text("place", "nowhere", writer),
-            Place::Absent => write_text("place", "absent", writer),
+        match self.position {
+            Position::Reset => write_text("place", "reset", writer),
+            Position::Event(number) => write_numbered("event", number, writer),
+            Position::Entry(number) => write_numbered("entry", number, writer),
+            Position::Nowhere => write_text("place", "nowhere", writer),
+            Position::Absent => write_text("place", "absent", writer),
         }
     }
 }

@@ -89,7 +89,7 @@ fn session_of(log: &[u8], known: Option<Checkpoint>) -> Result<Session<'_>, RunF
             Ok(session) => Ok(session),
             Err(fault) => Err(fault.into()),
         },
-        Some(known) => match Session::resumed(log, known) {
+        Some(known) => match Session::resume(log, known) {
             Ok(session) => Ok(session),
             Err(ResumeFault::Log(fault)) => Err(fault.into()),
             Err(ResumeFault::OtherBoot) => Err(RunFault::Checkpoint(NotResumed::OtherBoot)),

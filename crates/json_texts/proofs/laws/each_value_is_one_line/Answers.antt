@@ -7,12 +7,12 @@ use Rattle.boot_log.specs.EventTypes.{event_type_name}
 use Rattle.boot_log.specs.Spelling.{IsRow}
 use Rattle.json_texts.specs.EventJson.{algorithm_json}
 use Rattle.json_texts.specs.JsonValues.{IsCount, optional}
-use Rattle.json_texts.specs.PositionJson.{IsCountedPosition, place_members}
+use Rattle.json_texts.specs.PositionJson.{IsCountedPosition, position_members}
 use Rattle.json_texts.specs.RegisterJson.{changed_register, value_within}
 use Rattle.json_texts.specs.ReportJson.{unconfirmed_members}
 use Rattle.json_texts.proofs.EntryLaws.{entry_line}
 use Rattle.json_texts.proofs.LineLaws.{members_joined, one_line}
-use Rattle.json_texts.proofs.ValueLaws.{algorithm_plain, change_plain, digests_plain, each_plain, mapped_plain, of_each_register, place_plain, report_plain, rows_plain, text_plain, told_plain, unconfirmed_plain, within_plain}
+use Rattle.json_texts.proofs.ValueLaws.{algorithm_plain, change_plain, digests_plain, each_plain, mapped_plain, of_each_register, position_plain, report_plain, rows_plain, text_plain, told_plain, unconfirmed_plain, within_plain}
 use Rattle.json_texts.proofs.laws.each_value_is_one_line.Goals as goal
 
 pub returns : goal.returns
@@ -51,8 +51,8 @@ returns c = record {
   list_report = λ required verdict entries rows.
       one_line _ ((verdict.entries, entries, refl), (report_plain required verdict.rows rows, (tt, tt)));
   positions = λ required located fit.
-      let rows = rows_plain (λ row. IsCount row.expected.register × IsCountedPosition row.place) (codes "place") (λ row. row.expected)
-      (λ row. place_members row.place) (λ row is. (is.0, place_plain row.place is.1)) required located fit in
+      let rows = rows_plain (λ row. IsCount row.expected.register × IsCountedPosition row.position) (codes "place") (λ row. row.expected)
+      (λ row. position_members row.position) (λ row is. (is.0, position_plain row.position is.1)) required located fit in
       one_line _ (rows, (tt, tt));
   fault = λ kind number place message fits placed. one_line _ (told_plain kind number place message fits placed, tt);
 }

@@ -14,13 +14,13 @@ returns-in-Ok-clause-started c =
       most = λ place. most_at_first place c.in-Ok.session.known none t.checkpoint.size;
     })
 
-pub returns-in-Ok-resumed-clause-started : goal.returns-in-Ok-resumed-clause-started
-returns-in-Ok-resumed-clause-started c =
-    let boot = c.in-Ok-resumed.ensures.boot in
+pub returns-in-Ok-resume-clause-started : goal.returns-in-Ok-resume-clause-started
+returns-in-Ok-resume-clause-started c =
+    let boot = c.in-Ok-resume.ensures.boot in
     rw c.in-Some.is (record {
       valid = record { table = boot.table; events = boot.events; log_is = boot.log_is };
       boot = boot;
-      takes = c.in-Ok-resumed.ensures.taken;
-      count = rw c.in-Ok-resumed.ensures.known refl;
-      most = λ place. rw c.in-Ok-resumed.ensures.known refl;
+      takes = c.in-Ok-resume.ensures.taken;
+      count = rw c.in-Ok-resume.ensures.known refl;
+      most = λ place. rw c.in-Ok-resume.ensures.known refl;
     })
