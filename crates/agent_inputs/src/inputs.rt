@@ -20,7 +20,7 @@ type Loaded = Result<Vec<u8>, RunFault>;
 
 /// All bytes, at most 64 MiB, of the file of this name, or of standard input without a name. A fault names the input; standard
 /// input is `-`.
-pub fn loaded<F: AgentFiles>(alloc: Global, files: &mut F, name: Option<&str>) -> Loaded
+pub fn load_input<F: AgentFiles>(alloc: Global, files: &mut F, name: Option<&str>) -> Loaded
     ensures all { IfOk result (λ bytes. Holds (F.known files.old) (option_map (λ name. name.now) name.entry) bytes.items) }
     ensures within { IfOk result (λ bytes. vec_len bytes ≤ input_limit) }
     ensures fault { IfErr result (IsInputFault (F.known files.old) (option_map (λ name. name.now) name.entry)) }

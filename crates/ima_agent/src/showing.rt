@@ -10,7 +10,7 @@ ghost use Rattle.ima_agent.specs.Showing.{AreAllEntries, IsNoListFor, IsRefusedF
 
 use crate::hexadecimal::decode_hexadecimal;
 use crate::streaming::{DONE, Prepared, Sent, StreamFault, entries_sent, events_sent, sent_output};
-use agent_inputs::{AgentFiles, RunFault, loaded};
+use agent_inputs::{AgentFiles, RunFault, load_input};
 use boot_log::LogView;
 use boot_verdict::{EventData, write_events};
 use byte_streams::Sink;
@@ -28,7 +28,7 @@ pub(crate) fn shown_registers<F: AgentFiles>(alloc: Global, files: &mut F, form:
     ensures kept { OnErr result (F.saved files.new ≡ F.saved files.old) }
     ensures fault { IfErr result (IsFaultOf (F.known files.old) tasks.Registers form) }
 {
-    let text = loaded(alloc, files, None)?;
+    let text = load_input(alloc, files, None)?;
     registers_in(alloc, text, form)
 }
 
@@ -57,7 +57,7 @@ pub(crate) fn events_for<F: AgentFiles, S: Sink>(
     ensures { Streams form (IsOutcome (F.known files.old) (tasks.Events log.now requested) form (F.saved files.old) (F.saved files.new))
         (S.state sink.old) (S.state sink.new) result }
 {
-    let bytes = match loaded(alloc, files, Some(log)) {
+    let bytes = match load_input(alloc, files, Some(log)) {
         Ok(bytes) => bytes,
         Err(fault) => return Err(StreamFault::Run(fault)),
     };
@@ -116,7 +116,7 @@ fn shown_list<F: AgentFiles>(alloc: Global, files: &mut F, list: &str) -> Prepar
         ⊎ OfInput (F.known files.old) (Some list.now) (λ bytes. IsNoListFor bytes fault)) }
     ensures saved { F.saved files.new ≡ F.saved files.old }
 {
-    let bytes = loaded(alloc, files, Some(list))?;
+    let bytes = load_input(alloc, files, Some(list))?;
     Ok(Output::done(entries_on(alloc, &bytes)?))
 }
 

@@ -8,7 +8,7 @@ ghost use Rattle.judging.specs.Inputs.{Holds, IsInputFault, OfInput};
 
 use crate::answer::{Answer, Answered, Answering, is_well};
 use crate::expecting::printed_within;
-use crate::inputs::{Held, Input, limit_of, loaded_at, refused};
+use crate::inputs::{Held, Input, limit_of, load_at, refused};
 use crate::registers::{after_list, after_log};
 use crate::request::{Comparison, Request, Required, Wanted};
 use crate::sessions::checkpoint_in;
@@ -99,7 +99,7 @@ fn evidence_of<'a, F: AgentFiles>(
     ensures saved { F.saved files.new ≡ F.saved files.old }
 {
     let log = log_in(alloc, files, request.wanted)?;
-    let text = loaded_at(alloc, files, request.expected)?;
+    let text = load_at(alloc, files, request.expected)?;
     let expected = read_expected(alloc, text.bytes())?;
     let known = known_in(alloc, files, request.wanted)?;
     Ok(Evidence {
@@ -123,8 +123,8 @@ fn log_in<'a, F: AgentFiles>(
     ensures saved { F.saved files.new ≡ F.saved files.old }
 {
     match wanted {
-        Wanted::Verdict { log, .. } => loaded_at(alloc, files, log),
-        Wanted::Positions { log } => loaded_at(alloc, files, log),
+        Wanted::Verdict { log, .. } => load_at(alloc, files, log),
+        Wanted::Positions { log } => load_at(alloc, files, log),
         Wanted::ListVerdict => Ok(Held::Bytes(&[])),
     }
 }
@@ -146,7 +146,7 @@ fn known_in<F: AgentFiles>(
             resume: Some(resume),
             ..
         } => {
-            let text = loaded_at(alloc, files, resume)?;
+            let text = load_at(alloc, files, resume)?;
             Ok(Some(checkpoint_in(alloc, text.bytes())?))
         }
         _ => Ok(None),

@@ -7,7 +7,7 @@ ghost use Rattle.judging.specs.Answering.{IsAnswer, IsNotPrintedWithin, IsPrinte
 ghost use Rattle.judging.specs.Requests.{ExpectedOf, place_of};
 
 use crate::answer::{Answer, Answered, Answering};
-use crate::inputs::{Input, loaded_at};
+use crate::inputs::{Input, load_at};
 use agent_inputs::{AgentFiles, RunFault};
 use boot_verdict::{ExpectFault, Expected, RegisterRange, read_printed};
 use std::alloc::Global;
@@ -27,7 +27,7 @@ pub(crate) fn printed_within<F: AgentFiles>(
     ensures saved { F.saved files.new ≡ F.saved files.old }
 {
     let range = range_of(range)?;
-    let text = loaded_at(alloc, files, printed)?;
+    let text = load_at(alloc, files, printed)?;
     let expected = stated_in(alloc, text.bytes(), range)?;
     Ok(Answered::alone(Answer::Expected { expected, range }))
 }

@@ -4,7 +4,7 @@ ghost use Rattle.std.specs.Prelude.{◌≡◌, IfOk, IfErr};
 ghost use Rattle.judging.specs.Requests.{held_bytes, place_of};
 ghost use Rattle.judging.specs.Inputs.{Holds, IsFaultAt, IsInputFault, limit_of};
 
-use agent_inputs::{AgentFiles, INPUT_LIMIT, RunFault, loaded, not_read, too_long};
+use agent_inputs::{AgentFiles, INPUT_LIMIT, RunFault, load_input, not_read, too_long};
 use boot_verdict::VerifyFault;
 use std::alloc::Global;
 
@@ -42,7 +42,7 @@ impl Held<'_> {
 }
 
 /// All bytes of an input: of a file at most 64 MiB. A fault names the file.
-pub(crate) fn loaded_at<'a, F: AgentFiles>(
+pub(crate) fn load_at<'a, F: AgentFiles>(
     alloc: Global,
     files: &mut F,
     input: Input<'a>,
@@ -54,7 +54,7 @@ pub(crate) fn loaded_at<'a, F: AgentFiles>(
 {
     match input {
         Input::Bytes(bytes) => Ok(Held::Bytes(bytes)),
-        Input::File(name) => Ok(Held::File(loaded(alloc, files, Some(name))?)),
+        Input::File(name) => Ok(Held::File(load_input(alloc, files, Some(name))?)),
     }
 }
 

@@ -7,7 +7,7 @@ ghost use Rattle.judging.specs.Growing.{GivesInput};
 ghost use Rattle.judging.specs.Requests.{ListRegistersOf, LogRegistersOf, place_of};
 
 use crate::answer::{Answer, Answered, Answering, Registers};
-use crate::inputs::{Input, limit_of, loaded_at, refused};
+use crate::inputs::{Input, limit_of, load_at, refused};
 use agent_inputs::{AgentFiles, RunFault, not_read};
 use boot_log::LogView;
 use boot_verdict::{list_start, replay_from};
@@ -20,7 +20,7 @@ pub(crate) fn after_log<F: AgentFiles>(alloc: Global, files: &mut F, log: Input<
     ensures fault { IfErr result (IsRefusal (F.known files.old) (LogRegistersOf (place_of log.entry))) }
     ensures saved { F.saved files.new ≡ F.saved files.old }
 {
-    let log = loaded_at(alloc, files, log)?;
+    let log = load_at(alloc, files, log)?;
     let view = LogView::new(log.bytes())?;
     Ok(Answered::alone(Answer::Registers(Registers {
         start: view.reset_registers(),

@@ -7,7 +7,7 @@ ghost use Rattle.measuring.specs.parts.{IsTextFor};
 use crate::listing::names_for;
 use crate::progress::FileProgress;
 use crate::recording::{Measured, measured_over};
-use agent_inputs::{AgentFiles, RunFault, loaded};
+use agent_inputs::{AgentFiles, RunFault, load_input};
 use boot_log::LogView;
 use command_line::Measurement;
 use std::alloc::Global;
@@ -43,7 +43,7 @@ pub fn measured<R: Threads + Wait + Sync, F: AgentFiles, P: FileProgress>(
     ensures fault { IfErr result (IsMeasuringFault (F.known files.old) request.now) }
     ensures saved { F.saved files.new ≡ F.saved files.old }
 {
-    let bytes = loaded(alloc, files, Some(&request.log))?;
+    let bytes = load_input(alloc, files, Some(&request.log))?;
     let log = LogView::new(&bytes)?;
     let text = text_of(alloc, files, request)?;
     let names = names_for(alloc, request, &text)?;
@@ -59,6 +59,6 @@ fn text_of<F: AgentFiles>(alloc: Global, files: &mut F, request: &Measurement) -
 {
     match &request.names {
         None => Ok(Vec::new(alloc)),
-        Some(more) => loaded(alloc, files, Some(&more.text)),
+        Some(more) => load_input(alloc, files, Some(&more.text)),
     }
 }

@@ -8,14 +8,14 @@ returns-in-Err g c =
     let known = g.F.Files.known c.args.files.now in
     none_sent known (tasks.Events c.args.log.now c.args.requested) c.args.form _ _ _ c.in-Err.fault
     (not_loaded known c.args.log.now c.args.requested c.args.form c.in-Err.fault (rw c.deref.ensures at c.in-Err.ensures.fault))
-    c.loaded.ensures.saved
+    c.load_input.ensures.saved
 
 pub returns-in-Text : goal.returns-in-Text
 returns-in-Text g c =
     rw c.in-Text.is
     (streams_so _ _ _ _ c.events_written.result
     (plain_outcome (g.F.Files.known c.args.files.now) c.args.log.now c.args.requested _ _ c.in-Ok.bytes.items
-    (rw c.deref.ensures at c.in-Ok.ensures.all) c.loaded.ensures.saved)
+    (rw c.deref.ensures at c.in-Ok.ensures.all) c.load_input.ensures.saved)
     (rw c.deref-in-Text.ensures.value at c.events_written.ensures))
 
 pub returns : goal.returns
@@ -23,5 +23,5 @@ returns g c =
     rw c.in-Json.is
     (streams_so _ _ _ _ c.events_sent.result
     (events_outcome (g.F.Files.known c.args.files.now) c.args.log.now c.args.requested _ _ c.in-Ok.bytes.items
-    (rw c.deref.ensures at c.in-Ok.ensures.all) c.loaded.ensures.saved)
+    (rw c.deref.ensures at c.in-Ok.ensures.all) c.load_input.ensures.saved)
     (rw c.deref-in-Json.ensures.value at c.events_sent.ensures))
