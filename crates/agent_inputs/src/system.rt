@@ -179,7 +179,7 @@ impl<R: FileSystem + io::Input + Sync> AgentFiles for SystemFiles<'_, R> {
 
     /// Writes and syncs a new file beside it, and renames that.
     fn replace(&mut self, name: &str, bytes: &[u8]) -> Result<(), Failed> {
-        replaced(self.runtime, name, bytes).map_err(|_| Failed)
+        replace_file(self.runtime, name, bytes).map_err(|_| Failed)
     }
 
     /// These files.
@@ -191,10 +191,10 @@ impl<R: FileSystem + io::Input + Sync> AgentFiles for SystemFiles<'_, R> {
 }
 
 // Has the file of this name be these bytes, by way of a new file beside it. That is removed if this fails.
-fn replaced<R: FileSystem>(rt: &R, name: &str, bytes: &[u8]) -> io::Result<()> {
+fn replace_file<R: FileSystem>(rt: &R, name: &str, bytes: &[u8]) -> io::Result<()> {
     let mode = mode_in_place_of(rt, name)?;
-    let (mut file, beside) = created_beside(rt, name, mode)?;
-    let renamed = written(&mut file, bytes).and_then(|()| fs::rename(rt, beside.as_str(), name));
+    let (mut file, beside) = create_beside(rt, name, mode)?;
+    let renamed = write_file(&mut file, bytes).and_then(|()| fs::rename(rt, beside.as_str(), name));
     if renamed.is_err() {
         let _ = fs::remove_file(rt, beside.as_str());
     }
@@ -213,7 +213,7 @@ fn mode_in_place_of<R: FileSystem>(rt: &R, name: &str) -> io::Result<u32> {
 }
 
 // Creates a file of this mode beside that of the name, under the first of the names for it that nothing has. Returns it with its name.
-fn created_beside<R: FileSystem>(rt: &R, name: &str, mode: u32) -> io::Result<(R::File, Path)> {
+fn create_beside<R: FileSystem>(rt: &R, name: &str, mode: u32) -> io::Result<(R::File, Path)> {
     let mut options = File::options();
     options.write(true).create_new(true).mode(mode);
     for number in 0..MOST_BESIDE {
@@ -235,7 +235,7 @@ fn name_beside(name: &str, number: u32) -> io::Result<Path> {
 }
 
 // Writes the bytes to the file, and syncs it.
-fn written<F: Write + OpenFile>(file: &mut F, bytes: &[u8]) -> io::Result<()> {
+fn write_file<F: Write + OpenFile>(file: &mut F, bytes: &[u8]) -> io::Result<()> {
     file.write_all(bytes)?;
     file.sync_all()
 }
