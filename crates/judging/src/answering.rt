@@ -22,7 +22,7 @@ use std::alloc::Global;
 
 /// The answer to what is asked for. What is compared is read in this order (only in part by the clauses): what is required; the log, which
 /// is loaded; the expected registers; the checkpoint; and then the list is opened, and replayed as it is read, without loading it.
-pub fn answered<F: AgentFiles>(
+pub fn answer_request<F: AgentFiles>(
     alloc: Global,
     files: &mut F,
     request: Request<'_>,

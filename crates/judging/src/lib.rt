@@ -10,6 +10,6 @@ mod request;
 mod sessions;
 
 pub use answer::{Answer, Answered, Registers};
-pub use answering::answered;
+pub use answering::answer_request;
 pub use inputs::Input;
 pub use request::{Comparison, Request, Required, Wanted};

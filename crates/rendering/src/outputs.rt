@@ -13,7 +13,7 @@ use agent_inputs::{AgentFiles, RunFault};
 use boot_verdict::Checkpoint;
 use command_line::Form;
 use growing_lists::write_checkpoint;
-use judging::{Request, answered};
+use judging::{Request, answer_request};
 use std::alloc::{AllocError, Global};
 
 /// The output of what is asked for, in this form. If all is well, the checkpoint of what a verdict is on is saved last, if a name is given
@@ -30,7 +30,7 @@ pub fn output_for<F: AgentFiles>(
     ensures kept { OnErr result (F.saved files.new ≡ F.saved files.old) }
     ensures fault { IfErr result (IsOutputFault (F.known files.old) (requested_of request.entry) (option_map (λ name. name.now) name.entry)) }
 {
-    let given = answered(alloc, files, request)?;
+    let given = answer_request(alloc, files, request)?;
     let output = rendered(alloc, &given, form)?;
     save(alloc, files, name, given.next)?;
     Ok(output)
@@ -51,7 +51,7 @@ pub fn output_on(alloc: Global, request: Request<'_>, form: Form) -> Result<Give
         given.checkpoint.items) }
     ensures fault { IfErr result (IsRefusalOn unknown (requested_of request.entry)) }
 {
-    let given = answered(alloc, &mut NoFiles, request)?;
+    let given = answer_request(alloc, &mut NoFiles, request)?;
     let output = rendered(alloc, &given, form)?;
     let checkpoint = text_of(alloc, given.next)?;
     Ok(Given { output, checkpoint })
