@@ -181,13 +181,13 @@ IsAlone inputs request answer = ⊥
 
 -- This is the answer to what is asked for. Where nothing is compared, all is well with any.
 abbrev pub IsAnswer : Inputs → Requested → Answered → Type 0
-IsAnswer inputs (Compares compared) given = IsComparison inputs compared given
+IsAnswer inputs (Compares compare) given = IsComparison inputs compare given
 IsAnswer inputs request given = (answer : Answer) × IsAlone inputs request answer × (given ≡ alone answer)
 
 -- Why there is no answer: an input was not loaded or read; the bytes are no log; the list is refused; the text spells no range, or the
 -- other states no register within it, as tpm2-tools prints them; or memory ran out.
 abbrev pub IsRefusal : Inputs → Requested → RunFault → Type 0
-IsRefusal inputs (Compares compared) fault = IsNoComparison inputs compared fault
+IsRefusal inputs (Compares compare) fault = IsNoComparison inputs compare fault
 IsRefusal inputs (LogRegistersOf log) fault =
     IsInputFault inputs log fault ⊎ OfInput inputs log (λ content. HasLogFault content fault) ⊎ (fault ≡ runs.Memory)
 IsRefusal inputs (ListRegistersOf list) fault = IsReadFailure inputs list fault ⊎ IsRefusedList inputs list fault ⊎ (fault ≡ runs.Memory)

@@ -8,7 +8,7 @@ ghost use Rattle.judging.specs.Inputs.{Holds, IsInputFault, OfInput};
 
 use crate::answer::{Answer, Answered, Answering, is_well};
 use crate::expecting::printed_within;
-use crate::inputs::{Held, Input, limit_of, load_at, refused};
+use crate::inputs::{Held, Input, limit_of, load_at, refusal};
 use crate::registers::{after_list, after_log};
 use crate::request::{Comparison, Request, Required, Wanted};
 use crate::sessions::checkpoint_in;
@@ -32,7 +32,7 @@ pub fn answer_request<F: AgentFiles>(
     ensures saved { F.saved files.new ≡ F.saved files.old }
 {
     match request {
-        Request::Comparison(request) => compared(alloc, files, request),
+        Request::Comparison(request) => compare(alloc, files, request),
         Request::LogRegisters { log } => after_log(alloc, files, log),
         Request::ListRegisters { list } => after_list(alloc, files, list),
         Request::Expected { printed, range } => printed_within(alloc, files, printed, range),
@@ -40,7 +40,7 @@ pub fn answer_request<F: AgentFiles>(
 }
 
 // What comes of what is compared.
-fn compared<F: AgentFiles>(alloc: Global, files: &mut F, request: Comparison<'_>) -> Answering
+fn compare<F: AgentFiles>(alloc: Global, files: &mut F, request: Comparison<'_>) -> Answering
     ensures answer { IfOk result (IsComparison (F.known files.old) (compared_of request.entry)) }
     ensures fault { IfErr result (IsNoComparison (F.known files.old) (compared_of request.entry)) }
     ensures saved { F.saved files.new ≡ F.saved files.old }
@@ -183,13 +183,13 @@ impl Evidence<'_> {
                 let log = self.log.bytes();
                 match locate_from(alloc, log, source, limit_of(list), &self.expected) {
                     Ok(positions) => Ok((Answer::Positions(positions), None)),
-                    Err(fault) => Err(refused(alloc, list, fault)),
+                    Err(fault) => Err(refusal(alloc, list, fault)),
                 }
             }
             Wanted::ListVerdict => {
                 match verify_list_from(alloc, source, limit_of(list), &self.expected) {
                     Ok(report) => Ok((Answer::ListReport(report), None)),
-                    Err(fault) => Err(refused(alloc, list, fault)),
+                    Err(fault) => Err(refusal(alloc, list, fault)),
                 }
             }
         }

@@ -69,7 +69,7 @@ pub(crate) fn limit_of(input: Input<'_>) -> u64
 }
 
 /// The fault for a verifier's fault of the list in this input. Of bytes in memory no source fails, and none are too many.
-pub(crate) fn refused(alloc: Global, list: Input<'_>, fault: VerifyFault) -> RunFault
+pub(crate) fn refusal(alloc: Global, list: Input<'_>, fault: VerifyFault) -> RunFault
     ensures { IsFaultAt (place_of list.entry) fault result }
 {
     match (fault, list) {

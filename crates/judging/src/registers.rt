@@ -7,7 +7,7 @@ ghost use Rattle.judging.specs.Growing.{GivesInput};
 ghost use Rattle.judging.specs.Requests.{ListRegistersOf, LogRegistersOf, place_of};
 
 use crate::answer::{Answer, Answered, Answering, Registers};
-use crate::inputs::{Input, limit_of, load_at, refused};
+use crate::inputs::{Input, limit_of, load_at, refusal};
 use agent_inputs::{AgentFiles, RunFault, not_read};
 use boot_log::LogView;
 use boot_verdict::{list_start, replay_from};
@@ -55,6 +55,6 @@ fn after_list_from<R: Source>(alloc: Global, source: &mut R, list: Input<'_>) ->
             start: list_start(),
             now,
         }))),
-        Err(fault) => Err(refused(alloc, list, fault)),
+        Err(fault) => Err(refusal(alloc, list, fault)),
     }
 }

@@ -11,7 +11,7 @@ ghost use Rattle.judging.specs.Inputs.{Where};
 
 use crate::answer::Answer;
 use crate::answering::{Evidence, Finding};
-use crate::inputs::{Input, limit_of, refused};
+use crate::inputs::{Input, limit_of, refusal};
 use agent_inputs::{NotResumed, RunFault};
 use boot_verdict::{Checkpoint, CheckpointFault, Expected, Report, Requirement, ResumeFault};
 use byte_streams::Source;
@@ -46,12 +46,12 @@ impl Evidence<'_> {
             (R.state source.old) (R.state source.new) result }
     {
         let mut session = session_of(self.log.bytes(), self.known)?;
-        let answer = self.judged_from(alloc, &mut session, source, list, scope)?;
+        let answer = self.judge_from(alloc, &mut session, source, list, scope)?;
         Ok((answer, Some(next_of(&session)?)))
     }
 
     // Has the session take the list, or its confirmed prefix if that is sought, and reports on it.
-    fn judged_from<R: Source>(
+    fn judge_from<R: Source>(
         &self,
         alloc: Global,
         session: &mut Session<'_>,
@@ -66,12 +66,12 @@ impl Evidence<'_> {
             match session.confirm(alloc, source, limit_of(list), &self.expected) {
                 Ok(Some(prefix)) => Ok(Answer::Prefix(prefix)),
                 Ok(None) => Ok(Answer::Report(report(alloc, session, &self.expected)?)),
-                Err(fault) => Err(refused(alloc, list, fault)),
+                Err(fault) => Err(refusal(alloc, list, fault)),
             }
         } else {
             match session.more(alloc, source, limit_of(list)) {
                 Ok(()) => Ok(Answer::Report(report(alloc, session, &self.expected)?)),
-                Err(fault) => Err(refused(alloc, list, fault)),
+                Err(fault) => Err(refusal(alloc, list, fault)),
             }
         }
     }

@@ -21,5 +21,5 @@ returns-in-Err-clause-fault g c =
     inr (inl (
     list_refused gives c.in-Err.fault _
     (source_failed c.replay_from.result c.in-Err.fault _ _ c.in-Err.is c.replay_from.ensures.counts c.replay_from.ensures.telling)
-    (rw c.limit_of.ensures at c.in-Err.ensures.fault) c.refused.ensures
+    (rw c.limit_of.ensures at c.in-Err.ensures.fault) c.refusal.ensures
     ))

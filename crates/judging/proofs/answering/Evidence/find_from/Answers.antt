@@ -10,7 +10,7 @@ returns-in-Err g c =
     rw c.in-Positions.is
     (inr (positions_refused gives (evidence_of c.args.self.now) c.in-Err.fault _
     (source_failed c.locate_from.result c.in-Err.fault _ _ c.in-Err.is c.locate_from.ensures.counts c.locate_from.ensures.telling)
-    (rw (c.bytes-log.ensures, c.limit_of.ensures) at c.in-Err.ensures.fault) c.refused.ensures))
+    (rw (c.bytes-log.ensures, c.limit_of.ensures) at c.in-Err.ensures.fault) c.refusal.ensures))
 
 pub returns-in-Err-verify_list_from : goal.returns-in-Err-verify_list_from
 returns-in-Err-verify_list_from g c =
@@ -19,4 +19,4 @@ returns-in-Err-verify_list_from g c =
     (inr (inl (list_refused gives c.in-Err-verify_list_from.fault _
     (source_failed c.verify_list_from.result c.in-Err-verify_list_from.fault _ _ c.in-Err-verify_list_from.is c.verify_list_from.ensures.counts
     c.verify_list_from.ensures.telling)
-    (rw c.limit_of-in-ListVerdict.ensures at c.in-Err-verify_list_from.ensures.fault) c.refused-in-Err-verify_list_from.ensures)))
+    (rw c.limit_of-in-ListVerdict.ensures at c.in-Err-verify_list_from.ensures.fault) c.refusal-in-Err-verify_list_from.ensures)))

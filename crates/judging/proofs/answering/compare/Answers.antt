@@ -1,8 +1,8 @@
 use Rattle.std.proofs.Common.{refl, inl, inr}
 use Rattle.std.proofs.lemmas.Result.{err_from_is_err_and}
 use Rattle.judging.specs.Answering.{evidence_of}
-use Rattle.judging.proofs.answering.compared.Goals as goal
-use Rattle.judging.proofs.answering.compared.Goals.{then-is_well, else-is_well}
+use Rattle.judging.proofs.answering.compare.Goals as goal
+use Rattle.judging.proofs.answering.compare.Goals.{then-is_well, else-is_well}
 
 pub returns-in_err-evidence-clause-fault : goal.returns-in_err-evidence-clause-fault
 returns-in_err-evidence-clause-fault g c =

@@ -3,7 +3,7 @@ use Rattle.std.proofs.lemmas.Bool.{false≢true}
 use Rattle.agent_inputs.proofs.LoadingLemmas.{source_failed}
 use Rattle.judging.specs.Answering.{evidence_of}
 use Rattle.judging.proofs.InputLaws.{prefix_found, not_found, whole_found}
-use Rattle.judging.proofs.answering.Evidence.judged_from.Goals as goal
+use Rattle.judging.proofs.answering.Evidence.judge_from.Goals as goal
 
 pub returns-in-Ok-Some : goal.returns-in-Ok-Some
 returns-in-Ok-Some g c =
@@ -28,7 +28,7 @@ returns-in-Err g c =
     (source_failed c.confirm.result c.in-Err.fault _ _ c.in-Err.is c.confirm.ensures.counts c.confirm.ensures.telling)
     (rw c.limit_of.ensures at c.in-Err.ensures.fault)
     (λ sought. rw (c.limit_of.ensures, c.deref-then-seeks_prefix.ensures.value) at c.in-Err.ensures.unconfirmed)
-    c.refused.ensures
+    c.refusal.ensures
 
 pub returns-in_ok-report-in-Ok : goal.returns-in_ok-report-in-Ok
 returns-in_ok-report-in-Ok g c =
@@ -47,4 +47,4 @@ returns-in-Err-more g c =
     (rw c.limit_of-else-seeks_prefix.ensures at c.in-Err-more.ensures.fault)
     (λ sought.
     absurd (false≢true (sym c.if-seeks_prefix.false ∙ rw (c.as_ref.ensures.value, c.deref.ensures.value) at c.seeks_prefix.ensures ∙ sought)))
-    c.refused-in-Err-more.ensures
+    c.refusal-in-Err-more.ensures
