@@ -9,13 +9,13 @@ use Rattle.judging.specs.declared.answer.Answered.{Answered}
 use Rattle.judging.specs.Answering.{IsAnswer, IsRefusal}
 use Rattle.judging.specs.Requests.{Requested}
 use Rattle.command_line.specs.declared.plan.Form.{Form}
-use Rattle.rendering.specs.Rendering.{rendered}
+use Rattle.rendering.specs.Rendering.{render}
 
 -- What is shown is the answer to what is asked for, in this form; its exit status is 0 if all is well, else 1; and this is where to go on.
 pub record IsShown (inputs : Inputs) (request : Requested) (form : Form) (shown : List ℕ) (status : ℕ) (next : Option Checkpoint) : Type 0 where
   pub given : Answered
   pub answer : IsAnswer inputs request given
-  pub text_is : shown ≡ rendered form given
+  pub text_is : shown ≡ render form given
   pub status_is : status ≡ (if given.is_well then 0 else 1)
   pub next_is : next ≡ given.next
 

@@ -50,9 +50,9 @@ json_of well required (Registers registers) = registers_json registers.now regis
 json_of well required (Expected expected range) = expected_json range expected.items
 
 -- The answer in this form.
-abbrev pub rendered : Form → Answered → List ℕ
-rendered forms.Text given = lines_of given.is_well given.requirement given.answer
-rendered forms.Json given = line_of (json_of given.is_well given.requirement given.answer)
+abbrev pub render : Form → Answered → List ℕ
+render forms.Text given = lines_of given.is_well given.requirement given.answer
+render forms.Json given = line_of (json_of given.is_well given.requirement given.answer)
 
 -- ---- a measurement
 

@@ -11,4 +11,4 @@ mod saving;
 pub use output::Output;
 pub use outputs::{Given, output_for, output_on};
 pub use printing::printed;
-pub use rendering::rendered;
+pub use rendering::render;

@@ -7,7 +7,7 @@ ghost use Rattle.rendering.specs.Outputs.{GivesAnswer, IsOutputFault, IsRefusalO
 
 use crate::no_files::NoFiles;
 use crate::output::Output;
-use crate::rendering::rendered;
+use crate::rendering::render;
 use crate::saving::save;
 use agent_inputs::{AgentFiles, RunFault};
 use boot_verdict::Checkpoint;
@@ -31,7 +31,7 @@ pub fn output_for<F: AgentFiles>(
     ensures fault { IfErr result (IsOutputFault (F.known files.old) (requested_of request.entry) (option_map (λ name. name.now) name.entry)) }
 {
     let given = answer_request(alloc, files, request)?;
-    let output = rendered(alloc, &given, form)?;
+    let output = render(alloc, &given, form)?;
     save(alloc, files, name, given.next)?;
     Ok(output)
 }
@@ -52,7 +52,7 @@ pub fn output_on(alloc: Global, request: Request<'_>, form: Form) -> Result<Give
     ensures fault { IfErr result (IsRefusalOn unknown (requested_of request.entry)) }
 {
     let given = answer_request(alloc, &mut NoFiles, request)?;
-    let output = rendered(alloc, &given, form)?;
+    let output = render(alloc, &given, form)?;
     let checkpoint = text_of(alloc, given.next)?;
     Ok(Given { output, checkpoint })
 }

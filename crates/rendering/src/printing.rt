@@ -7,7 +7,7 @@ ghost use Rattle.measure_book.specs.Books.{exported};
 ghost use Rattle.rendering.specs.Rendering.{printed};
 
 use crate::output::Output;
-use crate::rendering::rendered;
+use crate::rendering::render;
 use byte_streams::VecSink;
 use command_line::{Form, Print};
 use ima_list::Entry;
@@ -31,7 +31,7 @@ pub fn printed(
         (Print::Registers, form) => {
             let (start, now) = (given.reset, *given.book.banks());
             let registers = Answer::Registers(Registers { start, now });
-            rendered(alloc, &Answered::alone(registers), form)
+            render(alloc, &Answered::alone(registers), form)
         }
         (Print::Ascii, Form::Text) => Ok(Output::done(texts(alloc, given.book.entries())?)),
         (Print::Binary, Form::Text) => Ok(Output::done(exported(alloc, &given.book)?)),

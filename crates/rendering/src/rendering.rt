@@ -4,7 +4,7 @@ ghost use Rattle.std.specs.Prelude.{◌≡◌, ◌++◌, if◌then◌else◌, No
 ghost use Rattle.byte_streams.specs.Streams.{Sends};
 ghost use Rattle.json_texts.specs.JsonValues.{line_of};
 ghost use Rattle.judging.specs.declared.answer.Answer.TheVariants as answers;
-ghost use Rattle.rendering.specs.Rendering.{json_of, lines_of, rendered};
+ghost use Rattle.rendering.specs.Rendering.{json_of, lines_of, render};
 
 use crate::output::Output;
 use boot_verdict::{Report, write_counts, write_expected, write_list_report, write_outcome, write_positions, write_prefix_report, write_registers, write_required_list_report, write_required_positions, write_required_prefix_report, write_required_report};
@@ -18,8 +18,8 @@ use judging::{Answer, Answered};
 use std::alloc::{AllocError, Global};
 
 /// The output of an answer in this form: its status says whether all is well.
-pub fn rendered(alloc: Global, given: &Answered, form: Form) -> Result<Output, AllocError>
-    ensures text { IfOk result (λ output. output.text.items ≡ rendered form given.now) }
+pub fn render(alloc: Global, given: &Answered, form: Form) -> Result<Output, AllocError>
+    ensures text { IfOk result (λ output. output.text.items ≡ render form given.now) }
     ensures status { IfOk result (λ output. output.status ≡ (if given.now.is_well then 0 else 1)) }
 {
     let text = match form {
