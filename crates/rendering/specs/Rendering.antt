@@ -58,9 +58,9 @@ render forms.Json given = line_of (json_of given.is_well given.requirement given
 
 -- What is printed of a measurement in this form: the list as text or binary, or its registers that differ from their reset values. As JSON
 -- the list is the lines of its entries.
-abbrev pub printed : Form → Print → Measured → List ℕ
-printed forms.Text prints.Ascii given = flat_map entry_text given.book.entries
-printed forms.Text prints.Binary given = exported given.book
-printed forms.Text prints.Registers given = registers_text given.book.banks given.reset
-printed forms.Json prints.Registers given = line_of (registers_json given.book.banks given.reset)
-printed forms.Json print given = entry_lines given.book.entries
+abbrev pub print_measured : Form → Print → Measured → List ℕ
+print_measured forms.Text prints.Ascii given = flat_map entry_text given.book.entries
+print_measured forms.Text prints.Binary given = exported given.book
+print_measured forms.Text prints.Registers given = registers_text given.book.banks given.reset
+print_measured forms.Json prints.Registers given = line_of (registers_json given.book.banks given.reset)
+print_measured forms.Json print given = entry_lines given.book.entries

@@ -10,5 +10,5 @@ mod saving;
 
 pub use output::Output;
 pub use outputs::{Given, output_for, output_on};
-pub use printing::printed;
+pub use printing::print_measured;
 pub use rendering::render;

@@ -4,7 +4,7 @@ ghost use Rattle.std.specs.Prelude.{◌≡◌, flat_map, IfOk};
 ghost use Rattle.ima_list.specs.Lines.{line_of};
 ghost use Rattle.json_texts.specs.ItemLines.{entry_lines};
 ghost use Rattle.measure_book.specs.Books.{exported};
-ghost use Rattle.rendering.specs.Rendering.{printed};
+ghost use Rattle.rendering.specs.Rendering.{print_measured};
 
 use crate::output::Output;
 use crate::rendering::render;
@@ -18,13 +18,13 @@ use measuring::Measured;
 use std::alloc::{AllocError, Global};
 
 /// What is printed of a measurement in this form. There is no JSON of the binary list: for that too the lines of its entries are given.
-pub fn printed(
+pub fn print_measured(
     alloc: Global,
     given: &Measured,
     print: Print,
     form: Form,
 ) -> Result<Output, AllocError>
-    ensures text { IfOk result (λ output. output.text.items ≡ printed form print given.now) }
+    ensures text { IfOk result (λ output. output.text.items ≡ print_measured form print given.now) }
     ensures status { IfOk result (λ output. output.status ≡ 0) }
 {
     match (print, form) {
