@@ -19,8 +19,8 @@ use crate::arguments::read_words;
 use agent_inputs::{AgentFiles, RunFault};
 use byte_streams::{Failed, Sink, send};
 use command_line::{Form, Measurement, Task};
-use measuring::measured;
-use rendering::{output_for, printed};
+use measuring::measure;
+use rendering::{output_for, print_measured};
 use std::alloc::{AllocError, Global};
 use std::io;
 use std::process::ExitCode;
@@ -31,7 +31,7 @@ use std::thread::Threads;
 const FAILED: u8 = 3;
 
 /// Runs the program as [`run_with_progress`] does, and returns the process's exit code. If `arguments` is an error, the program fails
-/// as it does out of memory: with the line `failed: memory` and status 3.
+/// as it does out of memory: with the line `report_fault: memory` and status 3.
 /// `main` returns it, so that the exit status has a contract.
 pub fn exit_code<R: Threads + Wait + Sync, F: AgentFiles, S: Sink, P: Progress>(
     rt: &R,
@@ -46,7 +46,7 @@ pub fn exit_code<R: Threads + Wait + Sync, F: AgentFiles, S: Sink, P: Progress>(
     match arguments {
         Ok(arguments) => exits_with(run_with_progress(rt, alloc, &arguments, files, sink, progress)),
         Err(reason) => {
-            let status = failed(alloc, Form::Text, &RunFault::Memory, sink);
+            let status = report_fault(alloc, Form::Text, &RunFault::Memory, sink);
             progress.explain(alloc, Failure::Words { reason: &reason });
             exits_with(status)
         }
@@ -108,7 +108,7 @@ pub fn run_with_progress<R: Threads + Wait + Sync, F: AgentFiles, S: Sink, P: Pr
             run_task(rt, alloc, &task, form, files, sink, progress)
         }
         Err(fault) => {
-            let status = failed(alloc, Form::Text, &fault, sink);
+            let status = report_fault(alloc, Form::Text, &fault, sink);
             progress.explain(
                 alloc,
                 Failure::Refused {
@@ -141,7 +141,7 @@ fn run_task<R: Threads + Wait + Sync, F: AgentFiles, S: Sink, P: Progress>(
             FAILED
         }
         Err(StreamFault::Run(fault)) => {
-            let status = failed(alloc, form, &fault, sink);
+            let status = report_fault(alloc, form, &fault, sink);
             progress.explain(
                 alloc,
                 Failure::Fault {
@@ -174,7 +174,7 @@ fn perform<R: Threads + Wait + Sync, F: AgentFiles, S: Sink, P: Progress>(
             sent_output(output_for(alloc, files, request, save, form), sink)
         }
         Task::Measure(request) => {
-            sent_output(measured_for(rt, alloc, request, form, files, progress), sink)
+            sent_output(measure_for(rt, alloc, request, form, files, progress), sink)
         }
         Task::Events { log, data } => events_for(alloc, files, log, *data, form, sink),
         Task::Entries { list } => entries_for(alloc, files, list, form, sink),
@@ -184,7 +184,7 @@ fn perform<R: Threads + Wait + Sync, F: AgentFiles, S: Sink, P: Progress>(
 }
 
 // The output of a measurement.
-fn measured_for<R: Threads + Wait + Sync, F: AgentFiles, P: Progress>(
+fn measure_for<R: Threads + Wait + Sync, F: AgentFiles, P: Progress>(
     rt: &R,
     alloc: Global,
     request: &Measurement,
@@ -198,13 +198,13 @@ fn measured_for<R: Threads + Wait + Sync, F: AgentFiles, P: Progress>(
     ensures kept { OnErr result (F.saved files.new ≡ F.saved files.old) }
     ensures fault { IfErr result (IsFaultOf (F.known files.old) (tasks.Measure request.now) form) }
 {
-    let given = measured(rt, alloc, files, request, progress)?;
-    Ok(printed(alloc, &given, request.print, form)?)
+    let given = measure(rt, alloc, files, request, progress)?;
+    Ok(print_measured(alloc, &given, request.print, form)?)
 }
 
 // Writes the line of the fault in this form, or as JSON that of `Memory` if memory runs out for it, and returns the status of what was
 // written, or that of a sink that failed.
-fn failed<S: Sink>(alloc: Global, form: Form, fault: &RunFault, sink: &mut S) -> u8
+fn report_fault<S: Sink>(alloc: Global, form: Form, fault: &RunFault, sink: &mut S) -> u8
     ensures { Answers (IsFailure form fault.now) result (S.state sink.old) (S.state sink.new) }
 {
     match form {

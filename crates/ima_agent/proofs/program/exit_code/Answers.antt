@@ -10,4 +10,4 @@ returns-in-Ok g c =
 pub returns-in-Err : goal.returns-in-Err
 returns-in-Err g c =
     rw c.exits_with-in-Err.ensures
-    (answers_so _ _ _ _ _ (λ text status said. rw c.in-Err.is (said.0, said.1, refl)) c.failed-status.ensures)
+    (answers_so _ _ _ _ _ (λ text status said. rw c.in-Err.is (said.0, said.1, refl)) c.report_fault-status.ensures)

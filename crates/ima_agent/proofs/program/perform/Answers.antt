@@ -20,8 +20,8 @@ returns-in-Answer g c =
 pub returns-in-Measure : goal.returns-in-Measure
 returns-in-Measure g c =
     rw c.in-Measure.is
-    (outcome_sent (g.F.Files.known c.args.files.now) (tasks.Measure c.in-Measure.request) c.args.form _ _ c.measured_for.result _ _ _
-    c.measured_for.ensures.shown c.measured_for.ensures.kept c.measured_for.ensures.fault c.sent_output-in-Measure.ensures)
+    (outcome_sent (g.F.Files.known c.args.files.now) (tasks.Measure c.in-Measure.request) c.args.form _ _ c.measure_for.result _ _ _
+    c.measure_for.ensures.shown c.measure_for.ensures.kept c.measure_for.ensures.fault c.sent_output-in-Measure.ensures)
 
 pub returns-in-Events : goal.returns-in-Events
 returns-in-Events g c = rw c.in-Events.is c.events_for.ensures

@@ -9,4 +9,4 @@ returns-in-Ok g c =
 
 pub returns-in-Err : goal.returns-in-Err
 returns-in-Err g c =
-    answers_so _ _ _ _ _ (λ text status said. inr (c.in-Err.fault, c.in-Err.ensures.refused, said.0, said.1, refl)) c.failed-status.ensures
+    answers_so _ _ _ _ _ (λ text status said. inr (c.in-Err.fault, c.in-Err.ensures.refused, said.0, said.1, refl)) c.report_fault-status.ensures
