@@ -7,6 +7,6 @@ mod named_files;
 mod progress;
 mod recording;
 
-pub use measuring::measured;
+pub use measuring::measure;
 pub use progress::FileProgress;
 pub use recording::Measured;

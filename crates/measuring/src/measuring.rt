@@ -6,7 +6,7 @@ ghost use Rattle.measuring.specs.parts.{IsTextFor};
 
 use crate::listing::names_for;
 use crate::progress::FileProgress;
-use crate::recording::{Measured, measured_over};
+use crate::recording::{Measured, measure_over};
 use agent_inputs::{AgentFiles, RunFault, load_input};
 use boot_log::LogView;
 use command_line::Measurement;
@@ -31,7 +31,7 @@ type Loaded = Result<Vec<u8>, RunFault>;
 /// - with `Book` if the book cannot be opened: each file is read first; and with `Outcome` of the first file that the book refuses.
 ///
 /// It may also fail with `Gather`, if the workers' outcomes do not account for the book's records, and at any point with `Memory`.
-pub fn measured<R: Threads + Wait + Sync, F: AgentFiles, P: FileProgress>(
+pub fn measure<R: Threads + Wait + Sync, F: AgentFiles, P: FileProgress>(
     rt: &R,
     alloc: Global,
     files: &mut F,
@@ -39,7 +39,7 @@ pub fn measured<R: Threads + Wait + Sync, F: AgentFiles, P: FileProgress>(
     progress: &P,
 ) -> Result<Measured, RunFault>
     requires { vec_len request.now.files < 2 ^ 32 }
-    ensures measured { IfOk result (IsMeasured (F.known files.old) request.now) }
+    ensures measure { IfOk result (IsMeasured (F.known files.old) request.now) }
     ensures fault { IfErr result (IsMeasuringFault (F.known files.old) request.now) }
     ensures saved { F.saved files.new ≡ F.saved files.old }
 {
@@ -47,7 +47,7 @@ pub fn measured<R: Threads + Wait + Sync, F: AgentFiles, P: FileProgress>(
     let log = LogView::new(&bytes)?;
     let text = text_of(alloc, files, request)?;
     let names = names_for(alloc, request, &text)?;
-    measured_over(rt, alloc, files.shared(), &log, request, &names, progress)
+    measure_over(rt, alloc, files.shared(), &log, request, &names, progress)
 }
 
 // All bytes of the text of further names; none if there is no such text.

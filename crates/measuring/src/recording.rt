@@ -30,7 +30,7 @@ pub struct Measured {
 }
 
 /// Measures the files of these names over a log that was looked through.
-pub(crate) fn measured_over<R: Threads + Wait + Sync, S: SharedFiles + Sync, P: FileProgress>(
+pub(crate) fn measure_over<R: Threads + Wait + Sync, S: SharedFiles + Sync, P: FileProgress>(
     rt: &R,
     alloc: Global,
     files: &S,
@@ -41,7 +41,7 @@ pub(crate) fn measured_over<R: Threads + Wait + Sync, S: SharedFiles + Sync, P: 
 ) -> Result<Measured, RunFault>
     requires small { length names.now < 2 ^ 32 }
     requires read { AreLog (log_bytes log.now) }
-    ensures measured { IfOk result (IsMeasuredOver (S.held files.now) (log_bytes log.now) request.now (names_borrowed names.now)) }
+    ensures measure { IfOk result (IsMeasuredOver (S.held files.now) (log_bytes log.now) request.now (names_borrowed names.now)) }
     ensures fault { IfErr result (λ fault. IsFileFault (S.held files.now) (S.fails files.now) (names_borrowed names.now) fault
         ⊎ IsNotRecorded (S.held files.now) (log_bytes log.now) request.now (names_borrowed names.now) fault) }
 {
@@ -69,7 +69,7 @@ fn recorded<R: Threads + Wait + Sync, S: SharedFiles + Sync, P: FileProgress>(
     progress: &P,
 ) -> Result<Book, RunFault>
     requires small { length jobs.now.names.now < 2 ^ 32 }
-    ensures measured { IfOk result (HasRecorded (S.held jobs.now.files.now) (names_borrowed jobs.now.names.now) origin workers None) }
+    ensures measure { IfOk result (HasRecorded (S.held jobs.now.files.now) (names_borrowed jobs.now.names.now) origin workers None) }
     ensures fault { IfErr result (λ fault.
         IsFileFault (S.held jobs.now.files.now) (S.fails jobs.now.files.now) (names_borrowed jobs.now.names.now) fault
         ⊎ IsRecordingFault (S.held jobs.now.files.now) (names_borrowed jobs.now.names.now) origin workers fault) }

@@ -3,7 +3,7 @@ use Rattle.std.proofs.Math.Path.{fun_ext}
 use Rattle.std.proofs.lemmas.Result.{IfErr-weaker, IfOk-weaker, err_from_is_err_and}
 use Rattle.measuring.specs.parts.{names_borrowed}
 use Rattle.measuring.proofs.MeasuringLaws.{no_names, not_all}
-use Rattle.measuring.proofs.measuring.measured.Goals as goal
+use Rattle.measuring.proofs.measuring.measure.Goals as goal
 
 pub returns-in_err-bytes-clause-fault : goal.returns-in_err-bytes-clause-fault
 returns-in_err-bytes-clause-fault g c =
@@ -27,15 +27,15 @@ returns-in_err-names-clause-fault g c =
     (rw c.deref-3.ensures.value at c.in_err-names.ensures.fault (g.F.Files.known c.args.files.now)
     (rw c.in_ok-bytes.ensures.known at c.in_ok-text.ensures.text)))
 
-pub returns-clause-measured : goal.returns-clause-measured
-returns-clause-measured g c =
+pub returns-clause-measure : goal.returns-clause-measure
+returns-clause-measure g c =
     let known = g.F.Files.known c.args.files.now in
     let are = rw c.deref-3.ensures.value at c.in_ok-names.ensures.names known (rw c.in_ok-bytes.ensures.known at c.in_ok-text.ensures.text) in
     let known_is = c.in_ok-text.ensures.known ∙ c.in_ok-bytes.ensures.known in
     let same = fun_ext (λ name. c.shared.ensures.held name ∙ ap (λ inputs. inputs.held (Some name)) known_is) in
-    IfOk-weaker c.measured_over.result _ _
+    IfOk-weaker c.measure_over.result _ _
     (λ given over. (c.in_ok-bytes.bytes.items, rw c.deref.ensures at c.in_ok-bytes.ensures.all, (names_borrowed c.in_ok-names.names.items, are, over)))
-    (rw (c.deref-4.ensures.value, c.in_ok-log.ensures.found, c.deref-2.ensures.value, same) at c.measured_over.ensures.measured)
+    (rw (c.deref-4.ensures.value, c.in_ok-log.ensures.found, c.deref-2.ensures.value, same) at c.measure_over.ensures.measure)
 
 pub returns-clause-fault : goal.returns-clause-fault
 returns-clause-fault g c =
@@ -43,9 +43,9 @@ returns-clause-fault g c =
     let are = rw c.deref-3.ensures.value at c.in_ok-names.ensures.names known (rw c.in_ok-bytes.ensures.known at c.in_ok-text.ensures.text) in
     let known_is = c.in_ok-text.ensures.known ∙ c.in_ok-bytes.ensures.known in
     let same = fun_ext (λ name. c.shared.ensures.held name ∙ ap (λ inputs. inputs.held (Some name)) known_is) in
-    IfErr-weaker c.measured_over.result _ _
+    IfErr-weaker c.measure_over.result _ _
     (not_all known c.args.request.now c.in_ok-bytes.bytes.items (rw c.deref.ensures at c.in_ok-bytes.ensures.all)
     (omega (arith, c.in_ok-bytes.ensures.within), rw c.deref-2.ensures.value at c.in_ok-log.ensures.sound)
     (names_borrowed c.in_ok-names.names.items) are _ _ same
     (λ name fails. rw known_is at c.shared.ensures.fails name fails))
-    (rw (c.deref-4.ensures.value, c.in_ok-log.ensures.found, c.deref-2.ensures.value) at c.measured_over.ensures.fault)
+    (rw (c.deref-4.ensures.value, c.in_ok-log.ensures.found, c.deref-2.ensures.value) at c.measure_over.ensures.fault)
