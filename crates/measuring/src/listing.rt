@@ -23,7 +23,7 @@ pub(crate) fn names_for<'a>(alloc: Global, request: &'a Measurement, text: &'a [
     ensures fault { IfErr result (λ fault. (inputs : Inputs) → IsTextFor inputs request.now text.now
         → IsNamesFault inputs request.now fault ⊎ (fault ≡ Memory)) }
 {
-    let mut names = borrowed(alloc, &request.files)?;
+    let mut names = borrow_names(alloc, &request.files)?;
     if let Some(more) = &request.names {
         let Ok(text) = str::from_utf8(text) else {
             return Err(not_utf8(alloc, &more.text));
@@ -37,15 +37,15 @@ pub(crate) fn names_for<'a>(alloc: Global, request: &'a Measurement, text: &'a [
 }
 
 // These names, borrowed.
-fn borrowed<'a>(alloc: Global, names: &'a [String]) -> Result<Vec<&'a str>, AllocError>
-    ensures names { IfOk result (λ borrowed. names_borrowed borrowed.items ≡ map string_bytes names.now) }
-    ensures count { IfOk result (λ borrowed. vec_len borrowed ≡ length names.now) }
+fn borrow_names<'a>(alloc: Global, names: &'a [String]) -> Result<Vec<&'a str>, AllocError>
+    ensures names { IfOk result (λ borrow_names. names_borrowed borrow_names.items ≡ map string_bytes names.now) }
+    ensures count { IfOk result (λ borrow_names. vec_len borrow_names ≡ length names.now) }
 {
-    let mut borrowed = Vec::with_capacity(alloc, names.len())?;
+    let mut borrow_names = Vec::with_capacity(alloc, names.len())?;
     for name in names {
-        borrowed.push(name.as_str())?;
+        borrow_names.push(name.as_str())?;
     }
-    Ok(borrowed)
+    Ok(borrow_names)
 }
 
 // Appends each name of the text to `names`, in order: a part of the text, which lends it. The text is split at each byte that ends a
