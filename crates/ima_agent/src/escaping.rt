@@ -3,7 +3,7 @@
 ghost use Rattle.std.specs.Prelude.{◌≡◌, ◌<◌, ◌++◌, true, map, slice_index, string_bytes, IfOk, OnOk};
 ghost use Rattle.std.specs.List.{list_all};
 ghost use Rattle.hex.specs.Hex.{lower_digits};
-ghost use Rattle.ima_agent.specs.Escaping.{escaped, escaped_byte, is_printable, is_shown};
+ghost use Rattle.ima_agent.specs.Escaping.{escape, escaped_byte, is_printable, is_shown};
 
 use std::alloc::{AllocError, Global};
 
@@ -12,8 +12,8 @@ const DIGITS: &[u8; 16] = b"0123456789abcdef";
 
 /// The text with each byte that is not a printable character of ASCII written as `\x` and two hexadecimal digits. So it has no line
 /// feed, and nothing that a terminal acts upon, whatever its encoding.
-pub fn escaped(alloc: Global, text: &str) -> Result<String, AllocError>
-    ensures text { IfOk result (λ shown. string_bytes shown ≡ escaped text.now) }
+pub fn escape(alloc: Global, text: &str) -> Result<String, AllocError>
+    ensures text { IfOk result (λ shown. string_bytes shown ≡ escape text.now) }
     ensures printable { IfOk result (λ shown. list_all is_printable (string_bytes shown) ≡ true) }
 {
     let mut shown = String::new(alloc);
@@ -58,7 +58,7 @@ fn digit(value: u8) -> char
 pub(crate) fn shown_line(alloc: Global, text: &str) -> Result<String, AllocError>
     ensures { IfOk result (λ line. list_all is_shown (string_bytes line) ≡ true) }
 {
-    let mut line = escaped(alloc, text)?;
+    let mut line = escape(alloc, text)?;
     line.push('\n')?;
     Ok(line)
 }
@@ -76,12 +76,12 @@ pub(crate) fn shown_lines(alloc: Global, text: &str) -> Result<String, AllocErro
 }
 
 /// The texts, escaped.
-pub(crate) fn escaped_each(alloc: Global, texts: &[String]) -> Result<Vec<String>, AllocError>
-    ensures { IfOk result (λ shown. map string_bytes shown.items ≡ map (λ text. escaped (string_bytes text)) texts.now) }
+pub(crate) fn escape_each(alloc: Global, texts: &[String]) -> Result<Vec<String>, AllocError>
+    ensures { IfOk result (λ shown. map string_bytes shown.items ≡ map (λ text. escape (string_bytes text)) texts.now) }
 {
     let mut shown = Vec::with_capacity(alloc, texts.len())?;
     for text in texts {
-        shown.push(escaped(alloc, text)?)?;
+        shown.push(escape(alloc, text)?)?;
     }
     Ok(shown)
 }

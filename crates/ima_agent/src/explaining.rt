@@ -4,7 +4,7 @@ ghost use Rattle.std.specs.Prelude.{◌≡◌, true, string_bytes, IfOk};
 ghost use Rattle.std.specs.List.{list_all};
 ghost use Rattle.ima_agent.specs.Escaping.{is_shown};
 
-use crate::escaping::{escaped_each, shown_line, shown_lines};
+use crate::escaping::{escape_each, shown_line, shown_lines};
 use agent_inputs::RunFault;
 use command_line::{Judge, Judged, Measurement, Question, Task, refusal_of};
 use measure_book::BookFault;
@@ -103,7 +103,7 @@ fn of_refusal(alloc: Global, fault: &RunFault, arguments: &[String]) -> Result<S
     if matches!(fault, RunFault::Memory) {
         return Err(AllocError);
     }
-    let arguments = escaped_each(alloc, arguments)?;
+    let arguments = escape_each(alloc, arguments)?;
     match refusal_of(alloc, &arguments)? {
         Some(text) => shown_lines(alloc, &text),
         None => shown_line(alloc, TOO_MANY_FILES),

@@ -29,7 +29,7 @@ pub use command_line::{
     DataShown, Scope, Form, Judge, Judged, Measurement, NameEnd, Names, Plan, Print, Question,
     Task, arguments_after_name,
 };
-pub use escaping::escaped;
+pub use escaping::escape;
 pub use explaining::{Failure, explanation};
 pub use measuring::FileProgress;
 pub use program::{exit_code, run, run_with_progress};

@@ -12,7 +12,7 @@ use crate::explaining::Failure;
 use crate::progress::{NoProgress, Progress};
 use crate::requests::{request_of, save_of};
 use crate::showing::{entries_for, events_for, shown_registers};
-use crate::streaming::{DONE, Prepared, Sent, StreamFault, sent_output, sent_text};
+use crate::streaming::{DONE, Prepared, Sent, StreamFault, send_output, send_text};
 use crate::texts::{json_fault_line, json_memory_line, status_of, write_fault};
 use crate::version::version_text;
 use crate::arguments::read_words;
@@ -168,18 +168,18 @@ fn perform<R: Threads + Wait + Sync, F: AgentFiles, S: Sink, P: Progress>(
     ensures { Streams form (IsOutcome (F.known files.old) task.now form (F.saved files.old) (F.saved files.new)) (S.state sink.old) (S.state sink.new) result }
 {
     match task {
-        Task::Registers => sent_output(shown_registers(alloc, files, form), sink),
+        Task::Registers => send_output(shown_registers(alloc, files, form), sink),
         Task::Answer(question) => {
             let (request, save) = (request_of(question), save_of(question));
-            sent_output(output_for(alloc, files, request, save, form), sink)
+            send_output(output_for(alloc, files, request, save, form), sink)
         }
         Task::Measure(request) => {
-            sent_output(measure_for(rt, alloc, request, form, files, progress), sink)
+            send_output(measure_for(rt, alloc, request, form, files, progress), sink)
         }
         Task::Events { log, data } => events_for(alloc, files, log, *data, form, sink),
         Task::Entries { list } => entries_for(alloc, files, list, form, sink),
-        Task::Help(text) => sent_text(text.as_bytes(), DONE, sink),
-        Task::Version => sent_text(version_text(), DONE, sink),
+        Task::Help(text) => send_text(text.as_bytes(), DONE, sink),
+        Task::Version => send_text(version_text(), DONE, sink),
     }
 }
 

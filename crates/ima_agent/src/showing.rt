@@ -9,7 +9,7 @@ ghost use Rattle.ima_agent.specs.Program.{IsFaultOf, IsOutcome, IsOutputFor, Str
 ghost use Rattle.ima_agent.specs.Showing.{AreAllEntries, IsNoListFor, IsRefusedFor, ShowsHexadecimal, ShowsPlainEventsIn, data_of};
 
 use crate::hexadecimal::decode_hexadecimal;
-use crate::streaming::{DONE, Prepared, Sent, StreamFault, entries_sent, events_sent, sent_output};
+use crate::streaming::{DONE, Prepared, Sent, StreamFault, send_list, send_log, send_output};
 use agent_inputs::{AgentFiles, RunFault, load_input};
 use boot_log::LogView;
 use boot_verdict::{EventData, write_events};
@@ -62,8 +62,8 @@ pub(crate) fn events_for<F: AgentFiles, S: Sink>(
         Err(fault) => return Err(StreamFault::Run(fault)),
     };
     match form {
-        Form::Text => events_written(alloc, &bytes, requested, sink),
-        Form::Json => events_sent(alloc, &bytes, sink),
+        Form::Text => write_log(alloc, &bytes, requested, sink),
+        Form::Json => send_log(alloc, &bytes, sink),
     }
 }
 
@@ -79,13 +79,13 @@ pub(crate) fn entries_for<F: AgentFiles, S: Sink>(
         (S.state sink.old) (S.state sink.new) result }
 {
     match form {
-        Form::Text => sent_output(shown_list(alloc, files, list), sink),
-        Form::Json => entries_sent(alloc, files, list, sink),
+        Form::Text => send_output(shown_list(alloc, files, list), sink),
+        Form::Json => send_list(alloc, files, list, sink),
     }
 }
 
 // Writes the lines of the header and the events of the log in these bytes, which is looked through for its fault before.
-fn events_written<S: Sink>(alloc: Global, bytes: &[u8], requested: DataShown, sink: &mut S) -> Sent
+fn write_log<S: Sink>(alloc: Global, bytes: &[u8], requested: DataShown, sink: &mut S) -> Sent
     ensures { Streams Text (ShowsPlainEventsIn bytes.now requested) (S.state sink.old) (S.state sink.new) result }
 {
     let log = match LogView::new(bytes) {

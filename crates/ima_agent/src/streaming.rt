@@ -31,17 +31,17 @@ pub(crate) type Sent = Result<u8, StreamFault>;
 pub(crate) type Prepared = Result<Output, RunFault>;
 
 /// Sends an output that was prepared whole, and returns its status. If there is none, nothing is sent.
-pub(crate) fn sent_output<S: Sink>(output: Prepared, sink: &mut S) -> Sent
+pub(crate) fn send_output<S: Sink>(output: Prepared, sink: &mut S) -> Sent
     ensures { SendsOutput output (S.state sink.old) (S.state sink.new) result }
 {
     match output {
-        Ok(output) => sent_text(&output.text, output.status, sink),
+        Ok(output) => send_text(&output.text, output.status, sink),
         Err(fault) => Err(StreamFault::Run(fault)),
     }
 }
 
 /// Sends a text, and returns this status.
-pub(crate) fn sent_text<S: Sink>(text: &[u8], status: u8, sink: &mut S) -> Sent
+pub(crate) fn send_text<S: Sink>(text: &[u8], status: u8, sink: &mut S) -> Sent
     ensures { SendsText text.now status (S.state sink.old) (S.state sink.new) result }
 {
     match send(text, sink) {
@@ -52,7 +52,7 @@ pub(crate) fn sent_text<S: Sink>(text: &[u8], status: u8, sink: &mut S) -> Sent
 
 /// Sends as JSON the algorithms that the log in these bytes declares, and its events while they are read; of a damaged one those before its
 /// fault.
-pub(crate) fn events_sent<S: Sink>(alloc: Global, log: &[u8], sink: &mut S) -> Sent
+pub(crate) fn send_log<S: Sink>(alloc: Global, log: &[u8], sink: &mut S) -> Sent
     ensures { Streams Json (ShowsEventsIn log.now) (S.state sink.old) (S.state sink.new) result }
 {
     match send_events(alloc, log, sink) {
@@ -64,7 +64,7 @@ pub(crate) fn events_sent<S: Sink>(alloc: Global, log: &[u8], sink: &mut S) -> S
 }
 
 /// Sends as JSON the entries of the list in the file of this name while it is read; of a damaged one those before its fault.
-pub(crate) fn entries_sent<F: AgentFiles, S: Sink>(
+pub(crate) fn send_list<F: AgentFiles, S: Sink>(
     alloc: Global,
     files: &mut F,
     list: &str,

@@ -8,20 +8,20 @@ pub returns-in-Registers : goal.returns-in-Registers
 returns-in-Registers g c =
     rw c.in-Registers.is
     (outcome_sent (g.F.Files.known c.args.files.now) tasks.Registers c.args.form _ _ c.shown_registers.result _ _ _ c.shown_registers.ensures.shown
-    c.shown_registers.ensures.kept c.shown_registers.ensures.fault c.sent_output.ensures)
+    c.shown_registers.ensures.kept c.shown_registers.ensures.fault c.send_output.ensures)
 
 pub returns-in-Answer : goal.returns-in-Answer
 returns-in-Answer g c =
     let said = rw (c.request_of-request.ensures, c.save_of-save.ensures) at c.output_for.ensures in
     rw c.in-Answer.is
     (outcome_sent (g.F.Files.known c.args.files.now) (tasks.Answer c.in-Answer.question) c.args.form _ _ c.output_for.result _ _ _
-    said.shown said.kept said.fault c.sent_output-in-Answer.ensures)
+    said.shown said.kept said.fault c.send_output-in-Answer.ensures)
 
 pub returns-in-Measure : goal.returns-in-Measure
 returns-in-Measure g c =
     rw c.in-Measure.is
     (outcome_sent (g.F.Files.known c.args.files.now) (tasks.Measure c.in-Measure.request) c.args.form _ _ c.measure_for.result _ _ _
-    c.measure_for.ensures.shown c.measure_for.ensures.kept c.measure_for.ensures.fault c.sent_output-in-Measure.ensures)
+    c.measure_for.ensures.shown c.measure_for.ensures.kept c.measure_for.ensures.fault c.send_output-in-Measure.ensures)
 
 pub returns-in-Events : goal.returns-in-Events
 returns-in-Events g c = rw c.in-Events.is c.events_for.ensures
@@ -31,8 +31,8 @@ returns-in-Entries g c = rw c.in-Entries.is c.entries_for.ensures
 
 pub returns-in-Help : goal.returns-in-Help
 returns-in-Help g c =
-    rw c.in-Help.is (text_sent _ (string_bytes c.in-Help.text) 0 _ _ _ (inl ((refl, refl), refl)) (rw c.as_bytes.ensures.value at c.sent_text.ensures))
+    rw c.in-Help.is (text_sent _ (string_bytes c.in-Help.text) 0 _ _ _ (inl ((refl, refl), refl)) (rw c.as_bytes.ensures.value at c.send_text.ensures))
 
 pub returns-in-Version : goal.returns-in-Version
 returns-in-Version g c =
-    rw c.in-Version.is (text_sent _ version_text 0 _ _ _ (inl ((refl, refl), refl)) (rw c.version_text.ensures at c.sent_text-in-Version.ensures))
+    rw c.in-Version.is (text_sent _ version_text 0 _ _ _ (inl ((refl, refl), refl)) (rw c.version_text.ensures at c.send_text-in-Version.ensures))

@@ -10,11 +10,11 @@ returns-in-Text g c =
     rw c.in-Text.is
     (outcome_sent (g.F.Files.known c.args.files.now) (tasks.Entries c.args.list.now) Text _ _ c.shown_list.result _ _ _
     (IfOk-weaker c.shown_list.result _ _ (λ output is. (rw c.deref.ensures at is, c.shown_list.ensures.saved)) c.shown_list.ensures.shown)
-    (kept_so c.shown_list.result c.shown_list.ensures.saved) (rw c.deref.ensures at c.shown_list.ensures.fault) c.sent_output.ensures)
+    (kept_so c.shown_list.result c.shown_list.ensures.saved) (rw c.deref.ensures at c.shown_list.ensures.fault) c.send_output.ensures)
 
 pub returns-in-Json : goal.returns-in-Json
 returns-in-Json g c =
     rw c.in-Json.is
-    (streams_so _ _ _ _ c.entries_sent.result
-    (entries_outcome (g.F.Files.known c.args.files.now) c.args.list.now _ _ c.entries_sent.ensures.saved)
-    (rw c.deref-in-Json.ensures at c.entries_sent.ensures.streams))
+    (streams_so _ _ _ _ c.send_list.result
+    (entries_outcome (g.F.Files.known c.args.files.now) c.args.list.now _ _ c.send_list.ensures.saved)
+    (rw c.deref-in-Json.ensures at c.send_list.ensures.streams))

@@ -13,15 +13,15 @@ returns-in-Err g c =
 pub returns-in-Text : goal.returns-in-Text
 returns-in-Text g c =
     rw c.in-Text.is
-    (streams_so _ _ _ _ c.events_written.result
+    (streams_so _ _ _ _ c.write_log.result
     (plain_outcome (g.F.Files.known c.args.files.now) c.args.log.now c.args.requested _ _ c.in-Ok.bytes.items
     (rw c.deref.ensures at c.in-Ok.ensures.all) c.load_input.ensures.saved)
-    (rw c.deref-in-Text.ensures.value at c.events_written.ensures))
+    (rw c.deref-in-Text.ensures.value at c.write_log.ensures))
 
 pub returns : goal.returns
 returns g c =
     rw c.in-Json.is
-    (streams_so _ _ _ _ c.events_sent.result
+    (streams_so _ _ _ _ c.send_log.result
     (events_outcome (g.F.Files.known c.args.files.now) c.args.log.now c.args.requested _ _ c.in-Ok.bytes.items
     (rw c.deref.ensures at c.in-Ok.ensures.all) c.load_input.ensures.saved)
-    (rw c.deref-in-Json.ensures.value at c.events_sent.ensures))
+    (rw c.deref-in-Json.ensures.value at c.send_log.ensures))

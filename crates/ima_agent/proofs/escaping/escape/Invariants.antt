@@ -2,7 +2,7 @@ use Rattle.std.proofs.Common.{◌≡◌, take, true, string_bytes}
 use Rattle.std.specs.Prelude.{flat_map}
 use Rattle.std.specs.List.{list_all}
 use Rattle.ima_agent.specs.Escaping.{escaped_byte, is_printable}
-use Rattle.ima_agent.proofs.escaping.escaped.Given as goal
+use Rattle.ima_agent.proofs.escaping.escape.Given as goal
 
 -- The bytes so far are shown.
 abbrev pub invariant-loop-byte : goal.invariant-loop-byte

@@ -1,5 +1,5 @@
 use Rattle.ima_agent.proofs.StreamingLaws.{events_cut, events_run_out, events_shown, events_to_fault}
-use Rattle.ima_agent.proofs.streaming.events_sent.Goals as goal
+use Rattle.ima_agent.proofs.streaming.send_log.Goals as goal
 
 pub returns-in-Ok : goal.returns-in-Ok
 returns-in-Ok g c = events_shown _ _ _ c.in-Ok.ensures

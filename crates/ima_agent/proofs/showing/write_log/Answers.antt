@@ -4,7 +4,7 @@ use Rattle.byte_streams.proofs.SinkLaws.{Sends-none}
 use Rattle.boot_verdict.specs.EventTexts.{events_text}
 use Rattle.ima_agent.specs.Showing.{data_of}
 use Rattle.ima_agent.proofs.OutcomeLaws.{text_sent}
-use Rattle.ima_agent.proofs.showing.events_written.Goals as goal
+use Rattle.ima_agent.proofs.showing.write_log.Goals as goal
 
 pub returns-in-Err : goal.returns-in-Err
 returns-in-Err g c = record {

@@ -1,6 +1,6 @@
 use Rattle.std.proofs.Common.{[], refl}
 use Rattle.ima_agent.proofs.StreamingLaws.{entries_cut, entries_run_out, entries_shown, entries_to_fault, entries_too_long, entries_unread, not_opened}
-use Rattle.ima_agent.proofs.streaming.entries_sent.Goals as goal
+use Rattle.ima_agent.proofs.streaming.send_list.Goals as goal
 
 pub returns-in-Err-clause-streams : goal.returns-in-Err-clause-streams
 returns-in-Err-clause-streams g c =
