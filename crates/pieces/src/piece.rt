@@ -68,7 +68,7 @@ pub(crate) trait Lines {
 }
 
 /// As many lines from this position on as there is room for.
-pub(crate) fn filled<L: Lines>(
+pub(crate) fn fill<L: Lines>(
     alloc: Global,
     lines: &L,
     start: Position,
@@ -94,7 +94,7 @@ pub(crate) fn filled<L: Lines>(
                     end: End::Last,
                 });
             }
-            Err(fault) => return stopped(fault, text, next),
+            Err(fault) => return stop(fault, text, next),
         };
         if text.len() > room {
             return Ok(cut(text, kept, next));
@@ -104,7 +104,7 @@ pub(crate) fn filled<L: Lines>(
 }
 
 // The piece with the lines before this fault, if there are some. If memory ran out there is none.
-fn stopped(fault: RunFault, text: Vec<u8>, next: Position) -> Result<Piece, RunFault>
+fn stop(fault: RunFault, text: Vec<u8>, next: Position) -> Result<Piece, RunFault>
     ensures ok { IfOk result (λ piece. (piece ≡ record { text = text; next = next; end = More }) × (0 < length text.items)
         × (fault ≡ Memory → ⊥)) }
     ensures err { IfErr result (λ reason. (reason ≡ fault) × ((text.items ≡ []) ⊎ (fault ≡ Memory))) }

@@ -1,6 +1,6 @@
 use Rattle.std.proofs.Common.{◌-◌}
 use Rattle.pieces.proofs.PieceLaws.{HasGathered}
-use Rattle.pieces.proofs.piece.filled.Given as goal
+use Rattle.pieces.proofs.piece.fill.Given as goal
 
 abbrev pub invariant-loop-after : goal.invariant-loop-after
 invariant-loop-after g l = HasGathered (g.L.Lines.series l.lines) (g.L.Lines.size l.lines) l.room l.fn.start l.next l.text.items
