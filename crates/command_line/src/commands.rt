@@ -56,7 +56,7 @@ fn program<'a>(alloc: Global) -> Built<'a>
         .help("Print version")
         .long("version")
         .action(ArgAction::Version);
-    described(alloc, "ima-agent", PROGRAM_ABOUT, PROGRAM_END)
+    describe(alloc, "ima-agent", PROGRAM_ABOUT, PROGRAM_END)
         .no_binary_name(true)
         .disable_help_subcommand(true)
         .subcommand_required(true)
@@ -69,7 +69,7 @@ fn program<'a>(alloc: Global) -> Built<'a>
 fn command<'a>(alloc: Global, row: &'a CommandRow<'a>, known: KnownNames<'a>) -> Built<'a>
     ensures { IfOk result (IsCommand (app_of_row known.entry row.now)) }
 {
-    let mut command = described(alloc, row.name, row.about, help_end_of(row.name));
+    let mut command = describe(alloc, row.name, row.about, help_end_of(row.name));
     for argument_row in row.arguments {
         command = command.arg(argument(alloc, argument_row, known)?)?;
     }
@@ -77,7 +77,7 @@ fn command<'a>(alloc: Global, row: &'a CommandRow<'a>, known: KnownNames<'a>) ->
 }
 
 // A command of this name, without arguments. `end` is the end of its help.
-fn described<'a>(alloc: Global, name: &'a str, about: &'a str, end: &'a str) -> Command<'a>
+fn describe<'a>(alloc: Global, name: &'a str, about: &'a str, end: &'a str) -> Command<'a>
     ensures { IsCommand (new_app name.now) result }
 {
     Command::new(alloc, name).about(about).after_help(end)
