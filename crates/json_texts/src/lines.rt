@@ -45,11 +45,11 @@ pub(crate) fn end_line(written: Written, writer: Writer, from: usize, line: &mut
     ensures err { OnErr result (line.new.items ≡ writer.before) }
 {
     *line = writer.into_inner();
-    let ended = end(written, line);
-    if ended.is_err() {
+    let check_end = end(written, line);
+    if check_end.is_err() {
         line.truncate(from);
     }
-    ended
+    check_end
 }
 
 // Appends the line feed, if the line was written.
