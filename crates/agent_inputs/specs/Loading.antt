@@ -5,8 +5,8 @@ use Rattle.std.specs.Global.{Global}
 use Rattle.byte_streams.specs.declared.pieces.ReadFault.{ReadFault}
 use Rattle.byte_streams.specs.declared.pieces.ReadFault.TheVariants as reads
 use Rattle.byte_streams.specs.Streams.{LosesPrefix, SourceState, failures_after}
-use Rattle.agent_inputs.specs.declared.loading.LoadFault.{LoadFault}
-use Rattle.agent_inputs.specs.declared.loading.LoadFault.TheVariants.{TooLong, Source, Memory}
+use Rattle.agent_inputs.specs.declared.loader.LoadFault.{LoadFault}
+use Rattle.agent_inputs.specs.declared.loader.LoadFault.TheVariants.{TooLong, Source, Memory}
 use Rattle.agent_inputs.specs.declared.fault.RunFault.{RunFault}
 use Rattle.agent_inputs.specs.declared.fault.RunFault.TheVariants as runs
 

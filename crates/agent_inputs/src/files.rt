@@ -4,7 +4,7 @@ ghost use Rattle.std.specs.Prelude.{◌≡◌, ◌<◌, length, List, ℕ, None,
 ghost use Rattle.agent_inputs.specs.Hashing.{IsHashOfAll};
 ghost use Rattle.agent_inputs.specs.Loading.{GivesAll, HasFailed, HasReplaced, Inputs, Saved, unknown};
 
-use crate::loading::LoadFault;
+use crate::loader::LoadFault;
 use byte_streams::{Failed, Source};
 use pcr_banks::{Alg, Digest};
 use std::alloc::Global;

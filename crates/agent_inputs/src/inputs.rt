@@ -6,7 +6,7 @@ ghost use Rattle.agent_inputs.specs.declared.fault.RunFault.{RunFault};
 
 use crate::fault::RunFault;
 use crate::files::AgentFiles;
-use crate::loading::{LoadFault, load};
+use crate::loader::{LoadFault, load};
 use std::alloc::Global;
 
 /// The most bytes that an input may have: 64 MiB.

@@ -130,6 +130,13 @@ fn exit_code_without_arguments(rt: HostRuntime) {
     let arguments = Err(Error::from(ErrorKind::InvalidInput));
     let mut files = PieceFiles::whole(&[]);
     let mut sink = PieceSink::failing(b"failed: memory\n", usize::MAX, usize::MAX);
-    let code = exit_code(&rt, rt.alloc(), arguments, &mut files, &mut sink, &NoProgress);
+    let code = exit_code(
+        &rt,
+        rt.alloc(),
+        arguments,
+        &mut files,
+        &mut sink,
+        &NoProgress,
+    );
     assert!(rt; code == ExitCode::from(3) && sink.is_full());
 }

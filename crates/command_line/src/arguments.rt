@@ -14,7 +14,7 @@ ghost use Rattle.command_line.specs.declared.plan.Task.TheVariants.{Version};
 
 use crate::commands::{KnownNames, VERSION, all_commands};
 use crate::fault::ArgumentsFault;
-use crate::plan::{DataShown, Scope, Form, Judge, Judged, Plan, Question, Task};
+use crate::plan::{DataShown, Form, Judge, Judged, Plan, Question, Scope, Task};
 use crate::values::{flag_of, measurement_of, name_of, text_if_given};
 use clap::error::ErrorKind;
 use clap::{ArgMatches, Error};
@@ -109,7 +109,11 @@ fn plan_in(alloc: Global, arguments: &[String], command: &str) -> Result<Plan, A
 }
 
 // The task of the command, and its form, from clap's matches.
-fn requested_of(alloc: Global, command: &str, matches: &ArgMatches) -> Result<(Task, Form), ArgumentsFault>
+fn requested_of(
+    alloc: Global,
+    command: &str,
+    matches: &ArgMatches,
+) -> Result<(Task, Form), ArgumentsFault>
     ensures { IfOk result (λ request. HasValuesIn command.now (subcommand_rows_of matches.now) request × IsWithin request.1 request.0) }
 {
     let Some(matches) = matches.subcommand_matches(command) else {
@@ -142,7 +146,11 @@ fn task_of(
 }
 
 // What the command of this name asks.
-fn question_of(alloc: Global, command: &str, matches: &ArgMatches) -> Result<Question, ArgumentsFault>
+fn question_of(
+    alloc: Global,
+    command: &str,
+    matches: &ArgMatches,
+) -> Result<Question, ArgumentsFault>
     ensures { IfOk result (HasQuestion command.now (rows_of (found_of matches.now))) }
 {
     match command {

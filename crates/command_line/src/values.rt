@@ -111,7 +111,11 @@ fn text_of<'a>(matches: &ArgMatches<'a>, id: &str) -> Result<&'a str, ArgumentsF
 }
 
 /// A copy of the first value of this argument.
-pub(crate) fn name_of(alloc: Global, matches: &ArgMatches, id: &str) -> Result<String, ArgumentsFault>
+pub(crate) fn name_of(
+    alloc: Global,
+    matches: &ArgMatches,
+    id: &str,
+) -> Result<String, ArgumentsFault>
     ensures { IfOk result (λ name. IsGivenAs id.now (rows_of (found_of matches.now)) (Some name)) }
 {
     Ok(String::from_str(alloc, text_of(matches, id)?)?)

@@ -8,14 +8,14 @@ ghost use Rattle.ima_agent.specs.FaultTexts.{fault_status};
 ghost use Rattle.ima_agent.specs.JsonFaults.{IsFailure};
 ghost use Rattle.ima_agent.specs.Program.{Answers, IsFaultOf, IsOutcome, IsOutput, IsOutputFor, IsOutputOf, Streams, status_after};
 
-use crate::explaining::Failure;
+use crate::arguments::read_words;
+use crate::explanations::Failure;
 use crate::progress::{NoProgress, Progress};
 use crate::requests::{request_of, save_of};
-use crate::showing::{entries_for, events_for, shown_registers};
-use crate::streaming::{DONE, Prepared, Sent, StreamFault, send_output, send_text};
+use crate::shown::{entries_for, events_for, shown_registers};
+use crate::streams::{DONE, Prepared, Sent, StreamFault, send_output, send_text};
 use crate::texts::{json_fault_line, json_memory_line, status_of, write_fault};
 use crate::version::version_text;
-use crate::arguments::read_words;
 use agent_inputs::{AgentFiles, RunFault};
 use byte_streams::{Failed, Sink, send};
 use command_line::{Form, Measurement, Task};
@@ -44,7 +44,9 @@ pub fn exit_code<R: Threads + Wait + Sync, F: AgentFiles, S: Sink, P: Progress>(
     ensures { Answers (IsOutputOf (F.known files.old) arguments (F.saved files.old) (F.saved files.new)) (exit_status result) (S.state sink.old) (S.state sink.new) }
 {
     match arguments {
-        Ok(arguments) => exits_with(run_with_progress(rt, alloc, &arguments, files, sink, progress)),
+        Ok(arguments) => exits_with(run_with_progress(
+            rt, alloc, &arguments, files, sink, progress,
+        )),
         Err(reason) => {
             let status = report_fault(alloc, Form::Text, &RunFault::Memory, sink);
             progress.explain(alloc, Failure::Words { reason: &reason });

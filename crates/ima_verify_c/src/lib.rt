@@ -8,8 +8,8 @@
 //! none.
 #![tactic(auto)]
 
-mod asking;
-mod giving;
+mod replies;
+mod requests;
 mod told;
 
 ghost use Rattle.std.specs.Prelude.{◌≡◌};
@@ -18,8 +18,8 @@ ghost use Rattle.judging.specs.Inputs.{BytesOf};
 ghost use Rattle.ima_verify_c.specs.Answers.{Answers, AnswersMore, GivesEntries, GivesEvents, IsAnswerAndNext, IsAnswerTo};
 ghost use Rattle.ima_verify_c.specs.Requested.{requested_of_list, requested_of_more, requested_of_positions, requested_of_registers, requested_of_verdict, form_of, given_bytes, interface_version};
 
-use crate::asking::{requested_by, form_of, given_bytes, registers_on, verdict_of};
-use crate::giving::{give, give_both, give_lines};
+use crate::replies::{give, give_both, give_lines};
+use crate::requests::{form_of, given_bytes, registers_on, requested_by, verdict_of};
 use ima_agent::Form;
 use judging::{Input, Request, Required, Wanted};
 use pieces::{Position, entry_lines, event_lines};

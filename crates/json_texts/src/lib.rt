@@ -26,4 +26,4 @@ pub use faults::{FaultPlace, FaultText, append_fault};
 pub use lines::Written;
 pub use positions::{append_positions, finds};
 pub use registers::{append_expected, append_registers};
-pub use reports::{append_prefix_report, append_list_report, append_report, list_meets, meets};
+pub use reports::{append_list_report, append_prefix_report, append_report, list_meets, meets};

@@ -14,7 +14,9 @@ use crate::faults::{FaultPlace, FaultText, write_fault_member};
 use crate::lines::{Written, begin_line, end_line};
 use crate::members::{write_hex, write_number, write_text};
 use crate::rows::{Says, write_rows};
-use boot_verdict::{ListReport, PrefixReport, Report, Requirement, Row, State, Unconfirmed, aggregate_word};
+use boot_verdict::{
+    ListReport, PrefixReport, Report, Requirement, Row, State, Unconfirmed, aggregate_word,
+};
 use json::Writer;
 use pcr_banks::Digest;
 use std::alloc::Global;

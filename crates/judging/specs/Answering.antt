@@ -33,7 +33,7 @@ use Rattle.agent_inputs.specs.Loading.{Inputs}
 use Rattle.judging.specs.declared.answer.Answer.{Answer}
 use Rattle.judging.specs.declared.answer.Answer.TheVariants as answers
 use Rattle.judging.specs.declared.answer.Answered.{Answered}
-use Rattle.judging.specs.declared.answering.Evidence.{Evidence as HeldEvidence}
+use Rattle.judging.specs.declared.answers.Evidence.{Evidence as HeldEvidence}
 use Rattle.judging.specs.Requests.{Requested, Compared, Compares, ExpectedOf, ListRegistersOf, LogRegistersOf, Nothing, Requires, These, held_bytes, log_of, resume_of}
 use Rattle.judging.specs.Growing.{Evidence, IsJudged, IsNotFound, IsRefusedList}
 use Rattle.judging.specs.Inputs.{Holds, IsInputFault, IsReadFailure, OfInput, Where}

@@ -7,7 +7,10 @@ ghost use Rattle.judging.specs.Requests.{requires_of};
 
 use crate::request::Required;
 use agent_inputs::RunFault;
-use boot_verdict::{Checkpoint, Expected, ListReport, Located, PrefixReport, RegisterRange, Report, Requirement, all_found, required_found};
+use boot_verdict::{
+    Checkpoint, Expected, ListReport, Located, PrefixReport, RegisterRange, Report, Requirement,
+    all_found, required_found,
+};
 use pcr_banks::Banks;
 
 /// What is answered.

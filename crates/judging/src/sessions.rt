@@ -10,7 +10,7 @@ ghost use Rattle.judging.specs.Requests.{VerdictOf, place_of};
 ghost use Rattle.judging.specs.Inputs.{Where};
 
 use crate::answer::Answer;
-use crate::answering::{Evidence, Finding};
+use crate::answers::{Evidence, Finding};
 use crate::inputs::{Input, limit_of, refusal};
 use agent_inputs::{NotResumed, RunFault};
 use boot_verdict::{Checkpoint, CheckpointFault, Expected, Report, Requirement, ResumeFault};

@@ -25,7 +25,7 @@ use Rattle.agent_inputs.specs.declared.fault.RunFault.{RunFault}
 use Rattle.agent_inputs.specs.declared.fault.RunFault.TheVariants as runs
 use Rattle.agent_inputs.specs.Faults.{HasLogFault, fault_of_agent, fault_of_job}
 use Rattle.agent_inputs.specs.Loading.{Inputs, IsInputFault, IsNotRead, IsNotUtf8, IsTooLong, OfInput, input_limit}
-use Rattle.measuring.specs.declared.recording.Measured.{Measured}
+use Rattle.measuring.specs.declared.file_book.Measured.{Measured}
 
 -- ---- the names in a text
 

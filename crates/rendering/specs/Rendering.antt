@@ -24,7 +24,7 @@ use Rattle.command_line.specs.declared.plan.Print.TheVariants as prints
 use Rattle.ima_list.specs.Lines.{line_of as entry_text}
 use Rattle.json_texts.specs.ItemLines.{entry_lines}
 use Rattle.measure_book.specs.Books.{exported}
-use Rattle.measuring.specs.declared.recording.Measured.{Measured}
+use Rattle.measuring.specs.declared.file_book.Measured.{Measured}
 
 -- The lines of an answer, where these registers are required, and whether all is well.
 abbrev pub lines_of : Bool → Option (List BankRange) → Answer → List ℕ

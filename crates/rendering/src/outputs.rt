@@ -5,10 +5,10 @@ ghost use Rattle.agent_inputs.specs.Loading.{unknown};
 ghost use Rattle.judging.specs.Requests.{requested_of};
 ghost use Rattle.rendering.specs.Outputs.{GivesAnswer, IsOutputFault, IsRefusalOn, ShowsAnswer, state_of};
 
+use crate::checkpoints::save;
 use crate::no_files::NoFiles;
 use crate::output::Output;
-use crate::rendering::render;
-use crate::saving::save;
+use crate::renderer::render;
 use agent_inputs::{AgentFiles, RunFault};
 use boot_verdict::Checkpoint;
 use command_line::Form;

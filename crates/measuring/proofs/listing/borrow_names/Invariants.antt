@@ -1,7 +1,0 @@
-use Rattle.std.proofs.Common.{◌≡◌, length, map, take, string_bytes}
-use Rattle.measuring.specs.parts.{names_borrowed}
-use Rattle.measuring.proofs.listing.borrow_names.Given as goal
-
--- The names so far are borrowed.
-abbrev pub invariant-loop-name : goal.invariant-loop-name
-invariant-loop-name l = (names_borrowed l.borrow_names.items ≡ map string_bytes (take l.name-index l.names)) × (length l.borrow_names.items ≡ l.name-index)
