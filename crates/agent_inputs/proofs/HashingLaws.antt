@@ -10,7 +10,7 @@ use Rattle.pcr_banks.specs.Digests.{digest_of}
 use Rattle.pcr_banks.specs.Hashing.{hash_of}
 use Rattle.pcr_banks.specs.Hashers.{HasTaken}
 use Rattle.byte_streams.specs.Streams.{SourceState}
-use Rattle.agent_inputs.specs.Hashing.{IsHashOfAll}
+use Rattle.agent_inputs.specs.Loading.{IsHashOfAll}
 use Rattle.agent_inputs.proofs.LoadingLemmas.{HasLost, lost_nothing, whole}
 
 -- The hasher took what the source lost, and `room` more bytes are allowed.

@@ -18,8 +18,6 @@ use Rattle.hash_workers.specs.declared.fault.AgentFault.TheVariants as agents
 use Rattle.boot_verdict.specs.declared.expected.ExpectFault.{ExpectFault}
 use Rattle.boot_verdict.specs.declared.expected.ExpectFault.TheVariants as expects
 use Rattle.boot_verdict.specs.ExpectFaults.{expect_fault_line, expect_fault_number}
-use Rattle.boot_verdict.specs.declared.verifier.VerifyFault.{VerifyFault}
-use Rattle.boot_verdict.specs.declared.verifier.VerifyFault.TheVariants as verdicts
 use Rattle.agent_inputs.specs.declared.fault.FaultHead.{FaultHead}
 use Rattle.agent_inputs.specs.declared.fault.FaultKind.{FaultKind}
 use Rattle.agent_inputs.specs.declared.fault.FaultKind.TheVariants as kinds
@@ -27,7 +25,6 @@ use Rattle.agent_inputs.specs.declared.fault.NotResumed.{NotResumed}
 use Rattle.agent_inputs.specs.declared.fault.NotResumed.TheVariants as resumes
 use Rattle.agent_inputs.specs.declared.fault.RunFault.{RunFault}
 use Rattle.agent_inputs.specs.declared.fault.RunFault.TheVariants as runs
-use Rattle.agent_inputs.specs.Loading.{IsNotRead, IsTooLong}
 
 -- The numbers of why there is no going on from a checkpoint.
 abbrev pub not_resumed_number : NotResumed → ℕ
@@ -56,15 +53,6 @@ fault_of_list fault = runs.List fault
 abbrev pub fault_of_expected : ExpectFault → RunFault
 fault_of_expected expects.Memory = runs.Memory
 fault_of_expected fault = runs.Expect fault
-
--- The program's fault for a verifier's fault, where the list is the input of this name; a fault of its source names it.
-abbrev pub IsFaultOfVerdict : List ℕ → VerifyFault → RunFault → Type 0
-IsFaultOfVerdict name (verdicts.Log first) fault = fault ≡ fault_of_log first
-IsFaultOfVerdict name (verdicts.List first) fault = fault ≡ fault_of_list first
-IsFaultOfVerdict name (verdicts.Replay first) fault = fault ≡ runs.Replay first
-IsFaultOfVerdict name verdicts.Source fault = IsNotRead name fault ⊎ (fault ≡ runs.Memory)
-IsFaultOfVerdict name verdicts.TooLong fault = IsTooLong name fault ⊎ (fault ≡ runs.Memory)
-IsFaultOfVerdict name verdicts.Memory fault = fault ≡ runs.Memory
 
 -- The program's fault for a fault of the workers. A wrong number of workers is a fault of the command line.
 abbrev pub fault_of_agent : AgentFault → RunFault

@@ -1,5 +1,5 @@
 -- What loading takes from a source, and why an input is not loaded.
-use Rattle.std.specs.Prelude.{◌≡◌, ℕ, ◌+◌, ◌<◌, ◌⊎◌, Bool, true, List, [], ◌∷◌, ◌++◌, length, codes, Option, None, Some, is_some, ⊤, Result, Err, IfSome, IsErrOf, IsTrue, OnOk, String, string_bytes}
+use Rattle.std.specs.Prelude.{◌≡◌, ℕ, ◌+◌, ◌<◌, ◌⊎◌, Bool, true, List, [], ◌∷◌, ◌++◌, length, codes, Option, None, Some, is_some, ⊤, Result, Err, IfSome, IsErrOf, IsTrue, OnOk, String, string_bytes, ◌≤◌}
 use Rattle.std.specs.Io.KnownBytes.{IsAtEnd}
 use Rattle.std.specs.Global.{Global}
 use Rattle.byte_streams.specs.declared.pieces.ReadFault.{ReadFault}
@@ -9,6 +9,10 @@ use Rattle.agent_inputs.specs.declared.loader.LoadFault.{LoadFault}
 use Rattle.agent_inputs.specs.declared.loader.LoadFault.TheVariants.{TooLong, Source, Memory}
 use Rattle.agent_inputs.specs.declared.fault.RunFault.{RunFault}
 use Rattle.agent_inputs.specs.declared.fault.RunFault.TheVariants as runs
+use Rattle.pcr_banks.specs.declared.alg.Alg.{Alg}
+use Rattle.pcr_banks.specs.declared.digest.Digest.{Digest}
+use Rattle.pcr_banks.specs.Hashing.{hash_of}
+use Rattle.pcr_banks.specs.Digests.{digest_of}
 
 -- The fault of reading one piece.
 abbrev pub fault_of_reading : ReadFault → LoadFault
@@ -122,3 +126,11 @@ IsReadFailure inputs name fault = IsNotRead (input_name name) fault × IsTrue (i
 abbrev pub IsInputFault : Inputs → Option (List ℕ) → RunFault → Type 0
 IsInputFault inputs name fault =
     (IsTooLong (input_name name) fault × HoldsTooMuch inputs name) ⊎ IsReadFailure inputs name fault ⊎ (fault ≡ runs.Memory)
+
+-- The digest is the hash, by this algorithm, of all bytes of a file or a source, at most this limit. If its bytes are told, it is
+-- the hash of those.
+pub record IsHashOfAll (known : Option (List ℕ)) (alg : Alg) (limit : ℕ) (digest : Digest) : Type 0 where
+  pub content : List ℕ
+  pub held : IfSome known (λ all. content ≡ all)
+  pub within : length content ≤ limit
+  pub digest_is : digest ≡ digest_of alg (hash_of alg content)

@@ -1,8 +1,7 @@
 //! Where the program's inputs come from.
 
 ghost use Rattle.std.specs.Prelude.{◌≡◌, ◌<◌, length, List, ℕ, None, Some, Option, option_map, IfOk, IfSome, IsErr, IsErrOf, IsTrue, OnErr, OnOk, ⊤};
-ghost use Rattle.agent_inputs.specs.Hashing.{IsHashOfAll};
-ghost use Rattle.agent_inputs.specs.Loading.{GivesAll, HasFailed, HasReplaced, Inputs, Saved, unknown};
+ghost use Rattle.agent_inputs.specs.Loading.{IsHashOfAll, GivesAll, HasFailed, HasReplaced, Inputs, Saved, unknown};
 
 use crate::loader::LoadFault;
 use byte_streams::{Failed, Source};

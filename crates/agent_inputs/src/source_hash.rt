@@ -1,8 +1,7 @@
 //! The hash of all bytes of a source.
 
 ghost use Rattle.std.specs.Prelude.{◌<◌, length, IfOk, IfSome, IsErrOf};
-ghost use Rattle.agent_inputs.specs.Hashing.{IsHashOfAll};
-ghost use Rattle.agent_inputs.specs.Loading.{Drains};
+ghost use Rattle.agent_inputs.specs.Loading.{IsHashOfAll, Drains};
 
 use crate::loader::LoadFault;
 use byte_streams::Source;

@@ -1,26 +1,169 @@
--- What the arguments of the command line request: how a plan follows from clap's matches. What arguments match is clap's own
--- definition (`subcommand_of`).
-use Rattle.std.specs.Prelude.{◌≡◌, ℕ, ◌⊎◌, ◌||◌, ◌==◌, Bool, IsTrue, true, List, [], ◌∷◌, Option, None, Some, bytes_eq, codes, map, option_map, unwrap_or, String, string_bytes}
-use Rattle.std.specs.List.{list_any, starts_with}
+-- What is to be done, and the plans that request it.
+use Rattle.std.specs.Prelude.{◌≡◌, ◌≤◌, ◌<◌, ◌^◌, not, Bool, false, true, Option, None, is_some, String, vec_len, List, [], ◌∷◌, codes, Some, ℕ, ◌⊎◌, ◌||◌, ◌==◌, IsTrue, bytes_eq, map, option_map, unwrap_or, string_bytes}
 use Rattle.std.specs.Global.{Global}
+use Rattle.command_line.specs.declared.plan.Scope.TheVariants.{Whole, Prefix}
+pub use Rattle.command_line.specs.declared.plan.Form.{Form}
+use Rattle.command_line.specs.declared.plan.Form.TheVariants as forms
+pub use Rattle.command_line.specs.declared.plan.Judged.{Judged}
+use Rattle.command_line.specs.declared.plan.Judged.TheVariants as judged
+pub use Rattle.command_line.specs.declared.plan.Measurement.{Measurement}
+pub use Rattle.command_line.specs.declared.plan.Plan.{Plan}
+use Rattle.command_line.specs.declared.plan.Plan.TheVariants as plans
+pub use Rattle.command_line.specs.declared.plan.Print.{Print}
+use Rattle.command_line.specs.declared.plan.Print.TheVariants.{Binary}
+use Rattle.command_line.specs.declared.plan.Question.TheVariants as questions
+pub use Rattle.command_line.specs.declared.plan.Task.{Task}
+use Rattle.command_line.specs.declared.plan.Task.TheVariants as tasks
+use Rattle.std.specs.List.{fold, list_any, starts_with}
+use Rattle.clap.specs.Words.{App, Rule, Text, new_app, new_rule, with_rule, with_subcommand, Row, all_of, first_of, subcommand_of}
+use Rattle.clap.specs.Lexer.{usize_max}
+use Rattle.clap.specs.declared.builder.ArgAction.TheVariants.{Append, SetTrue, Version as show_version}
+use Rattle.clap.specs.declared.builder.ValueParser.{ValueParser}
 use Rattle.std.specs.Str.Parse.{IsNumeral, digits_value, without_leading_plus}
-use Rattle.clap.specs.Words.{Row, Text, all_of, first_of, subcommand_of}
 use Rattle.clap.specs.Takes.{takes}
 use Rattle.pcr_banks.specs.Hashing.{name_of}
 use Rattle.ima_list.specs.Templates.{template_name}
-use Rattle.command_line.specs.Commands.{Parsers, commands}
-use Rattle.command_line.specs.Tasks.{Form, IsOneOf, IsWithin, Judged, Measurement, Plan, Print, Task, task_of}
 use Rattle.command_line.specs.declared.plan.DataShown.TheVariants.{Size, Bytes}
-use Rattle.command_line.specs.declared.plan.Scope.TheVariants.{Whole, Prefix}
-use Rattle.command_line.specs.declared.plan.Form.TheVariants as forms
-use Rattle.command_line.specs.declared.plan.Judged.TheVariants as judged
 use Rattle.command_line.specs.declared.plan.NameEnd.TheVariants.{LineFeed, Nul}
 use Rattle.command_line.specs.declared.plan.Names.{Names}
-use Rattle.command_line.specs.declared.plan.Plan.TheVariants as plans
 use Rattle.command_line.specs.declared.plan.Print.TheVariants as prints
 use Rattle.command_line.specs.declared.plan.Question.{Question}
-use Rattle.command_line.specs.declared.plan.Question.TheVariants as questions
-use Rattle.command_line.specs.declared.plan.Task.TheVariants as tasks
+
+-- The task that a plan requests, and the form in which its result is shown.
+abbrev pub task_of : Plan → Task × Form
+task_of plans.Registers = (tasks.Registers, forms.Text)
+task_of (plans.Measure alg template workers limit print log files) = (
+  tasks.Measure
+      (record { alg = alg; template = template; workers = workers; limit = limit; print = print; log = log; files = files; names = None }),
+  forms.Text,
+)
+task_of (plans.Verify log list expected) =
+    (tasks.Answer (questions.Judge (record { judged = judged.Verdict log Whole None None; list = list; expected = expected; required = None })), forms.Text)
+task_of (plans.Show list) = (tasks.Entries list, forms.Text)
+task_of (plans.Help text) = (tasks.Help text, forms.Text)
+task_of (plans.Task task form) = (task, form)
+
+-- ---- one plan for each
+
+-- The verdict on a whole list, and nothing more.
+abbrev pub is_plain_verdict : Judged → Option (String Global) → Bool
+is_plain_verdict (judged.Verdict log Whole None None) None = true
+is_plain_verdict judged required = false
+
+-- Some other plan than `Task` requests this, as text.
+abbrev pub has_plan : Task → Bool
+has_plan tasks.Registers = true
+has_plan (tasks.Answer (questions.Judge judge)) = is_plain_verdict judge.judged judge.required
+has_plan (tasks.Measure request) = not (is_some request.names)
+has_plan (tasks.Entries list) = true
+has_plan (tasks.Help text) = true
+has_plan task = false
+
+-- A plan `Task` is only for what no other plan requests.
+abbrev pub IsOneOf : Plan → Type 0
+IsOneOf (plans.Task task forms.Text) = has_plan task ≡ false
+IsOneOf plan = Unit {0}
+
+-- ---- ranges
+
+-- What is printed of a measurement can be shown in this form: there is no JSON of the binary list.
+abbrev pub HasForm : Form → Print → Type 0
+HasForm forms.Json Binary = ⊥
+HasForm form print = Unit {0}
+
+-- A measurement has 1 to 8 workers, a limit of at least one record, and fewer than 2^32 files named by arguments.
+abbrev pub IsWithinLimits : Form → Measurement → Type 0
+IsWithinLimits form request =
+    (1 ≤ request.workers) × (request.workers ≤ 8) × (1 ≤ request.limit) × (vec_len request.files < 2 ^ 32) × HasForm form request.print
+
+abbrev pub IsWithin : Form → Task → Type 0
+IsWithin form (tasks.Measure request) = IsWithinLimits form request
+IsWithin form task = Unit {0}
+
+-- ---- the commands, as clap takes them
+
+-- clap's parsers of the values of options. They are left open: a plan says what the values are.
+pub record Parsers : Type 0 where
+  pub algs : ValueParser
+  pub templates : ValueParser
+  pub workers : ValueParser
+  pub limit : ValueParser
+  pub prints : ValueParser
+
+-- A required argument. (The rule of one that may be left out is `new_rule`.)
+abbrev pub required : Text → Rule
+required id = record (new_rule id) { required = true }
+
+-- An option without a default value.
+abbrev pub without_default : Text → Rule
+without_default id = record (new_rule id) { long = Some id; value_names = 1 }
+
+-- An option with this default value.
+abbrev pub optional : Text → Text → ValueParser → Rule
+optional id default parser = record (without_default id) { defaults = default ∷ []; parser = Some parser }
+
+-- A flag.
+abbrev pub flag : Text → Rule
+flag id = record (new_rule id) { long = Some id; action = Some SetTrue }
+
+-- An option or a flag that requires another argument. Which one that is, a plan says (`HasValues`).
+abbrev pub beside : Rule → Rule
+beside rule = record rule { is_free = false }
+
+-- An argument with any number of values.
+abbrev pub repeated : Text → Rule
+repeated id = record (new_rule id) {
+  action = Some Append;
+  range = Some (record { start_inclusive = 0; end_inclusive = usize_max });
+}
+
+-- The commands: their names and arguments.
+abbrev pub table : Parsers → List (Text × List Rule)
+table parsers = (
+  codes "measure",
+  optional (codes "alg") (codes "sha256") parsers.algs
+      ∷ optional (codes "template") (codes "ima-ng") parsers.templates
+      ∷ optional (codes "workers") (codes "2") parsers.workers
+      ∷ optional (codes "limit") (codes "100000") parsers.limit
+      ∷ optional (codes "print") (codes "ascii") parsers.prints
+      ∷ without_default (codes "files-from")
+      ∷ beside (flag (codes "null"))
+      ∷ flag (codes "json")
+      ∷ required (codes "LOG")
+      ∷ repeated (codes "FILE")
+      ∷ [],
+)
+    ∷ (
+      codes "verify",
+      without_default (codes "require")
+          ∷ flag (codes "prefix")
+          ∷ without_default (codes "save")
+          ∷ without_default (codes "resume")
+          ∷ flag (codes "json")
+          ∷ required (codes "LOG")
+          ∷ required (codes "LIST")
+          ∷ required (codes "EXPECTED")
+          ∷ [],
+    )
+    ∷ (codes "locate", without_default (codes "require") ∷ flag (codes "json") ∷ required (codes "LOG") ∷ required (codes "LIST") ∷ required (codes "EXPECTED") ∷ [])
+    ∷ (codes "expected", without_default (codes "registers") ∷ flag (codes "json") ∷ required (codes "PCRREAD") ∷ [])
+    ∷ (codes "registers", flag (codes "json") ∷ required (codes "LOG") ∷ [])
+    ∷ (codes "events", flag (codes "data") ∷ flag (codes "json") ∷ required (codes "LOG") ∷ [])
+    ∷ (codes "show", flag (codes "json") ∷ required (codes "LIST") ∷ [])
+    ∷ (codes "replay", beside (without_default (codes "require")) ∷ flag (codes "json") ∷ required (codes "LIST") ∷ new_rule (codes "EXPECTED") ∷ [])
+    ∷ []
+
+-- The program, whose first argument is a command's name or the flag that asks for the version.
+abbrev pub program_app : App
+program_app = with_rule
+    (record { top = record (new_app (codes "ima-agent")).top { no_binary_name = true; disable_help_subcommand = true; subcommand_required = true }; subs = [] })
+    (record (new_rule (codes "version")) { long = Some (codes "version"); action = Some show_version })
+
+-- The program with all commands.
+abbrev pub commands : Parsers → App
+commands parsers = fold (λ app row. with_subcommand app (fold with_rule (new_app row.0) row.1).top) program_app (table parsers)
+
+-- ---- how a plan follows from the arguments
 
 -- ---- the values of arguments
 

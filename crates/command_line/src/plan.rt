@@ -1,7 +1,7 @@
 //! What the program's arguments request.
 
 ghost use Rattle.std.specs.Prelude.{◌≡◌};
-ghost use Rattle.command_line.specs.Tasks.{IsOneOf, task_of};
+ghost use Rattle.command_line.specs.Plans.{IsOneOf, task_of};
 ghost use Rattle.command_line.specs.declared.plan.Form.TheVariants.{Text};
 ghost use Rattle.command_line.specs.declared.plan.Question.TheVariants as questions;
 ghost use Rattle.command_line.specs.declared.plan.Task.TheVariants as tasks;

@@ -2,8 +2,7 @@
 
 ghost use Rattle.std.specs.Prelude.{◌≡◌, ◌<◌, ◌≤◌, ◌^◌, [], Some, codes, map, string_bytes, unwrap_or, vec_len, IfOk};
 ghost use Rattle.clap.specs.Words.{all_of, first_of, found_of, rows_of};
-ghost use Rattle.command_line.specs.Plans.{AreFurtherNames, HasMeasure, HasNumber, IsFlag, IsGivenAs, print_name};
-ghost use Rattle.command_line.specs.Tasks.{HasForm, IsWithinLimits};
+ghost use Rattle.command_line.specs.Plans.{AreFurtherNames, HasMeasure, HasNumber, IsFlag, IsGivenAs, print_name, HasForm, IsWithinLimits};
 
 use crate::command_table::{MOST_RECORDS, MOST_WORKERS};
 use crate::fault::ArgumentsFault;

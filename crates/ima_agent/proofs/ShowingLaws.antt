@@ -15,7 +15,7 @@ use Rattle.agent_inputs.specs.declared.fault.RunFault.TheVariants.{Memory, NotHe
 use Rattle.agent_inputs.specs.Loading.{unknown}
 use Rattle.judging.specs.Requests.{LogRegistersOf}
 use Rattle.judging.specs.Inputs.{BytesOf}
-use Rattle.rendering.specs.Outputs.{IsRefusalOn}
+use Rattle.rendering.specs.Rendering.{IsRefusalOn}
 use Rattle.ima_agent.specs.Showing.{AreAllEntries, IsNoListFor, IsRefusedFor, without_white_space}
 
 -- The text has the lines of the entries so far, and `rest` is left of the list.

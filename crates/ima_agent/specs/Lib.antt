@@ -1,9 +1,8 @@
-pub mod FaultTexts
 pub mod Escaping
 pub mod Showing
-pub mod JsonFaults
+pub mod FaultTexts
 pub mod Program
 pub use Rattle.agent_inputs.specs.Loading
-pub use Rattle.agent_inputs.specs.Hashing
+pub use Rattle.agent_inputs.specs.Loading
 pub use Rattle.agent_inputs.specs.Faults
 pub use Rattle.agent_inputs.specs.System

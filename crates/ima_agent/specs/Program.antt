@@ -20,19 +20,16 @@ use Rattle.command_line.specs.declared.plan.Question.{Question}
 use Rattle.command_line.specs.declared.plan.Question.TheVariants as questions
 use Rattle.command_line.specs.declared.plan.Task.{Task}
 use Rattle.command_line.specs.declared.plan.Task.TheVariants as tasks
-use Rattle.command_line.specs.Plans.{IsRequestedBy, IsWithinRanges}
-use Rattle.command_line.specs.Tasks.{task_of}
+use Rattle.command_line.specs.Plans.{IsRequestedBy, IsWithinRanges, task_of}
 use Rattle.judging.specs.Requests.{Any, Requested, Compared, Compares, ExpectedOf, Judgement, ListRegistersOf, ListVerdictOf, LogRegistersOf, Nothing, PositionsOf, Requires, These, VerdictOf}
 use Rattle.judging.specs.Inputs.{FileOf, Where}
 use Rattle.measuring.specs.declared.file_book.Measured.{Measured}
 use Rattle.measuring.specs.Measuring.{IsMeasured, IsMeasuringFault}
 use Rattle.rendering.specs.declared.output.Output.{Output}
-use Rattle.rendering.specs.Outputs.{IsOutputFault, ShowsAnswer}
-use Rattle.rendering.specs.Rendering.{printed}
+use Rattle.rendering.specs.Rendering.{IsOutputFault, ShowsAnswer, printed}
 use Rattle.ima_agent.specs.declared.streams.StreamFault.{StreamFault}
 use Rattle.ima_agent.specs.declared.streams.StreamFault.TheVariants as streams
-use Rattle.ima_agent.specs.FaultTexts.{fault_line, fault_status}
-use Rattle.ima_agent.specs.JsonFaults.{IsFailure, IsReportedAsJson}
+use Rattle.ima_agent.specs.FaultTexts.{fault_line, fault_status, IsFailure, IsReportedAsJson}
 use Rattle.ima_agent.specs.Showing.{AreAllEntries, AreAllEvents, BreaksOffAfterEntries, EndsWithFault, IsNoListFor, IsNoLogFor, IsRefusedFor, RunsOutAfterEvents, ShowsEntries, ShowsHexadecimal, ShowsJsonEvents, data_of, version_text}
 
 -- ---- a question

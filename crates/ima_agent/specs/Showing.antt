@@ -11,10 +11,9 @@ use Rattle.boot_verdict.specs.declared.checkpoint.Checkpoint.{Checkpoint}
 use Rattle.boot_verdict.specs.declared.texts.events.EventData.{EventData}
 use Rattle.boot_verdict.specs.declared.texts.events.EventData.TheVariants as texts
 use Rattle.boot_verdict.specs.EventTexts.{events_text}
-pub use Rattle.json_texts.specs.ItemLines.{entry_lines, event_lines, numbered_lines}
+pub use Rattle.json_texts.specs.ItemLines.{entry_lines, event_lines, numbered_lines, AreAllEntries, AreAllEvents, EndsWithFault, FailsAfterEntries, FailsAfterEvents, ShowsToFault}
 use Rattle.json_texts.specs.SentEntries.{AreAllIn}
 pub use Rattle.json_texts.specs.SentEvents.{log_lines}
-pub use Rattle.json_texts.specs.ShownItems.{AreAllEntries, AreAllEvents, EndsWithFault, FailsAfterEntries, FailsAfterEvents, ShowsToFault}
 use Rattle.command_line.specs.declared.plan.DataShown.{DataShown}
 use Rattle.command_line.specs.declared.plan.DataShown.TheVariants as arguments
 use Rattle.command_line.specs.declared.plan.Form.{Form}
@@ -25,8 +24,8 @@ use Rattle.agent_inputs.specs.Faults.{HasLogFault, fault_of_list, fault_of_log}
 use Rattle.agent_inputs.specs.Loading.{Holds, HoldsTooMuch, Inputs, IsReadFailure, IsTooLong, OfInput, input_limit, unknown}
 use Rattle.judging.specs.Requests.{LogRegistersOf}
 use Rattle.judging.specs.Inputs.{BytesOf}
-use Rattle.rendering.specs.Outputs.{IsRefusalOn, IsShown}
-use Rattle.ima_agent.specs.JsonFaults.{IsFailure, IsReportedAsJson}
+use Rattle.rendering.specs.Rendering.{IsRefusalOn, IsShown}
+use Rattle.ima_agent.specs.FaultTexts.{IsFailure, IsReportedAsJson}
 
 -- The program and its version; and the logic that the proofs rest on, as the kit's `rt version` names it.
 abbrev pub version_text : List ℕ

@@ -2,10 +2,9 @@
 
 ghost use Rattle.std.specs.Prelude.{◌≡◌, IfOk, IfErr, OnErr};
 ghost use Rattle.std.specs.Process.{exit_status};
-ghost use Rattle.command_line.specs.Tasks.{IsWithin, IsWithinLimits};
+ghost use Rattle.command_line.specs.Plans.{IsWithin, IsWithinLimits};
 ghost use Rattle.command_line.specs.declared.plan.Task.TheVariants as tasks;
-ghost use Rattle.ima_agent.specs.FaultTexts.{fault_status};
-ghost use Rattle.ima_agent.specs.JsonFaults.{IsFailure};
+ghost use Rattle.ima_agent.specs.FaultTexts.{fault_status, IsFailure};
 ghost use Rattle.ima_agent.specs.Program.{Answers, IsFaultOf, IsOutcome, IsOutput, IsOutputFor, IsOutputOf, Streams, status_after};
 
 use crate::arguments::read_words;

@@ -6,7 +6,7 @@ use Rattle.agent_inputs.specs.declared.fault.RunFault.TheVariants.{Memory}
 use Rattle.agent_inputs.specs.Loading.{unknown}
 use Rattle.command_line.specs.declared.plan.Form.{Form}
 use Rattle.judging.specs.Requests.{Requested}
-use Rattle.rendering.specs.Outputs.{IsRefusalOn}
+use Rattle.rendering.specs.Rendering.{IsRefusalOn}
 use Rattle.ima_verify_c.specs.declared.told.Told.{Told}
 use Rattle.ima_verify_c.specs.Answers.{Answers, AnswersMore, HasNoAnswerOn, IsAnswerAndNext, IsAnswerTo, IsRefusal}
 

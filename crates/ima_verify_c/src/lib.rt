@@ -15,8 +15,7 @@ mod told;
 ghost use Rattle.std.specs.Prelude.{◌≡◌};
 ghost use Rattle.judging.specs.Requests.{ExpectedOf};
 ghost use Rattle.judging.specs.Inputs.{BytesOf};
-ghost use Rattle.ima_verify_c.specs.Answers.{Answers, AnswersMore, GivesEntries, GivesEvents, IsAnswerAndNext, IsAnswerTo};
-ghost use Rattle.ima_verify_c.specs.Requested.{requested_of_list, requested_of_more, requested_of_positions, requested_of_registers, requested_of_verdict, form_of, given_bytes, interface_version};
+ghost use Rattle.ima_verify_c.specs.Answers.{Answers, AnswersMore, GivesEntries, GivesEvents, IsAnswerAndNext, IsAnswerTo, requested_of_list, requested_of_more, requested_of_positions, requested_of_registers, requested_of_verdict, form_of, given_bytes, interface_version};
 
 use crate::replies::{give, give_both, give_lines};
 use crate::requests::{form_of, given_bytes, registers_on, requested_by, verdict_of};

@@ -2,7 +2,7 @@
 
 ghost use Rattle.std.specs.Prelude.{◌≡◌, option_map};
 ghost use Rattle.judging.specs.Requests.{requested_of, judgement_of, requires_of};
-ghost use Rattle.ima_verify_c.specs.Requested.{requested_by, requested_of_registers, form_of, given_bytes, required_by, verdict_of};
+ghost use Rattle.ima_verify_c.specs.Answers.{requested_by, requested_of_registers, form_of, given_bytes, required_by, verdict_of};
 
 use ima_agent::{Form, Scope};
 use judging::{Comparison, Input, Request, Required, Wanted};

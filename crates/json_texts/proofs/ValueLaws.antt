@@ -34,10 +34,8 @@ use Rattle.json_texts.specs.declared.faults.FaultPlace.TheVariants.{Event, Entry
 use Rattle.json_texts.specs.JsonValues.{IsCount, Member, hex_json, items_of, number_json, optional}
 use Rattle.json_texts.specs.EventJson.{algorithm_json}
 use Rattle.json_texts.specs.FaultJson.{fault_members, number_at, place_members}
-use Rattle.json_texts.specs.PositionJson as position
-use Rattle.json_texts.specs.PositionJson.{IsCountedPosition}
-use Rattle.json_texts.specs.RegisterJson.{change_values, missing_among, register_json, row_json, rows_values, value_if_missing, value_within}
-use Rattle.json_texts.specs.ReportJson.{report_rows, state_members, unconfirmed_members}
+use Rattle.json_texts.specs.ReportJson as position
+use Rattle.json_texts.specs.ReportJson.{IsCountedPosition, change_values, missing_among, register_json, row_json, rows_values, value_if_missing, value_within, report_rows, state_members, unconfirmed_members}
 use Rattle.json_texts.proofs.LineLaws.{ArePlain, IsPlain, ItemsArePlain, members_joined}
 
 -- ---- lists of values

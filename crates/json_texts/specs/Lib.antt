@@ -1,12 +1,9 @@
 pub mod JsonValues
 pub mod EntryJson
 pub mod FaultJson
-pub mod RegisterJson
 pub mod ReportJson
-pub mod PositionJson
 pub mod EventJson
 pub mod ItemLines
-pub mod ShownItems
 pub mod SentEntries
 pub mod SentEvents
 pub mod parts

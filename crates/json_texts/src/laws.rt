@@ -24,9 +24,7 @@ ghost use Rattle.json_texts.specs.JsonValues.{IsCount, IsOneLine, line_of, objec
 ghost use Rattle.json_texts.specs.EntryJson.{HasBytes, IsKnown, entry_json, is_genuine};
 ghost use Rattle.json_texts.specs.EventJson.{algorithms_json, event_json};
 ghost use Rattle.json_texts.specs.FaultJson.{fault_json, fault_members, number_at};
-ghost use Rattle.json_texts.specs.PositionJson.{IsCountedPosition, positions_json};
-ghost use Rattle.json_texts.specs.RegisterJson.{expected_json, registers_json};
-ghost use Rattle.json_texts.specs.ReportJson.{prefix_report_json, list_report_json, report_json};
+ghost use Rattle.json_texts.specs.ReportJson.{IsCountedPosition, positions_json, expected_json, registers_json, prefix_report_json, list_report_json, report_json};
 
 use ima_list::EntryRef;
 

@@ -3,7 +3,7 @@
 ghost use Rattle.std.specs.Prelude.{◌≡◌, [], ◌∷◌, codes, option_copied};
 ghost use Rattle.json.specs.Json.{string};
 ghost use Rattle.json_texts.specs.JsonValues.{AppendsLine, number_json};
-ghost use Rattle.json_texts.specs.PositionJson.{finds, position_members, positions_json};
+ghost use Rattle.json_texts.specs.ReportJson.{finds, position_members, positions_json};
 ghost use Rattle.json_texts.specs.parts.WrittenParts.{WritesMembers, WritesValue};
 
 use crate::lines::{Written, begin_line, end_line};

@@ -4,7 +4,7 @@ ghost use Rattle.std.specs.Prelude.{◌≡◌, ℕ, List, Option, option_map};
 ghost use Rattle.pcr_banks.specs.declared.alg.Alg.{Alg};
 ghost use Rattle.pcr_banks.specs.Digests.{bytes_of, digest_of};
 ghost use Rattle.json_texts.specs.JsonValues.{AppendsLine};
-ghost use Rattle.json_texts.specs.RegisterJson.{change_values, expected_json, register_json, register_members, registers_json, value_within};
+ghost use Rattle.json_texts.specs.ReportJson.{change_values, expected_json, register_json, register_members, registers_json, value_within};
 ghost use Rattle.json_texts.specs.parts.WrittenParts.{WritesItems, WritesMembers, WritesValue};
 
 use crate::lines::{Written, begin_line, end_line};

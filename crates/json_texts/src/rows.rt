@@ -2,7 +2,7 @@
 
 ghost use Rattle.std.specs.Prelude.{List, [], ◌∷◌, codes, map, option_copied};
 ghost use Rattle.json_texts.specs.JsonValues.{Member, array_of};
-ghost use Rattle.json_texts.specs.RegisterJson.{missing_among, row_json, rows_values, value_if_missing};
+ghost use Rattle.json_texts.specs.ReportJson.{missing_among, row_json, rows_values, value_if_missing};
 ghost use Rattle.json_texts.specs.parts.WrittenParts.{WritesItems, WritesMembers};
 
 use crate::lines::Written;

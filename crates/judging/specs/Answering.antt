@@ -1,42 +1,241 @@
--- The answer to what is asked for, what it is worth, and why there is none.
-use Rattle.std.specs.Prelude.{◌≡◌, ℕ, ◌&&◌, ◌<◌, ◌⊎◌, ◌==◌, nat_lt, not, if◌then◌else◌, Bool, true, List, length, [], Option, Some, None, Ok, IsSomeAnd, MatchOption}
-use Rattle.pcr_banks.specs.declared.banks.Banks.{Banks}
-use Rattle.pcr_banks.specs.Registers.{IsReset, register_count}
-use Rattle.boot_log.specs.declared.header.Row.{Row}
-use Rattle.boot_log.specs.Replaying.{IsFirmware, startup_locality}
-use Rattle.boot_log.specs.Spelling.{LogEvent, IsLog, algs_in}
+-- What is found in a list, also in one that goes on after another, and why nothing is.
+use Rattle.std.specs.Prelude.{◌≡◌, ℕ, ◌<◌, ◌≤◌, ◌⊎◌, ◌==◌, not, Bool, true, false, List, [], ◌++◌, length, Option, Some, None, Result, Ok, Err, IfSome, IsSomeAnd, MatchResult, ◌&&◌, nat_lt, if◌then◌else◌, MatchOption}
+use Rattle.std.specs.Option.{option_map_or}
+use Rattle.byte_streams.specs.Streams.{SourceState}
+use Rattle.boot_log.specs.declared.header.Row.{Row as TableRow, Row}
+use Rattle.boot_log.specs.Spelling.{IsLog, LogEvent, algs_in}
 use Rattle.ima_list.specs.ListEntry.{ListEntry}
-use Rattle.ima_list.specs.Replaying.{AreGenuine, IsReplayed}
-use Rattle.ima_list.specs.Spelling.{IsReading}
+use Rattle.ima_list.specs.ListFaults.{list_fault_entry}
+use Rattle.ima_list.specs.Replaying.{AreGenuine, IsReplayFault, IsReplayed}
+use Rattle.ima_list.specs.Spelling.{BeginsWith, IsReading, list_spelling}
 use Rattle.boot_verdict.specs.declared.checkpoint.Checkpoint.{Checkpoint}
 use Rattle.boot_verdict.specs.declared.expected.Expected.{Expected}
-use Rattle.boot_verdict.specs.declared.expected.ExpectFault.{ExpectFault}
-use Rattle.boot_verdict.specs.declared.expected.ExpectFault.TheVariants.{NoRegister}
-use Rattle.boot_verdict.specs.declared.register_range.RegisterRange.{RegisterRange}
 use Rattle.boot_verdict.specs.declared.requirement.BankRange.{BankRange}
-use Rattle.boot_verdict.specs.ExpectedTexts.{HasFirstFault, IsExpectedText}
-use Rattle.boot_verdict.specs.ListVerdicts.{list_matches, list_verdict_of, required_list_matches}
-use Rattle.boot_verdict.specs.Positions.{all_found}
-use Rattle.boot_verdict.specs.PrintedTexts.{HasPrintedFault, IsPrintedText}
-use Rattle.boot_verdict.specs.RegisterRanges.{IsRangeText, is_within}
-use Rattle.boot_verdict.specs.Replays.{IsListStart}
-use Rattle.boot_verdict.specs.Requirements.{IsRequirementText, required_found, required_matches}
-use Rattle.boot_verdict.specs.Verdicts.{Verdict, matches, verdict_of}
-use Rattle.boot_verdict.specs.WrittenTexts.{those_within}
+use Rattle.boot_verdict.specs.declared.verifier.VerifyFault.{VerifyFault}
+use Rattle.boot_verdict.specs.declared.verifier.VerifyFault.TheVariants as verdicts
+use Rattle.boot_verdict.specs.Checkpoints.{IsCheckpoint, most_after}
+use Rattle.boot_verdict.specs.ListSources.{IsSound}
+use Rattle.boot_verdict.specs.ListVerdicts.{IsListVerdict, list_verdict_of, list_matches, required_list_matches}
+use Rattle.boot_verdict.specs.Positions.{AreLocated, all_found}
+use Rattle.boot_verdict.specs.Requirements.{is_complete, IsRequirementText, required_found, required_matches}
+use Rattle.boot_verdict.specs.Verdicts.{IsForged, IsSomeLog, IsVerdict, verdict_of, verdict_on, Verdict, matches}
+use Rattle.boot_verdict.specs.declared.prefix_report.PrefixReport.{PrefixReport}
+use Rattle.boot_verdict.specs.declared.prefix_report.Unconfirmed.{Unconfirmed}
+use Rattle.boot_verdict.specs.declared.prefix_report.Unconfirmed.TheVariants as unconfirmed
+use Rattle.growing_lists.specs.declared.session.Session.{Session}
 use Rattle.growing_lists.specs.CheckpointData.{IsPossible}
-use Rattle.growing_lists.specs.CheckpointTexts.{IsOfOtherVersion, checkpoint_text}
-use Rattle.agent_inputs.specs.declared.fault.NotResumed.TheVariants.{Damaged, Version}
+use Rattle.growing_lists.specs.Prefixes.{AreUnconfirmed, IsConfirmed}
+use Rattle.growing_lists.specs.Sessions.{HasTaken, IsOfBoot}
+use Rattle.command_line.specs.declared.plan.Scope.{Scope}
+use Rattle.command_line.specs.declared.plan.Scope.TheVariants.{Whole, Prefix}
+use Rattle.agent_inputs.specs.declared.fault.NotResumed.TheVariants.{OtherBoot, Damaged, Version}
 use Rattle.agent_inputs.specs.declared.fault.RunFault.{RunFault}
 use Rattle.agent_inputs.specs.declared.fault.RunFault.TheVariants as runs
 use Rattle.agent_inputs.specs.Faults.{HasLogFault, fault_of_expected}
-use Rattle.agent_inputs.specs.Loading.{Inputs}
+use Rattle.agent_inputs.specs.Loading.{GivesAll, HasFailed, Inputs}
 use Rattle.judging.specs.declared.answer.Answer.{Answer}
 use Rattle.judging.specs.declared.answer.Answer.TheVariants as answers
+use Rattle.judging.specs.Requests.{Judgement, ListVerdictOf, PositionsOf, VerdictOf, Requested, Compared, Compares, ExpectedOf, ListRegistersOf, LogRegistersOf, Nothing, Requires, These, held_bytes, log_of, resume_of}
+use Rattle.judging.specs.Inputs.{IsFaultAt, IsReadFailure, MayFail, OfInput, Where, held_in, limit_of, Holds, IsInputFault}
+use Rattle.pcr_banks.specs.declared.banks.Banks.{Banks}
+use Rattle.pcr_banks.specs.Registers.{IsReset, register_count}
+use Rattle.boot_log.specs.Replaying.{IsFirmware, startup_locality}
+use Rattle.boot_verdict.specs.declared.expected.ExpectFault.{ExpectFault}
+use Rattle.boot_verdict.specs.declared.expected.ExpectFault.TheVariants.{NoRegister}
+use Rattle.boot_verdict.specs.declared.register_range.RegisterRange.{RegisterRange}
+use Rattle.boot_verdict.specs.ExpectedTexts.{HasFirstFault, IsExpectedText}
+use Rattle.boot_verdict.specs.PrintedTexts.{HasPrintedFault, IsPrintedText}
+use Rattle.boot_verdict.specs.RegisterRanges.{IsRangeText, is_within}
+use Rattle.boot_verdict.specs.Replays.{IsListStart}
+use Rattle.boot_verdict.specs.WrittenTexts.{those_within}
+use Rattle.growing_lists.specs.CheckpointTexts.{IsOfOtherVersion, checkpoint_text}
 use Rattle.judging.specs.declared.answer.Answered.{Answered}
 use Rattle.judging.specs.declared.answers.Evidence.{Evidence as HeldEvidence}
-use Rattle.judging.specs.Requests.{Requested, Compared, Compares, ExpectedOf, ListRegistersOf, LogRegistersOf, Nothing, Requires, These, held_bytes, log_of, resume_of}
-use Rattle.judging.specs.Growing.{Evidence, IsJudged, IsNotFound, IsRefusedList}
-use Rattle.judging.specs.Inputs.{Holds, IsInputFault, IsReadFailure, OfInput, Where}
+
+-- What a list is judged with: the registers that are required, if a text spells some; the log, no bytes without one; the expected
+-- registers; and the checkpoint that is gone on from, if there is one.
+pub record Evidence : Type 0 where
+  pub required : Option (List BankRange)
+  pub log : List ℕ
+  pub expected : List Expected
+  pub known : Option Checkpoint
+
+-- A prefix is asked for, and one can be confirmed: some register is expected, and all that is required.
+abbrev pub seeks_prefix : Scope → Option (List BankRange) → List Expected → Bool
+seeks_prefix Whole required expected = false
+seeks_prefix Prefix None expected = not (length expected == 0)
+seeks_prefix Prefix (Some ranges) expected = is_complete ranges expected
+
+-- ---- what is gone on from
+
+-- The list that was taken before: none; or any that has this checkpoint.
+abbrev pub IsTaken : Option Checkpoint → List ℕ → Type 0
+IsTaken None list = list ≡ []
+IsTaken (Some known) list = IsCheckpoint list known
+
+-- How many entries it has.
+abbrev pub entries_taken : Option Checkpoint → ℕ
+entries_taken known = option_map_or (λ known. known.entries) known 0
+
+-- How many bytes of the input may follow it.
+abbrev pub most_more : Option Checkpoint → Where → ℕ
+most_more known place = option_map_or (λ known. most_after known (limit_of place)) known (limit_of place)
+
+-- This holds of the list that was taken before and of what the input adds to it, whatever that list was.
+abbrev pub OfMore : Inputs → Where → Option Checkpoint → (List ℕ → List ℕ → Type 0) → Type 0
+OfMore inputs place known P = (taken : List ℕ) → IsTaken known taken → OfInput inputs place (P taken)
+
+-- This holds of the list that both make.
+abbrev pub OfList : Inputs → Where → Option Checkpoint → (List ℕ → Type 0) → Type 0
+OfList inputs place known P = OfMore inputs place known (λ taken more. P (taken ++ more))
+
+-- ---- what is judged
+
+-- This is the checkpoint of the list, in the boot of this log, and its text can be gone on from.
+pub record IsNext (log list : List ℕ) (next : Checkpoint) : Type 0 where
+  pub checkpoint : IsCheckpoint list next
+  pub boot : IsOfBoot log next
+  pub possible : IsPossible next
+
+-- No prefix of these entries is confirmed, with as many of them as were taken before, or more.
+abbrev pub AreUnconfirmedAfter : Evidence → List ListEntry → Type 0
+AreUnconfirmedAfter evidence entries =
+    (table : List TableRow) (events : List LogEvent) → IsLog evidence.log table events
+    → AreUnconfirmed (algs_in table) events evidence.expected (entries_taken evidence.known) entries
+
+-- No prefix of the list is confirmed.
+abbrev pub HasNoPrefix : Evidence → List ℕ → Type 0
+HasNoPrefix evidence list = (entries : List ListEntry) × IsReading list (Ok entries) × AreUnconfirmedAfter evidence entries
+
+-- The list has so many entries, and this is wrong with it, if anything: the fault of its bytes, which has so many entries before it; or
+-- else that of its entries.
+abbrev pub IsWrongIn : List ℕ → ℕ → Option Unconfirmed → Type 0
+IsWrongIn list count None = (entries : List ListEntry) × IsReading list (Ok entries) × AreGenuine entries × (count ≡ length entries)
+IsWrongIn list count (Some (unconfirmed.Replay fault)) =
+    (entries : List ListEntry) × IsReading list (Ok entries) × IsReplayFault entries fault × (count ≡ length entries)
+IsWrongIn list count (Some (unconfirmed.List fault)) = IsReading list (Err fault) × (list_fault_entry fault ≡ Some count)
+
+-- The report is on the confirmed prefix of the list, no shorter than what was taken before; and this is the checkpoint of the prefix.
+pub record IsPrefixOf (evidence : Evidence) (list : List ℕ) (report : PrefixReport) (next : Checkpoint) : Type 0 where
+  pub table : List TableRow
+  pub events : List LogEvent
+  pub prefix : List ListEntry
+  pub rest : List ℕ
+  pub log_is : IsLog evidence.log table events
+  pub begins : BeginsWith list prefix rest
+  pub confirmed : IsConfirmed (algs_in table) events evidence.expected (entries_taken evidence.known) prefix
+  pub verdict_is : verdict_of report.report ≡ verdict_on (algs_in table) events prefix evidence.expected
+  pub next_is : IsNext evidence.log (list_spelling prefix) next
+
+-- The list is refused only if no prefix is confirmed: of the entries before the one that the fault names, or of all.
+abbrev pub IsUnconfirmedIn : Inputs → Where → Evidence → VerifyFault → Type 0
+IsUnconfirmedIn inputs place evidence (verdicts.List first) = OfList inputs place evidence.known (λ list.
+    (entries : List ListEntry) × (rest : List ℕ) × (list_fault_entry first ≡ Some (length entries)) × BeginsWith list entries rest
+    × AreUnconfirmedAfter evidence entries)
+IsUnconfirmedIn inputs place evidence (verdicts.Replay first) = OfList inputs place evidence.known (HasNoPrefix evidence)
+IsUnconfirmedIn inputs place evidence first = Unit {0}
+
+-- The answer is on this evidence and the list of this input; and this is where to go on. A verdict is on a log that leaves the registers
+-- before what is gone on from, and on the whole list, of which no prefix is confirmed, if one is sought; or on its confirmed prefix.
+abbrev pub IsJudged : Inputs → Judgement → Where → Evidence → Answer → Option Checkpoint → Type 0
+IsJudged inputs (VerdictOf place scope resume) list evidence (answers.Report report) (Some next) =
+    IfSome evidence.known (IsOfBoot evidence.log)
+    × OfMore inputs list evidence.known (λ taken more. (length more ≤ most_more evidence.known list)
+    × IsVerdict evidence.log (taken ++ more) evidence.expected (verdict_of report) × IsNext evidence.log (taken ++ more) next)
+    × (seeks_prefix scope evidence.required evidence.expected ≡ true → OfList inputs list evidence.known (HasNoPrefix evidence))
+IsJudged inputs (VerdictOf place scope resume) list evidence (answers.Prefix report) (Some next) =
+    IfSome evidence.known (IsOfBoot evidence.log)
+    × (seeks_prefix scope evidence.required evidence.expected ≡ true)
+    × OfList inputs list evidence.known (λ all. IsPrefixOf evidence all report next)
+    × OfList inputs list evidence.known (λ all. IsWrongIn all report.entries report.unconfirmed)
+IsJudged inputs (PositionsOf place) list evidence (answers.Positions located) None =
+    OfInput inputs list (λ all. AreLocated evidence.log all evidence.expected located.items)
+IsJudged inputs ListVerdictOf list evidence (answers.ListReport report) None =
+    OfInput inputs list (λ all. IsListVerdict all evidence.expected (list_verdict_of report))
+IsJudged inputs judgement list evidence answer next = ⊥
+
+-- ---- why there is no answer
+
+-- The log is refused; or it is valid, and leaves other registers than those before the checkpoint.
+abbrev pub IsLogRefused : List ℕ → Option Checkpoint → RunFault → Type 0
+IsLogRefused log known fault =
+    HasLogFault log fault ⊎ ((fault ≡ runs.Checkpoint OtherBoot) × IsSomeAnd known (λ known. IsSomeLog log × (IsOfBoot log known → ⊥)))
+
+-- Why the input is not taken as what goes on after this list, of which no more than `most` bytes may follow.
+abbrev pub IsRefusedAfter : Inputs → Where → ℕ → List ℕ → VerifyFault → Type 0
+IsRefusedAfter inputs place most taken (verdicts.Log first) = ⊥
+IsRefusedAfter inputs place most taken (verdicts.List first) = OfInput inputs place (λ more. IsReading (taken ++ more) (Err first))
+IsRefusedAfter inputs place most taken (verdicts.Replay first) = OfInput inputs place (λ more. IsForged (taken ++ more) first)
+IsRefusedAfter inputs place most taken verdicts.Source = MayFail inputs place
+IsRefusedAfter inputs place most taken verdicts.TooLong = OfInput inputs place (λ more.
+    (prefix : List ℕ) × (over : List ℕ) × (more ≡ prefix ++ over) × (length prefix ≡ most) × (0 < length over) × IsSound (taken ++ prefix))
+IsRefusedAfter inputs place most taken verdicts.Memory = Unit {0}
+
+-- The list of this input is refused: the first reason, or memory ran out.
+abbrev pub IsRefusedList : Inputs → Where → RunFault → Type 0
+IsRefusedList inputs list fault =
+    (first : VerifyFault) × IsRefusedAfter inputs list (limit_of list) [] first × IsFaultAt list first fault
+
+-- The log is valid, and what the input adds to a list is refused: the first reason, or memory ran out. If a prefix is sought, none is
+-- confirmed before what is refused.
+pub record IsNotTaken (inputs : Inputs) (scope : Scope) (list : Where) (evidence : Evidence) (fault : RunFault) : Type 0 where
+  pub first : VerifyFault
+  pub log_is : IsSomeLog evidence.log
+  pub boot : IfSome evidence.known (IsOfBoot evidence.log)
+  pub first_is : (taken : List ℕ) → IsTaken evidence.known taken → IsRefusedAfter inputs list (most_more evidence.known list) taken first
+  pub unconfirmed : seeks_prefix scope evidence.required evidence.expected ≡ true → IsUnconfirmedIn inputs list evidence first
+  pub says : IsFaultAt list first fault
+
+-- Why there is no answer on this evidence and what the list has: the log is refused, or of another boot than the checkpoint; or the list
+-- is refused.
+abbrev pub IsNotJudged : Inputs → Judgement → Where → Evidence → RunFault → Type 0
+IsNotJudged inputs (VerdictOf place scope resume) list evidence fault =
+    IsLogRefused evidence.log evidence.known fault ⊎ IsNotTaken inputs scope list evidence fault
+IsNotJudged inputs (PositionsOf place) list evidence fault =
+    HasLogFault evidence.log fault ⊎ (IsSomeLog evidence.log × IsRefusedList inputs list fault)
+IsNotJudged inputs ListVerdictOf list evidence fault = IsRefusedList inputs list fault
+
+-- Why nothing is found in the list of this input: it could not be opened; there is no answer; or memory ran out.
+abbrev pub IsNotFound : Inputs → Judgement → Where → Evidence → RunFault → Type 0
+IsNotFound inputs judgement list evidence fault =
+    IsReadFailure inputs list fault ⊎ IsNotJudged inputs judgement list evidence fault ⊎ (fault ≡ runs.Memory)
+
+-- ---- a list from one source
+
+-- The source gives all bytes of the input, and fails only where that may.
+pub record GivesInput (inputs : Inputs) (place : Where) (old new : SourceState) : Type 0 where
+  pub all : GivesAll (held_in inputs place) old
+  pub failing : HasFailed old new → MayFail inputs place
+
+-- The session is of this log, and has taken the list that was taken before.
+pub record IsStarted (log : List ℕ) (known : Option Checkpoint) (session : Session) : Type 0 where
+  pub valid : IsSomeLog log
+  pub boot : IfSome known (IsOfBoot log)
+  pub takes : (taken : List ℕ) → IsTaken known taken → HasTaken log taken session
+  pub count : session.known.entries ≡ entries_taken known
+  pub most : (place : Where) → most_after session.known (limit_of place) ≡ most_more known place
+
+-- If this is the checkpoint of a list, it is read back from its text.
+abbrev pub CanBeReadBack : Checkpoint → Type 0
+CanBeReadBack known = (list : List ℕ) → IsCheckpoint list known → IsPossible known
+
+-- What was found in the list of this input, or why nothing was.
+abbrev pub Finds : Inputs → Judgement → Where → Evidence → Result (Answer × Option Checkpoint) RunFault → Type 0
+Finds inputs judgement list evidence result =
+    MatchResult result (λ found. IsJudged inputs judgement list evidence found.0 found.1) (IsNotFound inputs judgement list evidence)
+
+-- So it is in the list of each input that the source gives.
+abbrev pub FindsFrom : Judgement → Where → Evidence → SourceState → SourceState → Result (Answer × Option Checkpoint) RunFault → Type 0
+FindsFrom judgement list evidence old new result = (inputs : Inputs) → GivesInput inputs list old new → Finds inputs judgement list evidence result
+
+-- So it is where a session goes on from what is known, if its checkpoint can be read back.
+abbrev pub JudgesFrom : Scope → Where → Evidence → SourceState → SourceState → Session → Session → Result Answer RunFault → Type 0
+JudgesFrom scope list evidence old new before after result =
+    (inputs : Inputs) (log : Where) (resume : Option Where) → GivesInput inputs list old new → IsStarted evidence.log evidence.known before
+    → MatchResult result (λ answer. CanBeReadBack after.known → IsJudged inputs (VerdictOf log scope resume) list evidence answer (Some after.known))
+    (IsNotFound inputs (VerdictOf log scope resume) list evidence)
+
+-- ---- answers
 
 -- ---- evidence
 

@@ -1,4 +1,3 @@
 pub mod Inputs
 pub mod Requests
-pub mod Growing
 pub mod Answering

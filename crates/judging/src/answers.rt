@@ -1,8 +1,7 @@
 //! The answer to what is asked for, by one path.
 
 ghost use Rattle.std.specs.Prelude.{◌≡◌, ◌⊎◌, [], IfOk, IfErr, IsSomeAnd, MatchOption};
-ghost use Rattle.judging.specs.Answering.{HasNoEvidence, IsAnswer, IsComparison, IsEvidence, IsKnown, IsNoCheckpoint, IsNoComparison, IsNotRequired, IsRefusal, IsRequired, evidence_of};
-ghost use Rattle.judging.specs.Growing.{Finds, FindsFrom};
+ghost use Rattle.judging.specs.Answering.{HasNoEvidence, IsAnswer, IsComparison, IsEvidence, IsKnown, IsNoCheckpoint, IsNoComparison, IsNotRequired, IsRefusal, IsRequired, evidence_of, Finds, FindsFrom};
 ghost use Rattle.judging.specs.Requests.{requested_of, compared_of, held_bytes, judgement_of, log_of, place_of, requires_of, resume_of};
 ghost use Rattle.judging.specs.Inputs.{Holds, IsInputFault, OfInput};
 

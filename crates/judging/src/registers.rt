@@ -2,8 +2,7 @@
 
 ghost use Rattle.std.specs.Prelude.{◌≡◌, IfOk, IfErr};
 ghost use Rattle.agent_inputs.specs.Loading.{Inputs as InputsOf};
-ghost use Rattle.judging.specs.Answering.{IsAnswer, IsRefusal};
-ghost use Rattle.judging.specs.Growing.{GivesInput};
+ghost use Rattle.judging.specs.Answering.{IsAnswer, IsRefusal, GivesInput};
 ghost use Rattle.judging.specs.Requests.{ListRegistersOf, LogRegistersOf, place_of};
 
 use crate::answer::{Answer, Answered, Answering, Registers};

@@ -23,8 +23,7 @@ use Rattle.ima_list.specs.FieldKinds.{measured}
 use Rattle.hash_workers.proofs.ListLaws.{at_map, within_at}
 use Rattle.agent_inputs.specs.declared.fault.RunFault.{RunFault}
 use Rattle.agent_inputs.specs.declared.fault.RunFault.TheVariants.{Memory}
-use Rattle.agent_inputs.specs.Hashing.{IsHashOfAll}
-use Rattle.agent_inputs.specs.Loading.{Holds, Inputs, input_limit}
+use Rattle.agent_inputs.specs.Loading.{IsHashOfAll, Holds, Inputs, input_limit}
 use Rattle.measuring.specs.Measuring.{AreDone, AreNames, Contents, HasFile, HasFiles, IsFileFault, IsFileMeasure, IsInputLog, IsMeasuringFault, IsNamesFault, IsNotRecorded, IsRecordingFault, IsSetOut, IsUnhashed, failing_in, files_in}
 use Rattle.measuring.specs.parts.{names_borrowed}
 

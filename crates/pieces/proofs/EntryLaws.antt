@@ -13,9 +13,9 @@ use Rattle.ima_list.specs.ListFaults.{list_fault_entry}
 use Rattle.ima_list.specs.Spelling.{BeginsWith, IsReading, list_spelling}
 use Rattle.json_texts.specs.EntryJson.{entry_json}
 use Rattle.json_texts.specs.JsonValues as json
-use Rattle.json_texts.specs.ShownItems.{AreAllEntries}
+use Rattle.json_texts.specs.ItemLines.{AreAllEntries}
 use Rattle.pieces.specs.declared.piece.Position.{Position}
-use Rattle.pieces.specs.EntryPieces.{AreEntriesBefore, FailsAfterEntries, line_in, lines_in}
+use Rattle.pieces.specs.Pieces.{AreEntriesBefore, FailsAfterEntries, line_in, lines_in}
 use Rattle.pieces.proofs.LineLaws.{numbered_last, part_is}
 
 pub lines_last : (form : Form) (entries : List ListEntry) (entry : ListEntry)

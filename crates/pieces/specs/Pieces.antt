@@ -1,11 +1,24 @@
 -- Lines that are given by pieces, each of as many whole lines as there is room for.
-use Rattle.std.specs.Prelude.{◌≡◌, ℕ, ◌+◌, ◌<◌, ◌≤◌, ◌⊎◌, ◌&&◌, Bool, nat_le, List, [], ◌∷◌, ◌++◌, length, Option, Some, None, Result, Ok, Err}
+use Rattle.std.specs.Prelude.{◌≡◌, ℕ, ◌+◌, ◌<◌, ◌≤◌, ◌⊎◌, ◌&&◌, Bool, nat_le, List, [], ◌∷◌, ◌++◌, length, Option, Some, None, Result, Ok, Err, flat_map}
 use Rattle.agent_inputs.specs.declared.fault.RunFault.{RunFault}
 use Rattle.agent_inputs.specs.declared.fault.RunFault.TheVariants.{Memory}
 use Rattle.pieces.specs.declared.piece.End.{End}
 use Rattle.pieces.specs.declared.piece.End.TheVariants.{Last, Longer, More}
 use Rattle.pieces.specs.declared.piece.Piece.{Piece}
 use Rattle.pieces.specs.declared.piece.Position.{Position}
+use Rattle.agent_inputs.specs.Faults.{fault_of_list, fault_of_log}
+use Rattle.command_line.specs.declared.plan.Form.{Form}
+use Rattle.command_line.specs.declared.plan.Form.TheVariants.{Json, Text}
+use Rattle.ima_list.specs.Lines.{line_of}
+use Rattle.ima_list.specs.ListEntry.{ListEntry}
+use Rattle.ima_list.specs.Spelling.{BeginsWith}
+use Rattle.json_texts.specs.EntryJson.{entry_json}
+use Rattle.json_texts.specs.JsonValues as json
+use Rattle.json_texts.specs.ItemLines as shown
+use Rattle.boot_log.specs.declared.header.Row.{Row}
+use Rattle.boot_log.specs.Spelling as logs
+use Rattle.json_texts.specs.EventJson.{algorithms_json, event_json}
+use Rattle.json_texts.specs.SentEvents.{log_lines}
 
 -- Where the first line begins.
 abbrev pub start : Position
@@ -97,3 +110,69 @@ AreInTurn lines position (piece ∷ pieces) end = IsGiven lines position piece �
 -- The fault has this line, and this status after it.
 abbrev pub IsLineOf : RunFault → List ℕ → ℕ → RunFault → List ℕ → ℕ → Type 0
 IsLineOf fault line status other text answer = (other ≡ fault) × (text ≡ line) × (answer ≡ status)
+
+-- ---- the entries of a list
+
+-- The line of the entry with this number, in this form.
+abbrev pub line_in : Form → ℕ → ListEntry → List ℕ
+line_in Text number entry = line_of entry
+line_in Json number entry = json.line_of (entry_json number entry)
+
+-- The lines of a list's entries, in this form.
+abbrev pub lines_in : Form → List ListEntry → List ℕ
+lines_in Text entries = flat_map line_of entries
+lines_in Json entries = shown.entry_lines entries
+
+-- The list begins with entries whose lines are this text, up to the position.
+abbrev pub AreEntriesBefore : Form → List ℕ → Position → List ℕ → Type 0
+AreEntriesBefore form list position text = AreItemsBefore (BeginsWith list) (lines_in form) list position text
+
+-- The bytes are no list: the text is the lines of all entries that they begin with, and after these they have this fault.
+abbrev pub FailsAfterEntries : Form → List ℕ → List ℕ → RunFault → Type 0
+FailsAfterEntries form list text fault = shown.FailsAfterEntries (lines_in form) fault_of_list list text fault
+
+-- The lines of a list's entries one after another.
+abbrev pub entries_of : Form → List ℕ → Series
+entries_of form list = record {
+  AreBefore = AreEntriesBefore form list;
+  HasLine = HasItemLine (BeginsWith list) (lines_in form) (line_in form);
+  AreAll = shown.AreAllEntries (lines_in form) list;
+  FailsAfter = FailsAfterEntries form list;
+}
+
+-- The piece has the lines of the next entries of the list, as many as there is room for.
+abbrev pub IsEntryPiece : Form → List ℕ → ℕ → List ℕ → Piece → Type 0
+IsEntryPiece form list room before piece = IsPiece (entries_of form list) room before piece
+
+-- ---- the algorithms and the events of a log
+
+-- The log begins with a header and events whose lines are this text, up to the position; or nothing comes before it.
+abbrev pub AreEventsBefore : List ℕ → Position → List ℕ → Type 0
+AreEventsBefore log position text =
+    ((position ≡ start) × (text ≡ []))
+    ⊎ ((0 < position.offset) × ((table : List Row) × AreItemsBefore (logs.BeginsWith log table) (log_lines table) log position text))
+
+-- The line is the first, that of the algorithms which the header declares; or the log begins with a header and events whose lines are this text,
+-- and after them comes another, which has this line.
+abbrev pub HasEventLine : List ℕ → List ℕ → List ℕ → Type 0
+HasEventLine log text line =
+    ((text ≡ []) × ((table : List Row) × (rest : List ℕ) × logs.BeginsWith log table [] rest × (line ≡ json.line_of (algorithms_json table))))
+    ⊎ ((table : List Row)
+    × HasItemLine (logs.BeginsWith log table) (log_lines table) (λ number event. json.line_of (event_json (number + 1) event)) text line)
+
+-- The bytes are no log: the text is the lines of the header and of the events after it, and after these they have this fault.
+abbrev pub FailsAfterEvents : List ℕ → List ℕ → RunFault → Type 0
+FailsAfterEvents log text fault = shown.FailsAfterEvents log_lines fault_of_log log text fault
+
+-- The lines of a log one after another.
+abbrev pub events_of : List ℕ → Series
+events_of log = record {
+  AreBefore = AreEventsBefore log;
+  HasLine = HasEventLine log;
+  AreAll = shown.AreAllEvents log_lines log;
+  FailsAfter = FailsAfterEvents log;
+}
+
+-- The piece has the lines of the next events of the log, as many as there is room for.
+abbrev pub IsEventPiece : List ℕ → ℕ → List ℕ → Piece → Type 0
+IsEventPiece log room before piece = IsPiece (events_of log) room before piece

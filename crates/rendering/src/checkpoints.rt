@@ -1,7 +1,7 @@
 //! Saves the checkpoint of what an answer is on.
 
 ghost use Rattle.std.specs.Prelude.{◌≡◌, option_map, IfErr, OnErr, OnOk};
-ghost use Rattle.rendering.specs.Outputs.{HasSaved, IsNotSaved};
+ghost use Rattle.rendering.specs.Rendering.{HasSaved, IsNotSaved};
 
 use agent_inputs::{AgentFiles, RunFault, not_written};
 use boot_verdict::Checkpoint;

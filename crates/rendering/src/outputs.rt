@@ -3,7 +3,7 @@
 ghost use Rattle.std.specs.Prelude.{◌≡◌, option_map, IfOk, IfErr, OnErr};
 ghost use Rattle.agent_inputs.specs.Loading.{unknown};
 ghost use Rattle.judging.specs.Requests.{requested_of};
-ghost use Rattle.rendering.specs.Outputs.{GivesAnswer, IsOutputFault, IsRefusalOn, ShowsAnswer, state_of};
+ghost use Rattle.rendering.specs.Rendering.{GivesAnswer, IsOutputFault, IsRefusalOn, ShowsAnswer, state_of};
 
 use crate::checkpoints::save;
 use crate::no_files::NoFiles;

@@ -1,7 +1,7 @@
 //! The line of a fault with `--json`.
 
 ghost use Rattle.std.specs.Prelude.{◌≡◌, IfOk};
-ghost use Rattle.ima_agent.specs.JsonFaults.{IsFaultAsJson, json_place};
+ghost use Rattle.ima_agent.specs.FaultTexts.{IsFaultAsJson, json_place};
 ghost use Rattle.agent_inputs.specs.declared.fault.RunFault.TheVariants.{Memory};
 
 use super::faults::{message_of, said_of};

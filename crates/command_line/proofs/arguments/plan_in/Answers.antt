@@ -2,8 +2,7 @@ use Rattle.std.proofs.Common.{ap, map, subst, string_bytes, sym, inl, inr, â—Œâˆ
 use Rattle.std.proofs.lemmas.Result.{IfOk-weaker}
 use Rattle.clap.specs.Takes.{takes}
 use Rattle.clap.specs.Words.{is_simple, subcommand_of}
-use Rattle.command_line.specs.Plans.{HasValuesIn, IsWithinRanges}
-use Rattle.command_line.specs.Tasks.{IsWithin}
+use Rattle.command_line.specs.Plans.{HasValuesIn, IsWithinRanges, IsWithin}
 use Rattle.command_line.proofs.ReadLemmas.{commands_are_simple}
 use Rattle.command_line.proofs.arguments.plan_in.Goals as goal
 

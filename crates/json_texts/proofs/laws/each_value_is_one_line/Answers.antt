@@ -7,9 +7,7 @@ use Rattle.boot_log.specs.EventTypes.{event_type_name}
 use Rattle.boot_log.specs.Spelling.{IsRow}
 use Rattle.json_texts.specs.EventJson.{algorithm_json}
 use Rattle.json_texts.specs.JsonValues.{IsCount, optional}
-use Rattle.json_texts.specs.PositionJson.{IsCountedPosition, position_members}
-use Rattle.json_texts.specs.RegisterJson.{changed_register, value_within}
-use Rattle.json_texts.specs.ReportJson.{unconfirmed_members}
+use Rattle.json_texts.specs.ReportJson.{IsCountedPosition, position_members, changed_register, value_within, unconfirmed_members}
 use Rattle.json_texts.proofs.EntryLaws.{entry_line}
 use Rattle.json_texts.proofs.LineLaws.{members_joined, one_line}
 use Rattle.json_texts.proofs.ValueLaws.{algorithm_plain, change_plain, digests_plain, each_plain, mapped_plain, of_each_register, position_plain, report_plain, rows_plain, text_plain, told_plain, unconfirmed_plain, within_plain}

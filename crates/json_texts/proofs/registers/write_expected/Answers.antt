@@ -1,6 +1,6 @@
 use Rattle.std.proofs.Common.{arith}
 use Rattle.std.specs.Prelude.{flat_map}
-use Rattle.json_texts.specs.RegisterJson.{value_within}
+use Rattle.json_texts.specs.ReportJson.{value_within}
 use Rattle.json_texts.proofs.WrittenLaws.{all_items, in_array, in_object, more_items, named}
 use Rattle.json_texts.proofs.registers.write_expected.Goals as goal
 

@@ -1,6 +1,6 @@
 use Rattle.std.proofs.Common.{take}
 use Rattle.std.specs.Prelude.{flat_map}
-use Rattle.json_texts.specs.RegisterJson.{value_within}
+use Rattle.json_texts.specs.ReportJson.{value_within}
 use Rattle.json_texts.proofs.WrittenLaws.{HasItems}
 use Rattle.json_texts.proofs.registers.write_expected.Given as goal
 

@@ -2,7 +2,7 @@ use Rattle.std.proofs.Common.{arith}
 use Rattle.std.specs.Prelude.{flat_map}
 use Rattle.boot_verdict.specs.RegisterTexts.{every_register}
 use Rattle.boot_verdict.proofs.RegisterLaws.{every_count}
-use Rattle.json_texts.specs.RegisterJson.{changed_register}
+use Rattle.json_texts.specs.ReportJson.{changed_register}
 use Rattle.json_texts.proofs.WrittenLaws.{all_items, in_array, in_object, more_items, named}
 use Rattle.json_texts.proofs.registers.write_registers.Goals as goal
 

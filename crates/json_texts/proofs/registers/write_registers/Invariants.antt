@@ -1,7 +1,7 @@
 use Rattle.std.proofs.Common.{take}
 use Rattle.std.specs.Prelude.{flat_map}
 use Rattle.boot_verdict.specs.RegisterTexts.{every_register}
-use Rattle.json_texts.specs.RegisterJson.{changed_register}
+use Rattle.json_texts.specs.ReportJson.{changed_register}
 use Rattle.json_texts.proofs.WrittenLaws.{HasItems}
 use Rattle.json_texts.proofs.registers.write_registers.Given as goal
 

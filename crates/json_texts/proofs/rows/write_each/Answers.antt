@@ -1,4 +1,4 @@
-use Rattle.json_texts.specs.RegisterJson.{row_json}
+use Rattle.json_texts.specs.ReportJson.{row_json}
 use Rattle.json_texts.proofs.WrittenLaws.{in_object, joined, more_mapped}
 use Rattle.json_texts.proofs.rows.write_each.Goals as goal
 

@@ -1,5 +1,5 @@
 use Rattle.std.proofs.Common.{map, take}
-use Rattle.json_texts.specs.RegisterJson.{row_json}
+use Rattle.json_texts.specs.ReportJson.{row_json}
 use Rattle.json_texts.proofs.WrittenLaws.{HasItems}
 use Rattle.json_texts.proofs.rows.write_each.Given as goal
 

@@ -2,7 +2,7 @@ use Rattle.std.proofs.Common.{arith, map}
 use Rattle.std.specs.Prelude.{flat_map}
 use Rattle.boot_verdict.specs.RegisterTexts.{every_register}
 use Rattle.boot_verdict.proofs.RegisterLaws.{every_count}
-use Rattle.json_texts.specs.RegisterJson.{value_if_missing}
+use Rattle.json_texts.specs.ReportJson.{value_if_missing}
 use Rattle.json_texts.proofs.WrittenLaws.{all_items, more_items}
 use Rattle.json_texts.proofs.rows.write_missing.Goals as goal
 

@@ -1,7 +1,7 @@
 use Rattle.std.proofs.Common.{map, take}
 use Rattle.std.specs.Prelude.{flat_map}
 use Rattle.boot_verdict.specs.RegisterTexts.{every_register}
-use Rattle.json_texts.specs.RegisterJson.{value_if_missing}
+use Rattle.json_texts.specs.ReportJson.{value_if_missing}
 use Rattle.json_texts.proofs.WrittenLaws.{HasItems}
 use Rattle.json_texts.proofs.rows.write_missing.Given as goal
 

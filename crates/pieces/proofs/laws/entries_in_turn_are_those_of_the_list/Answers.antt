@@ -1,6 +1,5 @@
 use Rattle.std.proofs.Common.{[]}
-use Rattle.pieces.specs.EntryPieces.{entries_of}
-use Rattle.pieces.specs.Pieces.{start}
+use Rattle.pieces.specs.Pieces.{entries_of, start}
 use Rattle.pieces.proofs.EntryLaws.{no_entries_before}
 use Rattle.pieces.proofs.PieceLaws.{in_turn}
 use Rattle.pieces.proofs.laws.entries_in_turn_are_those_of_the_list.Goals as goal

@@ -1,5 +1,4 @@
-use Rattle.pieces.specs.EntryPieces.{entries_of}
-use Rattle.pieces.specs.Pieces.{start}
+use Rattle.pieces.specs.Pieces.{entries_of, start}
 use Rattle.pieces.proofs.EntryLaws.{no_entries_before}
 use Rattle.pieces.proofs.PieceLaws.{to_a_fault, to_the_last}
 use Rattle.pieces.proofs.laws.entries_to_the_end_are_what_is_shown.Goals as goal

@@ -1,6 +1,5 @@
 use Rattle.std.proofs.Common.{[], refl, inl}
-use Rattle.pieces.specs.EventPieces.{events_of}
-use Rattle.pieces.specs.Pieces.{start}
+use Rattle.pieces.specs.Pieces.{events_of, start}
 use Rattle.pieces.proofs.PieceLaws.{in_turn}
 use Rattle.pieces.proofs.laws.events_in_turn_are_those_of_the_log.Goals as goal
 

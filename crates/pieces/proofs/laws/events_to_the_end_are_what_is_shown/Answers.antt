@@ -1,6 +1,5 @@
 use Rattle.std.proofs.Common.{refl, inl}
-use Rattle.pieces.specs.EventPieces.{events_of}
-use Rattle.pieces.specs.Pieces.{start}
+use Rattle.pieces.specs.Pieces.{events_of, start}
 use Rattle.pieces.proofs.PieceLaws.{to_a_fault, to_the_last}
 use Rattle.pieces.proofs.laws.events_to_the_end_are_what_is_shown.Goals as goal
 
