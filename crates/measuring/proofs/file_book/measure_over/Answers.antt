@@ -16,5 +16,5 @@ returns-clause-measured g c =
       origin = _;
       set_out = set_out _ c.args.request.now read.0 read.1 read.2 c.registers.result (c.registers.ensures read.0 read.1 read.2);
       reset_is = c.reset_registers.ensures read.0 read.1 read.2;
-      measure = c.in_ok-book.ensures.measured;
+      measured = c.in_ok-book.ensures.measured;
     }

@@ -20,7 +20,7 @@ fault_of-requires-clause-number g c =
 
 pub returns : goal.returns
 returns g c = record {
-  measure = tt;
+  measured = tt;
   fault = inr (inl (record {
     first = c.in-Err-Agent.fault;
     first_is = search rules;
