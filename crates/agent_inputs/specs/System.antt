@@ -11,7 +11,7 @@ use Rattle.agent_inputs.specs.declared.system.WriteSink.{WriteSink}
 abbrev pub reader_of : {R : Type 0} → ReadSource R → R
 reader_of source = source.reader
 
--- A source's bytes are not told; it counts its failures.
+-- A source's bytes are not known; it counts its failures.
 abbrev pub read_source_state : {R : Type 0} → ReadSource R → SourceState
 read_source_state source = record { remaining = None; failures = source.failures }
 
@@ -19,7 +19,7 @@ read_source_state source = record { remaining = None; failures = source.failures
 abbrev pub writer_of : {W : Type 0} → WriteSink W → W
 writer_of sink = sink.writer
 
--- A sink's bytes are not told; it counts its failures.
+-- A sink's bytes are not known; it counts its failures.
 abbrev pub write_sink_state : {W : Type 0} → WriteSink W → SinkState
 write_sink_state sink = record { taken = None; failures = sink.failures }
 
@@ -32,7 +32,7 @@ abbrev pub is_file : {F I : Type 0} → Input F I → Bool
 is_file (File file) = true
 is_file (StandardInput input) = false
 
--- The remaining bytes, if the file or the standard input tells them.
+-- The remaining bytes, if those of the file or of the standard input are known.
 abbrev pub remaining_bytes : {F I : Type 0} → (F → Option (List ℕ)) → (I → Option (List ℕ)) → Input F I → Option (List ℕ)
 remaining_bytes of_file of_input (File file) = of_file file
 remaining_bytes of_file of_input (StandardInput input) = of_input input

@@ -184,13 +184,13 @@ impl fmt::Display for RunFault {
     }
 }
 
-// Words, and the fault that is their reason.
+// Words, and the fault that they introduce.
 fn say_fault<D: fmt::Display, W: fmt::Write>(
-    arguments: &str,
+    words: &str,
     fault: &D,
     f: &mut fmt::Formatter<W>,
 ) -> fmt::Result {
-    write!(f, "{arguments}{fault}")
+    write!(f, "{words}{fault}")
 }
 
 // That the file of this number is refused, and why.

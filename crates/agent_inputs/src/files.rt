@@ -10,8 +10,8 @@ use std::alloc::Global;
 
 /// Where the program's inputs come from.
 ///
-/// An implementation may tell the bytes of its inputs, and which may fail (`known`): a source then gives exactly those bytes, and no
-/// other fails. It may also tell which files were replaced (`saved`).
+/// An implementation may make the bytes of its inputs known, and which may fail (`known`): a source then gives exactly those bytes, and no
+/// other fails. It may also make known which files were replaced (`saved`).
 pub trait Files {
     /// The source of one input's bytes.
     type Src: Source;
@@ -57,12 +57,12 @@ pub trait AgentFiles: Files<Src: Drop> {
 
 /// Files that several threads read at once.
 ///
-/// An implementation may tell the bytes of a file (`held`): its hash is then that of exactly those.
+/// An implementation may make the bytes of a file known (`held`): its hash is then that of exactly those.
 pub trait SharedFiles {
-    // All bytes of the file of this name; `None` if they are not told.
+    // All bytes of the file of this name; `None` if they are not known.
     ghost held: { Self → List ℕ → Option (List ℕ) } = { λ _ _. None };
 
-    // That the file of this name cannot be opened, or fails while it is read; `⊤` if this is not told.
+    // That the file of this name cannot be opened, or fails while it is read; `⊤` if this is not known.
     ghost fails: { Self → List ℕ → Type 0 } = { λ _ _. ⊤ };
 
     /// The hash, by this algorithm, of all bytes of the file of this name. They are hashed as they are read.

@@ -31,7 +31,7 @@ const PRIVATE: u32 = 0o600;
 
 /// A source over a `std` reader.
 ///
-/// Its bytes are not told. Each error of the reader, an interrupted call included, counts as a failure.
+/// Its bytes are not known. Each error of the reader, an interrupted call included, counts as a failure.
 #[derive(Drop)]
 pub struct ReadSource<R> {
     reader: R,
@@ -72,7 +72,7 @@ impl<R: Read> Source for ReadSource<R> {
 
 /// A sink over a `std` writer.
 ///
-/// Its bytes are not told. Each error of the writer, an interrupted call included, counts as a failure, and so does a write that
+/// Its bytes are not known. Each error of the writer, an interrupted call included, counts as a failure, and so does a write that
 /// takes none of the bytes offered.
 #[derive(Drop)]
 pub struct WriteSink<W> {
@@ -153,7 +153,7 @@ impl<'a, R: FileSystem + io::Input> SystemFiles<'a, R> {
 impl<R: FileSystem + io::Input + Sync> Files for SystemFiles<'_, R> {
     type Src = ReadSource<Input<R::File, R::Reader>>;
 
-    // Nothing is told of the system's files.
+    // Nothing is known of the system's files.
     ghost known = { λ _. unknown };
 
     /// Opens the file of this name, or standard input.
@@ -241,7 +241,7 @@ fn write_file<F: Write + OpenFile>(file: &mut F, bytes: &[u8]) -> io::Result<()>
 }
 
 impl<R: FileSystem> SharedFiles for SystemFiles<'_, R> {
-    // The contents of files are not told.
+    // The contents of files are not known.
     ghost held = { λ _ _. None };
 
     /// Opens and hashes the file of this name.

@@ -1,4 +1,4 @@
--- What is to be done, and the plans that request it.
+-- What is to be done, the plans that request it, and how they come from the arguments.
 use Rattle.std.specs.Prelude.{◌≡◌, ◌≤◌, ◌<◌, ◌^◌, not, Bool, false, true, Option, None, is_some, String, vec_len, List, [], ◌∷◌, codes, Some, ℕ, ◌⊎◌, ◌||◌, ◌==◌, IsTrue, bytes_eq, map, option_map, unwrap_or, string_bytes}
 use Rattle.std.specs.Global.{Global}
 use Rattle.command_line.specs.declared.plan.Scope.TheVariants.{Whole, Prefix}
@@ -162,8 +162,6 @@ program_app = with_rule
 -- The program with all commands.
 abbrev pub commands : Parsers → App
 commands parsers = fold (λ app row. with_subcommand app (fold with_rule (new_app row.0) row.1).top) program_app (table parsers)
-
--- ---- how a plan follows from the arguments
 
 -- ---- the values of arguments
 

@@ -84,7 +84,7 @@ const LIST: ArgumentRow<'static> =
 const JSON: ArgumentRow<'static> =
     row!("json", Form::Flag; "Print the result as JSON, one object on one line");
 
-/// The commands, in the order of the help. `table` of specs/Commands.antt has the same.
+/// The commands, in the order of the help. `table` of specs/Plans.antt has the same.
 pub(crate) static COMMANDS: [CommandRow; 8] = [
     CommandRow {
         name: "measure",
@@ -115,7 +115,7 @@ registers, one object on one line; not with --print binary"),
         about: "Replays a firmware event log and a measurement list, and compares the registers",
         arguments: &[
             row!("require", Form::Optional(REQUIRED_REGISTERS); require_help!("verdict is `differ`")),
-            row!("prefix", Form::Flag; "Judge the shortest front of the list that matches; if none does, the whole list"),
+            row!("prefix", Form::Flag; "Judge the shortest prefix of the list that matches; if none does, the whole list"),
             row!("save", Form::Optional("FILE"); "If the verdict is `match`, write the checkpoint of what was judged to FILE"),
             row!("resume", Form::Optional("FILE"); "Go on from the checkpoint in FILE, your own: LIST then has only the bytes after it"),
             JSON,

@@ -22,7 +22,7 @@ pub fn read_words(alloc: Global, arguments: &[String]) -> Result<Plan, RunFault>
     ensures refused { IfErr result IsArgumentsFault }
     // Without arguments the plan is `Registers`, whatever memory there is.
     ensures none { arguments.now ≡ [] → result ≡ Ok plans.Registers }
-    // After `--version` the plan is `Version`, whatever follows it.
+    // After `--version` the plan is to show the version, whatever follows it.
     ensures version { BeginsWithVersion arguments.now → result ≡ Ok (plans.Task Version Text) }
 {
     Ok(command_line::read_words(alloc, arguments)?)

@@ -38,7 +38,7 @@ pub enum Failure<'a> {
         arguments: &'a [String],
     },
     /// The line of a program that is out of memory: its arguments could not be obtained, for this reason.
-    Words {
+    Arguments {
         /// The reason.
         reason: &'a io::Error,
     },
@@ -60,7 +60,7 @@ pub fn explanation<R: FileSystem + io::Input>(
     match failure {
         Failure::Fault { fault, task } => of_fault(rt, alloc, fault, task),
         Failure::Refused { fault, arguments } => of_refusal(alloc, fault, arguments),
-        Failure::Words { reason } => match reason.kind() {
+        Failure::Arguments { reason } => match reason.kind() {
             io::ErrorKind::InvalidData => shown_line(alloc, "an argument is not UTF-8"),
             _ => Err(AllocError),
         },
@@ -148,7 +148,7 @@ fn of_reason(alloc: Global, input: &str, reason: Option<io::Error>) -> Result<St
 // The system's words for an error, without its number.
 fn without_number(reason: &str) -> &str {
     match reason.split_once(" (os error ") {
-        Some((arguments, _)) => arguments,
+        Some((words, _)) => words,
         None => reason,
     }
 }

@@ -48,7 +48,7 @@ pub fn exit_code<R: Threads + Wait + Sync, F: AgentFiles, S: Sink, P: Progress>(
         )),
         Err(reason) => {
             let status = report_fault(alloc, Form::Text, &RunFault::Memory, sink);
-            progress.explain(alloc, Failure::Words { reason: &reason });
+            progress.explain(alloc, Failure::Arguments { reason: &reason });
             exits_with(status)
         }
     }

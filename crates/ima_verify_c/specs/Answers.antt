@@ -1,4 +1,4 @@
--- What a call with these bytes asks for.
+-- What a call with these bytes requests, and what it gives.
 use Rattle.std.specs.Prelude.{ℕ, ◌==◌, if◌then◌else◌, Bool, List, bytes_eq, codes, length, Option, None, Some, option_map, ◌≡◌, ℤ, pos, ◌<◌, ◌≤◌, ◌⊎◌, false, [], ◌++◌, drop, Result, Ok, Err, unwrap_or}
 use Rattle.command_line.specs.declared.plan.Scope.TheVariants.{Prefix, Whole}
 use Rattle.command_line.specs.declared.plan.Form.{Form}

@@ -1,4 +1,4 @@
-//! The verifier for callers in C: verdicts, places, expected registers, registers, and by pieces entries and events, from bytes in the caller's
+//! The verifier for callers in C: verdicts, positions, expected registers, registers, and by pieces entries and events, from bytes in the caller's
 //! memory to a text in the caller's room. `bindings/c/ima_verify.h` says it to C, and has the functions that call these.
 //!
 //! Each call returns a number: 0 or 1 as the command of the same name exits, with its output in the room; 2 if an input is refused, or 3 if

@@ -1,4 +1,4 @@
--- Registers as JSON. The members and their order are this project's choice.
+-- Registers, reports and positions as JSON. The members and their order are this project's choice.
 use Rattle.std.specs.Prelude.{ℕ, List, [], ◌∷◌, ◌++◌, codes, flat_map, map, if◌then◌else◌, Option, Some, None, Bool, true, false, option_map, ⊤}
 use Rattle.json.specs.Json.{Json, string, boolean}
 use Rattle.pcr_banks.specs.declared.alg.Alg.{Alg}

@@ -1,4 +1,4 @@
-//! What this project tells, as lines of JSON (RFC 8259): reports, places, registers, a log's events, a list's entries, and faults.
+//! What this project tells, as lines of JSON (RFC 8259): reports, positions, registers, a log's events, a list's entries, and faults.
 //!
 //! Each value is an object on one line, in UTF-8. Its members have a fixed order. Numbers are JSON numbers; digests and data are strings
 //! of lower case hexadecimal digits. A line is appended to a vector of the caller's; [`send_entries`] sends the lines of a list to a sink,

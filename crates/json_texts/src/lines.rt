@@ -45,11 +45,11 @@ pub(crate) fn end_line(written: Written, writer: Writer, from: usize, line: &mut
     ensures err { OnErr result (line.new.items ≡ writer.before) }
 {
     *line = writer.into_inner();
-    let check_end = end(written, line);
-    if check_end.is_err() {
+    let ended = end(written, line);
+    if ended.is_err() {
         line.truncate(from);
     }
-    check_end
+    ended
 }
 
 // Appends the line feed, if the line was written.

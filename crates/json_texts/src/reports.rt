@@ -180,13 +180,13 @@ fn write_unconfirmed(alloc: Global, after: Option<Unconfirmed>, writer: &mut Wri
 {
     let Some(fault) = after else { return Ok(()) };
     let message = fault.message(alloc)?;
-    let told = FaultText {
+    let text = FaultText {
         kind: fault.kind(),
         number: Some(fault.number()),
         place: place_of(fault),
         message: &message,
     };
-    write_fault_member("unconfirmed", &told, writer)
+    write_fault_member("unconfirmed", &text, writer)
 }
 
 // The place of a fault that names an entry.

@@ -1,4 +1,4 @@
--- What is found in a list, also in one that goes on after another, and why nothing is.
+-- The answer to a request, and why there is none.
 use Rattle.std.specs.Prelude.{◌≡◌, ℕ, ◌<◌, ◌≤◌, ◌⊎◌, ◌==◌, not, Bool, true, false, List, [], ◌++◌, length, Option, Some, None, Result, Ok, Err, IfSome, IsSomeAnd, MatchResult, ◌&&◌, nat_lt, if◌then◌else◌, MatchOption}
 use Rattle.std.specs.Option.{option_map_or}
 use Rattle.byte_streams.specs.Streams.{SourceState}
@@ -234,8 +234,6 @@ JudgesFrom scope list evidence old new before after result =
     (inputs : Inputs) (log : Where) (resume : Option Where) → GivesInput inputs list old new → IsStarted evidence.log evidence.known before
     → MatchResult result (λ answer. CanBeReadBack after.known → IsJudged inputs (VerdictOf log scope resume) list evidence answer (Some after.known))
     (IsNotFound inputs (VerdictOf log scope resume) list evidence)
-
--- ---- answers
 
 -- ---- evidence
 

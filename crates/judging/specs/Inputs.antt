@@ -13,7 +13,7 @@ pub data Where : Type 0 where
   FileOf : List ℕ → Where
   BytesOf : List ℕ → Where
 
--- All bytes of the input, if they are told.
+-- All bytes of the input, if they are known.
 abbrev pub held_in : Inputs → Where → Option (List ℕ)
 held_in inputs (FileOf name) = inputs.held (Some name)
 held_in inputs (BytesOf all) = Some all
@@ -23,11 +23,11 @@ abbrev pub limit_of : Where → ℕ
 limit_of (FileOf name) = input_limit
 limit_of (BytesOf all) = 2 ^ 63 - 1
 
--- These are all bytes of the input, if they are told.
+-- These are all bytes of the input, if they are known.
 abbrev pub Holds : Inputs → Where → List ℕ → Type 0
 Holds inputs place content = IfSome (held_in inputs place) (λ all. content ≡ all)
 
--- This holds of the bytes of the input; of some bytes, if its own are not told.
+-- This holds of the bytes of the input; of some bytes, if its own are not known.
 abbrev pub OfInput : Inputs → Where → (List ℕ → Type 0) → Type 0
 OfInput inputs place P = (content : List ℕ) × Holds inputs place content × P content
 

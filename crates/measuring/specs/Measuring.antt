@@ -40,7 +40,7 @@ names_of ends text = filter (λ name. not (length name == 0)) (slice_split (λ b
 
 -- ---- what is measured
 
--- What files hold: all bytes of the file of a name; none if they are not told.
+-- What files hold: all bytes of the file of a name; none if they are not known.
 abbrev pub Contents : Type 0
 Contents = List ℕ → Option (List ℕ)
 

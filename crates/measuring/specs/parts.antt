@@ -15,7 +15,7 @@ names_borrowed names = map (λ name. name.now) names
 abbrev pub IsTextFor : Inputs → Measurement → List ℕ → Type 0
 IsTextFor inputs request text = (length text ≤ input_limit) × IfSome request.names (λ more. Holds inputs (Some (string_bytes more.text)) text)
 
--- Why the file of this number has no operation: it is too long, it could not be opened or read (both only as far as this is told), or
+-- Why the file of this number has no operation: it is too long, it could not be opened or read (both only as far as this is known), or
 -- memory ran out.
 abbrev pub IsFileFailure : Contents → (List ℕ → Type 0) → List (List ℕ) → ℕ → JobFault → Type 0
 IsFileFailure held Fails names number TooLong = IfSome (slice_get names number) (λ name. IfSome (held name) (λ all. input_limit < length all))

@@ -38,17 +38,17 @@ pub(crate) fn names_for<'a>(alloc: Global, request: &'a Measurement, text: &'a [
 
 // These names, borrowed.
 fn borrow_names<'a>(alloc: Global, names: &'a [String]) -> Result<Vec<&'a str>, AllocError>
-    ensures names { IfOk result (λ borrow_names. names_borrowed borrow_names.items ≡ map string_bytes names.now) }
-    ensures count { IfOk result (λ borrow_names. vec_len borrow_names ≡ length names.now) }
+    ensures names { IfOk result (λ borrowed. names_borrowed borrowed.items ≡ map string_bytes names.now) }
+    ensures count { IfOk result (λ borrowed. vec_len borrowed ≡ length names.now) }
 {
-    let mut borrow_names = Vec::with_capacity(alloc, names.len())?;
+    let mut borrowed = Vec::with_capacity(alloc, names.len())?;
     for name in names {
-        borrow_names.push(name.as_str())?;
+        borrowed.push(name.as_str())?;
     }
-    Ok(borrow_names)
+    Ok(borrowed)
 }
 
-// Appends each name of the text to `names`, in order: a part of the text, which lends it. The text is split at each byte that ends a
+// Appends each name of the text to `names`, in order, each borrowed from the text. The text is split at each byte that ends a
 // name, and at no other; the last name may lack it. Empty names are skipped. After a fault some of the names were appended.
 fn names_in<'a>(text: &'a str, ends: NameEnd, names: &mut Vec<&'a str>) -> Result<(), AllocError>
     ensures names { OnOk result (names_borrowed names.new.items ≡ names_borrowed names.old.items ++ names_of ends text.now) }
