@@ -4,4 +4,4 @@ use Rattle.measuring.proofs.name_list.borrow_names.Given as goal
 
 -- The names so far are borrowed.
 abbrev pub invariant-loop-name : goal.invariant-loop-name
-invariant-loop-name l = (names_borrowed l.borrow_names.items ≡ map string_bytes (take l.name-index l.names)) × (length l.borrow_names.items ≡ l.name-index)
+invariant-loop-name l = (names_borrowed l.borrowed.items ≡ map string_bytes (take l.name-index l.names)) × (length l.borrowed.items ≡ l.name-index)
