@@ -26,7 +26,7 @@ use Rattle.judging.specs.Inputs.{FileOf, Where}
 use Rattle.measuring.specs.declared.file_book.Measured.{Measured}
 use Rattle.measuring.specs.Measuring.{IsMeasured, IsMeasuringFault}
 use Rattle.rendering.specs.declared.output.Output.{Output}
-use Rattle.rendering.specs.Rendering.{IsOutputFault, ShowsAnswer, printed}
+use Rattle.rendering.specs.Rendering.{IsOutputFault, ShowsAnswer, print_measured}
 use Rattle.ima_agent.specs.declared.streams.StreamFault.{StreamFault}
 use Rattle.ima_agent.specs.declared.streams.StreamFault.TheVariants as streams
 use Rattle.ima_agent.specs.FaultTexts.{fault_line, fault_status, IsFailure, IsReportedAsJson}
@@ -83,7 +83,7 @@ abbrev pub Shows : Inputs → Task → Form → List ℕ → ℕ → Type 0
 Shows inputs tasks.Registers form shown status = OfInput inputs None (λ text. ShowsHexadecimal form text shown status)
 Shows inputs (tasks.Answer question) form shown status = ⊥
 Shows inputs (tasks.Measure request) form shown status =
-    ((given : Measured) × IsMeasured inputs request given × (shown ≡ printed form request.print given)) × (status ≡ 0)
+    ((given : Measured) × IsMeasured inputs request given × (shown ≡ print_measured form request.print given)) × (status ≡ 0)
 Shows inputs (tasks.Events log requested) forms.Text shown status =
     OfInput inputs (Some (string_bytes log)) (λ bytes. AreAllEvents (events_text (data_of requested)) bytes shown) × (status ≡ 0)
 Shows inputs (tasks.Events log requested) forms.Json shown status =
