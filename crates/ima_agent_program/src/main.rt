@@ -1,7 +1,7 @@
 //! The program `ima-agent`, which is `ima_agent::exit_code` over the system's files and streams.
 #![tactic(auto)]
 
-use ima_agent::{SystemFiles, SystemProgress, WriteSink, exit_code, arguments_after_name};
+use ima_agent::{SystemFiles, SystemProgress, WriteSink, arguments_after_name, exit_code};
 use std::io::IsTerminal;
 use std::process::ExitCode;
 use std::rt::Env;
